@@ -1,0 +1,4 @@
+pub mod Items
+pub mod Picks
+pub mod Places
+pub mod Resulting

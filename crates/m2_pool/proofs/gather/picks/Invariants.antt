@@ -1,0 +1,6 @@
+use Rattle.std.proofs.Common.{◌≡◌, map, take}
+use Rattle.m2_pool.specs.Results.{picked}
+use Rattle.m2_pool.proofs.gather.picks.Given as goal
+
+abbrev pub invariant-loop-job : goal.invariant-loop-job
+invariant-loop-job g l = map (λ x. x.now) l.found.items ≡ picked l.outs (take l.job-index l.jobs)

@@ -1,0 +1,205 @@
+// The whole: workers on threads of their own, and the gatherer.
+ghost use Rattle.std.specs.Prelude.{◌≡◌, ◌≢◌, ◌++◌, [], ℕ, ◌<◌, ◌≤◌, ◌↔◌, length, map, All, IfOk, Err};
+ghost use Rattle.std.specs.List.{HoldsAt};
+ghost use Rattle.std.specs.Thread.{IsSend, IsSync};
+ghost use Rattle.once_cell.specs.Once.{cell_name};
+ghost use Rattle.m2_board.specs.Lists.{times, listed};
+ghost use Rattle.m2_board.specs.Seats.{IsAllSeats, all_had};
+ghost use Rattle.m2_pool.specs.Results.{results};
+
+use crate::cells::empty_cells;
+use crate::gather::{gathered, placed};
+use crate::published::Published;
+use crate::ran::Ran;
+use crate::work::{Gate, Work};
+use crate::worker::{Member, Shop, work_on};
+use crossbeam_deque::{Stealer, Worker};
+use m2_board::{Board, BoardSeat, JobGraph, PoolRefusal, Tally};
+use once_cell::race::OnceBox;
+use std::alloc::{AllocError, Global};
+use std::thread;
+use std::thread::Threads;
+
+/// The results of the work's own graph, in job order, and who had which job.
+///
+/// The results are those that the work's definition gives for its key by recursion on prerequisites, and the tally has
+/// each job exactly once, for every number of workers, every gate and every schedule. The refusal is `Workers` exactly
+/// where there are not 1 to 64 workers, and else `NoMemory`.
+///
+/// The j-th job without prerequisites is dealt to worker j modulo the number of workers. A worker takes jobs from its
+/// own deque, first in first out, and else steals; where it sees the results of a job's prerequisites, the gate lets it
+/// in and it gets the job, it runs it, publishes the result, and keeps the jobs whose last prerequisite this was. It ends
+/// when it finds no job in its own deque nor in 1000 rounds over the others, or took as many jobs as there are. When all
+/// have ended, the jobs that none had are run here, in job order and without the gate.
+pub fn run_jobs<R: Threads + Sync, W: Work, G: Gate>(
+    rt: &R,
+    alloc: Global,
+    graph: &JobGraph,
+    workers: usize,
+    gate: &G,
+    work: &W,
+) -> Result<(Vec<W::Out>, Tally), PoolRefusal>
+    requires { graph.now ≡ W.graph (W.key_of work.now) }
+    ensures workers { (result ≡ Err PoolRefusal.Workers) ↔ ¬ ((1 ≤ workers) × (workers ≤ 64)) }
+    ensures graph { result ≢ Err PoolRefusal.Prerequisite }
+    ensures results { IfOk result (λ r. r.0.items ≡ results (W.graph (W.key_of work.now)) (W.defined (W.key_of work.now))) }
+    ensures seats { IfOk result (λ r. length r.1.seats.items ≡ workers) }
+    ensures tally { IfOk result (λ r. (job : ℕ) → job < length graph.now → times job (listed (map (λ l. l.items) r.1.seats.items) ++ r.1.gatherer.items) ≡ 1) }
+{
+    let (board, seats) = Board::open(alloc, graph, workers)?;
+    let cells = empty_cells(alloc, graph.jobs())?;
+    Ok(run_on(rt, alloc, board, seats, graph, cells.as_slice(), gate, work)?)
+}
+
+/// The same, on a board that was just opened and with these cells.
+pub fn run_on<R: Threads + Sync, W: Work, G: Gate>(
+    rt: &R,
+    alloc: Global,
+    board: Board,
+    seats: Vec<BoardSeat>,
+    graph: &JobGraph,
+    cells: &[OnceBox<Published<W>>],
+    gate: &G,
+    work: &W,
+) -> Result<(Vec<W::Out>, Tally), AllocError>
+    requires graph { (graph.now ≡ W.graph (W.key_of work.now)) × (graph.now ≡ board.graph) }
+    requires cells { length cells.now ≡ length graph.now }
+    requires seats { IsAllSeats board seats.items × (0 < board.workers) }
+    requires new { All (λ s. s.had ≡ []) seats.items }
+    ensures results { IfOk result (λ r. r.0.items ≡ results (W.graph (W.key_of work.now)) (W.defined (W.key_of work.now))) }
+    ensures seats { IfOk result (λ r. length r.1.seats.items ≡ board.workers) }
+    ensures tally { IfOk result (λ r. (job : ℕ) → job < length graph.now → times job (listed (map (λ l. l.items) r.1.seats.items) ++ r.1.gatherer.items) ≡ 1) }
+{
+    let owns = dealt(alloc, graph, seats.len())?;
+    let stealers = stealers_of(alloc, owns.as_slice())?;
+    let shop = Shop {
+        board: &board,
+        graph,
+        cells,
+        stealers: stealers.as_slice(),
+        gate,
+        work,
+    };
+    let members = members_of(alloc, seats, owns)?;
+    let ended = all_work(rt, alloc, &shop, members)?;
+    let (seats, all) = returned(alloc, &shop, ended)?;
+    let places = placed(alloc, cells, work, graph.jobs(), all)?;
+    let tally = board.close(seats);
+    let outs = gathered(alloc, graph, cells, work, tally.gatherer.as_slice(), places)?;
+    Ok((outs, tally))
+}
+
+// A deque for each worker, with the jobs that wait for none dealt to them in turn.
+fn dealt(alloc: Global, graph: &JobGraph, workers: usize) -> Result<Vec<Worker<usize>>, AllocError>
+    requires { 0 < workers }
+    ensures { IfOk result (λ v. length v.items ≡ workers) }
+{
+    let mut owns = deques(alloc, graph.jobs(), workers)?;
+    let mut next = 0;
+    for job in 0..graph.jobs() {
+        if graph.prerequisites(job).is_empty() {
+            // A job that the deque does not take is left to the gatherer.
+            let _ = owns[next].push(job);
+            next = (next + 1) % workers;
+        }
+    }
+    Ok(owns)
+}
+
+// An empty deque for each worker, with room for all jobs.
+fn deques(alloc: Global, jobs: usize, workers: usize) -> Result<Vec<Worker<usize>>, AllocError>
+    ensures { IfOk result (λ v. length v.items ≡ workers) }
+{
+    let mut owns = Vec::with_capacity(alloc, workers)?;
+    for _ in 0..workers {
+        owns.push(Worker::new_fifo(alloc, jobs)?)?;
+    }
+    Ok(owns)
+}
+
+// What steals from each deque.
+fn stealers_of(alloc: Global, owns: &[Worker<usize>]) -> Result<Vec<Stealer<usize>>, AllocError>
+    ensures { IfOk result (λ v. length v.items ≡ length owns.now) }
+{
+    let mut stealers = Vec::with_capacity(alloc, owns.len())?;
+    for own in owns {
+        stealers.push(own.stealer()?)?;
+    }
+    Ok(stealers)
+}
+
+// The workers: each has the seat and the deque of its number, and ran nothing.
+fn members_of<W: Work>(
+    alloc: Global,
+    seats: Vec<BoardSeat>,
+    mut owns: Vec<Worker<usize>>,
+) -> Result<Vec<Member<W>>, AllocError>
+    requires { length owns.items ≡ length seats.items }
+    ensures seats { IfOk result (λ v. map (λ m. m.seat) v.items ≡ seats.items) }
+    ensures new { IfOk result (λ v. All (λ m. m.ran.items ≡ []) v.items) }
+{
+    // The deques are taken from the end, so the first of them comes last.
+    owns.reverse();
+    let mut members = Vec::with_capacity(alloc, seats.len())?;
+    for seat in seats {
+        let Some(own) = owns.pop() else {
+            unreachable!()
+        };
+        members.push(Member {
+            number: members.len(),
+            seat,
+            own,
+            ran: Vec::new(alloc),
+        })?;
+    }
+    Ok(members)
+}
+
+// Each worker works on a thread of its own, until all have ended.
+fn all_work<R: Threads + Sync, W: Work, G: Gate>(
+    rt: &R,
+    alloc: Global,
+    shop: &Shop<'_, W, G>,
+    members: Vec<Member<W>>,
+) -> Result<Vec<Result<Member<W>, AllocError>>, AllocError>
+    requires seats { All (λ m. (m.seat.board ≡ shop.now.board.now.id) × (m.seat.had ≡ []) × (m.ran.items ≡ [])) members.items }
+    ensures count { IfOk result (λ v. length v.items ≡ length members.items) }
+    ensures each { IfOk result (λ v. All (λ e. IfOk e (λ m. (m.seat.board ≡ shop.now.board.now.id) × (map (λ r. r.job) m.ran.items ≡ m.seat.had) × All (λ r. (W.key_of r.work ≡ W.key_of shop.now.work.now) × HoldsAt (λ c. r.note.cell ≡ cell_name c) shop.now.cells.now r.job) m.ran.items)) v.items) }
+{
+    thread::map_vec(
+        rt,
+        members,
+        &|member: Member<W>| -> Result<Member<W>, AllocError>
+            requires threads { IsSend W.row × IsSync W.row × IsSend W.Out.row × IsSync W.Out.row × IsSync W.Key.row × IsSync G.row }
+            requires member { (member.seat.board ≡ shop.now.board.now.id) × (member.seat.had ≡ []) × (member.ran.items ≡ []) }
+            ensures { IfOk result (λ m. (m.seat.board ≡ shop.entry.now.board.now.id) × (map (λ r. r.job) m.ran.items ≡ m.seat.had) × All (λ r. (W.key_of r.work ≡ W.key_of shop.entry.now.work.now) × HoldsAt (λ c. r.note.cell ≡ cell_name c) shop.entry.now.cells.now r.job) m.ran.items) }
+        { work_on(alloc, shop, member) },
+    )
+}
+
+// The seats that came back, and all that was run, if no worker was refused memory.
+fn returned<W: Work, G: Gate>(
+    alloc: Global,
+    shop: &Shop<'_, W, G>,
+    ended: Vec<Result<Member<W>, AllocError>>,
+) -> Result<(Vec<BoardSeat>, Vec<Ran<W>>), AllocError>
+    requires { All (λ e. IfOk e (λ m. (m.seat.board ≡ shop.now.board.now.id) × (map (λ r. r.job) m.ran.items ≡ m.seat.had) × All (λ r. (W.key_of r.work ≡ W.key_of shop.now.work.now) × HoldsAt (λ c. r.note.cell ≡ cell_name c) shop.now.cells.now r.job) m.ran.items)) ended.items }
+    ensures count { IfOk result (λ r. length r.0.items ≡ length ended.items) }
+    ensures seats { IfOk result (λ r. All (λ s. s.board ≡ shop.now.board.now.id) r.0.items) }
+    ensures ran { IfOk result (λ r. map (λ a. a.job) r.1.items ≡ all_had r.0.items) }
+    ensures notes { IfOk result (λ r. All (λ a. (W.key_of a.work ≡ W.key_of shop.now.work.now) × HoldsAt (λ c. a.note.cell ≡ cell_name c) shop.now.cells.now a.job) r.1.items) }
+{
+    let mut seats = Vec::with_capacity(alloc, ended.len())?;
+    let mut all = Vec::new(alloc);
+    for one in ended {
+        let Member {
+            number: _,
+            seat,
+            own: _,
+            mut ran,
+        } = one?;
+        seats.push(seat)?;
+        all.append(&mut ran)?;
+    }
+    Ok((seats, all))
+}

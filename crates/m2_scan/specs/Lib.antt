@@ -1,0 +1,6 @@
+pub mod Bytes
+pub mod Division
+pub mod Forms
+pub mod Numbers
+pub mod Steps
+pub mod Symbols

@@ -1,0 +1,58 @@
+//! What is refused in a text.
+
+ghost use Rattle.std.specs.Prelude.{◌≡◌};
+ghost use Rattle.m2_scan.specs.declared.refusal.ScanError.TheVariants.{NoMemory};
+
+use m2_tree::Pos;
+use std::alloc::{AllocError, AllocFailed};
+
+/// A rule of the language that a text can break before there are tokens.
+#[derive(Clone, Copy, Debug, PartialEq, Eq)]
+pub enum Fault {
+    /// The text has more than 1048576 bytes. It is told at 1:1, and before all others.
+    TooLong,
+    /// A byte that begins no token, or that may not stand in a string.
+    StrayByte,
+    /// A comment without its end, at the outermost `(*`.
+    OpenComment,
+    /// A string without its end on its line, at its quote.
+    OpenString,
+    /// Digits and letters that are no number.
+    BadNumber,
+    /// A number over 4294967295, or a character's code over 377C.
+    LargeNumber,
+    /// A name of more than 64 letters and digits.
+    LongName,
+}
+
+/// What is refused in a text, and where.
+#[derive(Clone, Copy, Debug, PartialEq, Eq)]
+pub struct ScanRefusal {
+    pub pos: Pos,
+    pub fault: Fault,
+}
+
+/// Why a text has no tokens.
+#[derive(Debug, Drop)]
+pub enum ScanError {
+    /// The least refused place of the text.
+    Refused(ScanRefusal),
+    /// Memory ran out.
+    NoMemory,
+}
+
+impl From<AllocError> for ScanError {
+    ghost from_gives = { λ _ e. e ≡ NoMemory };
+
+    fn from(_e: AllocError) -> ScanError {
+        ScanError::NoMemory
+    }
+}
+
+impl<T: Drop> From<AllocFailed<T>> for ScanError {
+    ghost from_gives = { λ _ e. e ≡ NoMemory };
+
+    fn from(_e: AllocFailed<T>) -> ScanError {
+        ScanError::NoMemory
+    }
+}

@@ -1,0 +1,47 @@
+//! Statements as they are written. An empty statement leaves no trace.
+
+use crate::expr::{Designator, Expr, Item};
+use crate::name::Ident;
+use crate::pos::Pos;
+use sqlite_items::{Boxed, Items};
+
+/// A statement.
+#[cycle(stmt)]
+#[derive(Drop)]
+pub enum Stmt {
+    /// What is assigned to, and the value.
+    Assign(Designator, Expr),
+    /// The procedure, and the arguments if there are brackets.
+    Call(Designator, Option<Items<Expr>>),
+    /// The first condition, what is done then, and what follows up to the END.
+    If(Expr, Items<Stmt>, Boxed<Rest>),
+    /// The selector, the arms, and what stands behind the ELSE.
+    Case(Expr, Items<Arm>, Option<Items<Stmt>>),
+    While(Expr, Items<Stmt>),
+    Repeat(Items<Stmt>, Expr),
+    Loop(Items<Stmt>),
+    /// The place of the EXIT.
+    Exit(Pos),
+    /// The place of the RETURN, and the value.
+    Return(Pos, Option<Expr>),
+    /// The control variable, its start, its limit, the step, and what is repeated.
+    For(Ident, Expr, Expr, Option<Expr>, Items<Stmt>),
+    /// The record, and the statements in which its fields stand for themselves.
+    With(Designator, Items<Stmt>),
+}
+
+/// What follows the first part of an IF.
+#[cycle(stmt)]
+#[derive(Drop)]
+pub enum Rest {
+    Elsif(Expr, Items<Stmt>, Boxed<Rest>),
+    Else(Option<Items<Stmt>>),
+}
+
+/// The labels and the statements of an arm of a CASE.
+#[cycle(stmt)]
+#[derive(Drop)]
+pub struct Arm {
+    pub labels: Items<Item>,
+    pub body: Items<Stmt>,
+}

@@ -1,0 +1,3 @@
+pub mod Groups
+pub mod Loop
+pub mod Utf8

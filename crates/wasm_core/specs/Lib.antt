@@ -1,0 +1,5 @@
+pub mod Format
+pub mod Number
+pub mod Parts
+pub mod Binary
+pub mod Validity

@@ -1,0 +1,220 @@
+//! Whole modules in bytes (Core 1.0, section 5.5.15).
+
+ghost use Rattle.std.specs.Prelude.{◌≡◌, ◌++◌, List, ℕ, true, [], map, OnOk, IfOk, Ok};
+ghost use Rattle.wasm_core.specs.Format.{Format, Gives};
+ghost use Rattle.wasm_core.specs.Binary.{header, skip_all, bodies, code_entries, code_content, code_section, at_end, module_at, types_of, bodies_spelling, code_spelling, first_sections, middle_sections, last_sections, module_spelling, Spells};
+
+use crate::binary::{Binary, section, write_section};
+use crate::fault::WFault;
+use crate::module::{Body, Function, WModule};
+use crate::number::unsigned_at;
+use crate::parts::{closed, front, skip};
+use crate::writer::Writer;
+use sqlite_items::Items;
+use std::alloc::{AllocError, Global};
+
+/// The magic number and the version.
+const HEADER: [u8; 8] = [0x00, 0x61, 0x73, 0x6D, 0x01, 0x00, 0x00, 0x00];
+
+/// The bytes behind all of these.
+fn skip_all_at<'a>(expected: &[u8], bytes: &'a [u8]) -> Result<&'a [u8], WFault>
+    ensures { Gives (λ x. x.now) result (skip_all expected.now bytes.now) }
+{
+    let mut rest = bytes;
+    for byte in expected {
+        rest = skip(*byte, rest)?;
+    }
+    Ok(rest)
+}
+
+/// The bodies of functions of these types.
+fn bodies_at<'a>(
+    alloc: Global,
+    types: &[u32],
+    bytes: &'a [u8],
+) -> Result<(Items<Function>, &'a [u8]), WFault>
+    ensures { Gives (λ x. (x.0, x.1.now)) result (bodies types.now bytes.now) }
+{
+    let mut functions = Items::new(alloc);
+    let mut rest = bytes;
+    for type_index in types {
+        let (body, after) = Body::read(alloc, rest)?;
+        functions.push(Function {
+            type_index: *type_index,
+            body,
+        })?;
+        rest = after;
+    }
+    Ok((functions, rest))
+}
+
+/// The content of the code section: as many bodies as there are types.
+#[tactic(auto, unfolding(crate::specs::Binary::code_entries))]
+fn code_entries_at<'a>(
+    alloc: Global,
+    types: &[u32],
+    bytes: &'a [u8],
+) -> Result<(Items<Function>, &'a [u8]), WFault>
+    ensures { Gives (λ x. (x.0, x.1.now)) result (code_entries types.now bytes.now) }
+{
+    let (count, rest) = unsigned_at(bytes)?;
+    if count as usize != types.len() {
+        return Err(WFault::Malformed);
+    }
+    bodies_at(alloc, types, rest)
+}
+
+#[tactic(auto, unfolding(crate::specs::Binary::code_content))]
+fn code_content_at<'a>(
+    alloc: Global,
+    types: &[u32],
+    bytes: &'a [u8],
+) -> Result<(Items<Function>, &'a [u8]), WFault>
+    ensures { Gives (λ x. (x.0, x.1.now)) result (code_content types.now bytes.now) }
+{
+    let (size, after) = unsigned_at(bytes)?;
+    let (functions, left) = code_entries_at(alloc, types, front(after, size))?;
+    let rest = closed(size, after, left)?;
+    Ok((functions, rest))
+}
+
+/// The code section, which has to come where functions have types, and may not where none has.
+fn code_section_at<'a>(
+    alloc: Global,
+    types: &[u32],
+    bytes: &'a [u8],
+) -> Result<(Items<Function>, &'a [u8]), WFault>
+    ensures { Gives (λ x. (x.0, x.1.now)) result (code_section types.now bytes.now) }
+{
+    if types.is_empty() {
+        return Ok((Items::new(alloc), bytes));
+    }
+    match bytes {
+        [] => Err(WFault::Malformed),
+        [10, rest @ ..] => code_content_at(alloc, types, rest),
+        [_, ..] => Err(WFault::OutsideProfile),
+    }
+}
+
+/// Nothing may follow the last section.
+fn at_end(bytes: &[u8]) -> Result<(), WFault>
+    ensures { Gives (λ _. tt) result (at_end bytes.now) }
+{
+    if bytes.is_empty() {
+        Ok(())
+    } else {
+        Err(WFault::OutsideProfile)
+    }
+}
+
+#[tactic(auto, unfolding(crate::specs::Binary::module_at))]
+fn module_at(alloc: Global, bytes: &[u8]) -> Result<WModule, WFault>
+    ensures { Gives (λ m. (m, [])) result (module_at bytes.now) }
+{
+    let rest = skip_all_at(&HEADER, bytes)?;
+    let (types, rest) = section(alloc, 1, rest)?;
+    let (imports, rest) = section(alloc, 2, rest)?;
+    let (uses, rest) = section::<u32>(alloc, 3, rest)?;
+    let (tables, rest) = section(alloc, 4, rest)?;
+    let (memories, rest) = section(alloc, 5, rest)?;
+    let (globals, rest) = section(alloc, 6, rest)?;
+    let (exports, rest) = section(alloc, 7, rest)?;
+    let (elements, rest) = section(alloc, 9, rest)?;
+    let (functions, rest) = code_section_at(alloc, uses.as_slice(), rest)?;
+    let (data, rest) = section(alloc, 11, rest)?;
+    at_end(rest)?;
+    Ok(WModule {
+        types,
+        imports,
+        functions,
+        tables,
+        memories,
+        globals,
+        exports,
+        elements,
+        data,
+    })
+}
+
+/// The module that the bytes spell. `Malformed` or `OutsideProfile` where they spell none: which of the two, the first
+/// byte decides that cannot continue a spelling or that breaks a stated size.
+pub fn read_module(alloc: Global, bytes: &[u8]) -> Result<WModule, WFault>
+    ensures exact { Gives (λ m. (m, [])) result (module_at bytes.now) }
+{
+    module_at(alloc, bytes)
+}
+
+/// Appends the code section, or nothing where there is no function.
+fn write_code_section(out: &mut Writer, functions: &[Function]) -> Result<(), AllocError>
+    ensures { OnOk result (out.new ≡ out.old ++ code_spelling functions.now) }
+{
+    if functions.is_empty() {
+        return Ok(());
+    }
+    let mut content = out.nested();
+    write_bodies(&mut content, functions)?;
+    out.byte(10)?;
+    out.sized(content.as_slice())
+}
+
+fn write_bodies(out: &mut Writer, functions: &[Function]) -> Result<(), AllocError>
+    ensures { OnOk result (out.new ≡ out.old ++ bodies_spelling functions.now) }
+{
+    out.unsigned(functions.len() as u64)?;
+    for function in functions {
+        function.body.write(out)?;
+    }
+    Ok(())
+}
+
+fn types_of(alloc: Global, functions: &[Function]) -> Result<Vec<u32>, AllocError>
+    ensures { IfOk result (λ v. v.items ≡ types_of functions.now) }
+{
+    functions.iter().map(|f| f.type_index).collect(alloc)
+}
+
+/// The header, and the sections of types, imports and functions.
+#[tactic(auto, unfolding(crate::specs::Binary::first_sections))]
+fn write_first(out: &mut Writer, uses: &[u32], module: &WModule) -> Result<(), AllocError>
+    requires { uses.now ≡ types_of module.now.functions }
+    ensures { OnOk result (out.new ≡ out.old ++ first_sections module.now) }
+{
+    out.bytes(&HEADER)?;
+    write_section(out, 1, module.types.as_slice())?;
+    write_section(out, 2, module.imports.as_slice())?;
+    write_section(out, 3, uses)
+}
+
+/// The sections of tables, memories, globals and exports.
+#[tactic(auto, unfolding(crate::specs::Binary::middle_sections))]
+fn write_middle(out: &mut Writer, module: &WModule) -> Result<(), AllocError>
+    ensures { OnOk result (out.new ≡ out.old ++ middle_sections module.now) }
+{
+    write_section(out, 4, module.tables.as_slice())?;
+    write_section(out, 5, module.memories.as_slice())?;
+    write_section(out, 6, module.globals.as_slice())?;
+    write_section(out, 7, module.exports.as_slice())
+}
+
+/// The sections of elements, code and data.
+#[tactic(auto, unfolding(crate::specs::Binary::last_sections))]
+fn write_last(out: &mut Writer, module: &WModule) -> Result<(), AllocError>
+    ensures { OnOk result (out.new ≡ out.old ++ last_sections module.now) }
+{
+    write_section(out, 9, module.elements.as_slice())?;
+    write_code_section(out, module.functions.as_slice())?;
+    write_section(out, 11, module.data.as_slice())
+}
+
+/// The bytes that spell the module: no others do.
+#[tactic(auto, unfolding(crate::specs::Binary::module_spelling))]
+pub fn write_module(alloc: Global, module: &WModule) -> Result<Vec<u8>, AllocError>
+    ensures { IfOk result (λ v. v.items ≡ module_spelling module.now) }
+{
+    let uses = types_of(alloc, module.functions.as_slice())?;
+    let mut out = Writer::new(alloc);
+    write_first(&mut out, &uses, module)?;
+    write_middle(&mut out, module)?;
+    write_last(&mut out, module)?;
+    Ok(out.into_bytes())
+}
