@@ -1,3 +1,5 @@
 pub mod Groups
 pub mod Loop
 pub mod Utf8
+pub mod TypingLemmas
+pub mod Each

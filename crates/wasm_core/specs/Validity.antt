@@ -1,7 +1,7 @@
 -- Valid modules (Core 1.0, section 3).
-use Rattle.std.specs.Prelude.{◌≡◌, ◌≢◌, ℕ, ◌+◌, ◌^◌, ◌<◌, ◌≤◌, List, [], ◌∷◌, ◌++◌, length, map, slice_get, Option, Some, None}
+use Rattle.std.specs.Prelude.{◌≡◌, ◌≢◌, ℕ, ◌+◌, ◌^◌, ◌<◌, ◌≤◌, List, [], ◌∷◌, ◌++◌, length, map, slice_get, All, Option, Some, None}
 use Rattle.std.specs.Option.{ForSome}
-use Rattle.std.specs.List.{AllByRecursion, filter_map}
+use Rattle.std.specs.List.{filter_map}
 use Rattle.wasm_core.specs.declared.kinds.ValueType.{ValueType}
 use Rattle.wasm_core.specs.declared.kinds.ValueType.TheVariants.{I32, I64}
 use Rattle.wasm_core.specs.declared.kinds.FuncType.{FuncType}
@@ -79,7 +79,7 @@ IsConstant (I32Const n) = Unit {0}
 IsConstant (I64Const n) = Unit {0}
 
 pub record IsConstantOf (c : Context) (t : ValueType) (is : List Instr) : Type 0 where
-  pub constant : AllByRecursion IsConstant is
+  pub constant : All IsConstant is
   pub typed : Leads c is [] (t ∷ [])
 
 -- ---- the parts of a module (3.2, 3.4)
@@ -114,7 +114,7 @@ IsExport c e = elim e.kind [
   | exported.Global i ↦ i < length c.globals ]
 
 abbrev pub IsElement : Context → Element → Type 0
-IsElement c e = (e.table < length c.tables) × IsConstantOf c I32 e.offset × AllByRecursion (λ f. f < length c.functions) e.functions
+IsElement c e = (e.table < length c.tables) × IsConstantOf c I32 e.offset × All (λ f. f < length c.functions) e.functions
 
 abbrev pub IsData : Context → Data → Type 0
 IsData c d = (d.memory < length c.memories) × IsConstantOf c I32 d.offset
@@ -122,19 +122,27 @@ IsData c d = (d.memory < length c.memories) × IsConstantOf c I32 d.offset
 -- no name stands twice
 abbrev pub AreDistinct : List (List ℕ) → Type 0
 AreDistinct [] = Unit {0}
-AreDistinct (x ∷ xs) = AllByRecursion (λ y. x ≢ y) xs × AreDistinct xs
+AreDistinct (x ∷ xs) = All (λ y. x ≢ y) xs × AreDistinct xs
+
+-- the parts without code, under what the module may name
+pub record AreKinds (c : Context) (m : WModule) : Type 0 where
+  pub types : All IsFuncType m.types
+  pub imports : All (IsImport c) m.imports
+  pub tables : All (λ t. AreLimits (2 ^ 32) t.limits) m.tables
+  pub memories : All (λ t. AreLimits 65536 t.limits) m.memories
+  pub exports : All (IsExport c) m.exports
+
+-- the parts with code, but for the globals
+pub record AreBodies (c : Context) (m : WModule) : Type 0 where
+  pub functions : All (IsFunction c) m.functions
+  pub elements : All (IsElement c) m.elements
+  pub segments : All (IsData c) m.data
 
 -- 3.4.10
 pub record IsValid (m : WModule) : Type 0 where
-  pub types : AllByRecursion IsFuncType m.types
-  pub imports : AllByRecursion (IsImport (context m)) m.imports
-  pub functions : AllByRecursion (IsFunction (context m)) m.functions
-  pub tables : AllByRecursion (λ t. AreLimits (2 ^ 32) t.limits) m.tables
-  pub memories : AllByRecursion (λ t. AreLimits 65536 t.limits) m.memories
-  pub globals : AllByRecursion (IsGlobal (initial_context m)) m.globals
-  pub exports : AllByRecursion (IsExport (context m)) m.exports
-  pub elements : AllByRecursion (IsElement (context m)) m.elements
-  pub segments : AllByRecursion (IsData (context m)) m.data
+  pub kinds : AreKinds (context m) m
+  pub bodies : AreBodies (context m) m
+  pub globals : All (IsGlobal (initial_context m)) m.globals
   pub one_table : length (context m).tables ≤ 1
   pub one_memory : length (context m).memories ≤ 1
   pub names : AreDistinct (map (λ e. e.name) m.exports)

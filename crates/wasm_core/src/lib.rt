@@ -9,7 +9,10 @@ mod module;
 mod module_bytes;
 mod number;
 mod parts;
+mod scope;
 mod store;
+mod typing;
+mod valid;
 mod writer;
 
 pub use fault::WFault;
@@ -20,4 +23,5 @@ pub use module::{
 };
 pub use module_bytes::{read_module, write_module};
 pub use store::{Callee, Instance, Memory, Store, Table, Value};
+pub use valid::{ValidModule, validate};
 pub use writer::Writer;

@@ -175,46 +175,46 @@ fn types_of(alloc: Global, functions: &[Function]) -> Result<Vec<u32>, AllocErro
 
 /// The header, and the sections of types, imports and functions.
 #[tactic(auto, unfolding(crate::specs::Binary::first_sections))]
-fn write_first(out: &mut Writer, uses: &[u32], module: &WModule) -> Result<(), AllocError>
-    requires { uses.now ≡ types_of module.now.functions }
-    ensures { OnOk result (out.new ≡ out.old ++ first_sections module.now) }
+fn write_first(out: &mut Writer, uses: &[u32], tree: &WModule) -> Result<(), AllocError>
+    requires { uses.now ≡ types_of tree.now.functions }
+    ensures { OnOk result (out.new ≡ out.old ++ first_sections tree.now) }
 {
     out.bytes(&HEADER)?;
-    write_section(out, 1, module.types.as_slice())?;
-    write_section(out, 2, module.imports.as_slice())?;
+    write_section(out, 1, tree.types.as_slice())?;
+    write_section(out, 2, tree.imports.as_slice())?;
     write_section(out, 3, uses)
 }
 
 /// The sections of tables, memories, globals and exports.
 #[tactic(auto, unfolding(crate::specs::Binary::middle_sections))]
-fn write_middle(out: &mut Writer, module: &WModule) -> Result<(), AllocError>
-    ensures { OnOk result (out.new ≡ out.old ++ middle_sections module.now) }
+fn write_middle(out: &mut Writer, tree: &WModule) -> Result<(), AllocError>
+    ensures { OnOk result (out.new ≡ out.old ++ middle_sections tree.now) }
 {
-    write_section(out, 4, module.tables.as_slice())?;
-    write_section(out, 5, module.memories.as_slice())?;
-    write_section(out, 6, module.globals.as_slice())?;
-    write_section(out, 7, module.exports.as_slice())
+    write_section(out, 4, tree.tables.as_slice())?;
+    write_section(out, 5, tree.memories.as_slice())?;
+    write_section(out, 6, tree.globals.as_slice())?;
+    write_section(out, 7, tree.exports.as_slice())
 }
 
 /// The sections of elements, code and data.
 #[tactic(auto, unfolding(crate::specs::Binary::last_sections))]
-fn write_last(out: &mut Writer, module: &WModule) -> Result<(), AllocError>
-    ensures { OnOk result (out.new ≡ out.old ++ last_sections module.now) }
+fn write_last(out: &mut Writer, tree: &WModule) -> Result<(), AllocError>
+    ensures { OnOk result (out.new ≡ out.old ++ last_sections tree.now) }
 {
-    write_section(out, 9, module.elements.as_slice())?;
-    write_code_section(out, module.functions.as_slice())?;
-    write_section(out, 11, module.data.as_slice())
+    write_section(out, 9, tree.elements.as_slice())?;
+    write_code_section(out, tree.functions.as_slice())?;
+    write_section(out, 11, tree.data.as_slice())
 }
 
 /// The bytes that spell the module: no others do.
 #[tactic(auto, unfolding(crate::specs::Binary::module_spelling))]
-pub fn write_module(alloc: Global, module: &WModule) -> Result<Vec<u8>, AllocError>
-    ensures { IfOk result (λ v. v.items ≡ module_spelling module.now) }
+pub fn write_module(alloc: Global, tree: &WModule) -> Result<Vec<u8>, AllocError>
+    ensures { IfOk result (λ v. v.items ≡ module_spelling tree.now) }
 {
-    let uses = types_of(alloc, module.functions.as_slice())?;
+    let uses = types_of(alloc, tree.functions.as_slice())?;
     let mut out = Writer::new(alloc);
-    write_first(&mut out, &uses, module)?;
-    write_middle(&mut out, module)?;
-    write_last(&mut out, module)?;
+    write_first(&mut out, &uses, tree)?;
+    write_middle(&mut out, tree)?;
+    write_last(&mut out, tree)?;
     Ok(out.into_bytes())
 }

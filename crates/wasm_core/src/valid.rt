@@ -1,0 +1,274 @@
+//! Valid modules (Core 1.0, section 3.4).
+
+ghost use Rattle.std.specs.Prelude.{◌≡◌, ◌≢◌, ◌<◌, ◌≤◌, ◌^◌, ◌↔◌, ◌⊎◌, All, IsTrue, OnOk, IfOk, IfErr, map, length, drop};
+ghost use Rattle.wasm_core.specs.Validity.{Context, context, initial_context, AreLimits, IsFuncType, IsImport, IsFunction, IsGlobal, IsExport, IsElement, IsData, AreDistinct, AreKinds, AreBodies, IsValid};
+ghost use Rattle.wasm_core.specs.Scope.{scope_of};
+
+use crate::fault::WFault;
+use crate::kinds::{FuncType, Limits, MemoryType, TableType, ValueType};
+use crate::module::{Data, Element, Export, ExportKind, Function, Global as Constant, Import, ImportKind, WModule};
+use crate::scope::{Scope, initial_scope, names_of, whole_scope};
+use crate::typing::{check_code, check_constant};
+use sqlite_items::at;
+use std::alloc::Global;
+use std::marker::Model;
+
+fn are_limits(limits: Limits, most: u64) -> bool
+    ensures { IsTrue result → AreLimits most limits }
+{
+    let min = u64::from(limits.min);
+    match limits.max {
+        None => min <= most,
+        Some(max) => min <= most && u64::from(max) <= most && limits.min <= max,
+    }
+}
+
+fn is_func_type(func_type: &FuncType) -> bool
+    ensures { IsTrue result → IsFuncType func_type.now }
+{
+    func_type.results.len() <= 1
+}
+
+fn is_import(scope: Scope<'_>, import: &Import) -> bool
+    ensures { IsTrue result → IsImport (scope_of scope.entry) import.now }
+{
+    match import.kind {
+        ImportKind::Function(type_index) => (type_index as usize) < scope.types.len(),
+        ImportKind::Table(table) => are_limits(table.limits, 1 << 32),
+        ImportKind::Memory(memory) => are_limits(memory.limits, 65536),
+        ImportKind::Global(_) => true,
+    }
+}
+
+fn check_function(alloc: Global, scope: Scope<'_>, function: &Function) -> Result<(), WFault>
+    ensures { OnOk result (IsFunction (scope_of scope.entry) function.now) }
+{
+    let Some(func_type) = at(scope.types, function.type_index as usize) else {
+        return Err(WFault::Invalid);
+    };
+    check_code(
+        alloc,
+        scope,
+        function.body.code.as_slice(),
+        func_type.results.as_slice(),
+    )
+}
+
+fn check_global(alloc: Global, scope: Scope<'_>, global: &Constant) -> Result<(), WFault>
+    ensures { OnOk result (IsGlobal (scope_of scope.entry) global.now) }
+{
+    check_constant(alloc, scope, global.value.as_slice(), global.value_type)
+}
+
+fn is_export(scope: Scope<'_>, export: &Export) -> bool
+    ensures { IsTrue result → IsExport (scope_of scope.entry) export.now }
+{
+    match export.kind {
+        ExportKind::Function(index) => (index as usize) < scope.functions.len(),
+        ExportKind::Table(index) => (index as usize) < scope.tables.len(),
+        ExportKind::Memory(index) => (index as usize) < scope.memories.len(),
+        ExportKind::Global(index) => (index as usize) < scope.globals.len(),
+    }
+}
+
+fn check_element(alloc: Global, scope: Scope<'_>, element: &Element) -> Result<(), WFault>
+    ensures { OnOk result (IsElement (scope_of scope.entry) element.now) }
+{
+    let functions = element.functions.as_slice();
+    let known = functions.iter().all(|f| (*f as usize) < scope.functions.len());
+    if !known || scope.tables.len() <= element.table as usize {
+        return Err(WFault::Invalid);
+    }
+    check_constant(alloc, scope, element.offset.as_slice(), ValueType::I32)
+}
+
+fn check_data(alloc: Global, scope: Scope<'_>, data: &Data) -> Result<(), WFault>
+    ensures { OnOk result (IsData (scope_of scope.entry) «data».now) }
+{
+    if scope.memories.len() <= data.memory as usize {
+        return Err(WFault::Invalid);
+    }
+    check_constant(alloc, scope, data.offset.as_slice(), ValueType::I32)
+}
+
+fn check_functions(alloc: Global, scope: Scope<'_>, functions: &[Function]) -> Result<(), WFault>
+    ensures { OnOk result (All (IsFunction (scope_of scope.entry)) functions.now) }
+{
+    for function in functions {
+        check_function(alloc, scope, function)?;
+    }
+    Ok(())
+}
+
+fn check_globals(alloc: Global, scope: Scope<'_>, globals: &[Constant]) -> Result<(), WFault>
+    ensures { OnOk result (All (IsGlobal (scope_of scope.entry)) globals.now) }
+{
+    for global in globals {
+        check_global(alloc, scope, global)?;
+    }
+    Ok(())
+}
+
+fn check_elements(alloc: Global, scope: Scope<'_>, elements: &[Element]) -> Result<(), WFault>
+    ensures { OnOk result (All (IsElement (scope_of scope.entry)) elements.now) }
+{
+    for element in elements {
+        check_element(alloc, scope, element)?;
+    }
+    Ok(())
+}
+
+fn check_segments(alloc: Global, scope: Scope<'_>, segments: &[Data]) -> Result<(), WFault>
+    ensures { OnOk result (All (IsData (scope_of scope.entry)) segments.now) }
+{
+    for segment in segments {
+        check_data(alloc, scope, segment)?;
+    }
+    Ok(())
+}
+
+fn is_same(name: &[u8], other: &[u8]) -> bool
+    ensures { IsTrue result ↔ (name.now ≡ other.now) }
+{
+    name == other
+}
+
+/// Whether none of the exports has this name.
+fn is_new(name: &[u8], exports: &[Export]) -> bool
+    ensures { IsTrue result → All (λ e. name.now ≢ e.name) exports.now }
+{
+    for export in exports {
+        if is_same(name, export.name.as_slice()) {
+            return false;
+        }
+    }
+    true
+}
+
+/// Whether no two exports have one name.
+fn are_distinct(exports: &[Export]) -> bool
+    ensures { IsTrue result → AreDistinct (map (λ e. e.name) exports.now) }
+{
+    for k in 0..exports.len() {
+        let (_, others) = exports.split_at(k + 1);
+        if !is_new(exports[k].name.as_slice(), others) {
+            return false;
+        }
+    }
+    true
+}
+
+fn are_func_types(types: &[FuncType]) -> bool
+    ensures { IsTrue result → All IsFuncType types.now }
+{
+    types.iter().all(|t| is_func_type(t))
+}
+
+fn are_imports(scope: Scope<'_>, imports: &[Import]) -> bool
+    ensures { IsTrue result → All (IsImport (scope_of scope.entry)) imports.now }
+{
+    imports.iter().all(|i| is_import(scope, i))
+}
+
+fn are_tables(tables: &[TableType]) -> bool
+    ensures { IsTrue result → All (λ t. AreLimits (2 ^ 32) t.limits) tables.now }
+{
+    tables.iter().all(|t| are_limits(t.limits, 1 << 32))
+}
+
+fn are_memories(memories: &[MemoryType]) -> bool
+    ensures { IsTrue result → All (λ m. AreLimits 65536 m.limits) memories.now }
+{
+    memories.iter().all(|m| are_limits(m.limits, 65536))
+}
+
+fn are_exports(scope: Scope<'_>, exports: &[Export]) -> bool
+    ensures { IsTrue result → All (IsExport (scope_of scope.entry)) exports.now }
+{
+    exports.iter().all(|e| is_export(scope, e))
+}
+
+fn check_kinds(scope: Scope<'_>, tree: &WModule) -> Result<(), WFault>
+    ensures { OnOk result (AreKinds (scope_of scope.entry) tree.now) }
+{
+    if are_func_types(tree.types.as_slice())
+        && are_imports(scope, tree.imports.as_slice())
+        && are_tables(tree.tables.as_slice())
+        && are_memories(tree.memories.as_slice())
+        && are_exports(scope, tree.exports.as_slice())
+    {
+        Ok(())
+    } else {
+        Err(WFault::Invalid)
+    }
+}
+
+fn check_bodies(alloc: Global, scope: Scope<'_>, tree: &WModule) -> Result<(), WFault>
+    ensures { OnOk result (AreBodies (scope_of scope.entry) tree.now) }
+{
+    check_functions(alloc, scope, tree.functions.as_slice())?;
+    check_elements(alloc, scope, tree.elements.as_slice())?;
+    check_segments(alloc, scope, tree.data.as_slice())?;
+    Ok(())
+}
+
+fn check_whole(alloc: Global, tree: &WModule) -> Result<(), WFault>
+    ensures { OnOk result (IsValid tree.now) }
+{
+    let names = names_of(alloc, tree)?;
+    let scope = whole_scope(tree, &names);
+    if scope.tables.len() > 1 || scope.memories.len() > 1 || !are_distinct(tree.exports.as_slice()) {
+        return Err(WFault::Invalid);
+    }
+    check_kinds(scope, tree)?;
+    check_bodies(alloc, scope, tree)?;
+    check_globals(alloc, initial_scope(tree, &names), tree.globals.as_slice())?;
+    Ok(())
+}
+
+/// A module that is valid.
+#[derive(Debug, Drop)]
+pub struct ValidModule {
+    tree: WModule,
+}
+
+impl Model for ValidModule {
+    ghost use Rattle.wasm_core.specs.declared.module.WModule.{WModule};
+    ghost use Rattle.wasm_core.specs.Validity.{IsValid};
+
+    ghost Value = { WModule };
+
+    ghost view = { λ v. v.tree };
+
+    ghost invariant = { λ v. IsValid v.tree };
+}
+
+impl ValidModule {
+    /// The module.
+    pub fn module(&self) -> &WModule
+        ensures value { result.now ≡ self.now }
+        ensures valid { IsValid self.now }
+    {
+        &self.tree
+    }
+
+    /// Its exports, in order.
+    pub fn exports(&self) -> &[Export]
+        ensures { result.now ≡ self.now.exports }
+    {
+        self.tree.exports.as_slice()
+    }
+}
+
+/// The module, if it is valid. `Invalid` where it is not; the module is then dropped.
+pub fn validate(alloc: Global, tree: WModule) -> Result<ValidModule, WFault>
+    ensures value { IfOk result (λ v. v ≡ tree) }
+    ensures valid { OnOk result (IsValid tree) }
+    ensures refusals { IfErr result (λ e. (e ≡ WFault.Invalid) ⊎ (e ≡ WFault.NoMemory)) }
+{
+    match check_whole(alloc, &tree) {
+        Ok(()) => Ok(ValidModule { tree }),
+        Err(WFault::NoMemory) => Err(WFault::NoMemory),
+        Err(_) => Err(WFault::Invalid),
+    }
+}
