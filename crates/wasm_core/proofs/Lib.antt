@@ -3,3 +3,8 @@ pub mod Loop
 pub mod Utf8
 pub mod TypingLemmas
 pub mod Each
+pub mod Laws
+pub mod LawsNumber
+pub mod LawsParts
+pub mod LawsBinary
+pub mod LawsModule

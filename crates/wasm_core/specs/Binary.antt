@@ -280,3 +280,9 @@ binary = record { spelling = module_spelling; reading = module_at; fits = module
 pub record Spells (bytes : List ℕ) (m : WModule) : Type 0 where
   pub fits : module_fits m ≡ true
   pub spelling : bytes ≡ module_spelling m
+
+-- these bytes spell the module, no others do, and they spell no other module
+pub record IsOnlySpelling (bytes : List ℕ) (m : WModule) : Type 0 where
+  pub spells : Spells bytes m
+  pub no_others : (others : List ℕ) → Spells others m → others ≡ bytes
+  pub no_other : (n : WModule) → Spells bytes n → n ≡ m

@@ -5,3 +5,5 @@ pub mod Binary
 pub mod Validity
 pub mod Scope
 pub mod Typing
+pub mod Machine
+pub mod Linking

@@ -22,6 +22,6 @@ pub use module::{
     Body, Data, Element, Export, ExportKind, Function, Global, Import, ImportKind, Locals, WModule,
 };
 pub use module_bytes::{read_module, write_module};
-pub use store::{Callee, Instance, Memory, Store, Table, Value};
+pub use store::{Callee, Extern, Instance, Memory, Store, Table, Value};
 pub use valid::{ValidModule, validate};
 pub use writer::Writer;

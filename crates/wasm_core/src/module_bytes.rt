@@ -1,8 +1,10 @@
 //! Whole modules in bytes (Core 1.0, section 5.5.15).
 
-ghost use Rattle.std.specs.Prelude.{◌≡◌, ◌++◌, List, ℕ, true, [], map, OnOk, IfOk, Ok};
+ghost use Rattle.std.specs.Prelude.{◌≡◌, ◌++◌, List, ℕ, true, [], map, OnOk, IfOk, Ok, MatchResult, ◌⊎◌};
 ghost use Rattle.wasm_core.specs.Format.{Format, Gives};
-ghost use Rattle.wasm_core.specs.Binary.{header, skip_all, bodies, code_entries, code_content, code_section, at_end, module_at, types_of, bodies_spelling, code_spelling, first_sections, middle_sections, last_sections, module_spelling, Spells};
+ghost use Rattle.wasm_core.specs.Binary.{header, skip_all, bodies, code_entries, code_content, code_section, at_end, module_at, types_of, bodies_spelling, code_spelling, first_sections, middle_sections, last_sections, module_spelling, module_fits, Spells, IsOnlySpelling};
+ghost use Rattle.wasm_core.specs.declared.fault.WFault.TheVariants.{NoMemory};
+ghost use Rattle.wasm_core.specs.declared.module.WModule.{WModule};
 
 use crate::binary::{Binary, section, write_section};
 use crate::fault::WFault;
@@ -139,6 +141,9 @@ fn module_at(alloc: Global, bytes: &[u8]) -> Result<WModule, WFault>
 /// The module that the bytes spell. `Malformed` or `OutsideProfile` where they spell none: which of the two, the first
 /// byte decides that cannot continue a spelling or that breaks a stated size.
 pub fn read_module(alloc: Global, bytes: &[u8]) -> Result<WModule, WFault>
+    // A module exactly where the bytes spell it.
+    ensures decided { MatchResult result (λ m. Spells bytes.now m) (λ e. (e ≡ NoMemory) ⊎ ((m : WModule) → ¬ (Spells bytes.now m))) }
+    // Which fault it is.
     ensures exact { Gives (λ m. (m, [])) result (module_at bytes.now) }
 {
     module_at(alloc, bytes)
@@ -206,9 +211,8 @@ fn write_last(out: &mut Writer, tree: &WModule) -> Result<(), AllocError>
     write_section(out, 11, tree.data.as_slice())
 }
 
-/// The bytes that spell the module: no others do.
 #[tactic(auto, unfolding(crate::specs::Binary::module_spelling))]
-pub fn write_module(alloc: Global, tree: &WModule) -> Result<Vec<u8>, AllocError>
+fn written(alloc: Global, tree: &WModule) -> Result<Vec<u8>, AllocError>
     ensures { IfOk result (λ v. v.items ≡ module_spelling tree.now) }
 {
     let uses = types_of(alloc, tree.functions.as_slice())?;
@@ -217,4 +221,13 @@ pub fn write_module(alloc: Global, tree: &WModule) -> Result<Vec<u8>, AllocError
     write_middle(&mut out, tree)?;
     write_last(&mut out, tree)?;
     Ok(out.into_bytes())
+}
+
+/// The bytes that spell the module: no others do. A module that has no spelling (a vector or a part too long, a name
+/// that is not UTF-8) gets bytes that no module has.
+pub fn write_module(alloc: Global, tree: &WModule) -> Result<Vec<u8>, AllocError>
+    ensures written { IfOk result (λ v. v.items ≡ module_spelling tree.now) }
+    ensures only { IfOk result (λ v. module_fits tree.now ≡ true → IsOnlySpelling v.items tree.now) }
+{
+    written(alloc, tree)
 }

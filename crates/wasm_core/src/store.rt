@@ -52,3 +52,12 @@ pub struct Store {
     pub globals: Items<Value>,
     pub instances: Items<Instance>,
 }
+
+/// What an export or an answered import stands for: a place in the store.
+#[derive(Clone, Copy, Debug, PartialEq, Eq)]
+pub enum Extern {
+    Function(usize),
+    Table(usize),
+    Memory(usize),
+    Global(usize),
+}

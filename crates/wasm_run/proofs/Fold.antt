@@ -1,0 +1,44 @@
+-- Steps for each element, as a loop makes them.
+use Rattle.std.proofs.Common.{◌≡◌, ℕ, suc, ◌+◌, ◌<◌, ◌≤◌, List, [], ◌∷◌, length, get_or, drop, Result, Ok, Err, refl, sym, ap, ◌∙◌, add-one}
+use Rattle.std.proofs.lemmas.List.{drop_all}
+use Rattle.std.proofs.Math.Seq.{drop-cons}
+use Rattle.wasm_core.specs.declared.fault.WFault.{WFault}
+use Rattle.wasm_core.specs.declared.fault.WFault.TheVariants.{Malformed, OutsideProfile, Invalid, Unlinked, SegmentOutside, NoMemory}
+use Rattle.wasm_core.specs.Format.{◌>>=◌, Fails}
+use Rattle.wasm_core.specs.Linking.{each}
+
+-- a fault of the first of two steps is one of both
+pub fails_first : {A B : Type 0} (e : WFault) (first : Result A WFault) (next : A → Result B WFault) → Fails e first → Fails e (first >>= next)
+fails_first Malformed first next h = rw h refl
+fails_first OutsideProfile first next h = rw h refl
+fails_first Invalid first next h = rw h refl
+fails_first Unlinked first next h = rw h refl
+fails_first SegmentOutside first next h = rw h refl
+fails_first NoMemory first next h = tt
+
+-- what fails does so under another name
+pub fails_same : {B : Type 0} (e : WFault) (now total : Result B WFault) → Fails e now → now ≡ total → Fails e total
+fails_same Malformed now total h same = sym same ∙ h
+fails_same OutsideProfile now total h same = sym same ∙ h
+fails_same Invalid now total h same = sym same ∙ h
+fails_same Unlinked now total h same = sym same ∙ h
+fails_same SegmentOutside now total h same = sym same ∙ h
+fails_same NoMemory now total h same = tt
+
+module _ {X S : Type 0} (step : X → S → Result S WFault) (xs : List X) (k : ℕ) (s : S) where
+  -- one more step was made
+  pub each_more : (x : X) (t : S) (total : Result S WFault) → k < length xs → x ≡ get_or xs k x → step x s ≡ Ok t → each step (drop k xs) s ≡ total → each step (drop (k + 1) xs) t ≡ total
+  unfolding each
+  each_more x t total h is e so_far = rw add-one (sym (ap (λ ys. each step ys s) (drop-cons xs k x h) ∙ rw (← is, e) refl) ∙ so_far)
+
+  -- the next step fails
+  pub each_fail : (e : WFault) (x : X) (total : Result S WFault) → k < length xs → x ≡ get_or xs k x → Fails e (step x s) → each step (drop k xs) s ≡ total → Fails e total
+  unfolding each
+  each_fail e x total h is f so_far =
+      fails_same e (step x s >>= each step (drop (suc k) xs)) total (fails_first e (step x s) (each step (drop (suc k) xs)) f)
+          (sym (ap (λ ys. each step ys s) (drop-cons xs k x h) ∙ rw (← is) refl) ∙ so_far)
+
+  -- no step is left
+  pub each_none : (total : Result S WFault) → length xs ≤ k → each step (drop k xs) s ≡ total → total ≡ Ok s
+  unfolding each
+  each_none total h so_far = sym so_far ∙ rw (drop_all k xs h) refl
