@@ -1,5 +1,5 @@
 -- What follows for the seats from what holds of all their lists together.
-use Rattle.std.proofs.Common.{◌≡◌, ℕ, eqb, zero, suc, ◌+◌, ◌<◌, ◌≤◌, List, [], ◌∷◌, ◌++◌, length, get_or, refl, ap, ⊎_elim, arith}
+use Rattle.std.proofs.Common.{◌≡◌, ℕ, eqb, zero, suc, ◌<◌, ◌≤◌, List, [], ◌∷◌, length, refl, ap, ⊎_elim, arith}
 use Rattle.m2_board.specs.declared.rule.Counted.{Counted}
 use Rattle.m2_board.specs.Lists.{times}
 use Rattle.m2_board.specs.Graph.{waiting_of}

@@ -1,6 +1,7 @@
 -- The next of a list's items, and what an answer that may fail gives.
-use Rattle.std.proofs.Common.{◌≡◌, ℕ, ◌<◌, List, [], ◌∷◌, ◌++◌, length, get_or, refl, sym, ap, ◌∙◌, arith, length-append, Ok, Err}
+use Rattle.std.proofs.Common.{◌≡◌, ℕ, ◌<◌, List, [], ◌∷◌, ◌++◌, length, get_or, refl, sym, ap, ◌∙◌, arith, append-nil, append_assoc, length-append, Ok, Err}
 use Rattle.std.specs.Prelude.{Result, IfOk}
+use Rattle.m2_board.specs.Lists.{together}
 
 after : {A : Type 0} (xs ys : List A) (x d : A) → get_or (xs ++ x ∷ ys) (length xs) d ≡ x
 after [] ys x d = refl
@@ -16,3 +17,7 @@ next_in xs zs ys all x is head =
 pub if_ok : {T E : Type 0} (r : Result T E) (P Q : T → Type 0) → ((x : T) → P x → Q x) → IfOk r P → IfOk r Q
 if_ok (Ok x) P Q f p = f x p
 if_ok (Err e) P Q f p = tt
+
+pub together_push : {S A : Type 0} (f : S → List A) (xs : List S) (x : S) → together f (xs ++ x ∷ []) ≡ together f xs ++ f x
+together_push f [] x = append-nil (f x)
+together_push f (y ∷ ys) x = ap (λ l. f y ++ l) (together_push f ys x) ∙ sym (append_assoc (f y) (together f ys) (f x))

@@ -6,7 +6,8 @@ use Rattle.m2_board.specs.Lists.{times}
 use Rattle.m2_board.proofs.Weights.{weigh-push}
 use Rattle.m2_board.proofs.Consistent.{bit, one_if}
 
-match_none : {R : Type 0} (o : Option R) (P P' : Type 0) (Q : R → Type 0) → (P → P') → MatchOption o P Q → MatchOption o P' Q
+-- another fact of a place with nothing in it
+pub match_none : {R : Type 0} (o : Option R) (P P' : Type 0) (Q : R → Type 0) → (P → P') → MatchOption o P Q → MatchOption o P' Q
 match_none None P P' Q f m = f m
 match_none (Some r) P P' Q f m = m
 

@@ -16,3 +16,6 @@ mod worker;
 pub use m2_board::{Board, BoardSeat, JobGraph, PoolRefusal, Tally};
 pub use run::run_jobs;
 pub use work::{Gate, Work};
+
+#[cfg(test)]
+mod tests;

@@ -57,7 +57,11 @@ impl<W: Work> Ran<W> {
             kept,
         } = self;
         if let Some(published) = kept {
-            let Published { job: _, work: _, out } = Box::into_inner(published);
+            let Published {
+                job: _,
+                work: _,
+                out,
+            } = Box::into_inner(published);
             return Ok(out);
         }
         match cell.get_as(&mut note) {

@@ -1,7 +1,6 @@
 // The whole: workers on threads of their own, and the gatherer.
 ghost use Rattle.std.specs.Prelude.{◌≡◌, ◌≢◌, ◌++◌, [], ℕ, ◌<◌, ◌≤◌, ◌↔◌, length, map, All, IfOk, Err};
 ghost use Rattle.std.specs.List.{HoldsAt};
-ghost use Rattle.std.specs.Thread.{IsSend, IsSync};
 ghost use Rattle.once_cell.specs.Once.{cell_name};
 ghost use Rattle.m2_board.specs.Lists.{times, listed};
 ghost use Rattle.m2_board.specs.Seats.{IsAllSeats, all_had};
@@ -170,8 +169,7 @@ fn all_work<R: Threads + Sync, W: Work, G: Gate>(
         rt,
         members,
         &|member: Member<W>| -> Result<Member<W>, AllocError>
-            requires threads { IsSend W.row × IsSync W.row × IsSend W.Out.row × IsSync W.Out.row × IsSync W.Key.row × IsSync G.row }
-            requires member { (member.seat.board ≡ shop.now.board.now.id) × (member.seat.had ≡ []) × (member.ran.items ≡ []) }
+            requires { (member.seat.board ≡ shop.now.board.now.id) × (member.seat.had ≡ []) × (member.ran.items ≡ []) }
             ensures { IfOk result (λ m. (m.seat.board ≡ shop.entry.now.board.now.id) × (map (λ r. r.job) m.ran.items ≡ m.seat.had) × All (λ r. (W.key_of r.work ≡ W.key_of shop.entry.now.work.now) × HoldsAt (λ c. r.note.cell ≡ cell_name c) shop.entry.now.cells.now r.job) m.ran.items) }
         { work_on(alloc, shop, member) },
     )

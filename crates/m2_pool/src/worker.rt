@@ -120,7 +120,13 @@ fn attempt<W: Work, G: Gate>(
     }
     let ran = run(alloc, shop, job, outs.as_slice())?;
     member.ran.push(ran)?;
-    count_all(shop.board, shop.graph, &mut member.seat, job, &mut member.own);
+    count_all(
+        shop.board,
+        shop.graph,
+        &mut member.seat,
+        job,
+        &mut member.own,
+    );
     Ok(())
 }
 

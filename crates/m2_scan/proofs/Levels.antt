@@ -34,7 +34,7 @@ abbrev pub Ends : ℕ → Text → Text → Type 0
 Ends n s more = (w : Text) × AreClosed n w × (s ≡ w ++ more)
 
 -- what is closed has two bytes at least
-closed_two : (a : Text) → IsClosed a → (x : ℕ) × (y : ℕ) × (bs : Text) × (a ≡ x ∷ y ∷ bs)
+pub closed_two : (a : Text) → IsClosed a → (x : ℕ) × (y : ℕ) × (bs : Text) × (a ≡ x ∷ y ∷ bs)
 closed_two _ close = (42, 41, [], refl)
 closed_two _ (other b c bs n m p) = (b, c, bs, refl)
 closed_two _ (inner bs cs p q) = (40, 42, bs ++ cs, refl)

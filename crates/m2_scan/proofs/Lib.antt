@@ -1,6 +1,11 @@
 pub mod Lists
+pub mod Divisions
+pub mod Fronts
 pub mod Levels
+pub mod Meanings
 pub mod Numerals
 pub mod Places
+pub mod Refusals
+pub mod Scanned
 pub mod Shapes
 pub mod Walks

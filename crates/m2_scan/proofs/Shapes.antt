@@ -12,12 +12,13 @@ use Rattle.m2_scan.specs.declared.class.Class.{Class}
 use Rattle.m2_scan.specs.declared.class.Class.TheVariants.{Space, Letter, Digit, Quote, Other}
 use Rattle.m2_scan.specs.declared.number.Numeral.{Numeral}
 use Rattle.m2_scan.specs.declared.number.Numeral.TheVariants.{Decimal, Octal, Hexadecimal, Code}
-use Rattle.m2_scan.specs.Bytes.{Text, class, in_run, is_run_byte, is_printable, is_inside}
+use Rattle.m2_scan.specs.Bytes.{Text, class, in_run, is_run_byte, is_printable, is_inside, is_line_end}
 use Rattle.m2_scan.specs.Numbers.{Writes, limit, base, suffix, digit, is_digit_of, value}
 use Rattle.m2_scan.specs.Symbols.{Spellings, words, signs, lookup, word_of, sign_of}
 use Rattle.m2_scan.specs.Forms.{IsRun, IsQuoted, IsClosed, IsForm, space, name, number, quoted, sign, comment, opened, IsLongest, IsSpace, IsComment, IsMember, Spells, opening, max_name}
 use Rattle.m2_scan.proofs.Lists.{and_true, same_cut, same_head, all_append, passes_within, passes_to}
 use Rattle.m2_scan.proofs.Levels.{closed_once}
+use Rattle.m2_scan.proofs.Places.{in_one_line}
 
 -- ---- the tables
 
@@ -60,7 +61,7 @@ letter_class Quote h = cc
 
 sign_test : Text → Bool
 sign_test [] = false
-sign_test (b ∷ bs) = is_other (class b) && (is_some (sign_of (b ∷ [])) && leb (length bs) 1)
+sign_test (b ∷ bs) = is_other (class b) && (is_some (sign_of (b ∷ [])) && (leb (length bs) 1 && list_all in_one_line (b ∷ bs)))
 
 word_test : Text → Bool
 word_test [] = false
@@ -74,17 +75,19 @@ pub record IsSign (w : Text) : Type 0 where
   pub other : class first ≡ Other
   pub alone : is_some (sign_of (first ∷ [])) ≡ true
   pub short : length others ≤ 1
+  pub line : list_all in_one_line w ≡ true
 
 sign_parts : (w : Text) → sign_test w ≡ true → IsSign w
 unfolding sign_test
 sign_parts [] h = cc
 sign_parts (b ∷ bs) h =
     let a = and_true (is_other (class b)) _ h in
-    let c = and_true (is_some (sign_of (b ∷ []))) (leb (length bs) 1) a.1 in
-    record { first = b; others = bs; is = refl; other = other_class (class b) a.0; alone = c.0; short = leb-true (length bs) 1 c.1 }
+    let c = and_true (is_some (sign_of (b ∷ []))) _ a.1 in
+    let d = and_true (leb (length bs) 1) (list_all in_one_line (b ∷ bs)) c.1 in
+    record { first = b; others = bs; is = refl; other = other_class (class b) a.0; alone = c.0; short = leb-true (length bs) 1 d.0; line = d.1 }
 
 signs_pass : list_all (λ e. sign_test e.0) signs ≡ true
-unfolding sign_test is_other class sign_of
+unfolding sign_test is_other class sign_of is_line_end
 signs_pass = refl
 
 pub sign_is : (w : Text) (s : Symbol) → sign_of w ≡ Some s → IsSign w
@@ -221,7 +224,7 @@ longest_string w inside more h = record {
       omega (arith, quoted_length q s v k.0 m (d ∙ e) k.1, quoted_length q s w inside more d h)
   }
 
-sign_length : (v : Text) (s : Symbol) → sign_of v ≡ Some s → length v ≤ 2
+pub sign_length : (v : Text) (s : Symbol) → sign_of v ≡ Some s → length v ≤ 2
 sign_length v s e = let p = sign_is v s e in omega (arith, p.short, ap length p.is)
 
 tail_two : {a b x y : ℕ} {s t : Text} → a ∷ b ∷ s ≡ x ∷ y ∷ t → s ≡ t

@@ -45,7 +45,7 @@ same_place e f = cc
 passed_mark : (w : Text) → list_all in_one_line w ≡ true → length w ≡ 2 → (p q : Pos) → q.line ≡ p.line → q.col ≡ p.col + 2 → q ≡ over p w
 passed_mark w h n p q line col = let e = over_line p w h in let k : q ≡ record { line = p.line; col = p.col + length w } = same_place line (col ∙ ap (λ n. p.col + n) (sym n)) in k ∙ sym e
 
-room_behind : (w : Text) (p q : Pos) (rest s : Text) → HasRoom p rest → rest ≡ w ++ s → q ≡ over p w → HasRoom q s
+pub room_behind : (w : Text) (p q : Pos) (rest s : Text) → HasRoom p rest → rest ≡ w ++ s → q ≡ over p w → HasRoom q s
 room_behind w p q rest s room e at =
     let P : Pos → Type 0 = λ p. HasRoom p s in
     let Q : Text → Type 0 = λ t. HasRoom p t in

@@ -30,18 +30,19 @@ abbrev pub bytes_of : List Member → Text
 bytes_of [] = []
 bytes_of (m ∷ ms) = m.0 ++ bytes_of ms
 
-abbrev pub token_at : Text → Option Lexeme → List Token
-token_at front None = []
-token_at front (Some t) = record { lexeme = t; pos = place front } ∷ []
+-- what a member at this place adds to the tokens: a token, or nothing
+abbrev pub tokens_at : Pos → Option Lexeme → List Token
+tokens_at pos None = []
+tokens_at pos (Some t) = record { lexeme = t; pos = pos } ∷ []
 
 -- the tokens among the members, with their places behind these bytes
 abbrev pub tokens_behind : Text → List Member → List Token
 tokens_behind front [] = []
-tokens_behind front (m ∷ ms) = token_at front m.1 ++ tokens_behind (front ++ m.0) ms
+tokens_behind front (m ∷ ms) = tokens_at (place front) m.1 ++ tokens_behind (front ++ m.0) ms
 
 -- The text divides, and these are its tokens, the last of which is its end.
 abbrev pub HasTokens : Text → List Token → Type 0
-HasTokens text ts = (ms : List Member) × Divides text ms [] × (ts ≡ tokens_behind [] ms ++ token_at text (Some lexeme.End))
+HasTokens text ts = (ms : List Member) × Divides text ms [] × (ts ≡ tokens_behind [] ms ++ tokens_at (place text) (Some lexeme.End))
 
 -- The text before this place divides: `front` stands before it, and `rest` behind it.
 abbrev pub Reaches : Text → Text → Text → Type 0

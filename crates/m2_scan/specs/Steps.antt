@@ -1,15 +1,19 @@
 -- What the parts of the scanner say to one another. No public contract speaks of it.
-use Rattle.std.specs.Prelude.{◌≡◌, ◌≢◌, ◌≤◌, ◌<◌, ℕ, ◌+◌, ◌^◌, ◌==◌, true, false, List, [], ◌∷◌, ◌++◌, length, Option, if◌then◌else◌}
+use Rattle.std.specs.Prelude.{◌≡◌, ◌≢◌, ◌≤◌, ◌<◌, ℕ, ◌+◌, ◌^◌, ◌==◌, true, false, List, [], ◌∷◌, ◌++◌, length, Option, Some, None, if◌then◌else◌}
 use Rattle.std.specs.List.{list_all}
 use Rattle.m2_tree.specs.declared.pos.Pos.{Pos}
 use Rattle.m2_tree.specs.declared.token.Lexeme.{Lexeme}
+use Rattle.m2_tree.specs.declared.token.Symbol.{Symbol}
+use Rattle.m2_scan.specs.declared.class.Class.{Class}
 use Rattle.m2_scan.specs.declared.number.Numeral.{Numeral}
 use Rattle.m2_scan.specs.declared.number.Numeral.TheVariants.{Decimal, Octal, Hexadecimal, Code}
 use Rattle.m2_scan.specs.declared.refusal.Fault.{Fault}
 use Rattle.m2_scan.specs.declared.refusal.Fault.TheVariants.{BadNumber, LargeNumber}
 use Rattle.m2_scan.specs.declared.refusal.ScanError.{ScanError}
+use Rattle.m2_scan.specs.declared.refusal.ScanRefusal.{ScanRefusal}
 use Rattle.m2_scan.specs.declared.refusal.ScanError.TheVariants.{Refused, NoMemory}
-use Rattle.m2_scan.specs.Bytes.{Text, is_line_end}
+use Rattle.m2_scan.specs.Bytes.{Text, class, is_line_end}
+use Rattle.m2_scan.specs.Symbols.{sign_of}
 use Rattle.m2_scan.specs.Numbers.{Writes, base, limit, suffix, is_digit_of, value}
 use Rattle.m2_scan.specs.declared.comment.Mark.{Mark}
 use Rattle.m2_scan.specs.declared.comment.Mark.TheVariants.{Opening, Closing, Byte, End}
@@ -70,3 +74,20 @@ Closes text pos rest after = (bs : Text) × IsClosed bs × (text ≡ bs ++ rest)
 -- It doesn't end.
 abbrev pub NeverCloses : Text → Type 0
 NeverCloses text = (bs more : Text) → text ≡ bs ++ more → IsClosed bs → ⊥
+
+-- The first byte is of this class.
+abbrev pub Begins : Class → Text → Type 0
+Begins k text = (b : ℕ) × (bs : Text) × (text ≡ b ∷ bs) × (class b ≡ k)
+
+abbrev pub Opens : Text → Type 0
+Opens text = (behind : Text) × (text ≡ 40 ∷ 42 ∷ behind)
+
+-- the operator or delimiter of two bytes at the front
+abbrev pub IsPair : Text → Option Symbol → Type 0
+IsPair text (Some s) = (b : ℕ) × (c : ℕ) × (bs : Text) × (text ≡ b ∷ c ∷ bs) × (sign_of (b ∷ c ∷ []) ≡ Some s)
+IsPair text None = (b c : ℕ) (bs : Text) → text ≡ b ∷ c ∷ bs → sign_of (b ∷ c ∷ []) ≡ None
+
+-- The error is that memory ran out, or a refusal of which this holds.
+abbrev pub IfRefused : (ScanRefusal → Type 0) → ScanError → Type 0
+IfRefused P NoMemory = Unit {0}
+IfRefused P (Refused r) = P r

@@ -3,9 +3,14 @@
 
 mod class;
 mod comment;
+mod cut;
 mod lengths;
 mod number;
 mod refusal;
 mod symbols;
+#[cfg(test)]
+mod tests;
+mod tokens;
 
 pub use refusal::{Fault, ScanError, ScanRefusal};
+pub use tokens::{MAX_TEXT, one_division, one_refusal, scan, tokens_or_refusal};

@@ -25,6 +25,25 @@ pub enum Fault {
     LongName,
 }
 
+impl Fault {
+    ghost use Rattle.m2_scan.specs.FaultNumber.{number_of};
+
+    /// The number by which the refusal is told, from 1 to 7.
+    pub fn number(self) -> u32
+        ensures { result ≡ number_of self }
+    {
+        match self {
+            Fault::TooLong => 1,
+            Fault::StrayByte => 2,
+            Fault::OpenComment => 3,
+            Fault::OpenString => 4,
+            Fault::BadNumber => 5,
+            Fault::LargeNumber => 6,
+            Fault::LongName => 7,
+        }
+    }
+}
+
 /// What is refused in a text, and where.
 #[derive(Clone, Copy, Debug, PartialEq, Eq)]
 pub struct ScanRefusal {

@@ -39,7 +39,7 @@ pub struct Field {
 }
 
 /// The type of a formal.
-#[derive(Clone, Copy)]
+#[derive(Clone, Copy, Debug, PartialEq, Eq)]
 pub struct FormalType {
     /// Whether ARRAY OF stands before the name.
     pub is_open: bool,
@@ -47,7 +47,7 @@ pub struct FormalType {
 }
 
 /// A formal of a procedure type.
-#[derive(Clone, Copy)]
+#[derive(Clone, Copy, Debug, PartialEq, Eq)]
 pub struct Parameter {
     /// Whether VAR stands before it.
     pub is_var: bool,

@@ -2,6 +2,7 @@
 
 use crate::name::Ident;
 use crate::pos::Pos;
+use crate::text::Quoted;
 use sqlite_items::{Boxed, Items};
 
 /// A relation between two values.
@@ -49,7 +50,7 @@ pub struct Operator<O> {
 }
 
 /// A name, or a name of a module.
-#[derive(Clone, Copy)]
+#[derive(Clone, Copy, Debug, PartialEq, Eq)]
 pub struct Qualified {
     /// The module that is named before the point, if one is.
     pub module: Option<Ident>,
@@ -64,7 +65,7 @@ pub enum Expr {
     /// A character by its code.
     Char(Pos, u8),
     /// A string, by the bytes between its quotes.
-    Text(Pos, Items<u8>),
+    Text(Pos, Quoted),
     /// The type's name, if it is written, the place of the brace, and the elements.
     Set(Option<Ident>, Pos, Items<Item>),
     /// The place of the NOT, and its operand.

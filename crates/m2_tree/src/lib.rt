@@ -10,6 +10,9 @@ mod name;
 mod pos;
 mod refusal;
 mod stmt;
+#[cfg(test)]
+mod tests;
+mod text;
 mod token;
 
 pub use decl::{
@@ -21,4 +24,5 @@ pub use name::{Ident, MAX_NAME, Name};
 pub use pos::Pos;
 pub use refusal::Refusal;
 pub use stmt::{Arm, Rest, Stmt};
+pub use text::Quoted;
 pub use token::{Lexeme, Symbol, Token};

@@ -12,7 +12,7 @@ use std::marker::Model;
 pub const MAX_NAME: usize = 64;
 
 /// A name of at most 64 bytes. Contracts see it as the list of its bytes.
-#[derive(Clone, Copy)]
+#[derive(Clone, Copy, Debug)]
 pub struct Name {
     len: usize,
     bytes: [u8; 64],
@@ -73,7 +73,7 @@ impl Eq for Name {
 }
 
 /// A name where it is written.
-#[derive(Clone, Copy, PartialEq, Eq)]
+#[derive(Clone, Copy, Debug, PartialEq, Eq)]
 pub struct Ident {
     /// The name.
     pub name: Name,

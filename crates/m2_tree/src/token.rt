@@ -2,7 +2,7 @@
 
 use crate::name::Name;
 use crate::pos::Pos;
-use sqlite_items::Items;
+use crate::text::Quoted;
 
 /// An operator, a delimiter or a reserved word ("Programming in Modula-2", 4th edition, Report, section 3). The two
 /// spellings of one operator, as `&` and `AND`, are one symbol.
@@ -76,7 +76,7 @@ pub enum Symbol {
 }
 
 /// What a token says.
-#[derive(Drop)]
+#[derive(Debug, PartialEq, Eq, Drop)]
 pub enum Lexeme {
     /// A name that is no reserved word.
     Name(Name),
@@ -85,7 +85,7 @@ pub enum Lexeme {
     /// The code of a character that is written as an octal number with a `C`.
     Char(u8),
     /// The bytes between the quotes of a string.
-    Text(Items<u8>),
+    Text(Quoted),
     /// An operator, a delimiter or a reserved word.
     Symbol(Symbol),
     /// The end of the text.
@@ -93,7 +93,7 @@ pub enum Lexeme {
 }
 
 /// A token, and the place of its first byte. The end of a text is a token behind its last byte.
-#[derive(Drop)]
+#[derive(Debug, PartialEq, Eq, Drop)]
 pub struct Token {
     pub lexeme: Lexeme,
     pub pos: Pos,

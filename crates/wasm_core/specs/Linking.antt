@@ -209,11 +209,12 @@ with_slots l table at (Some t) (Some slots) =
     then Ok (record l { store = record l.store { tables = slice_set l.store.tables table (record t { slots = pasted t.slots at slots }) } })
     else Err SegmentOutside
 
-abbrev pub some_table : Linked → ℕ → Result ℕ WFault
-some_table l index = elim (slice_get l.instance.tables index) [ None ↦ Err SegmentOutside | Some a ↦ Ok a ]
+-- the place that an index stands for
+abbrev pub some_address : List ℕ → (index : ℕ) → Result ℕ WFault
+some_address places index = elim (slice_get places index) [ None ↦ Err SegmentOutside | Some a ↦ Ok a ]
 
 abbrev pub with_element : Element → Linked → Result Linked WFault
-with_element e l = offset_of (value_of l e.offset) >>= λ at. some_table l e.table >>= λ table. with_slots l table at (slice_get l.store.tables table) (addresses l.instance e.functions)
+with_element e l = offset_of (value_of l e.offset) >>= λ at. some_address l.instance.tables e.table >>= λ table. with_slots l table at (slice_get l.store.tables table) (addresses l.instance e.functions)
 
 abbrev pub with_bytes : Linked → (memory at : ℕ) → Option Memory → List ℕ → Result Linked WFault
 with_bytes l memory at None bytes = Err SegmentOutside
@@ -222,11 +223,8 @@ with_bytes l memory at (Some m) bytes =
     then Ok (record l { store = record l.store { memories = slice_set l.store.memories memory (record m { bytes = pasted m.bytes at bytes }) } })
     else Err SegmentOutside
 
-abbrev pub some_memory : Linked → ℕ → Result ℕ WFault
-some_memory l index = elim (slice_get l.instance.memories index) [ None ↦ Err SegmentOutside | Some a ↦ Ok a ]
-
 abbrev pub with_segment : Data → Linked → Result Linked WFault
-with_segment d l = offset_of (value_of l d.offset) >>= λ at. some_memory l d.memory >>= λ memory. with_bytes l memory at (slice_get l.store.memories memory) d.bytes
+with_segment d l = offset_of (value_of l d.offset) >>= λ at. some_address l.instance.memories d.memory >>= λ memory. with_bytes l memory at (slice_get l.store.memories memory) d.bytes
 
 -- ---- modules one after the other
 

@@ -1,6 +1,7 @@
 -- What the executor's values stand for.
 use Rattle.std.specs.Prelude.{◌≡◌, ℕ, List, [], ◌∷◌, ◌++◌, drop, map, slice_get, Option, Some, None, Result, Ok, Err}
 use Rattle.std.specs.Borrow.{Bor}
+use Rattle.std.specs.Global.{Vec}
 use Rattle.std.specs.Option.{option_map}
 use Rattle.wasm_core.specs.declared.fault.WFault.{WFault}
 use Rattle.wasm_core.specs.declared.kinds.FuncType.{FuncType}
@@ -23,3 +24,7 @@ type_of_ref (Some t) = Some t.now
 
 abbrev pub linked : Store → Instance → Linked
 linked st i = record { store = st; instance = i }
+
+abbrev pub items_of : {A : Type 0} → Option (Vec A) → Option (List A)
+items_of None = None
+items_of (Some v) = Some v.items

@@ -2,4 +2,6 @@
 #![tactic(auto)]
 
 mod imports;
+mod segments;
+mod store;
 mod types;

@@ -1,0 +1,37 @@
+use Rattle.std.proofs.Common.{◌≡◌, ℕ, List, [], ◌∷◌, ◌++◌, length, map, sym, ap, ◌∙◌, arith, append_assoc, length-append}
+use Rattle.std.specs.List.{HoldsAt}
+use Rattle.std.proofs.lemmas.Grind.{common_steps}
+use Rattle.std.proofs.lemmas.List.Elements.{All-push, All-append}
+use Rattle.once_cell.specs.Once.{cell_name}
+use mathlib.Core.List.{map-append}
+use Rattle.m2_board.specs.Seats.{SeatState, all_had}
+use Rattle.m2_pool.proofs.Items.{next_in, together_push}
+use Rattle.m2_pool.proofs.run.returned.Goals as goal
+
+pub loop-one-preserved : goal.loop-one-preserved
+loop-one-preserved g c =
+    let before = c.loop-one.invariant in
+    let head = c.in-Some.ensures.steps.0 in
+    let at = next_in c.loop-one.yielded _ _ c.args.ended.items c.in-Some.one before.rest_is head in
+    let asked = rw (at.1 c.in-Some.one) at (c.requires (length c.loop-one.yielded) c.in-Some.one at.0) in
+    let facts = rw c.in_ok-seat.was at asked in
+    let seats : List SeatState = c.loop-one.seats.items in
+    let ran = c.in_ok-seat.field-0.ran.items in
+    let seat : SeatState = c.in_ok-seat.field-0.seat in
+    let pushed : c.push.new.self.items ≡ seats ++ seat ∷ [] = c.in_ok-push.ensures.items in
+    let joined : c.append.new.self.items ≡ c.loop-one.all.items ++ ran = c.in_ok-append.ensures.items in
+    let long : length c.push.new.self.items ≡ length (seats ++ seat ∷ []) = ap (λ l. length l) pushed in
+    let count : length seats ≡ length c.loop-one.yielded = before.count_is in
+    record {
+      rest_is = append_assoc c.loop-one.yielded (c.in-Some.one ∷ []) _ ∙ (ap (λ l. c.loop-one.yielded ++ l) (sym head) ∙ before.rest_is);
+      length_is = grind (arith, common_steps);
+      count_is = omega (arith, length-append seats (seat ∷ []), length-append c.loop-one.yielded (c.in-Some.one ∷ []));
+      seats_are = rw pushed (All-push (λ (s : SeatState). s.board ≡ c.args.shop.now.board.now.id) seats seat before.seats_are facts.0);
+      ran_is = ap (map (λ r. r.job)) joined
+          ∙ (map-append (λ r. r.job) c.loop-one.all.items ran
+          ∙ (ap (λ l. l ++ map (λ r. r.job) ran) before.ran_is
+          ∙ (ap (λ l. all_had seats ++ l) facts.1
+          ∙ (sym (together_push (λ (s : SeatState). s.had) seats seat) ∙ ap all_had (sym pushed)))));
+      notes_are = rw joined (All-append (λ r. (g.W.Work.key_of r.work ≡ g.W.Work.key_of c.args.shop.now.work.now) × HoldsAt (λ c'. r.note.cell ≡ cell_name c') c.args.shop.now.cells.now r.job)
+          c.loop-one.all.items ran before.notes_are facts.2);
+    }
