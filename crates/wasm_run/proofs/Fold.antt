@@ -6,8 +6,10 @@ use Rattle.wasm_core.specs.declared.fault.WFault.{WFault}
 use Rattle.wasm_core.specs.declared.fault.WFault.TheVariants.{Malformed, OutsideProfile, Invalid, Unlinked, SegmentOutside, NoMemory}
 use Rattle.wasm_core.specs.Format.{◌>>=◌, Fails}
 use Rattle.wasm_core.specs.declared.module.Function.{Function}
+use Rattle.wasm_core.specs.declared.module.WModule.{WModule}
+use Rattle.wasm_core.specs.declared.store.Store.{Store}
 use Rattle.wasm_core.specs.declared.store.Callee.TheVariants.{Own}
-use Rattle.wasm_core.specs.Linking.{each, Linked, with_function, with_functions}
+use Rattle.wasm_core.specs.Linking.{each, Linked, with_function, with_functions, linked_one, linked_from}
 
 -- a fault of the first of two steps is one of both
 pub fails_first : {A B : Type 0} (e : WFault) (first : Result A WFault) (next : A → Result B WFault) → Fails e first → Fails e (first >>= next)
@@ -71,3 +73,20 @@ module _ (m : ℕ) (fs : List Function) (k : ℕ) (l : Linked) where
   pub functions_none : (total : Linked) → length fs ≤ k → with_functions m k (drop k fs) l ≡ total → l ≡ total
   unfolding with_functions
   functions_none total h so_far = sym (ap (λ rest. with_functions m k rest l) (drop_all k fs h)) ∙ so_far
+
+module _ (all trees : List WModule) (k : ℕ) (st : Store) where
+  at_tree : (tree : WModule) → k < length trees → tree ≡ get_or trees k tree → linked_from all k (drop k trees) st ≡ (linked_one all k tree st >>= linked_from all (suc k) (drop (suc k) trees))
+  unfolding linked_from
+  at_tree tree h is = ap (λ xs. linked_from all k xs st) (drop-cons trees k tree h) ∙ rw (← is) refl
+
+  pub linked_more : (tree : WModule) (next : Store) (total : Result Store WFault) → k < length trees → tree ≡ get_or trees k tree → linked_one all k tree st ≡ Ok next → linked_from all k (drop k trees) st ≡ total → linked_from all (k + 1) (drop (k + 1) trees) next ≡ total
+  linked_more tree next total h is e so_far = rw add-one (sym (at_tree tree h is ∙ rw e refl) ∙ so_far)
+
+  pub linked_fail : (e : WFault) (tree : WModule) (total : Result Store WFault) → k < length trees → tree ≡ get_or trees k tree → Fails e (linked_one all k tree st) → linked_from all k (drop k trees) st ≡ total → Fails e total
+  linked_fail e tree total h is f so_far =
+      fails_same e (linked_one all k tree st >>= linked_from all (suc k) (drop (suc k) trees)) total (fails_first e (linked_one all k tree st) (linked_from all (suc k) (drop (suc k) trees)) f)
+          (sym (at_tree tree h is) ∙ so_far)
+
+  pub linked_none : (total : Result Store WFault) → length trees ≤ k → linked_from all k (drop k trees) st ≡ total → total ≡ Ok st
+  unfolding linked_from
+  linked_none total h so_far = sym so_far ∙ rw (drop_all k trees h) refl

@@ -1,3 +1,4 @@
 pub mod Same
 pub mod Fold
 pub mod Addressed
+pub mod Last

@@ -1,6 +1,6 @@
 //! Functions of modules and their types (Core 1.0, section 3.3.2).
 
-ghost use Rattle.std.specs.Prelude.{◌≡◌};
+ghost use Rattle.std.specs.Prelude.{◌≡◌, ◌&&◌};
 ghost use Rattle.wasm_core.specs.Machine.{is_same_value_type, are_same, is_same_type, callee_type, own_function, type_at, agree, Typed};
 ghost use Rattle.wasm_run.specs.Run.{typed_of, type_of_ref};
 
@@ -30,12 +30,18 @@ fn are_same(xs: &[ValueType], ys: &[ValueType]) -> bool
     true
 }
 
+/// Whether a function takes and gives these.
+pub fn has_types(t: &FuncType, params: &[ValueType], results: &[ValueType]) -> bool
+    ensures { result ≡ (are_same t.now.params params.now && are_same t.now.results results.now) }
+{
+    are_same(t.params.as_slice(), params) && are_same(t.results.as_slice(), results)
+}
+
 /// Whether two functions take and give the same.
 pub fn is_same_type(t: &FuncType, u: &FuncType) -> bool
     ensures { result ≡ is_same_type t.now u.now }
 {
-    are_same(t.params.as_slice(), u.params.as_slice())
-        && are_same(t.results.as_slice(), u.results.as_slice())
+    has_types(t, u.params.as_slice(), u.results.as_slice())
 }
 
 /// A function that a module declares.
@@ -77,10 +83,7 @@ pub fn agrees(modules: &[ValidModule], asked: Option<&FuncType>, callee: Callee)
         return false;
     };
     match callee {
-        Callee::Put | Callee::Stop => {
-            are_same(asked.params.as_slice(), &[ValueType::I64])
-                && are_same(asked.results.as_slice(), &[])
-        }
+        Callee::Put | Callee::Stop => has_types(asked, &[ValueType::I64], &[]),
         Callee::Own { module, function } => match own_function(modules, module, function) {
             None => false,
             Some(typed) => is_same_type(asked, typed.func_type),
