@@ -40,9 +40,24 @@ pub record Steps {S : Type 0} (told : S → Option (List ℕ)) (failed : S → �
   pub bytes : told after ≡ with_bytes (told before) (reduce (modules_of old) (config_of old)).1
   pub failures : failed after ≡ failed before
 
--- nothing was taken: a byte was refused, or memory
-pub record Stops {S : Type 0} (told : S → Option (List ℕ)) (failed : S → ℕ) (e : RunFault) (before after : S) : Type 0 where
-  pub bytes : told after ≡ told before
+-- which fault, and whether there is one failure more
+pub record Breaks {S : Type 0} (failed : S → ℕ) (e : RunFault) (before after : S) : Type 0 where
   pub write : e ≡ Write → failed after ≡ failed before + 1
   pub memory : e ≡ NoMemory → failed after ≡ failed before
   pub which : (e ≡ Write) ⊎ (e ≡ NoMemory)
+
+-- nothing was taken: a byte was refused, or memory
+pub record Stops {S : Type 0} (told : S → Option (List ℕ)) (failed : S → ℕ) (e : RunFault) (before after : S) : Type 0 where
+  pub bytes : told after ≡ told before
+  pub breaks : Breaks failed e before after
+
+-- so many reductions were made, and what they printed was taken
+pub record Runs {S : Type 0} (told : S → Option (List ℕ)) (failed : S → ℕ) (steps : ℕ) (e : End) (old new : Instances) (before after : S) : Type 0 where
+  pub config : config_of new ≡ (run (modules_of old) steps (config_of old)).0
+  pub answer : IsEnd e (config_of new)
+  pub bytes : told after ≡ with_bytes (told before) (run (modules_of old) steps (config_of old)).1
+  pub failures : failed after ≡ failed before
+
+-- what no more reductions printed was taken, and nothing more
+abbrev pub RunsPart : {S : Type 0} → (S → Option (List ℕ)) → (steps : ℕ) → Instances → (before after : S) → Type 0
+RunsPart told steps old before after = (n : ℕ) × (n ≤ steps) × (told after ≡ with_bytes (told before) (run (modules_of old) n (config_of old)).1)

@@ -1,13 +1,13 @@
 //! Linked modules and their run (Core 1.0, sections 4.5.4 and 4.5.5).
 
-ghost use Rattle.std.specs.Prelude.{◌≡◌, ◌≢◌, ◌↔◌, ◌+◌, ◌<◌, ◌^◌, ◌++◌, ◌∷◌, [], ℕ, List, true, false, IfOk, OnErr, MatchResult, Ok, slice_get, IsTrue};
+ghost use Rattle.std.specs.Prelude.{◌≡◌, ◌≢◌, ◌↔◌, ◌+◌, ◌<◌, ◌^◌, ◌++◌, ◌∷◌, [], ℕ, List, true, false, IfOk, IfErr, OnErr, MatchResult, Err, Ok, slice_get, IsTrue};
 ghost use Rattle.wasm_core.specs.Format.{Gives};
 ghost use Rattle.wasm_core.specs.Machine.{Config, Typed, own_function, callee_at, run, entered};
 ghost use Rattle.wasm_core.specs.Linking.{link, start, started};
 ghost use Rattle.wasm_core.specs.declared.store.Callee.{Callee};
 ghost use Rattle.wasm_run.specs.Going.{activation, going};
 ghost use Rattle.wasm_run.specs.Told.{with_bytes};
-ghost use Rattle.wasm_run.specs.Instances.{config_of, modules_of, has_failed, IsEnd, Steps, Stops};
+ghost use Rattle.wasm_run.specs.Instances.{config_of, modules_of, has_failed, Steps, Stops, Breaks, Runs, RunsPart};
 
 
 use crate::link::{linked_all, run_of};
@@ -121,6 +121,45 @@ impl<'a> Instances<'a> {
             end: End::StillRunning,
             is_broken: false,
         })
+    }
+
+    /// Executes link's `run` for so many further reductions, or up to its end if that comes first, and hands each printed
+    /// byte to `out`. After an end each later call answers the same. `Write` (91) exactly where `out` failed, `NoMemory`
+    /// (90) where memory was refused; each later call then answers `Ended` (92) and does nothing.
+    pub fn run<S: Sink>(&mut self, steps: u64, out: &mut S) -> Result<End, RunFault>
+        requires { S.failed out.old + 1 < 2 ^ 64 }
+        // Without a fault: exactly these reductions, the bytes that they print, and where the run is then.
+        ensures ok { IfOk result (λ e. Runs S.told S.failed steps e self.old self.new out.old out.new) }
+        // With one: the bytes of the reductions before it.
+        ensures err { OnErr result (RunsPart S.told steps self.old out.old out.new × (has_failed self.new ≡ true)) }
+        ensures write { (result ≡ Err RunFault.Write) ↔ (S.failed out.new ≡ S.failed out.old + 1) }
+        ensures others { (result ≡ Err RunFault.Write → ⊥) → S.failed out.new ≡ S.failed out.old }
+        ensures ended { (result ≡ Err RunFault.Ended) ↔ (has_failed self.old ≡ true) }
+        ensures nothing { result ≡ Err RunFault.Ended → (S.told out.new ≡ S.told out.old) × (config_of self.new ≡ config_of self.old) }
+        ensures modules { modules_of self.new ≡ modules_of self.old }
+    {
+        if self.is_broken {
+            return Err(RunFault::Ended);
+        }
+        let answer = self.go_on(steps, out);
+        self.is_broken = answer.is_err();
+        answer
+    }
+
+    /// The same, of a run that was not broken off.
+    fn go_on<S: Sink>(&mut self, steps: u64, out: &mut S) -> Result<End, RunFault>
+        requires { S.failed out.old + 1 < 2 ^ 64 }
+        ensures ok { IfOk result (λ e. Runs S.told S.failed steps e self.old self.new out.old out.new) }
+        ensures err { IfErr result (λ e. RunsPart S.told steps self.old out.old out.new × Breaks S.failed e out.old out.new) }
+        ensures keeps { (modules_of self.new ≡ modules_of self.old) × (has_failed self.new ≡ has_failed self.old) }
+    {
+        for _ in 0..steps {
+            if self.end != End::StillRunning {
+                return Ok(self.end);
+            }
+            self.step(out)?;
+        }
+        Ok(self.end)
     }
 
     /// One reduction of a run that goes on.
