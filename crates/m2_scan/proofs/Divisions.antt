@@ -1,22 +1,20 @@
 -- A text divides in one way, and no member stands where one is refused.
-use Rattle.std.proofs.Common.{◌≡◌, ◌≢◌, ◌≤◌, ◌<◌, ℕ, suc, ◌+◌, ◌^◌, Bool, true, false, List, [], ◌∷◌, ◌++◌, length, take, drop, get_or, Option, Some, None, option_map, ◌&&◌, ◌⊎◌, inl, inr, ap, sym, refl, ◌∙◌, subst, append_assoc, append-nil, length-append, arith}
+use Rattle.std.proofs.Common.{◌≡◌, ◌≤◌, ◌<◌, ℕ, ◌+◌, Bool, true, false, List, [], ◌∷◌, ◌++◌, length, Option, Some, None, option_map, ◌&&◌, inl, inr, ap, sym, refl, ◌∙◌, subst, append_assoc, append-nil, length-append, arith}
 use Rattle.std.specs.List.{list_all, prefix_len}
 use Rattle.std.proofs.lemmas.List.Folds.{list_all-append}
-use Rattle.m2_tree.specs.declared.pos.Pos.{Pos}
-use Rattle.m2_tree.specs.declared.token.Token.{Token}
 use Rattle.m2_tree.specs.declared.token.Lexeme.{Lexeme}
 use Rattle.m2_tree.specs.declared.token.Lexeme.TheVariants as lexeme
 use Rattle.m2_scan.specs.declared.class.Class.{Class}
-use Rattle.m2_scan.specs.declared.class.Class.TheVariants.{Space, Letter, Digit, Quote, Other}
+use Rattle.m2_scan.specs.declared.class.Class.TheVariants.{Letter, Digit, Quote, Other}
 use Rattle.m2_scan.specs.declared.refusal.Fault.{Fault}
 use Rattle.m2_scan.specs.declared.refusal.Fault.TheVariants.{TooLong, StrayByte, OpenComment, OpenString, BadNumber, LargeNumber, LongName}
 use Rattle.m2_scan.specs.declared.number.Numeral.{Numeral}
 use Rattle.m2_scan.specs.Numbers.{Writes, limit}
 use Rattle.m2_scan.specs.Symbols.{sign_of}
-use Rattle.m2_scan.specs.Bytes.{Text, class, is_printable, is_inside}
+use Rattle.m2_scan.specs.Bytes.{Text, is_printable, is_inside}
 use Rattle.m2_scan.specs.Forms.{IsRun, IsQuoted, IsClosed, IsForm, opened, IsLongest, IsMember, Member, opening}
 use Rattle.m2_scan.specs.Division.{Divides, bytes_of, tokens_behind, tokens_at, place, RefusesIn}
-use Rattle.m2_scan.proofs.Lists.{and_true, same_head, same_cut, all_append, passes_within, passes_to, inner_cut}
+use Rattle.m2_scan.proofs.Lists.{and_true, same_head, same_cut, all_append, passes_within, inner_cut}
 use Rattle.m2_scan.proofs.Levels.{closed_two}
 use Rattle.m2_scan.proofs.Shapes.{sorted, front_form, quoted_length, sign_length, no_sign_opens, class_open}
 use Rattle.m2_scan.proofs.Numerals.{written_once}
@@ -134,15 +132,17 @@ comment_stuck : (behind w more : Text) (m : Option Lexeme) → 40 ∷ 42 ∷ beh
 comment_stuck behind w more m e l h never =
     let long = l.longest opening behind (sym e) opened in
     elim (front_form Other 40 (42 ∷ behind) w more class_open e l.form) [
-      inl k ↦ (let two : length opening ≡ length w = omega (arith, long, sign_length w k.0 k.1) in
-        let same = (same_cut opening w behind more e two).0 in
-        let none : Some k.0 ≡ None = sym k.1 ∙ ap sign_of (sym same) ∙ no_sign_opens in
-        cc)
-    | inr k ↦ elim k [
-        inl c ↦ (let whole : 40 ∷ 42 ∷ behind ≡ (40 ∷ 42 ∷ c.0) ++ more = e ∙ ap (λ w. w ++ more) c.2 in
-          let tail : behind ≡ c.0 ++ more = cc in
-          never c.0 more tail c.1)
-      | inr o ↦ opening_says w m o h ] ]
+      | inl k ↦ (let two : length opening ≡ length w = omega (arith, long, sign_length w k.0 k.1) in
+          let same = (same_cut opening w behind more e two).0 in
+          let none : Some k.0 ≡ None = sym k.1 ∙ ap sign_of (sym same) ∙ no_sign_opens in
+          cc)
+      | inr k ↦ elim k [
+        | inl c ↦ (let whole : 40 ∷ 42 ∷ behind ≡ (40 ∷ 42 ∷ c.0) ++ more = e ∙ ap (λ w. w ++ more) c.2 in
+            let tail : behind ≡ c.0 ++ more = cc in
+            never c.0 more tail c.1)
+        | inr o ↦ opening_says w m o h
+      ]
+    ]
 
 run_stuck : (k : Class) (rest w more v after : Text) (m : Option Lexeme) → IsRun k v → rest ≡ v ++ after → IsLongest v after → rest ≡ w ++ more → IsLongest w more → IsMember (w, m) → MeansOf k v m
 run_stuck k rest w more [] after m r e l d j h = absurd r

@@ -1,8 +1,8 @@
 -- What stands at the front of a text, as the scanner's functions find it.
-use Rattle.std.proofs.Common.{◌≡◌, ◌≢◌, ◌≤◌, ◌<◌, ℕ, zero, suc, ◌+◌, ◌-◌, ◌^◌, Bool, true, false, not, cond, eqb, ◌&&◌, ◌||◌, List, [], ◌∷◌, ◌++◌, length, take, drop, get_or, Option, Some, None, ◌⊎◌, inl, inr, ap, sym, refl, ◌∙◌, subst, append_assoc, append-nil, length-append, arith}
+use Rattle.std.proofs.Common.{◌≡◌, ◌≢◌, ◌≤◌, ◌<◌, ℕ, suc, ◌+◌, Bool, true, false, not, cond, eqb, ◌&&◌, ◌||◌, [], ◌∷◌, ◌++◌, length, take, drop, get_or, Some, None, ◌⊎◌, inl, inr, ap, sym, refl, ◌∙◌, subst, append_assoc, length-append, arith}
 use Rattle.std.specs.List.{list_all, prefix_len}
 use Rattle.std.proofs.lemmas.Bool.{eqb-true, cases_Bool}
-use Rattle.std.proofs.lemmas.List.Folds.{list_all-append, prefix_len-append}
+use Rattle.std.proofs.lemmas.List.Folds.{list_all-append}
 use Rattle.std.proofs.lemmas.List.{take-append-drop, length-take-le, drop_more, take_all, get_or_at, drop_at}
 use Rattle.std.proofs.lemmas.List.Sums.{prefix_len-le-length, prefix_len_stops}
 use Rattle.m2_tree.specs.declared.pos.Pos.{Pos}
@@ -11,19 +11,18 @@ use Rattle.m2_tree.specs.declared.token.Lexeme.{Lexeme}
 use Rattle.m2_tree.specs.declared.token.Lexeme.TheVariants as lexeme
 use Rattle.m2_scan.specs.declared.class.Class.{Class}
 use Rattle.m2_scan.specs.declared.class.Class.TheVariants.{Space, Letter, Digit, Quote, Other}
-use Rattle.m2_scan.specs.declared.number.Numeral.{Numeral}
 use Rattle.m2_scan.specs.declared.refusal.Fault.{Fault}
 use Rattle.m2_scan.specs.declared.refusal.Fault.TheVariants.{TooLong, StrayByte, OpenComment, OpenString, BadNumber, LargeNumber, LongName}
 use Rattle.m2_scan.specs.declared.refusal.ScanError.{ScanError}
-use Rattle.m2_scan.specs.declared.refusal.ScanError.TheVariants.{Refused, NoMemory}
+use Rattle.m2_scan.specs.declared.refusal.ScanError.TheVariants.{Refused}
 use Rattle.m2_scan.specs.Bytes.{Text, class, in_run, is_run_byte, is_printable, is_inside, is_line_end}
 use Rattle.m2_scan.specs.Symbols.{sign_of}
-use Rattle.m2_scan.specs.Forms.{IsRun, IsQuoted, IsClosed, IsForm, quoted, IsLongest, IsMember, Spells, opening, max_name}
+use Rattle.m2_scan.specs.Forms.{IsRun, IsQuoted, IsForm, quoted, Spells, opening, max_name}
 use Rattle.m2_scan.specs.Division.{RefusesIn}
 use Rattle.m2_scan.specs.Steps.{moved, over, Begins, Opens, IsPair, Takes, Stops, RefusesNumber, Closes}
-use Rattle.m2_scan.proofs.Lists.{and_true, same_head, same_cut, all_append, all_prefix, all_take, passes_within, passes_to, fails_beyond}
+use Rattle.m2_scan.proofs.Lists.{and_true, same_head, all_append, all_prefix, passes_within, fails_beyond}
 use Rattle.m2_scan.proofs.Places.{in_one_line, over_line}
-use Rattle.m2_scan.proofs.Shapes.{longest_space, longest_name, longest_number, longest_string, longest_comment, longest_sign, longest_pair, begins_nothing, quoted_length, sign_is, sorted, front_form, run_passes, class_open}
+use Rattle.m2_scan.proofs.Shapes.{longest_space, longest_name, longest_number, longest_string, longest_comment, longest_sign, longest_pair, begins_nothing, quoted_length, sign_is, class_open}
 
 -- ---- bytes that end no line
 
@@ -150,13 +149,14 @@ number_stops text run rest n pos LongName e f h is = absurd h
 pub comment_taken : (text behind rest : Text) (pos p q : Pos) → Opens text → behind ≡ drop 2 text → p.line ≡ pos.line → p.col ≡ pos.col + 2 → Closes behind p rest q → Takes text pos None rest q
 comment_taken text behind rest pos p q h e line col c =
     let tail : behind ≡ h.0 = e ∙ ap (drop 2) h.1 in
-    let at : p ≡ over pos opening = right_is pos p opening opening_line line col in
-    ( 40 ∷ 42 ∷ c.0
-    , h.1 ∙ ap (λ t. 40 ∷ 42 ∷ t) (sym tail ∙ c.2)
-    , omega arith
-    , longest_comment c.0 rest c.1
-    , inr (c.0, c.1, refl)
-    , c.3 ∙ ap (λ p. over p c.0) at)
+    let at : p ≡ over pos opening = right_is pos p opening opening_line line col in (
+      40 ∷ 42 ∷ c.0,
+      h.1 ∙ ap (λ t. 40 ∷ 42 ∷ t) (sym tail ∙ c.2),
+      omega arith,
+      longest_comment c.0 rest c.1,
+      inr (c.0, c.1, refl),
+      c.3 ∙ ap (λ p. over p c.0) at,
+    )
 
 -- ---- operators and delimiters
 
@@ -164,9 +164,14 @@ pub pair_taken : (text rest : Text) (pos q : Pos) (s : Symbol) → IsPair text (
 pair_taken text rest pos q s h e line col =
     let b = h.0 in
     let c = h.1 in
-    let tail : rest ≡ h.2 = e ∙ ap (drop 2) h.3 in
-    ( b ∷ c ∷ [], h.3 ∙ ap (λ t. b ∷ c ∷ t) (sym tail), omega arith, longest_pair b c s rest h.4, inr h.4
-    , right_is pos q (b ∷ c ∷ []) (sign_is (b ∷ c ∷ []) s h.4).line line col)
+    let tail : rest ≡ h.2 = e ∙ ap (drop 2) h.3 in (
+      b ∷ c ∷ [],
+      h.3 ∙ ap (λ t. b ∷ c ∷ t) (sym tail),
+      omega arith,
+      longest_pair b c s rest h.4,
+      inr h.4,
+      right_is pos q (b ∷ c ∷ []) (sign_is (b ∷ c ∷ []) s h.4).line line col,
+    )
 
 alone_before : (text : Text) (b : ℕ) (rest : Text) → text ≡ b ∷ rest → (Opens text → ⊥) → IsPair text None → (c : ℕ) (t : Text) → rest ≡ c ∷ t → (b ∷ c ∷ [] ≢ opening) × (sign_of (b ∷ c ∷ []) ≡ None)
 alone_before text b rest whole no_comment no_pair c t d =
@@ -213,7 +218,7 @@ string_open text behind q n pos e h tail first len why is =
     let rest : behind ≡ h.1 = tail ∙ ap (drop 1) h.2 in
     let whole : text ≡ q ∷ behind = h.2 ∙ ap (λ t. b ∷ t) (sym rest) ∙ ap (λ b. b ∷ behind) (sym same) in
     let never = λ (w : Text) (inside : Text) (more : Text) (d : text ≡ w ++ more) (k : IsQuoted w inside).
-        string_closed q behind w inside more n (sym whole ∙ d) k len why in
+    string_closed q behind w inside more n (sym whole ∙ d) k len why in
     stops_here text pos OpenString e is (q, behind, ap class same ∙ h.3, whole, refl, never)
 
 pub record IsString (text inside rest : Text) (q n : ℕ) : Type 0 where
@@ -232,9 +237,9 @@ string_is text behind inside rest q n h tail first len short closed front back =
     let strictly : n < length behind = omega arith in
     let count : length inside ≡ n = ap length front ∙ length-take-le n behind within in
     let cut : behind ≡ inside ++ q ∷ drop (n + 1) behind =
-        sym (take-append-drop n behind) ∙ ap (λ w. w ++ drop n behind) (sym front) ∙ ap (λ t. inside ++ t) (drop_more behind n 0 strictly ∙ ap (λ c. c ∷ drop (n + 1) behind) closed) in
+    sym (take-append-drop n behind) ∙ ap (λ w. w ++ drop n behind) (sym front) ∙ ap (λ t. inside ++ t) (drop_more behind n 0 strictly ∙ ap (λ c. c ∷ drop (n + 1) behind) closed) in
     let whole : text ≡ (q ∷ inside ++ q ∷ []) ++ drop (n + 1) behind =
-        h.2 ∙ ap (λ t. b ∷ t) (sym behind_is) ∙ ap (λ b. b ∷ behind) (sym same) ∙ ap (λ t. q ∷ t) (cut ∙ sym (append_assoc inside (q ∷ []) (drop (n + 1) behind))) in
+    h.2 ∙ ap (λ t. b ∷ t) (sym behind_is) ∙ ap (λ b. b ∷ behind) (sym same) ∙ ap (λ t. q ∷ t) (cut ∙ sym (append_assoc inside (q ∷ []) (drop (n + 1) behind))) in
     let size : length (q ∷ inside ++ q ∷ []) ≡ n + 2 = omega (arith, count, length-append inside (q ∷ [])) in
     let left : rest ≡ drop (n + 1) behind = back ∙ ap (drop (n + 2)) whole ∙ drop_at (q ∷ inside ++ q ∷ []) (drop (n + 1) behind) (n + 2) size in
     record {
@@ -261,13 +266,14 @@ string_taken text inside rest q n good pos after bytes s len much same line col 
     let goes = all_mono (is_inside q) in_one_line inside (inside_goes_on q) s.inside_line in
     let last : list_all in_one_line (q ∷ []) ≡ true = ap (λ v. v && true) (quote_goes_on q s.quote) in
     let in_line : list_all in_one_line (q ∷ inside ++ q ∷ []) ≡ true = ap (λ v. v && list_all in_one_line (inside ++ q ∷ [])) (quote_goes_on q s.quote) ∙ all_join in_one_line inside (q ∷ []) goes last in
-    let size : length (q ∷ inside ++ q ∷ []) ≡ n + 2 = omega (arith, s.count, length-append inside (q ∷ [])) in
-    ( q ∷ inside ++ q ∷ []
-    , s.is
-    , omega (arith, size)
-    , longest_string (q ∷ inside ++ q ∷ []) inside rest (quoted_is text inside rest q n s)
-    , ((q, s.quote, ap (list_all (is_inside q)) same ∙ s.inside_line, ap (λ t. q ∷ t ++ q ∷ []) (sym same)), ap (list_all is_printable) same ∙ printable)
-    , right_is pos after (q ∷ inside ++ q ∷ []) in_line line (col ∙ ap (λ n. pos.col + n) (sym size)))
+    let size : length (q ∷ inside ++ q ∷ []) ≡ n + 2 = omega (arith, s.count, length-append inside (q ∷ [])) in (
+      q ∷ inside ++ q ∷ [],
+      s.is,
+      omega (arith, size),
+      longest_string (q ∷ inside ++ q ∷ []) inside rest (quoted_is text inside rest q n s),
+      ((q, s.quote, ap (list_all (is_inside q)) same ∙ s.inside_line, ap (λ t. q ∷ t ++ q ∷ []) (sym same)), ap (list_all is_printable) same ∙ printable),
+      right_is pos after (q ∷ inside ++ q ∷ []) in_line line (col ∙ ap (λ n. pos.col + n) (sym size)),
+    )
 
 prefix_more : (p : ℕ → Bool) (v w : Text) → prefix_len p v ≤ prefix_len p (v ++ w)
 prefix_more p v w =
@@ -318,11 +324,11 @@ string_stops text inside rest q n good pos p e s len few line col is =
     let bad_inside : is_inside q bad ≡ true = (and_true (is_inside q bad) (list_all (is_inside q) (drop (good + 1) inside)) parts.1).0 in
     let more = drop (good + 1) inside ++ q ∷ rest in
     let whole : text ≡ q ∷ front ++ bad ∷ more =
-        s.is ∙ ap (λ t. q ∷ t) (append_assoc inside (q ∷ []) rest ∙ ap (λ t. t ++ q ∷ rest) cut ∙ append_assoc front (bad ∷ drop (good + 1) inside) (q ∷ rest)) in
+    s.is ∙ ap (λ t. q ∷ t) (append_assoc inside (q ∷ []) rest ∙ ap (λ t. t ++ q ∷ rest) cut ∙ append_assoc front (bad ∷ drop (good + 1) inside) (q ∷ rest)) in
     let goes = all_mono (is_inside q) in_one_line front (inside_goes_on q) parts.0 in
     let in_line : list_all in_one_line (q ∷ front) ≡ true = ap (λ v. v && list_all in_one_line front) (quote_goes_on q s.quote) ∙ goes in
     let size : length (q ∷ front) ≡ good + 1 = omega arith in
     stops_at text (q ∷ front) pos p StrayByte e is
-      (inr (q, bad, front, more, s.quote, parts.0, bad_inside, fails, whole, refl))
-      (right_is pos p (q ∷ front) in_line line (col ∙ ap (λ n. pos.col + n) (sym size)))
-      (λ f other h. omega (arith, size, len, stray_least text inside rest q n f other s h (omega (arith, within, len))))
+    (inr (q, bad, front, more, s.quote, parts.0, bad_inside, fails, whole, refl))
+    (right_is pos p (q ∷ front) in_line line (col ∙ ap (λ n. pos.col + n) (sym size)))
+    (λ f other h. omega (arith, size, len, stray_least text inside rest q n f other s h (omega (arith, within, len))))

@@ -1,5 +1,5 @@
 -- Comments by how many levels are open.
-use Rattle.std.proofs.Common.{◌≡◌, ◌≢◌, ◌≤◌, ℕ, zero, suc, List, [], ◌∷◌, ◌++◌, ap, sym, refl, ◌∙◌, append_assoc, append-nil, length, length-append, subst, arith}
+use Rattle.std.proofs.Common.{◌≡◌, ◌≢◌, ℕ, zero, suc, [], ◌∷◌, ◌++◌, ap, sym, refl, ◌∙◌, append_assoc, append-nil, length, length-append, subst, arith}
 use Rattle.m2_scan.proofs.Lists.{same_cut, same_head}
 use Rattle.m2_scan.specs.Bytes.{Text}
 use Rattle.m2_scan.specs.Forms.{IsClosed, close, other, inner, opening, closing}
@@ -56,10 +56,11 @@ no_levels_left s = ([], refl, refl)
 pub open_enters : (n : ℕ) (s more : Text) → Ends (suc (suc n)) s more → Ends (suc n) (40 ∷ 42 ∷ s) more
 open_enters n s more h =
     let p = h.1 in
-    let q = p.3 in
-    ( 40 ∷ 42 ∷ (p.0 ++ q.0) ++ q.1
-    , (40 ∷ 42 ∷ p.0 ++ q.0, q.1, inner p.0 q.0 p.2 q.2, q.3, refl)
-    , ap (λ t. 40 ∷ 42 ∷ t) (h.2 ∙ ap (λ w. w ++ more) (p.4 ∙ ap (λ b. p.0 ++ b) q.4 ∙ sym (append_assoc p.0 q.0 q.1))))
+    let q = p.3 in (
+      40 ∷ 42 ∷ (p.0 ++ q.0) ++ q.1,
+      (40 ∷ 42 ∷ p.0 ++ q.0, q.1, inner p.0 q.0 p.2 q.2, q.3, refl),
+      ap (λ t. 40 ∷ 42 ∷ t) (h.2 ∙ ap (λ w. w ++ more) (p.4 ∙ ap (λ b. p.0 ++ b) q.4 ∙ sym (append_assoc p.0 q.0 q.1))),
+    )
 
 open_opened : (n : ℕ) (a : Text) → IsClosed a → (b s more : Text) → AreClosed n b → 40 ∷ 42 ∷ s ≡ (a ++ b) ++ more → Ends (suc (suc n)) s more
 open_opened n _ close b s more r e = absurd (omega (arith, same_head e))
@@ -90,10 +91,11 @@ other_enters n b c s more no_open no_close h =
     let same : c ≡ two.0 = cc in
     let starts : p.0 ≡ c ∷ two.1 ∷ two.2 = two.3 ∙ ap (λ x. x ∷ two.1 ∷ two.2) (sym same) in
     let P : Text → Type 0 = IsClosed in
-    let longer = other b c (two.1 ∷ two.2) no_open no_close (subst P starts p.2) in
-    ( b ∷ (c ∷ two.1 ∷ two.2) ++ p.1
-    , (b ∷ c ∷ two.1 ∷ two.2, p.1, longer, p.3, refl)
-    , ap (λ t. b ∷ t) (e ∙ ap (λ x. x ∷ (two.1 ∷ two.2 ++ p.1) ++ more) (sym same)))
+    let longer = other b c (two.1 ∷ two.2) no_open no_close (subst P starts p.2) in (
+      b ∷ (c ∷ two.1 ∷ two.2) ++ p.1,
+      (b ∷ c ∷ two.1 ∷ two.2, p.1, longer, p.3, refl),
+      ap (λ t. b ∷ t) (e ∙ ap (λ x. x ∷ (two.1 ∷ two.2 ++ p.1) ++ more) (sym same)),
+    )
 
 other_closed : (n : ℕ) (a : Text) → IsClosed a → (x y : ℕ) (b s more : Text) → (x ∷ y ∷ [] ≢ opening) → (x ∷ y ∷ [] ≢ closing) → AreClosed n b → x ∷ y ∷ s ≡ (a ++ b) ++ more → Ends (suc n) (y ∷ s) more
 other_closed n _ close x y b s more no_open no_close r e = absurd (no_close (let h : x ≡ 42 = cc in let k : y ≡ 41 = cc in cc))

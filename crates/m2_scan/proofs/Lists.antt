@@ -1,5 +1,5 @@
 -- Lists that are cut in two.
-use Rattle.std.proofs.Common.{◌≡◌, ◌≤◌, ◌<◌, ℕ, zero, suc, ◌+◌, Bool, true, false, cond, ◌&&◌, List, [], ◌∷◌, ◌++◌, length, get_or, take, drop, ap, sym, refl, ◌∙◌, arith}
+use Rattle.std.proofs.Common.{◌≡◌, ◌≤◌, ◌<◌, ℕ, suc, ◌+◌, Bool, true, false, cond, ◌&&◌, List, [], ◌∷◌, ◌++◌, length, get_or, take, drop, ap, sym, refl, ◌∙◌, arith}
 use Rattle.std.specs.List.{list_all, prefix_len}
 use Rattle.std.proofs.lemmas.List.{take_at, drop_at, take-append-drop}
 
@@ -8,9 +8,10 @@ same_head e = ap (λ xs. get_or xs 0 0) e
 
 -- two cuts of one list at one place
 pub same_cut : {A : Type 0} (w v r t : List A) → w ++ r ≡ v ++ t → length w ≡ length v → (w ≡ v) × (r ≡ t)
-same_cut w v r t e n =
-    ( sym (take_at w r (length v) n) ∙ ap (take (length v)) e ∙ take_at v t (length v) refl
-    , sym (drop_at w r (length v) n) ∙ ap (drop (length v)) e ∙ drop_at v t (length v) refl)
+same_cut w v r t e n = (
+  sym (take_at w r (length v) n) ∙ ap (take (length v)) e ∙ take_at v t (length v) refl,
+  sym (drop_at w r (length v) n) ∙ ap (drop (length v)) e ∙ drop_at v t (length v) refl,
+)
 
 pub and_true : (a b : Bool) → (a && b) ≡ true → (a ≡ true) × (b ≡ true)
 and_true true b h = (refl, h)
@@ -49,8 +50,11 @@ pub all_prefix : {A : Type 0} (p : A → Bool) (xs : List A) → list_all p (tak
 all_prefix p [] = refl
 all_prefix {A} p (x ∷ xs) =
     let P : Bool → Type 0 = λ b. p x ≡ b → list_all p (take (cond b (1 + prefix_len p xs) 0) (x ∷ xs)) ≡ true in
-    elim (p x) as P [ true ↦ λ e. (let n : 1 + prefix_len p xs ≡ suc (prefix_len p xs) = omega arith in
-        ap (λ n. list_all p (take n (x ∷ xs))) n ∙ ap (λ c. c && list_all p (take (prefix_len p xs) xs)) e ∙ all_prefix p xs) | false ↦ λ e. refl ] refl
+    elim (p x) as P [
+      | true ↦ λ e. (let n : 1 + prefix_len p xs ≡ suc (prefix_len p xs) = omega arith in
+          ap (λ n. list_all p (take n (x ∷ xs))) n ∙ ap (λ c. c && list_all p (take (prefix_len p xs) xs)) e ∙ all_prefix p xs)
+      | false ↦ λ e. refl
+    ] refl
 
 pub all_take : {A : Type 0} (p : A → Bool) (n : ℕ) (xs : List A) → list_all p xs ≡ true → list_all p (take n xs) ≡ true
 all_take p n xs h = (all_append p (take n xs) (drop n xs) (ap (list_all p) (take-append-drop n xs) ∙ h)).0

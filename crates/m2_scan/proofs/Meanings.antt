@@ -1,5 +1,5 @@
 -- What a member says, by the class of its first byte.
-use Rattle.std.proofs.Common.{◌≡◌, ◌≢◌, ◌≤◌, ◌<◌, ℕ, suc, ◌^◌, Bool, true, false, List, [], ◌∷◌, ◌++◌, length, Option, Some, None, option_map, ◌⊎◌, inl, inr, ap, sym, refl, ◌∙◌, subst, arith}
+use Rattle.std.proofs.Common.{◌≡◌, ◌≢◌, ◌≤◌, ◌<◌, ℕ, ◌^◌, true, [], ◌∷◌, ◌++◌, length, Option, Some, None, option_map, inl, inr, ap, sym, refl, ◌∙◌, subst, arith}
 use Rattle.std.specs.List.{list_all}
 use Rattle.std.proofs.lemmas.List.{same_from_push}
 use Rattle.m2_tree.specs.declared.token.Symbol.{Symbol}
@@ -9,10 +9,10 @@ use Rattle.m2_scan.specs.declared.class.Class.{Class}
 use Rattle.m2_scan.specs.declared.class.Class.TheVariants.{Space, Letter, Digit, Quote, Other}
 use Rattle.m2_scan.specs.declared.number.Numeral.{Numeral}
 use Rattle.m2_scan.specs.declared.number.Numeral.TheVariants.{Decimal, Octal, Hexadecimal, Code}
-use Rattle.m2_scan.specs.Bytes.{Text, class, is_printable, is_inside}
+use Rattle.m2_scan.specs.Bytes.{Text, class, is_printable}
 use Rattle.m2_scan.specs.Numbers.{Writes, limit}
 use Rattle.m2_scan.specs.Symbols.{word_of, sign_of}
-use Rattle.m2_scan.specs.Forms.{IsRun, IsQuoted, IsMember, Spells, max_name}
+use Rattle.m2_scan.specs.Forms.{IsRun, IsQuoted, IsMember, max_name}
 use Rattle.m2_scan.proofs.Levels.{closed_two}
 use Rattle.m2_scan.proofs.Numerals.{written_once}
 use Rattle.m2_scan.proofs.Shapes.{sign_is, sign_length, word_is, class_open}

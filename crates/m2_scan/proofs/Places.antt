@@ -1,5 +1,5 @@
 -- Places, one byte after another.
-use Rattle.std.proofs.Common.{◌≡◌, ◌≤◌, ◌<◌, ℕ, ◌+◌, ◌^◌, Bool, true, false, not, cond, ◌&&◌, if◌then◌else◌, List, [], ◌∷◌, ◌++◌, length, reverse, ap, sym, refl, ◌∙◌, append_assoc, append-nil, zero-add, add-zero, arith}
+use Rattle.std.proofs.Common.{◌≡◌, ℕ, ◌+◌, Bool, true, false, not, cond, [], ◌∷◌, ◌++◌, length, ap, sym, refl, ◌∙◌, append_assoc, append-nil, zero-add, add-zero, arith}
 use Rattle.std.specs.List.{list_all, count_by, suffix_len, prefix_len}
 use Rattle.std.proofs.lemmas.List.{reverse-append}
 use Rattle.std.proofs.lemmas.List.Sums.{sum_by-append}

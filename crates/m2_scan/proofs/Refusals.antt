@@ -1,5 +1,5 @@
 -- A text has one refusal.
-use Rattle.std.proofs.Common.{◌≡◌, ◌≢◌, ◌≤◌, ◌<◌, ℕ, ◌+◌, Bool, true, false, List, [], ◌∷◌, ◌++◌, length, Some, None, ◌⊎◌, inl, inr, ap, sym, refl, ◌∙◌, subst, append_assoc, append-nil, length-append, arith}
+use Rattle.std.proofs.Common.{◌≡◌, ◌≤◌, ◌<◌, ℕ, [], ◌∷◌, ◌++◌, length, ◌⊎◌, inl, inr, ap, sym, refl, ◌∙◌, subst, length-append, arith}
 use Rattle.m2_tree.specs.declared.pos.Pos.{Pos}
 use Rattle.m2_scan.specs.declared.class.Class.{Class}
 use Rattle.m2_scan.specs.declared.class.Class.TheVariants.{Space, Letter, Digit, Quote, Other}
@@ -9,8 +9,8 @@ use Rattle.m2_scan.specs.declared.refusal.Fault.TheVariants.{TooLong, StrayByte,
 use Rattle.m2_scan.specs.declared.refusal.ScanRefusal.{ScanRefusal}
 use Rattle.m2_scan.specs.Bytes.{Text, class}
 use Rattle.m2_scan.specs.Numbers.{Writes}
-use Rattle.m2_scan.specs.Forms.{IsRun, IsQuoted, IsForm, space, name, number, quoted, opened, IsLongest, Member}
-use Rattle.m2_scan.specs.Division.{Divides, HasFault, Refuses, RefusesIn, bytes_of, place, max_text}
+use Rattle.m2_scan.specs.Forms.{IsRun, IsForm, space, name, number, quoted, opened, IsLongest}
+use Rattle.m2_scan.specs.Division.{Refuses, RefusesIn, bytes_of, place}
 use Rattle.m2_scan.proofs.Lists.{same_head, same_cut}
 use Rattle.m2_scan.proofs.Shapes.{class_open}
 use Rattle.m2_scan.proofs.Divisions.{longest_once, stuck_once, refuses_stuck}

@@ -1,5 +1,5 @@
 -- How far a text is scanned, and what its end or its refusal is.
-use Rattle.std.proofs.Common.{◌≡◌, ◌≤◌, ◌<◌, ℕ, ◌+◌, ◌^◌, List, [], ◌∷◌, ◌++◌, length, Option, Some, None, ◌⊎◌, inl, inr, ap, sym, refl, ◌∙◌, subst, append_assoc, append-nil, length-append, MatchResult, Result, Ok, Err, arith}
+use Rattle.std.proofs.Common.{◌≡◌, ◌≤◌, ◌<◌, List, [], ◌∷◌, ◌++◌, length, Option, Some, ◌⊎◌, inl, inr, ap, sym, refl, ◌∙◌, subst, append-nil, length-append, arith}
 use Rattle.m2_tree.specs.declared.pos.Pos.{Pos}
 use Rattle.m2_tree.specs.declared.token.Token.{Token}
 use Rattle.m2_tree.specs.declared.token.Lexeme.{Lexeme}
@@ -16,7 +16,7 @@ use Rattle.m2_scan.specs.Steps.{over, HasRoom, Takes, Stops, IfRefused}
 use Rattle.m2_scan.proofs.Places.{place_over, place_start}
 use Rattle.m2_scan.proofs.Walks.{room_behind}
 use Rattle.m2_scan.proofs.Refusals.{one_refusal}
-use Rattle.m2_scan.proofs.Divisions.{IsStuck, end_stuck, stuck_once, divides_once, divides_push, bytes_push, tokens_push, divides_whole, refuses_stuck, refuses_some}
+use Rattle.m2_scan.proofs.Divisions.{end_stuck, stuck_once, divides_once, divides_push, bytes_push, tokens_push, divides_whole, refuses_stuck, refuses_some}
 
 -- The text is scanned up to this rest, and these are the tokens.
 pub record Scanned (text rest : Text) (pos : Pos) (tokens : List Token) : Type 0 where
@@ -29,13 +29,13 @@ pub record Scanned (text rest : Text) (pos : Pos) (tokens : List Token) : Type 0
 
 pub begins : (text : Text) → length text ≤ max_text → Scanned text text (record { line = 1; col = 1 }) []
 begins text small = record {
-    members = [];
-    divides = refl;
-    found = refl;
-    at = sym place_start;
-    room = (omega arith, omega arith);
-    small = small;
-  }
+  members = [];
+  divides = refl;
+  found = refl;
+  at = sym place_start;
+  room = (omega arith, omega arith);
+  small = small;
+}
 
 pub goes_on : (text rest : Text) (pos : Pos) (tokens : List Token) (m : Option Lexeme) (after : Text) (next : Pos) (more : List Token)
     → Scanned text rest pos tokens → Takes rest pos m after next → more ≡ tokens ++ tokens_at pos m → Scanned text after next more
@@ -54,10 +54,11 @@ goes_on text rest pos tokens m after next more s h e =
 pub ends : (text rest : Text) (pos : Pos) (tokens more : List Token) → Scanned text rest pos tokens → rest ≡ [] → more ≡ tokens ++ tokens_at pos (Some lexeme.End) → HasTokens text more
 ends text rest pos tokens more s e d =
     let P : Text → Type 0 = Divides text s.members in
-    let whole : text ≡ bytes_of s.members = divides_whole text s.members rest s.divides ∙ ap (λ r. bytes_of s.members ++ r) e ∙ append-nil (bytes_of s.members) in
-    ( s.members
-    , subst P e s.divides
-    , d ∙ ap (λ ts. ts ++ tokens_at pos (Some lexeme.End)) s.found ∙ ap (λ p. tokens_behind [] s.members ++ tokens_at p (Some lexeme.End)) (s.at ∙ ap place (sym whole)))
+    let whole : text ≡ bytes_of s.members = divides_whole text s.members rest s.divides ∙ ap (λ r. bytes_of s.members ++ r) e ∙ append-nil (bytes_of s.members) in (
+      s.members,
+      subst P e s.divides,
+      d ∙ ap (λ ts. ts ++ tokens_at pos (Some lexeme.End)) s.found ∙ ap (λ p. tokens_behind [] s.members ++ tokens_at p (Some lexeme.End)) (s.at ∙ ap place (sym whole)),
+    )
 
 least : (text rest : Text) (ms : List Member) (before : Text) (here : Fault) (fault : Fault) (other : Text) → Divides text ms rest → RefusesIn here rest before
     → ((f : Fault) (o : Text) → RefusesIn f rest o → length before ≤ length o) → HasFault text fault other → length (bytes_of ms ++ before) ≤ length other
@@ -72,12 +73,13 @@ pub stops : (text rest : Text) (pos : Pos) (tokens : List Token) (e : ScanError)
 stops text rest pos tokens NoMemory s h = tt
 stops text rest pos tokens (Refused r) s h =
     let front = bytes_of s.members in
-    inr
-      ( s.small
-      , front ++ h.0
-      , (front, rest, h.0, (s.members, s.divides, refl), h.1, refl)
-      , h.2 ∙ ap (λ p. over p h.0) s.at ∙ sym (place_over front h.0)
-      , λ fault other k. least text rest s.members h.0 r.fault fault other s.divides h.1 h.3 k)
+    inr (
+      s.small,
+      front ++ h.0,
+      (front, rest, h.0, (s.members, s.divides, refl), h.1, refl),
+      h.2 ∙ ap (λ p. over p h.0) s.at ∙ sym (place_over front h.0),
+      λ fault other k. least text rest s.members h.0 r.fault fault other s.divides h.1 h.3 k,
+    )
 
 pub tokens_once : (text : Text) (ts us : List Token) → HasTokens text ts → HasTokens text us → ts ≡ us
 tokens_once text ts us h k =

@@ -1,22 +1,17 @@
 -- What a form is, by the class of its first byte, and which one is the longest.
-use Rattle.std.proofs.Common.{◌≡◌, ◌≢◌, ◌≤◌, ◌<◌, ℕ, zero, suc, ◌+◌, Bool, true, false, not, ◌&&◌, leb, cond, List, [], ◌∷◌, ◌++◌, length, Option, Some, None, option_map, is_some, ◌⊎◌, inl, inr, ap, sym, refl, ◌∙◌, subst, append_assoc, append-nil, length-append, ◌||◌, ◌==◌, arith}
+use Rattle.std.proofs.Common.{◌≡◌, ◌≢◌, ◌≤◌, ℕ, ◌+◌, Bool, true, false, not, ◌&&◌, leb, cond, [], ◌∷◌, ◌++◌, length, Option, Some, None, is_some, ◌⊎◌, inl, inr, ap, sym, refl, ◌∙◌, subst, append_assoc, append-nil, length-append, ◌||◌, ◌==◌, arith}
 use Rattle.std.proofs.Common.{eq-eqb}
 use Rattle.std.proofs.lemmas.Bool.{leb-true}
 use Rattle.std.specs.List.{list_all, prefix_len}
 use Rattle.std.specs.Str.{bytes_eq}
 use Rattle.std.proofs.lemmas.Slice.Eq.{bytes_eq-Decides}
 use Rattle.m2_tree.specs.declared.token.Symbol.{Symbol}
-use Rattle.m2_tree.specs.declared.token.Lexeme.{Lexeme}
-use Rattle.m2_tree.specs.declared.token.Lexeme.TheVariants as lexeme
 use Rattle.m2_scan.specs.declared.class.Class.{Class}
 use Rattle.m2_scan.specs.declared.class.Class.TheVariants.{Space, Letter, Digit, Quote, Other}
-use Rattle.m2_scan.specs.declared.number.Numeral.{Numeral}
-use Rattle.m2_scan.specs.declared.number.Numeral.TheVariants.{Decimal, Octal, Hexadecimal, Code}
-use Rattle.m2_scan.specs.Bytes.{Text, class, in_run, is_run_byte, is_printable, is_inside, is_line_end}
-use Rattle.m2_scan.specs.Numbers.{Writes, limit, base, suffix, digit, is_digit_of, value}
+use Rattle.m2_scan.specs.Bytes.{Text, class, in_run, is_run_byte, is_inside, is_line_end}
 use Rattle.m2_scan.specs.Symbols.{Spellings, words, signs, lookup, word_of, sign_of}
-use Rattle.m2_scan.specs.Forms.{IsRun, IsQuoted, IsClosed, IsForm, space, name, number, quoted, sign, comment, opened, IsLongest, IsSpace, IsComment, IsMember, Spells, opening, max_name}
-use Rattle.m2_scan.proofs.Lists.{and_true, same_cut, same_head, all_append, passes_within, passes_to}
+use Rattle.m2_scan.specs.Forms.{IsRun, IsQuoted, IsClosed, IsForm, space, name, number, quoted, sign, comment, opened, IsLongest, opening, max_name}
+use Rattle.m2_scan.proofs.Lists.{and_true, same_head, passes_within, passes_to}
 use Rattle.m2_scan.proofs.Levels.{closed_once}
 use Rattle.m2_scan.proofs.Places.{in_one_line}
 
@@ -161,9 +156,9 @@ front_form k b s v more c e f =
 
 pub longest_space : (b : ℕ) (more : Text) → class b ≡ Space → IsLongest (b ∷ []) more
 longest_space b more c = record {
-    form = space b c;
-    longest = λ v m e f. let one : length v ≡ 1 = front_form Space b more v m c e f in omega arith
-  }
+  form = space b c;
+  longest = λ v m e f. let one : length v ≡ 1 = front_form Space b more v m c e f in omega arith;
+}
 
 pub run_passes : (k : Class) (w : Text) → in_run k ≡ true → IsRun k w → list_all is_run_byte w ≡ true
 run_passes k [] i r = absurd r
@@ -178,24 +173,24 @@ run_front k b s v more i f r e =
 pub longest_name : (s w more : Text) → s ≡ w ++ more → length w ≡ prefix_len is_run_byte s → IsRun Letter w → IsLongest w more
 longest_name s [] more e n r = absurd r
 longest_name s (b ∷ bs) more e n r = record {
-    form = name (b ∷ bs) r;
-    longest = λ v m d f.
+  form = name (b ∷ bs) r;
+  longest = λ v m d f.
       let k : IsRun Letter v = front_form Letter b (bs ++ more) v m r.0 d f in
       let h = run_front Letter b (bs ++ more) v m refl k k d in
       let same : prefix_len is_run_byte s ≡ prefix_len is_run_byte (b ∷ bs ++ more) = ap (prefix_len is_run_byte) e in
-      omega (arith, h, same, n)
-  }
+      omega (arith, h, same, n);
+}
 
 pub longest_number : (s w more : Text) → s ≡ w ++ more → length w ≡ prefix_len is_run_byte s → IsRun Digit w → IsLongest w more
 longest_number s [] more e n r = absurd r
 longest_number s (b ∷ bs) more e n r = record {
-    form = number (b ∷ bs) r;
-    longest = λ v m d f.
+  form = number (b ∷ bs) r;
+  longest = λ v m d f.
       let k : IsRun Digit v = front_form Digit b (bs ++ more) v m r.0 d f in
       let h = run_front Digit b (bs ++ more) v m refl k k d in
       let same : prefix_len is_run_byte s ≡ prefix_len is_run_byte (b ∷ bs ++ more) = ap (prefix_len is_run_byte) e in
-      omega (arith, h, same, n)
-  }
+      omega (arith, h, same, n);
+}
 
 not_inside : (q : ℕ) → is_inside q q ≡ false
 unfolding is_inside
@@ -215,14 +210,14 @@ quoted_length q s v inside more e h =
 
 pub longest_string : (w inside more : Text) → IsQuoted w inside → IsLongest w more
 longest_string w inside more h = record {
-    form = quoted w inside h;
-    longest = λ v m e f.
+  form = quoted w inside h;
+  longest = λ v m e f.
       let q = h.0 in
       let s = (inside ++ q ∷ []) ++ more in
       let d : q ∷ s ≡ w ++ more = ap (λ w. w ++ more) (sym h.3) in
       let k : (i : Text) × IsQuoted v i = front_form Quote q s v m h.1 (d ∙ e) f in
-      omega (arith, quoted_length q s v k.0 m (d ∙ e) k.1, quoted_length q s w inside more d h)
-  }
+      omega (arith, quoted_length q s v k.0 m (d ∙ e) k.1, quoted_length q s w inside more d h);
+}
 
 pub sign_length : (v : Text) (s : Symbol) → sign_of v ≡ Some s → length v ≤ 2
 sign_length v s e = let p = sign_is v s e in omega (arith, p.short, ap length p.is)
@@ -232,15 +227,17 @@ tail_two e = cc
 
 pub longest_comment : (bs more : Text) → IsClosed bs → IsLongest (40 ∷ 42 ∷ bs) more
 longest_comment bs more p = record {
-    form = comment bs p;
-    longest = λ v m e f.
+  form = comment bs p;
+  longest = λ v m e f.
       elim (front_form Other 40 (42 ∷ bs ++ more) v m class_open e f) [
-        inl k ↦ omega (arith, sign_length v k.0 k.1)
-      | inr k ↦ elim k [
-          inl c ↦ (let d : bs ++ more ≡ c.0 ++ m = tail_two (e ∙ ap (λ v. v ++ m) c.2) in
-            omega (arith, closed_once bs p c.0 c.1 more m d, ap length c.2))
-        | inr o ↦ omega (arith, ap length o) ] ]
-  }
+        | inl k ↦ omega (arith, sign_length v k.0 k.1)
+        | inr k ↦ elim k [
+          | inl c ↦ (let d : bs ++ more ≡ c.0 ++ m = tail_two (e ∙ ap (λ v. v ++ m) c.2) in
+              omega (arith, closed_once bs p c.0 c.1 more m d, ap length c.2))
+          | inr o ↦ omega (arith, ap length o)
+        ]
+      ];
+}
 
 not_opening : (b : ℕ) (more t : Text) → b ∷ more ≡ 40 ∷ 42 ∷ t → ((c : ℕ) (u : Text) → more ≡ c ∷ u → b ∷ c ∷ [] ≢ opening) → ⊥
 not_opening b more t e alone = let first : b ≡ 40 = same_head e in let rest : more ≡ 42 ∷ t = cc in alone 42 t rest (ap (λ b. b ∷ 42 ∷ []) first)
@@ -276,36 +273,42 @@ opens_something b h e =
 pub longest_sign : (b : ℕ) (s : Symbol) (more : Text) → class b ≡ Other → sign_of (b ∷ []) ≡ Some s
     → ((c : ℕ) (t : Text) → more ≡ c ∷ t → (b ∷ c ∷ [] ≢ opening) × (sign_of (b ∷ c ∷ []) ≡ None)) → IsLongest (b ∷ []) more
 longest_sign b s more c e alone = record {
-    form = sign (b ∷ []) s e;
-    longest = λ v m d f.
+  form = sign (b ∷ []) s e;
+  longest = λ v m d f.
       elim (front_form Other b more v m c d f) [
-        inl k ↦ sign_alone b more v m k.0 d k.1 (λ c t h. (alone c t h).1)
-      | inr k ↦ elim k [
-          inl w ↦ absurd (not_opening b more (w.0 ++ m) (d ∙ ap (λ v. v ++ m) w.2) (λ c t h. (alone c t h).0))
-        | inr o ↦ absurd (not_opening b more m (d ∙ ap (λ v. v ++ m) o) (λ c t h. (alone c t h).0)) ] ]
-  }
+        | inl k ↦ sign_alone b more v m k.0 d k.1 (λ c t h. (alone c t h).1)
+        | inr k ↦ elim k [
+          | inl w ↦ absurd (not_opening b more (w.0 ++ m) (d ∙ ap (λ v. v ++ m) w.2) (λ c t h. (alone c t h).0))
+          | inr o ↦ absurd (not_opening b more m (d ∙ ap (λ v. v ++ m) o) (λ c t h. (alone c t h).0))
+        ]
+      ];
+}
 
 -- a sign of two bytes
 pub longest_pair : (b c : ℕ) (s : Symbol) (more : Text) → sign_of (b ∷ c ∷ []) ≡ Some s → IsLongest (b ∷ c ∷ []) more
 longest_pair b c s more e = record {
-    form = sign (b ∷ c ∷ []) s e;
-    longest = λ v m d f.
+  form = sign (b ∷ c ∷ []) s e;
+  longest = λ v m d f.
       elim (front_form Other b (c ∷ more) v m (pair_class b c s e) d f) [
-        inl k ↦ sign_length v k.0 k.1
-      | inr k ↦ elim k [
-          inl w ↦ absurd (pair_not_opening b c s more (w.0 ++ m) e (d ∙ ap (λ v. v ++ m) w.2))
-        | inr o ↦ omega (arith, ap length o) ] ]
-  }
+        | inl k ↦ sign_length v k.0 k.1
+        | inr k ↦ elim k [
+          | inl w ↦ absurd (pair_not_opening b c s more (w.0 ++ m) e (d ∙ ap (λ v. v ++ m) w.2))
+          | inr o ↦ omega (arith, ap length o)
+        ]
+      ];
+}
 
 -- no form begins with a byte that is no sign
 pub begins_nothing : (b : ℕ) (v : Text) → class b ≡ Other → sign_of (b ∷ []) ≡ None → IsForm (b ∷ v) → ⊥
 begins_nothing b v c e f =
     elim (front_form Other b v (b ∷ v) [] c (sym (append-nil (b ∷ v))) f) [
-      inl k ↦ (let p = sign_is (b ∷ v) k.0 k.1 in
-        let same : b ≡ p.first = same_head p.is in
-        let some : is_some (sign_of (b ∷ [])) ≡ true = ap (λ b. is_some (sign_of (b ∷ []))) same ∙ p.alone in
-        let none : is_some (sign_of (b ∷ [])) ≡ false = ap is_some e in
-        cc)
-    | inr k ↦ elim k [
-        inl w ↦ opens_something b (same_head w.2) e
-      | inr o ↦ opens_something b (same_head o) e ] ]
+      | inl k ↦ (let p = sign_is (b ∷ v) k.0 k.1 in
+          let same : b ≡ p.first = same_head p.is in
+          let some : is_some (sign_of (b ∷ [])) ≡ true = ap (λ b. is_some (sign_of (b ∷ []))) same ∙ p.alone in
+          let none : is_some (sign_of (b ∷ [])) ≡ false = ap is_some e in
+          cc)
+      | inr k ↦ elim k [
+        | inl w ↦ opens_something b (same_head w.2) e
+        | inr o ↦ opens_something b (same_head o) e
+      ]
+    ]

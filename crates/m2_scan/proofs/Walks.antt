@@ -1,12 +1,12 @@
 -- A walk through a comment, and the levels that are open.
-use Rattle.std.proofs.Common.{◌≡◌, ◌≢◌, ◌≤◌, ◌<◌, ℕ, suc, ◌+◌, ◌-◌, ◌^◌, true, List, [], ◌∷◌, ◌++◌, length, length-append, ap, sym, refl, ◌∙◌, subst, append_assoc, take, drop, arith}
+use Rattle.std.proofs.Common.{◌≡◌, ◌≢◌, ◌≤◌, ◌<◌, ℕ, suc, ◌+◌, ◌-◌, true, [], ◌∷◌, ◌++◌, length, ap, sym, refl, ◌∙◌, subst, append_assoc, take, drop, arith}
 use Rattle.std.proofs.lemmas.List.{append_cancel_right, take_rest}
 use Rattle.std.specs.List.{list_all}
 use Rattle.m2_tree.specs.declared.pos.Pos.{Pos}
 use Rattle.m2_scan.specs.Bytes.{Text, is_line_end}
-use Rattle.m2_scan.specs.Forms.{IsClosed, opening, closing}
+use Rattle.m2_scan.specs.Forms.{opening, closing}
 use Rattle.m2_scan.specs.Steps.{moved, over, HasRoom, Closes, NeverCloses}
-use Rattle.m2_scan.proofs.Levels.{Ends, one_level, from_one_level, no_levels, no_levels_left, open_enters, open_leaves, close_enters, close_leaves, other_enters, other_leaves, not_at_end, not_at_last}
+use Rattle.m2_scan.proofs.Levels.{Ends, one_level, from_one_level, no_levels_left, open_enters, open_leaves, close_enters, close_leaves, other_enters, other_leaves, not_at_end, not_at_last}
 use Rattle.m2_scan.proofs.Places.{in_one_line, over-append, over_line, room_over}
 
 -- So many levels are open before the rest of a text that began inside of one.
@@ -22,15 +22,15 @@ pub record Walks (text : Text) (start : Pos) (levels : ℕ) (rest : Text) (pos :
 
 pub begins : (text : Text) (start : Pos) → HasRoom start text → Walks text start 1 text start
 begins text start room = record {
-    inside = omega arith;
-    few = omega arith;
-    room = room;
-    front = [];
-    is = refl;
-    at = refl;
-    enters = λ more h. h;
-    leaves = λ more h. h;
-  }
+  inside = omega arith;
+  few = omega arith;
+  room = room;
+  front = [];
+  is = refl;
+  at = refl;
+  enters = λ more h. h;
+  leaves = λ more h. h;
+}
 
 marks_in_line : (list_all in_one_line opening ≡ true) × (list_all in_one_line closing ≡ true)
 unfolding is_line_end

@@ -64,7 +64,7 @@ RefusesIn TooLong rest before = ⊥
 RefusesIn StrayByte rest before =
     ((b : ℕ) × (more : Text) × (rest ≡ b ∷ more) × (before ≡ []) × ((v : Text) → IsForm (b ∷ v) → ⊥))
     ⊎ ((q : ℕ) × (b : ℕ) × (inside : Text) × (more : Text) × (class q ≡ Quote) × (list_all (is_inside q) inside ≡ true) × (is_inside q b ≡ true) × (is_printable b ≡ false)
-        × (rest ≡ q ∷ inside ++ b ∷ more) × (before ≡ q ∷ inside))
+    × (rest ≡ q ∷ inside ++ b ∷ more) × (before ≡ q ∷ inside))
 -- an opening that nothing closes
 RefusesIn OpenComment rest before =
     (behind : Text) × (rest ≡ 40 ∷ 42 ∷ behind) × (before ≡ []) × ((bs more : Text) → behind ≡ bs ++ more → IsClosed bs → ⊥)
@@ -88,4 +88,4 @@ abbrev pub Refuses : Text → ScanRefusal → Type 0
 Refuses text r =
     ((max_text < length text) × (r.fault ≡ TooLong) × (r.pos ≡ place []))
     ⊎ ((length text ≤ max_text) × (front : Text) × HasFault text r.fault front × (r.pos ≡ place front)
-        × ((fault : Fault) (other : Text) → HasFault text fault other → length front ≤ length other))
+    × ((fault : Fault) (other : Text) → HasFault text fault other → length front ≤ length other))

@@ -1,5 +1,5 @@
 -- What the members of a text look like, and what they say.
-use Rattle.std.specs.Prelude.{◌≡◌, ◌≢◌, ◌≤◌, ◌<◌, ℕ, ◌^◌, true, false, List, [], ◌∷◌, ◌++◌, length, Option, Some, None, ◌⊎◌}
+use Rattle.std.specs.Prelude.{◌≡◌, ◌≢◌, ◌≤◌, ◌<◌, ℕ, ◌^◌, true, [], ◌∷◌, ◌++◌, length, Option, Some, None, ◌⊎◌}
 use Rattle.std.specs.List.{list_all}
 use Rattle.m2_tree.specs.declared.token.Symbol.{Symbol}
 use Rattle.m2_tree.specs.declared.token.Lexeme.{Lexeme}
@@ -9,7 +9,7 @@ use Rattle.m2_scan.specs.declared.class.Class.TheVariants.{Space, Letter, Digit,
 use Rattle.m2_scan.specs.declared.number.Numeral.{Numeral}
 use Rattle.m2_scan.specs.declared.number.Numeral.TheVariants.{Code}
 use Rattle.m2_scan.specs.Bytes.{Text, class, is_run_byte, is_printable, is_inside}
-use Rattle.m2_scan.specs.Numbers.{Writes, limit}
+use Rattle.m2_scan.specs.Numbers.{Writes}
 use Rattle.m2_scan.specs.Symbols.{word_of, sign_of}
 
 -- letters and digits, of which the first is of this class

@@ -1,5 +1,5 @@
 -- What the parts of the scanner say to one another. No public contract speaks of it.
-use Rattle.std.specs.Prelude.{◌≡◌, ◌≢◌, ◌≤◌, ◌<◌, ℕ, ◌+◌, ◌^◌, ◌==◌, true, false, List, [], ◌∷◌, ◌++◌, length, Option, Some, None, if◌then◌else◌}
+use Rattle.std.specs.Prelude.{◌≡◌, ◌≢◌, ◌≤◌, ◌<◌, ℕ, ◌+◌, ◌^◌, ◌==◌, true, false, [], ◌∷◌, ◌++◌, length, Option, Some, None, if◌then◌else◌}
 use Rattle.std.specs.List.{list_all}
 use Rattle.m2_tree.specs.declared.pos.Pos.{Pos}
 use Rattle.m2_tree.specs.declared.token.Lexeme.{Lexeme}
@@ -14,7 +14,7 @@ use Rattle.m2_scan.specs.declared.refusal.ScanRefusal.{ScanRefusal}
 use Rattle.m2_scan.specs.declared.refusal.ScanError.TheVariants.{Refused, NoMemory}
 use Rattle.m2_scan.specs.Bytes.{Text, class, is_line_end}
 use Rattle.m2_scan.specs.Symbols.{sign_of}
-use Rattle.m2_scan.specs.Numbers.{Writes, base, limit, suffix, is_digit_of, value}
+use Rattle.m2_scan.specs.Numbers.{Writes, base, limit, is_digit_of, value}
 use Rattle.m2_scan.specs.declared.comment.Mark.{Mark}
 use Rattle.m2_scan.specs.declared.comment.Mark.TheVariants.{Opening, Closing, Byte, End}
 use Rattle.m2_scan.specs.Forms.{IsLongest, IsMember, IsClosed, opening, closing}

@@ -1,5 +1,5 @@
 -- The operators, delimiters and reserved words.
-use Rattle.std.specs.Prelude.{ℕ, List, [], ◌∷◌, Option, Some, None, codes, if◌then◌else◌}
+use Rattle.std.specs.Prelude.{List, [], ◌∷◌, Option, Some, None, codes, if◌then◌else◌}
 use Rattle.std.specs.Str.{bytes_eq}
 use Rattle.m2_tree.specs.declared.token.Symbol.{Symbol}
 use Rattle.m2_tree.specs.declared.token.Symbol.TheVariants as s

@@ -108,10 +108,18 @@ fn divides(rt: HostRuntime) -> Result<(), Fail> {
     let dots = Said::Symbol(Symbol::DotDot);
     let rows: [(&[u8], &[(Said, u32, u32)]); 9] = [
         (b"", &[(Said::End, 1, 1)]),
-        (b"a..b", &[(name, 1, 1), (dots, 1, 2), (name, 1, 4), (Said::End, 1, 5)]),
+        (
+            b"a..b",
+            &[(name, 1, 1), (dots, 1, 2), (name, 1, 4), (Said::End, 1, 5)],
+        ),
         (
             b"1..2",
-            &[(Said::Number(1), 1, 1), (dots, 1, 2), (Said::Number(2), 1, 4), (Said::End, 1, 5)],
+            &[
+                (Said::Number(1), 1, 1),
+                (dots, 1, 2),
+                (Said::Number(2), 1, 4),
+                (Said::End, 1, 5),
+            ],
         ),
         (
             b"<=>",
@@ -121,7 +129,10 @@ fn divides(rt: HostRuntime) -> Result<(), Fail> {
                 (Said::End, 1, 4),
             ],
         ),
-        (b"a\r\nb\n", &[(name, 1, 1), (name, 2, 1), (Said::End, 3, 1)]),
+        (
+            b"a\r\nb\n",
+            &[(name, 1, 1), (name, 2, 1), (Said::End, 3, 1)],
+        ),
         (b"\t\ta", &[(name, 1, 3), (Said::End, 1, 4)]),
         (
             b"ENDx END'q\"'12C 17B 0FH",
@@ -147,7 +158,12 @@ fn divides(rt: HostRuntime) -> Result<(), Fail> {
         ),
         (
             b"x(*\n(* *)*):=y",
-            &[(name, 1, 1), (Said::Symbol(Symbol::Assign), 2, 8), (name, 2, 10), (Said::End, 2, 11)],
+            &[
+                (name, 1, 1),
+                (Said::Symbol(Symbol::Assign), 2, 8),
+                (name, 2, 10),
+                (Said::End, 2, 11),
+            ],
         ),
     ];
     for (text, want) in rows {

@@ -66,17 +66,14 @@ pub fn scan(alloc: Global, text: &[u8]) -> Result<Vec<Token>, ScanError>
 /// A text divides in at most one way.
 pub fn one_division()
     ensures { (text : Text) (ms ns : List Member) → Divides text ms [] → Divides text ns [] → ms ≡ ns }
-{
-}
+{}
 
 /// A text that divides is not refused, unless it is too long.
 pub fn tokens_or_refusal()
     ensures { (text : Text) (ts : List Token) (r : ScanRefusal) → length text ≤ max_text → HasTokens text ts → Refuses text r → ⊥ }
-{
-}
+{}
 
 /// A text has at most one refusal.
 pub fn one_refusal()
     ensures { (text : Text) (r q : ScanRefusal) → Refuses text r → Refuses text q → r ≡ q }
-{
-}
+{}

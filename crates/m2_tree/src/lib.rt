@@ -16,8 +16,8 @@ mod text;
 mod token;
 
 pub use decl::{
-    Block, Constant, Contents, Decl, Def, Field, FormalType, Heading, Import, Module, Parameter, Section, Simple,
-    TypeDecl, TypeExpr, Variables,
+    Block, Constant, Contents, Decl, Def, Field, FormalType, Heading, Import, Module, Parameter,
+    Section, Simple, TypeDecl, TypeExpr, Variables,
 };
 pub use expr::{AddOp, Designator, Expr, Item, MulOp, Operator, Qualified, RelOp, Selector, Sign};
 pub use name::{Ident, MAX_NAME, Name};

@@ -17,9 +17,13 @@ pub pushes : (c : Context) (i : Instr) (v : ValueType) (old new : List ValueType
 pushes c i v old new h e = (record { params = []; results = v ∷ [] }, old, h, sym (append-nil old), e)
 
 pub calls_indirectly : (c : Context) (index : ℕ) (old mid new : List ValueType) → 0 < length c.tables → old ≡ mid ++ I32 ∷ [] → AppliesType c.types index mid new → TypesSome c (CallIndirect index) old new
-calls_indirectly c index old mid new some e (t, below, get, before, after) =
-    (record { params = t.params ++ I32 ∷ []; results = t.results }, below, (t, some, get, refl),
-        e ∙ ap (λ (s : List ValueType). s ++ I32 ∷ []) before ∙ append_assoc below t.params (I32 ∷ []), after)
+calls_indirectly c index old mid new some e (t, below, get, before, after) = (
+  record { params = t.params ++ I32 ∷ []; results = t.results },
+  below,
+  (t, some, get, refl),
+  e ∙ ap (λ (s : List ValueType). s ++ I32 ∷ []) before ∙ append_assoc below t.params (I32 ∷ []),
+  after,
+)
 
 pub leads_more : (c : Context) (i : Instr) (is : List Instr) (start mid after : List ValueType) → TypesSome c i start mid → Leads c is mid after → Leads c (i ∷ is) start after
 leads_more c i is start mid after (t, below, types, before, e) h = (t, below, types, before, subst (λ (s : List ValueType). Leads c is s after) e h)

@@ -60,14 +60,17 @@ split_last (x ∷ xs) = elim (split_last xs) [ None ↦ Some ([], x) | Some p �
 abbrev pub split_end : {A : Type 0} → ℕ → List A → Option (List A × List A)
 split_end n xs = if nat_le n (length xs) then Some (take (length xs - n) xs, drop (length xs - n) xs) else None
 
-abbrev pub with_i32 : List Value → (List Value → ℕ → Progress) → Progress
-with_i32 stack go = elim (split_last stack) [ None ↦ trapped | Some p ↦ elim p.1 [ I32 n ↦ go p.0 n | I64 n ↦ trapped ] ]
+-- the topmost operand, where it is of 32 or of 64 bits
+abbrev pub top_i32 : List Value → Option (List Value × ℕ)
+top_i32 stack = option_and_then (λ p. elim p.1 [ I32 n ↦ Some (p.0, n) | I64 n ↦ None ]) (split_last stack)
 
-abbrev pub with_i64 : List Value → (List Value → ℕ → Progress) → Progress
-with_i64 stack go = elim (split_last stack) [ None ↦ trapped | Some p ↦ elim p.1 [ I32 n ↦ trapped | I64 n ↦ go p.0 n ] ]
+abbrev pub top_i64 : List Value → Option (List Value × ℕ)
+top_i64 stack = option_and_then (λ p. elim p.1 [ I32 n ↦ None | I64 n ↦ Some (p.0, n) ]) (split_last stack)
 
-abbrev pub with_end : ℕ → List Value → (List Value → List Value → Progress) → Progress
-with_end n stack go = elim (split_end n stack) [ None ↦ trapped | Some p ↦ go p.0 p.1 ]
+-- goes on with what was found, if it was
+abbrev pub or_trap : {A : Type 0} → Option A → (A → Progress) → Progress
+or_trap None go = trapped
+or_trap (Some x) go = go x
 
 -- ---- what indices stand for
 
@@ -159,34 +162,23 @@ stopped k = if nat_le 1 k && nat_le k 255 then Over k else Trapped
 
 -- 4.4.7: a call of this function. The host's put prints the low byte
 abbrev pub called : List WModule → Store → Activation → List Activation → Callee → Progress
-called modules st now callers Put = with_i64 now.stack (λ below n. (Going st (record now { stack = below }) callers, n % 256 ∷ []))
-called modules st now callers Stop = with_i64 now.stack (λ below n. (stopped n, []))
+called modules st now callers Put = or_trap (top_i64 now.stack) (λ p. (Going st (record now { stack = p.0 }) callers, p.1 % 256 ∷ []))
+called modules st now callers Stop = or_trap (top_i64 now.stack) (λ p. (stopped p.1, []))
 called modules st now callers (Own m f) =
-    elim (own_function modules m f) [
-    | None ↦ trapped
-    | Some t ↦ with_end (length t.type.params) now.stack (λ below args. (Going st (entered m t args) (callers ++ record now { stack = below } ∷ []), [])) ]
+    or_trap (own_function modules m f) (λ t. or_trap (split_end (length t.type.params) now.stack) (λ p. (Going st (entered m t p.1) (callers ++ record now { stack = p.0 } ∷ []), [])))
 
-abbrev pub called_some : List WModule → Store → Activation → List Activation → Option Callee → Progress
-called_some modules st now callers None = trapped
-called_some modules st now callers (Some c) = called modules st now callers c
-
-abbrev pub called_as : List WModule → Store → Activation → List Activation → (asked : Option FuncType) → Option Callee → Progress
-called_as modules st now callers asked None = trapped
-called_as modules st now callers asked (Some c) = if agree asked (callee_type modules c) then called modules st now callers c else trapped
+abbrev pub called_as : List WModule → Store → Activation → List Activation → (asked : Option FuncType) → Callee → Progress
+called_as modules st now callers asked c = if agree asked (callee_type modules c) then called modules st now callers c else trapped
 
 abbrev pub pushed : Store → Activation → List Activation → Value → Progress
 pushed st now callers v = (Going st (record now { stack = now.stack ++ v ∷ [] }) callers, [])
 
-abbrev pub pushed_some : Store → Activation → List Activation → Option Value → Progress
-pushed_some st now callers None = trapped
-pushed_some st now callers (Some v) = pushed st now callers v
-
 -- an instruction begins (4.4). The rest of the code is what stands behind it
 abbrev pub begun : List WModule → Store → Activation → List Activation → Instr → Progress
-begun modules st now callers (Call f) = called_some modules st now callers (callee_at st now.instance f)
+begun modules st now callers (Call f) = or_trap (callee_at st now.instance f) (called modules st now callers)
 begun modules st now callers (CallIndirect t) =
-    with_i32 now.stack (λ below n. called_as modules st (record now { stack = below }) callers (type_at modules now.instance t) (callee_in st now.instance n))
-begun modules st now callers (GlobalGet g) = pushed_some st now callers (global_at st now.instance g)
+    or_trap (top_i32 now.stack) (λ p. or_trap (callee_in st now.instance p.1) (called_as modules st (record now { stack = p.0 }) callers (type_at modules now.instance t)))
+begun modules st now callers (GlobalGet g) = or_trap (global_at st now.instance g) (pushed st now callers)
 begun modules st now callers (I32Const n) = pushed st now callers (I32 n)
 begun modules st now callers (I64Const n) = pushed st now callers (I64 n)
 
@@ -197,9 +189,9 @@ returned st callers results =
 
 -- the end of a block or of the function (4.4.5, 4.4.7)
 abbrev pub ended : Store → Activation → List Activation → List Label → Progress
-ended st now callers [] = with_end now.arity now.stack (λ below results. returned st callers results)
+ended st now callers [] = or_trap (split_end now.arity now.stack) (λ p. returned st callers p.1)
 ended st now callers (l ∷ labels) =
-    with_end l.arity now.stack (λ below results. (Going st (record now { labels = labels; rest = l.rest; stack = l.below ++ results }) callers, []))
+    or_trap (split_end l.arity now.stack) (λ p. (Going st (record now { labels = labels; rest = l.rest; stack = l.below ++ p.1 }) callers, []))
 
 abbrev pub next : List WModule → Store → Activation → List Activation → List Instr → Progress
 next modules st now callers [] = ended st now callers now.labels

@@ -97,7 +97,8 @@ IsImport c i = elim i.kind [
   | imported.Function t ↦ t < length c.types
   | imported.Table t ↦ AreLimits (2 ^ 32) t.limits
   | imported.Memory t ↦ AreLimits 65536 t.limits
-  | imported.Global t ↦ Unit {0} ]
+  | imported.Global t ↦ Unit {0}
+]
 
 -- 3.4.1
 abbrev pub IsFunction : Context → Function → Type 0
@@ -111,7 +112,8 @@ IsExport c e = elim e.kind [
   | exported.Function i ↦ i < length c.functions
   | exported.Table i ↦ i < length c.tables
   | exported.Memory i ↦ i < length c.memories
-  | exported.Global i ↦ i < length c.globals ]
+  | exported.Global i ↦ i < length c.globals
+]
 
 abbrev pub IsElement : Context → Element → Type 0
 IsElement c e = (e.table < length c.tables) × IsConstantOf c I32 e.offset × All (λ f. f < length c.functions) e.functions

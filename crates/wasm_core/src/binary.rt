@@ -7,9 +7,9 @@ ghost use Rattle.wasm_core.specs.Parts.{many, vector, entries, section};
 
 mod body;
 mod code;
-mod sections;
 mod kinds;
 mod name;
+mod sections;
 
 use crate::fault::WFault;
 use crate::number::unsigned_at;
@@ -42,11 +42,7 @@ impl Binary for u32 {
 }
 
 /// So many values, one after another.
-pub fn many<T: Binary>(
-    alloc: Global,
-    count: u32,
-    bytes: &[u8],
-) -> Result<(Items<T>, &[u8]), WFault>
+pub fn many<T: Binary>(alloc: Global, count: u32, bytes: &[u8]) -> Result<(Items<T>, &[u8]), WFault>
     ensures { Gives (λ x. (x.0, x.1.now)) result (many T.format count bytes.now) }
 {
     let mut items = Items::new(alloc);
@@ -109,11 +105,7 @@ pub fn write_vector<T: Binary>(out: &mut Writer, items: &[T]) -> Result<(), Allo
 }
 
 /// Appends the section of this number, or nothing where it has no entry.
-pub fn write_section<T: Binary>(
-    out: &mut Writer,
-    number: u8,
-    items: &[T],
-) -> Result<(), AllocError>
+pub fn write_section<T: Binary>(out: &mut Writer, number: u8, items: &[T]) -> Result<(), AllocError>
     ensures { OnOk result (out.new ≡ out.old ++ (section number T.format).spelling items.now) }
 {
     if items.is_empty() {

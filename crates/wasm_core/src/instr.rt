@@ -1,6 +1,5 @@
 //! Instructions (Core 1.0, section 2.4).
 
-
 /// An instruction. The end of a sequence is no instruction of its own.
 #[derive(Clone, Copy, Debug, PartialEq, Eq)]
 pub enum Instr {
@@ -15,4 +14,3 @@ pub enum Instr {
     /// Pushes a number of 64 bits, given by its bits.
     I64Const(u64),
 }
-

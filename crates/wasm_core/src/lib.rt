@@ -25,3 +25,6 @@ pub use module_bytes::{read_module, write_module};
 pub use store::{Callee, Extern, Instance, Memory, Store, Table, Value};
 pub use valid::{ValidModule, validate};
 pub use writer::Writer;
+
+#[cfg(test)]
+mod tests;

@@ -11,7 +11,11 @@ pub fn front(bytes: &[u8], size: u32) -> &[u8]
     ensures { result.now ≡ take size bytes.now }
 {
     let size = size as usize;
-    if size < bytes.len() { &bytes[..size] } else { bytes }
+    if size < bytes.len() {
+        &bytes[..size]
+    } else {
+        bytes
+    }
 }
 
 /// The bytes behind a part of so many bytes, of which these are left. `Malformed` where some are, or some are missing.

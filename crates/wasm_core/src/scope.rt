@@ -70,10 +70,13 @@ fn imported_functions(alloc: Global, tree: &WModule) -> Result<Vec<u32>, AllocEr
     ensures { IfOk result (λ v. v.items ≡ filter_map function_import tree.now.imports) }
 {
     let imports = tree.imports.as_slice();
-    imports.iter().filter_map(|i| function_import(i)).collect(alloc)
+    imports
+        .iter()
+        .filter_map(|i| function_import(i))
+        .collect(alloc)
 }
 
-fn functions_of(alloc: Global, tree: &WModule) -> Result<Vec<u32>, AllocError>
+pub fn functions_of(alloc: Global, tree: &WModule) -> Result<Vec<u32>, AllocError>
     ensures { IfOk result (λ v. v.items ≡ filter_map function_import tree.now.imports ++ map (λ f. f.type_index) tree.now.functions) }
 {
     let mut functions = imported_functions(alloc, tree)?;
@@ -87,7 +90,10 @@ fn imported_tables(alloc: Global, tree: &WModule) -> Result<Vec<Limits>, AllocEr
     ensures { IfOk result (λ v. v.items ≡ filter_map table_import tree.now.imports) }
 {
     let imports = tree.imports.as_slice();
-    imports.iter().filter_map(|i| table_import(i)).collect(alloc)
+    imports
+        .iter()
+        .filter_map(|i| table_import(i))
+        .collect(alloc)
 }
 
 fn tables_of(alloc: Global, tree: &WModule) -> Result<Vec<Limits>, AllocError>
@@ -104,7 +110,10 @@ fn imported_memories(alloc: Global, tree: &WModule) -> Result<Vec<Limits>, Alloc
     ensures { IfOk result (λ v. v.items ≡ filter_map memory_import tree.now.imports) }
 {
     let imports = tree.imports.as_slice();
-    imports.iter().filter_map(|i| memory_import(i)).collect(alloc)
+    imports
+        .iter()
+        .filter_map(|i| memory_import(i))
+        .collect(alloc)
 }
 
 fn memories_of(alloc: Global, tree: &WModule) -> Result<Vec<Limits>, AllocError>
@@ -121,7 +130,10 @@ fn imported_globals(alloc: Global, tree: &WModule) -> Result<Vec<ValueType>, All
     ensures { IfOk result (λ v. v.items ≡ filter_map global_import tree.now.imports) }
 {
     let imports = tree.imports.as_slice();
-    imports.iter().filter_map(|i| global_import(i)).collect(alloc)
+    imports
+        .iter()
+        .filter_map(|i| global_import(i))
+        .collect(alloc)
 }
 
 fn globals_of(alloc: Global, tree: &WModule) -> Result<Vec<ValueType>, AllocError>

@@ -6,11 +6,13 @@ ghost use Rattle.wasm_core.specs.Scope.{scope_of};
 
 use crate::fault::WFault;
 use crate::kinds::{FuncType, Limits, MemoryType, TableType, ValueType};
-use crate::module::{Data, Element, Export, ExportKind, Function, Global as Constant, Import, ImportKind, WModule};
-use crate::scope::{Scope, initial_scope, names_of, whole_scope};
+use crate::module::{
+    Data, Element, Export, ExportKind, Function, Global as Constant, Import, ImportKind, WModule,
+};
+use crate::scope::{Scope, functions_of, initial_scope, names_of, whole_scope};
 use crate::typing::{check_code, check_constant};
 use sqlite_items::at;
-use std::alloc::Global;
+use std::alloc::{AllocError, Global};
 use std::marker::Model;
 
 fn are_limits(limits: Limits, most: u64) -> bool
@@ -75,7 +77,9 @@ fn check_element(alloc: Global, scope: Scope<'_>, element: &Element) -> Result<(
     ensures { OnOk result (IsElement (scope_of scope.entry) element.now) }
 {
     let functions = element.functions.as_slice();
-    let known = functions.iter().all(|f| (*f as usize) < scope.functions.len());
+    let known = functions
+        .iter()
+        .all(|f| (*f as usize) < scope.functions.len());
     if !known || scope.tables.len() <= element.table as usize {
         return Err(WFault::Invalid);
     }
@@ -217,7 +221,10 @@ fn check_whole(alloc: Global, tree: &WModule) -> Result<(), WFault>
 {
     let names = names_of(alloc, tree)?;
     let scope = whole_scope(tree, &names);
-    if scope.tables.len() > 1 || scope.memories.len() > 1 || !are_distinct(tree.exports.as_slice()) {
+    if scope.tables.len() > 1
+        || scope.memories.len() > 1
+        || !are_distinct(tree.exports.as_slice())
+    {
         return Err(WFault::Invalid);
     }
     check_kinds(scope, tree)?;
@@ -250,6 +257,13 @@ impl ValidModule {
         ensures valid { IsValid self.now }
     {
         &self.tree
+    }
+
+    /// The index of each of its functions' types, those of imported functions first.
+    pub fn function_types(&self, alloc: Global) -> Result<Vec<u32>, AllocError>
+        ensures { IfOk result (λ v. v.items ≡ (context self.now).functions) }
+    {
+        functions_of(alloc, &self.tree)
     }
 
     /// Its exports, in order.

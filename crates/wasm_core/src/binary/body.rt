@@ -4,8 +4,8 @@ ghost use Rattle.std.specs.Prelude.{◌≡◌, ◌++◌, ◌+◌, OnOk};
 ghost use Rattle.wasm_core.specs.Format.{Format, Gives};
 ghost use Rattle.wasm_core.specs.Binary.{locals, locals_at, locals_spelling, body};
 
-use crate::binary::code::{code_at, write_code};
 use crate::binary::Binary;
+use crate::binary::code::{code_at, write_code};
 use crate::fault::WFault;
 use crate::kinds::ValueType;
 use crate::module::{Body, Locals};

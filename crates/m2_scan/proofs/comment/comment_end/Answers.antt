@@ -1,4 +1,4 @@
-use Rattle.std.proofs.Common.{◌≡◌, ◌<◌, ◌-◌, ℕ, List, [], ◌∷◌, length, take, drop, get_or, ap, sym, ◌∙◌, subst, arith}
+use Rattle.std.proofs.Common.{◌≡◌, ℕ, List, ◌∷◌, get_or, ap, ◌∙◌, subst, arith}
 use Rattle.m2_scan.specs.Steps.{moved}
 use Rattle.m2_scan.proofs.Walks.{Walks, opens, closes, ends, goes_on, never, from_third, from_second}
 use Rattle.m2_scan.proofs.comment.comment_end.Goals as goal

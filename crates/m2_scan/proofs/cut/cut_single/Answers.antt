@@ -8,4 +8,4 @@ returns-in-None-clause-refused c = stray_stops c.args.text.now c.args.pos c.refu
 pub returns-in-Some-clause-taken : goal.returns-in-Some-clause-taken
 returns-in-Some-clause-taken c =
     sign_taken c.args.text.now c.split_at.result.1.now c.args.pos c.right.result c.in-Some.symbol c.requires.begins c.requires.no_comment c.requires.no_pair (sym c.in-Some.ensures) c.split_at.ensures.back
-      c.right.ensures.line c.right.ensures.col
+    c.right.ensures.line c.right.ensures.col

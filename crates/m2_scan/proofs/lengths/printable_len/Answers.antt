@@ -1,4 +1,4 @@
-use Rattle.std.proofs.Common.{◌≡◌, ◌≤◌, ◌<◌, ℕ, length, sym, ◌∙◌, arith}
+use Rattle.std.proofs.Common.{◌<◌, ℕ, length, sym, ◌∙◌, arith}
 use Rattle.std.proofs.lemmas.List.Sums.{prefix_len_is}
 use Rattle.m2_scan.specs.Bytes.{is_printable}
 use Rattle.m2_scan.proofs.lengths.printable_len.Goals as goal

@@ -1,4 +1,3 @@
-use Rattle.std.proofs.Common.{refl}
 use Rattle.m2_scan.proofs.Numerals.{refused_digits}
 use Rattle.m2_scan.proofs.number.number_of.Goals as goal
 

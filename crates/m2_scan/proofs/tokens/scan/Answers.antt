@@ -1,9 +1,8 @@
-use Rattle.std.proofs.Common.{◌≡◌, ◌≤◌, ◌∙◌, sym, ap, List, [], length, subst, arith}
+use Rattle.std.proofs.Common.{◌∙◌, sym, List, length, subst}
 use Rattle.std.proofs.lemmas.Result.{err_from_is_err_and}
 use Rattle.std.proofs.lemmas.Bool.{eqb-true}
 use Rattle.std.proofs.lemmas.List.{nil_from_length}
 use Rattle.m2_tree.specs.declared.token.Token.{Token}
-use Rattle.m2_scan.specs.Division.{max_text}
 use Rattle.m2_scan.proofs.Scanned.{Scanned, begins, goes_on, ends, stops, tokens_once, too_long, only_memory, only_refusal, never_both}
 use Rattle.m2_scan.proofs.tokens.scan.Goals as goal
 
@@ -28,7 +27,7 @@ returns-in_err-cut-clause-accepted c =
 pub loop-rest-preserved : goal.loop-rest-preserved
 loop-rest-preserved c =
     goes_on c.args.text.now c.loop-rest.rest.now c.loop-rest.pos c.loop-rest.tokens.items c.in_ok-cut.cut.token c.in_ok-cut.cut.rest.now c.in_ok-cut.cut.pos c.add.new.tokens.items c.loop-rest.invariant c.in_ok-cut.ensures.taken
-      c.in_ok-add.ensures
+    c.in_ok-add.ensures
 
 pub returns-clause-tokens : goal.returns-clause-tokens
 returns-clause-tokens c =
@@ -37,7 +36,7 @@ returns-clause-tokens c =
 pub returns-clause-accepted : goal.returns-clause-accepted
 returns-clause-accepted c = λ ts small h.
     tokens_once c.args.text.now c.add-2.new.tokens.items ts
-      (ends c.args.text.now c.loop-rest.rest.now c.loop-rest.pos c.loop-rest.tokens.items c.add-2.new.tokens.items c.loop-rest.invariant (nil_from_length c.loop-rest.rest.now (eqb-true (length c.loop-rest.rest.now) 0 (sym c.is_empty.ensures ∙ c.loop-rest-test.false))) c.in_ok-add-2.ensures) h
+    (ends c.args.text.now c.loop-rest.rest.now c.loop-rest.pos c.loop-rest.tokens.items c.add-2.new.tokens.items c.loop-rest.invariant (nil_from_length c.loop-rest.rest.now (eqb-true (length c.loop-rest.rest.now) 0 (sym c.is_empty.ensures ∙ c.loop-rest-test.false))) c.in_ok-add-2.ensures) h
 
 pub returns-then-text-gt-MAX_TEXT-clause-told : goal.returns-then-text-gt-MAX_TEXT-clause-told
 returns-then-text-gt-MAX_TEXT-clause-told c = λ r h. only_refusal c.args.text.now c.refused.result r h (too_long c.args.text.now c.refused.result c.if-text-gt-MAX_TEXT.true c.refused.ensures)
@@ -51,4 +50,4 @@ pub returns-clause-told : goal.returns-clause-told
 returns-clause-told c = λ r h.
     let last = nil_from_length c.loop-rest.rest.now (eqb-true (length c.loop-rest.rest.now) 0 (sym c.is_empty.ensures ∙ c.loop-rest-test.false)) in
     never_both c.args.text.now c.add-2.new.tokens.items r c.loop-rest.invariant.small
-      (ends c.args.text.now c.loop-rest.rest.now c.loop-rest.pos c.loop-rest.tokens.items c.add-2.new.tokens.items c.loop-rest.invariant last c.in_ok-add-2.ensures) h
+    (ends c.args.text.now c.loop-rest.rest.now c.loop-rest.pos c.loop-rest.tokens.items c.add-2.new.tokens.items c.loop-rest.invariant last c.in_ok-add-2.ensures) h

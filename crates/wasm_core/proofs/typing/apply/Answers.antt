@@ -11,7 +11,7 @@ returns-else-not-take_all c =
     let some : 0 < length c.args.scope.tables.now = grind (arith, common_steps) in
     let took : c.args.stack.now.items ≡ c.take_all.new.stack.items ++ I32 ∷ [] = search rules in
     rw c.in-CallIndirect.is (on_ok_weaker c.apply_type-in-CallIndirect.result
-        (λ x. calls_indirectly (scope_of c.args.scope) c.in-CallIndirect.type_index c.args.stack.now.items c.take_all.new.stack.items _ some took x) c.apply_type-in-CallIndirect.ensures)
+    (λ x. calls_indirectly (scope_of c.args.scope) c.in-CallIndirect.type_index c.args.stack.now.items c.take_all.new.stack.items _ some took x) c.apply_type-in-CallIndirect.ensures)
 
 pub returns-in_ok-push-in-GlobalGet : goal.returns-in_ok-push-in-GlobalGet
 returns-in_ok-push-in-GlobalGet c =
