@@ -1,5 +1,5 @@
 -- The next of a list's items, and what an answer that may fail gives.
-use Rattle.std.proofs.Common.{◌≡◌, ℕ, ◌<◌, List, [], ◌∷◌, ◌++◌, length, get_or, refl, sym, ap, ◌∙◌, arith, append-nil, append_assoc, length-append, Ok, Err}
+use Rattle.std.proofs.Common.{◌≡◌, ◌<◌, List, [], ◌∷◌, ◌++◌, length, get_or, refl, sym, ap, ◌∙◌, arith, append-nil, append_assoc, length-append, Ok, Err}
 use Rattle.std.specs.Prelude.{Result, IfOk}
 use Rattle.m2_board.specs.Lists.{together}
 

@@ -104,7 +104,7 @@ fn one<W: Work>(
     }
 }
 
-// Runs a job that no seat had.
+// Runs a job that no seat had. Only the contract reads `left`.
 fn run_left<W: Work>(
     alloc: Global,
     graph: &JobGraph,

@@ -143,6 +143,7 @@ fn run<W: Work, G: Gate>(
     ensures work { IfOk result (λ r. W.key_of r.work ≡ W.key_of shop.now.work.now) }
     ensures note { IfOk result (λ r. HoldsAt (λ c. r.note.cell ≡ cell_name c) shop.now.cells.now job) }
 {
+    // This tells the proof that the graph is sound, here and in the gatherer.
     let _jobs = shop.graph.jobs();
     let out = shop.work.run(job, prerequisites)?;
     let work = *shop.work;

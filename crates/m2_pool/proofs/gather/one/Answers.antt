@@ -1,4 +1,4 @@
-use Rattle.std.proofs.Common.{◌≡◌, sym, ap, ◌∙◌}
+use Rattle.std.proofs.Common.{sym, ap, ◌∙◌}
 use Rattle.m2_board.specs.Graph.{prerequisites_of}
 use Rattle.m2_pool.specs.Results.{IsResult, picked}
 use Rattle.m2_pool.proofs.Items.{if_ok}
