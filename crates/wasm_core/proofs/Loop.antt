@@ -1,5 +1,5 @@
 -- Reading values one after the other, as a loop does.
-use Rattle.std.proofs.Common.{◌≡◌, length, get_or, drop, add-one, ℕ, zero, suc, ◌-◌, ◌+◌, ◌^◌, ◌≤◌, ◌<◌, List, [], ◌∷◌, ◌++◌, Option, Some, None, Result, Ok, Err, refl, sym, ap, ◌∙◌, append_assoc, arith}
+use Rattle.std.proofs.Common.{◌≡◌, length, get_or, drop, add-one, ℕ, suc, ◌-◌, ◌+◌, ◌^◌, ◌≤◌, ◌<◌, List, [], ◌∷◌, ◌++◌, Some, None, Result, Ok, Err, refl, sym, ap, ◌∙◌, append_assoc, arith}
 use Rattle.std.proofs.lemmas.List.{append-nil, drop_all}
 use Rattle.std.proofs.Math.Seq.{drop-cons}
 use Rattle.wasm_core.specs.declared.fault.WFault.{WFault}
@@ -7,13 +7,11 @@ use Rattle.wasm_core.specs.declared.fault.WFault.TheVariants.{Malformed, Outside
 use Rattle.wasm_core.specs.Format.{Format, Reading, ◌>>=◌, Fails}
 use Rattle.std.proofs.lemmas.Bool.{lt-ltb, le-ltb}
 use Rattle.wasm_core.specs.declared.kinds.ValueType.{ValueType}
-use Rattle.wasm_core.specs.declared.module.Locals.{Locals}
 use Rattle.wasm_core.specs.declared.instr.Instr.{Instr}
 use Rattle.wasm_core.specs.Number.{unsigned}
 use Rattle.wasm_core.specs.Parts.{many}
 use Rattle.wasm_core.specs.Format.{skip}
 use Rattle.wasm_core.specs.declared.module.Body.{Body}
-use Rattle.wasm_core.specs.declared.module.Function.{Function}
 use Rattle.wasm_core.specs.Binary.{skip_all, body, bodies, value_type, next_at, code_in, locals_at}
 
 -- what was read before, and what is still read

@@ -1,14 +1,11 @@
 -- What instructions do to the types of the operands.
 use Rattle.std.proofs.Common.{◌≡◌, ℕ, suc, ◌+◌, ◌<◌, List, [], ◌∷◌, ◌++◌, length, get_or, drop, refl, sym, ap, subst, ◌∙◌, append_assoc, add-one}
-use Rattle.std.specs.Prelude.{OnOk, Result, slice_get, Some}
 use Rattle.std.proofs.lemmas.List.{append-nil}
-use Rattle.std.proofs.lemmas.Result.{on_ok_weaker}
 use Rattle.std.proofs.Math.Seq.{drop-cons}
 use Rattle.wasm_core.specs.declared.kinds.ValueType.{ValueType}
 use Rattle.wasm_core.specs.declared.kinds.ValueType.TheVariants.{I32}
-use Rattle.wasm_core.specs.declared.kinds.FuncType.{FuncType}
 use Rattle.wasm_core.specs.declared.instr.Instr.{Instr}
-use Rattle.wasm_core.specs.declared.instr.Instr.TheVariants.{CallIndirect, I32Const}
+use Rattle.wasm_core.specs.declared.instr.Instr.TheVariants.{CallIndirect}
 use Rattle.wasm_core.specs.Validity.{Context, Types, Leads}
 use Rattle.wasm_core.specs.Typing.{TypesSome, AppliesType}
 

@@ -1,7 +1,6 @@
 -- The test of std for UTF-8, as a Boolean.
 use Rattle.std.proofs.Common.{◌≡◌, ℕ, Bool, true, false, List, Result, Ok, Err, refl, sym, ◌∙◌}
 use Rattle.std.specs.Prelude.{MatchResult, is_ok}
-use Rattle.std.specs.Borrow.{Bor}
 use Rattle.std.specs.Str.{is_utf8, IsUtf8, IsValidUpTo}
 use Rattle.std.proofs.lemmas.Str.{IsUtf8-from_is_utf8, is_utf8-from_IsUtf8}
 

@@ -1,5 +1,5 @@
 -- The binary format of modules (Core 1.0, section 5), in this project's profile: each number in its shortest spelling.
-use Rattle.std.specs.Prelude.{◌≡◌, ℕ, zero, suc, ◌+◌, ◌≤◌, ◌^◌, Bool, true, ◌&&◌, List, [], ◌∷◌, ◌++◌, length, take, drop, map, sum_by, Option, Some, None, Result, Ok, Err, nat_lt, ◌==◌, if◌then◌else◌}
+use Rattle.std.specs.Prelude.{◌≡◌, ℕ, zero, suc, ◌+◌, ◌^◌, Bool, true, ◌&&◌, List, [], ◌∷◌, ◌++◌, length, take, map, sum_by, Option, Some, None, Result, Ok, Err, nat_lt, ◌==◌, if◌then◌else◌}
 use Rattle.std.specs.List.{flat_map, list_all}
 use Rattle.std.specs.Str.{is_utf8}
 use Rattle.wasm_core.specs.declared.fault.WFault.{WFault}
@@ -27,7 +27,7 @@ use Rattle.wasm_core.specs.declared.module.Data.{Data}
 use Rattle.wasm_core.specs.declared.module.WModule.{WModule}
 use Rattle.wasm_core.specs.Format.{Format, Reading, ◌>>=◌, byte_at, skip}
 use Rattle.wasm_core.specs.Number.{unsigned, signed32, signed64}
-use Rattle.wasm_core.specs.Parts.{◌▸◌, ◌◂◌, ◌·◌, seen, that, many, vector, closed, sized, bytes_left, section}
+use Rattle.wasm_core.specs.Parts.{◌▸◌, ◌◂◌, ◌·◌, seen, that, vector, closed, sized, bytes_left, section}
 
 -- ---- types (5.3)
 

@@ -1,7 +1,6 @@
 -- Formats: how a value is spelled in bytes, what is read at the front of bytes, and which values can be spelled.
 -- A reading is a value with the bytes behind it, or the first fault from the left.
-use Rattle.std.specs.Prelude.{◌≡◌, ℕ, zero, suc, ◌+◌, ◌≤◌, Bool, true, ◌&&◌, List, [], ◌∷◌, ◌++◌, length, take, drop, Result, Ok, Err, nat_lt, nat_le, ◌==◌, if◌then◌else◌}
-use Rattle.std.specs.List.{flat_map, list_all}
+use Rattle.std.specs.Prelude.{◌≡◌, ℕ, Bool, List, [], ◌∷◌, Result, Ok, Err, ◌==◌, if◌then◌else◌}
 use Rattle.wasm_core.specs.declared.fault.WFault.{WFault}
 use Rattle.wasm_core.specs.declared.fault.WFault.TheVariants.{Malformed, OutsideProfile, Invalid, Unlinked, SegmentOutside, NoMemory}
 

@@ -1,6 +1,6 @@
 -- Numbers in groups of seven bits, the lowest first, each byte but the last with its high bit set, and no group more
 -- than the number needs (Core 1.0, section 5.2.2, with the shortest spelling alone).
-use Rattle.std.specs.Prelude.{◌≡◌, ℕ, zero, suc, ◌+◌, ◌-◌, ◌*◌, ◌/◌, ◌%◌, ◌^◌, ◌≤◌, Bool, List, [], ◌∷◌, Result, Ok, Err, nat_lt, nat_le, if◌then◌else◌}
+use Rattle.std.specs.Prelude.{ℕ, zero, suc, ◌+◌, ◌-◌, ◌*◌, ◌/◌, ◌%◌, ◌^◌, List, [], ◌∷◌, Ok, Err, nat_lt, nat_le, if◌then◌else◌}
 use Rattle.wasm_core.specs.declared.fault.WFault.TheVariants.{Malformed}
 use Rattle.wasm_core.specs.Format.{Format, Reading, ◌>>=◌}
 

@@ -1,5 +1,5 @@
 -- Valid modules (Core 1.0, section 3).
-use Rattle.std.specs.Prelude.{◌≡◌, ◌≢◌, ℕ, ◌+◌, ◌^◌, ◌<◌, ◌≤◌, List, [], ◌∷◌, ◌++◌, length, map, slice_get, All, Option, Some, None}
+use Rattle.std.specs.Prelude.{◌≡◌, ◌≢◌, ℕ, ◌^◌, ◌<◌, ◌≤◌, List, [], ◌∷◌, ◌++◌, length, map, slice_get, All, Option, Some, None}
 use Rattle.std.specs.Option.{ForSome}
 use Rattle.std.specs.List.{filter_map}
 use Rattle.wasm_core.specs.declared.kinds.ValueType.{ValueType}
@@ -8,11 +8,9 @@ use Rattle.wasm_core.specs.declared.kinds.FuncType.{FuncType}
 use Rattle.wasm_core.specs.declared.kinds.Limits.{Limits}
 use Rattle.wasm_core.specs.declared.instr.Instr.{Instr}
 use Rattle.wasm_core.specs.declared.instr.Instr.TheVariants.{Call, CallIndirect, GlobalGet, I32Const, I64Const}
-use Rattle.wasm_core.specs.declared.module.ImportKind.{ImportKind}
 use Rattle.wasm_core.specs.declared.module.ImportKind.TheVariants as imported
 use Rattle.wasm_core.specs.declared.module.Import.{Import}
 use Rattle.wasm_core.specs.declared.module.Global.{Global}
-use Rattle.wasm_core.specs.declared.module.ExportKind.{ExportKind}
 use Rattle.wasm_core.specs.declared.module.ExportKind.TheVariants as exported
 use Rattle.wasm_core.specs.declared.module.Export.{Export}
 use Rattle.wasm_core.specs.declared.module.Element.{Element}

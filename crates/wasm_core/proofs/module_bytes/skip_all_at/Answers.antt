@@ -1,4 +1,4 @@
-use Rattle.std.proofs.Common.{◌≡◌, sym, ◌∙◌, List, ℕ}
+use Rattle.std.proofs.Common.{sym, ◌∙◌}
 use Rattle.std.proofs.lemmas.Result.{err_from_is_err_and}
 use Rattle.wasm_core.proofs.Loop.{fails_same, skip_more, skip_fail, skip_none}
 use Rattle.wasm_core.proofs.module_bytes.skip_all_at.Goals as goal

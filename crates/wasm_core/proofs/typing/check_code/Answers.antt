@@ -1,4 +1,3 @@
-use Rattle.std.proofs.Common.{refl}
 use Rattle.wasm_core.specs.Scope.{scope_of}
 use Rattle.wasm_core.proofs.TypingLemmas.{leads_on}
 use Rattle.wasm_core.proofs.typing.check_code.Goals as goal

@@ -1,4 +1,4 @@
-use Rattle.std.proofs.Common.{◌≡◌, ◌≢◌, ◌+◌, drop, subst, rules}
+use Rattle.std.proofs.Common.{◌≢◌, ◌+◌, drop, subst, rules}
 use Rattle.std.specs.Prelude.{All}
 use Rattle.wasm_core.proofs.Each.{distinct_more}
 use Rattle.wasm_core.proofs.valid.are_distinct.Goals as goal

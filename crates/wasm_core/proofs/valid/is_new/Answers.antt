@@ -1,4 +1,4 @@
-use Rattle.std.proofs.Common.{◌≡◌, ◌≢◌, rules}
+use Rattle.std.proofs.Common.{◌≢◌, rules}
 use Rattle.wasm_core.proofs.Each.{each_more, each_all}
 use Rattle.wasm_core.proofs.valid.is_new.Goals as goal
 

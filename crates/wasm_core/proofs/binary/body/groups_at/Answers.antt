@@ -1,4 +1,4 @@
-use Rattle.std.proofs.Common.{◌<◌, ◌≤◌, ◌+◌, ◌^◌, arith}
+use Rattle.std.proofs.Common.{arith}
 use Rattle.std.proofs.lemmas.Result.{err_from_is_err_and}
 use Rattle.wasm_core.proofs.Loop.{goes_on, fails, is_whole, locals_more, locals_fail_first, locals_too_many, locals_fail_type, locals_none}
 use Rattle.wasm_core.specs.declared.fault.WFault.TheVariants.{Malformed}

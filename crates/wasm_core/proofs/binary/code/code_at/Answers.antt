@@ -1,4 +1,4 @@
-use Rattle.std.proofs.Common.{◌≡◌, length, sym, ◌∙◌, refl}
+use Rattle.std.proofs.Common.{length}
 use Rattle.std.proofs.lemmas.Result.{err_from_is_err_and}
 use Rattle.wasm_core.specs.Binary.{code}
 use Rattle.wasm_core.specs.declared.fault.WFault.TheVariants.{Malformed}

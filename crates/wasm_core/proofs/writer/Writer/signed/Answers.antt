@@ -1,4 +1,4 @@
-use Rattle.std.proofs.Common.{◌≡◌, ℕ, ◌+◌, ◌-◌, List, [], ◌∷◌, ap, ◌∙◌, arith}
+use Rattle.std.proofs.Common.{◌≡◌, ℕ, ◌+◌, ◌-◌, [], ◌∷◌, ap, ◌∙◌, arith}
 use Rattle.wasm_core.proofs.Groups.{signed_small, signed_great, signed_more, signed_none, shifted_within, ends, goes_on, is_whole}
 use Rattle.wasm_core.proofs.writer.Writer.signed.Goals as goal
 
