@@ -45,7 +45,7 @@ module _ {X S : Type 0} (step : X → S → Result S WFault) (xs : List X) (k : 
   unfolding each
   each_fail e x total h is f so_far =
       fails_same e (step x s >>= each step (drop (suc k) xs)) total (fails_first e (step x s) (each step (drop (suc k) xs)) f)
-          (sym (ap (λ ys. each step ys s) (drop-cons xs k x h) ∙ rw (← is) refl) ∙ so_far)
+      (sym (ap (λ ys. each step ys s) (drop-cons xs k x h) ∙ rw (← is) refl) ∙ so_far)
 
   -- no step is left
   pub each_none : (total : Result S WFault) → length xs ≤ k → each step (drop k xs) s ≡ total → total ≡ Ok s
@@ -85,7 +85,7 @@ module _ (all trees : List WModule) (k : ℕ) (st : Store) where
   pub linked_fail : (e : WFault) (tree : WModule) (total : Result Store WFault) → k < length trees → tree ≡ get_or trees k tree → Fails e (linked_one all k tree st) → linked_from all k (drop k trees) st ≡ total → Fails e total
   linked_fail e tree total h is f so_far =
       fails_same e (linked_one all k tree st >>= linked_from all (suc k) (drop (suc k) trees)) total (fails_first e (linked_one all k tree st) (linked_from all (suc k) (drop (suc k) trees)) f)
-          (sym (at_tree tree h is) ∙ so_far)
+      (sym (at_tree tree h is) ∙ so_far)
 
   pub linked_none : (total : Result Store WFault) → length trees ≤ k → linked_from all k (drop k trees) st ≡ total → total ≡ Ok st
   unfolding linked_from

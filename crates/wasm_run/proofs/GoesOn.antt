@@ -46,14 +46,14 @@ module _ {S : Type 0} (told : S → Option (List ℕ)) (failed : S → ℕ) (old
       let reduced : reduce (modules_of now) (config_of now) ≡ reduce (modules_of old) (run (modules_of old) k (config_of old)).0 = rw (so_far.modules, so_far.config) refl in
       record {
         config =
-          let step : config_of next ≡ (reduce (modules_of old) (run (modules_of old) k (config_of old)).0).0 = one.config ∙ ap (λ p. p.0) reduced in
-          step ∙ rw (add-one, run-suc (modules_of old) k (config_of old)) refl;
+            let step : config_of next ≡ (reduce (modules_of old) (run (modules_of old) k (config_of old)).0).0 = one.config ∙ ap (λ p. p.0) reduced in
+            step ∙ rw (add-one, run-suc (modules_of old) k (config_of old)) refl;
         bytes =
-          let first = (run (modules_of old) k (config_of old)).1 in
-          let second = (reduce (modules_of old) (run (modules_of old) k (config_of old)).0).1 in
-          let step : told later ≡ with_bytes (told after) second = one.bytes ∙ ap (λ p. with_bytes (told after) p.1) reduced in
-          let joined : with_bytes (told after) second ≡ with_bytes (told before) (first ++ second) = ap (λ t. with_bytes t second) so_far.bytes ∙ with_bytes-append (told before) first second in
-          step ∙ joined ∙ rw (add-one, run-suc (modules_of old) k (config_of old)) refl;
+            let first = (run (modules_of old) k (config_of old)).1 in
+            let second = (reduce (modules_of old) (run (modules_of old) k (config_of old)).0).1 in
+            let step : told later ≡ with_bytes (told after) second = one.bytes ∙ ap (λ p. with_bytes (told after) p.1) reduced in
+            let joined : with_bytes (told after) second ≡ with_bytes (told before) (first ++ second) = ap (λ t. with_bytes t second) so_far.bytes ∙ with_bytes-append (told before) first second in
+            step ∙ joined ∙ rw (add-one, run-suc (modules_of old) k (config_of old)) refl;
         failures = one.failures ∙ so_far.failures;
         modules = same ∙ so_far.modules;
         broken = kept ∙ so_far.broken;

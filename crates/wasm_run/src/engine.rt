@@ -9,7 +9,6 @@ ghost use Rattle.wasm_run.specs.Going.{activation, going};
 ghost use Rattle.wasm_run.specs.Told.{with_bytes};
 ghost use Rattle.wasm_run.specs.Instances.{config_of, modules_of, has_failed, Steps, Stops, Breaks, Runs, RunsPart};
 
-
 use crate::link::{linked_all, run_of};
 use crate::machine::{Machine, Reduced, callee_at, entered, reduce};
 use crate::sink::Sink;

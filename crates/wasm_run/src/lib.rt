@@ -1,4 +1,4 @@
-//! x
+//! Linking and execution of WebAssembly modules (Core 1.0, section 4), with a host that prints bytes and stops runs.
 #![tactic(auto)]
 
 mod engine;
@@ -13,3 +13,6 @@ mod types;
 
 pub use engine::{End, Instances, RunFault};
 pub use sink::Sink;
+
+#[cfg(test)]
+mod tests;

@@ -72,7 +72,10 @@ pub fn own_function(
 pub fn type_at(modules: &[ValidModule], number: usize, index: u32) -> Option<&FuncType>
     ensures { type_of_ref result ≡ type_at modules.now number index }
 {
-    at(at(modules, number)?.module().types.as_slice(), index as usize)
+    at(
+        at(modules, number)?.module().types.as_slice(),
+        index as usize,
+    )
 }
 
 /// Whether the function can be called as one of the type asked for.

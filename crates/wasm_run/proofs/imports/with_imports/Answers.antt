@@ -8,12 +8,12 @@ pub returns-in_err-found : goal.returns-in_err-found
 returns-in_err-found c =
     let p = err_from_is_err_and c.from_residual.result c.from_residual.ensures.1 in
     rw (p.1, p.2) (each_fail (with_import c.args.modules.now c.args.store.now c.args.tree.now) c.args.imports.now c.loop-import.import-index c.loop-import.instance
-        c.in_err-found.field-0.0 c.import-item.result _ c.loop-import-test.true c.import-item.is (fails_first c.in_err-found.field-0.0 _ _ c.in_err-found.ensures) c.loop-import.invariant)
+    c.in_err-found.field-0.0 c.import-item.result _ c.loop-import-test.true c.import-item.is (fails_first c.in_err-found.field-0.0 _ _ c.in_err-found.ensures) c.loop-import.invariant)
 
 pub loop-import-preserved : goal.loop-import-preserved
 loop-import-preserved c =
     rw c.in_ok-with_extern.ensures (each_more (with_import c.args.modules.now c.args.store.now c.args.tree.now) c.args.imports.now c.loop-import.import-index c.loop-import.instance
-        c.import-item.result _ _ c.loop-import-test.true c.import-item.is (rw c.in_ok-found.ensures refl) c.loop-import.invariant)
+    c.import-item.result _ _ c.loop-import-test.true c.import-item.is (rw c.in_ok-found.ensures refl) c.loop-import.invariant)
 
 pub returns : goal.returns
 returns c =

@@ -14,4 +14,4 @@ returns-then-ne-clause-ok g c =
 pub loop-preserved : goal.loop-preserved
 loop-preserved g c =
     one_more g.S.Sink.told g.S.Sink.failed c.args.self.now c.args.out.now c.loop.counter c.loop.self c.step.new.self c.loop.out c.step.new.out c.loop.invariant
-        c.in_ok-step.ensures.steps c.in_ok-step.ensures.keeps.0 c.in_ok-step.ensures.keeps.1
+    c.in_ok-step.ensures.steps c.in_ok-step.ensures.keeps.0 c.in_ok-step.ensures.keeps.1
