@@ -1,6 +1,8 @@
 //! Reserved words, operators and delimiters.
 
 ghost use Rattle.std.specs.Prelude.{◌≡◌, [], ◌∷◌, map};
+ghost use Rattle.std.specs.List.{list_all};
+ghost use Rattle.m2_scan.specs.Bytes.{is_capital};
 ghost use Rattle.m2_scan.specs.Symbols.{lookup, word_of, sign_of};
 
 use m2_tree::Symbol;
@@ -60,11 +62,22 @@ fn lookup(mut table: &[(&[u8], Symbol)], word: &[u8]) -> Option<Symbol>
     None
 }
 
+/// Whether these are capital letters alone, as in each reserved word.
+fn are_capitals(run: &[u8]) -> bool
+    ensures { result ≡ list_all is_capital run.now }
+{
+    run.iter().all(|byte| b'A' <= *byte && *byte <= b'Z')
+}
+
 /// The reserved word that these bytes are.
 #[tactic(auto, unfolding(crate::specs::Symbols::word_of))]
 pub fn word_of(run: &[u8]) -> Option<Symbol>
     ensures { result ≡ word_of run.now }
 {
+    // Most names have a small letter, so that they need no search.
+    if !are_capitals(run) {
+        return None;
+    }
     lookup(&WORDS, run)
 }
 

@@ -29,4 +29,5 @@ pub record Keeps (p : Program) (link_bytes : List ℕ) (modules : List (List ℕ
   pub link_spelled : Spells link_bytes link_tree
   pub spelled : AreSpelled modules trees
   pub valid : All IsValid (link_tree ∷ trees)
+  pub links : (c : Config) × (link (link_tree ∷ trees) ≡ Ok c)
   pub alike : Alike p (link_tree ∷ trees)

@@ -81,6 +81,12 @@ constant_global n = record { value_type = I32; value = I32Const n ∷ [] }
 abbrev pub exported_as : List ℕ → ExportKind → Export
 exported_as name kind = record { name = name; kind = kind }
 
+abbrev pub link_exports : List ℕ → List Export
+link_exports m =
+    exported_as (codes "memory") (exported.Memory 0) ∷ exported_as (codes "table") (exported.Table 0) ∷ exported_as (codes "limit") (exported.Global 0)
+    ∷ exported_as (base_name m) (exported.Global 1) ∷ exported_as (text_name m) (exported.Global 2) ∷ exported_as (tab_name m) (exported.Global 3)
+    ∷ exported_as (codes "run") (exported.Function 0) ∷ []
+
 -- where the stack begins: behind the variables and texts of all modules
 abbrev pub stack_begin : ℕ
 stack_begin = 0
@@ -93,10 +99,7 @@ link_module p pages = record {
   tables = record { limits = record { min = 2; max = Some 2 } } ∷ [];
   memories = record { limits = record { min = pages; max = Some pages } } ∷ [];
   globals = constant_global (65536 * pages) ∷ constant_global 0 ∷ constant_global 0 ∷ constant_global 1 ∷ [];
-  exports =
-    exported_as (codes "memory") (exported.Memory 0) ∷ exported_as (codes "table") (exported.Table 0) ∷ exported_as (codes "limit") (exported.Global 0)
-    ∷ exported_as (base_name p.name) (exported.Global 1) ∷ exported_as (text_name p.name) (exported.Global 2) ∷ exported_as (tab_name p.name) (exported.Global 3)
-    ∷ exported_as (codes "run") (exported.Function 0) ∷ [];
+  exports = link_exports p.name;
   elements = [];
   «data» = [];
 }

@@ -1,0 +1,18 @@
+# The toolchain's command `rt` proves, builds and tests; see README.md.
+
+.PHONY: build example test
+
+# Proves and builds the compiler: build/m2c.
+build:
+	tools/build_program m2c_cli m2c
+
+# Compiles examples/hello, and runs it on node's own engine where node is there.
+example: build
+	mkdir -p build/hello
+	build/m2c --out build/hello examples/hello/Hello.mod
+	ls -l build/hello
+	if command -v node; then node hosts/node/run.mjs build/hello; fi
+
+# The gate: every proof from nothing, the tests, the programs and the edits that the prover must refuse.
+test:
+	rt ci

@@ -1,0 +1,1 @@
+MODULE M; FROM Console IMPORT Put; BEGIN Put("A") END M.

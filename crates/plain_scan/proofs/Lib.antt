@@ -1,0 +1,3 @@
+pub mod Closed
+pub mod Looks
+pub mod Failing
