@@ -2,15 +2,17 @@
 
 .PHONY: build example test
 
-# Proves and builds the compiler: build/m2c.
+# Proves and builds the programs: build/m2c and build/m2run.
 build:
 	tools/build_program m2c_cli m2c
+	tools/build_program m2run_cli m2run
 
-# Compiles examples/hello, and runs it on node's own engine where node is there.
+# Compiles examples/hello, runs it, and runs it again on node's own engine where node is there.
 example: build
 	mkdir -p build/hello
 	build/m2c --out build/hello examples/hello/Hello.mod
 	ls -l build/hello
+	build/m2run build/hello
 	if command -v node; then node hosts/node/run.mjs build/hello; fi
 
 # The gate: every proof from nothing, the tests, the programs and the edits that the prover must refuse.

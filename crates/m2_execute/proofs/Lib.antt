@@ -1,0 +1,4 @@
+mod Saying
+mod Missing
+mod Running
+mod Words

@@ -1,0 +1,73 @@
+-- What is said in pieces.
+use Rattle.std.proofs.Common.{◌≡◌, ℕ, ◌+◌, ◌<◌, Bool, true, false, List, [], ◌∷◌, ◌++◌, length, take, drop, get_or, suc, subst, Option, Some, None, refl, sym, ap, ◌∙◌, append_assoc, if◌then◌else◌, map}
+use Rattle.std.specs.List.{flat_map}
+use Rattle.std.specs.Borrow.{Bor}
+use Rattle.std.proofs.lemmas.List.{append-nil, take-append-drop}
+use Rattle.std.proofs.lemmas.Grind.{flat_map-append}
+use Rattle.std.proofs.Math.Seq.{drop-cons}
+use Rattle.wasm_run.specs.Told.{with_bytes}
+use Rattle.m2_execute.specs.Told.{Printed, PartPrinted, Says}
+
+more_bytes : (told : Option (List ℕ)) (a b : List ℕ) → with_bytes (with_bytes told a) b ≡ with_bytes told (a ++ b)
+more_bytes None a b = refl
+more_bytes (Some bytes) a b = ap (λ (x : List ℕ). Some x) (append_assoc bytes a b)
+
+no_bytes : (told : Option (List ℕ)) → with_bytes told [] ≡ told
+no_bytes None = refl
+no_bytes (Some bytes) = ap (λ (x : List ℕ). Some x) (append-nil bytes)
+
+abbrev now_of : Bor (List ℕ) → List ℕ
+now_of t = t.now
+
+-- what stands before a text, the text, and what stands behind it
+split : (texts : List (Bor (List ℕ))) (k : ℕ) (d : Bor (List ℕ)) (said : List ℕ) → k < length texts → said ≡ (get_or texts k d).now → (flat_map now_of (take k texts) ++ said) ++ flat_map now_of (drop (suc k) texts) ≡ flat_map now_of texts
+split texts k d said h is =
+    append_assoc (flat_map now_of (take k texts)) said (flat_map now_of (drop (suc k) texts))
+    ∙ ap (λ (x : List ℕ). flat_map now_of (take k texts) ++ (x ++ flat_map now_of (drop (suc k) texts))) is
+    ∙ sym (flat_map-append now_of (take k texts) (get_or texts k d ∷ drop (suc k) texts))
+    ∙ ap (λ (ts : List (Bor (List ℕ))). flat_map now_of (take k texts ++ ts)) (sym (drop-cons texts k d h))
+    ∙ ap (flat_map now_of) (take-append-drop k texts)
+
+module _ {S : Type 0} (told : S → Option (List ℕ)) (failed : S → ℕ) where
+  pub nothing : (s : S) → Printed told failed [] s s
+  nothing s = record { taken = sym (no_bytes (told s)); failures = refl }
+
+  -- bytes behind others
+  pub says_more : (ok : Bool) (a b : List ℕ) (before between after : S) → Printed told failed a before between → Says told failed ok b between after → Says told failed ok (a ++ b) before after
+  says_more true a b before between after first next = record {
+    taken = next.taken ∙ ap (λ (t : Option (List ℕ)). with_bytes t b) first.taken ∙ more_bytes (told before) a b;
+    failures = next.failures ∙ first.failures;
+  }
+  says_more false a b before between after first next = record {
+    front = a ++ next.front;
+    rest = next.rest;
+    all = ap (λ (x : List ℕ). a ++ x) next.all ∙ sym (append_assoc a next.front next.rest);
+    taken = next.taken ∙ ap (λ (t : Option (List ℕ)). with_bytes t next.front) first.taken ∙ more_bytes (told before) a next.front;
+    failures = next.failures ∙ ap (λ (n : ℕ). n + 1) first.failures;
+  }
+
+  -- more was to be said where it failed
+  pub stopped : (a b : List ℕ) (before after : S) → PartPrinted told failed a before after → PartPrinted told failed (a ++ b) before after
+  stopped a b before after h = record {
+    front = h.front;
+    rest = h.rest ++ b;
+    all = ap (λ (x : List ℕ). x ++ b) h.all ∙ append_assoc h.front h.rest b;
+    taken = h.taken;
+    failures = h.failures;
+  }
+
+  -- a byte was not taken
+  pub not_taken : (bytes : List ℕ) (k : ℕ) (before between after : S) → Printed told failed (take k bytes) before between → failed after ≡ failed between + 1 → told after ≡ told between → PartPrinted told failed bytes before after
+  not_taken bytes k before between after so_far f t = record {
+    front = take k bytes;
+    rest = drop k bytes;
+    all = sym (take-append-drop k bytes);
+    taken = t ∙ so_far.taken;
+    failures = f ∙ ap (λ (n : ℕ). n + 1) so_far.failures;
+  }
+
+  -- of several texts one was not said to its end
+  pub not_said : (texts : List (Bor (List ℕ))) (k : ℕ) (d : Bor (List ℕ)) (said : List ℕ) (before between after : S) → k < length texts → said ≡ (get_or texts k d).now → Printed told failed (flat_map (λ t. t.now) (take k texts)) before between → PartPrinted told failed said between after → PartPrinted told failed (flat_map (λ t. t.now) texts) before after
+  not_said texts k d said before between after h is so_far part =
+      let whole = stopped (flat_map now_of (take k texts) ++ said) (flat_map now_of (drop (suc k) texts)) before after (says_more false (flat_map now_of (take k texts)) said before between after so_far part) in
+      subst (λ (bytes : List ℕ). PartPrinted told failed bytes before after) (split texts k d said h is) whole

@@ -1,0 +1,58 @@
+-- The modules of a directory.
+use Rattle.std.specs.Prelude.{◌≡◌, ℕ, Bool, false, not, ◌&&◌, List, [], ◌∷◌, ◌++◌, length, take, drop, slice_get, Option, Some, None, nat_le, if◌then◌else◌, codes}
+use Rattle.std.specs.Borrow.{Bor}
+use Rattle.std.specs.List.{flat_map, list_all}
+use Rattle.std.specs.Option.{option_to_list}
+use Rattle.std.specs.Char.{is_ascii_alphabetic, is_ascii_alphanumeric}
+use Rattle.std.specs.Str.{bytes_eq}
+use Rattle.wasm_core.specs.declared.module.Export.{Export}
+use Rattle.wasm_core.specs.declared.module.WModule.{WModule}
+use Rattle.wasm_core.specs.Binary.{Spells}
+use Rattle.wasm_core.specs.Validity.{IsValid}
+use Rattle.wasm_core.specs.Linking.{link_name}
+
+abbrev pub bytes_of : Option (Bor (List ℕ)) → Option (List ℕ)
+bytes_of None = None
+bytes_of (Some b) = Some b.now
+
+-- ---- which modules
+
+abbrev pub begins_with_letter : List ℕ → Bool
+begins_with_letter [] = false
+begins_with_letter (c ∷ cs) = is_ascii_alphabetic c
+
+-- a letter, then letters and digits, 64 at most, and not link
+abbrev pub is_module_name : List ℕ → Bool
+is_module_name name = begins_with_letter name && list_all is_ascii_alphanumeric name && nat_le (length name) 64 && not (bytes_eq name link_name)
+
+-- M for tab.M
+abbrev pub module_named : List ℕ → Option (List ℕ)
+module_named export = if bytes_eq (take 4 export) (codes "tab.") && is_module_name (drop 4 export) then Some (drop 4 export) else None
+
+-- in the order of the exports
+abbrev pub module_names : List Export → List (List ℕ)
+module_names exports = flat_map (λ e. option_to_list (module_named e.name)) exports
+
+-- ---- what a directory holds: a relation of names and bytes
+
+abbrev pub Files : Type 1
+Files = List ℕ → List ℕ → Type 0
+
+-- whatever may be held later may be held now
+abbrev pub Stays : (now later : Files) → Type 0
+Stays now later = (name bytes : List ℕ) → later name bytes → now name bytes
+
+abbrev pub file_of : List ℕ → List ℕ
+file_of name = name ++ codes ".wasm"
+
+-- the file of the module of this name spells it, and it is valid
+pub record IsModule (holds : Files) (name : List ℕ) (tree : WModule) : Type 0 where
+  pub bytes : List ℕ
+  pub held : holds (file_of name) bytes
+  pub spelled : Spells bytes tree
+  pub valid : IsValid tree
+
+-- each name's module, in their order
+pub data AreModules (holds : Files) : List (List ℕ) → List WModule → Type 0 where
+  Empty : AreModules holds [] []
+  More : (name : List ℕ) (tree : WModule) (names : List (List ℕ)) (trees : List WModule) → IsModule holds name tree → AreModules holds names trees → AreModules holds (name ∷ names) (tree ∷ trees)

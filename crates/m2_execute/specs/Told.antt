@@ -1,0 +1,143 @@
+-- What is told of a directory, on two streams and by a status.
+use Rattle.std.specs.Prelude.{◌≡◌, ◌↔◌, ◌≤◌, ◌⊎◌, ℕ, ◌+◌, ◌==◌, ◌||◌, Bool, true, false, List, [], ◌∷◌, ◌++◌, Option, Result, Ok, Err, if◌then◌else◌, codes, decimal}
+use Rattle.std.specs.Borrow.{Bor}
+use Rattle.wasm_core.specs.declared.fault.WFault.{WFault}
+use Rattle.wasm_core.specs.declared.fault.WFault.TheVariants as faults
+use Rattle.wasm_core.specs.declared.module.WModule.{WModule}
+use Rattle.wasm_core.specs.Format.{Fails}
+use Rattle.wasm_core.specs.Binary.{Spells, module_at}
+use Rattle.wasm_core.specs.Machine.{Config, run}
+use Rattle.wasm_core.specs.Linking.{link, link_name}
+use Rattle.wasm_run.specs.declared.engine.End.{End}
+use Rattle.wasm_run.specs.declared.engine.End.TheVariants.{Done, Trap, StillRunning}
+use Rattle.wasm_run.specs.declared.engine.RunFault.{RunFault}
+use Rattle.wasm_run.specs.declared.engine.RunFault.TheVariants.{NoMemory, Write, Ended}
+use Rattle.wasm_run.specs.Instances.{IsEnd}
+use Rattle.wasm_run.specs.Told.{with_bytes}
+use Rattle.m2_execute.specs.declared.report.Report.{Report}
+use Rattle.m2_execute.specs.declared.report.Report.TheVariants.{Ran, Unread, Refused, Broken}
+use Rattle.m2_execute.specs.Directory.{Files, file_of, module_names, IsModule, AreModules}
+
+-- ---- the status and the words
+
+-- the program came to its end, or to HALT
+abbrev pub is_normal : ℕ → Bool
+is_normal k = (k == 0) || (k == 9)
+
+abbrev pub status : Report → ℕ
+status (Ran (Done k)) = if is_normal k then 0 else 1
+status (Ran Trap) = 1
+status (Ran StillRunning) = 4
+status (Unread name) = 3
+status (Refused name f) = 3
+status (Broken f) = 3
+
+abbrev pub end_word : ℕ → List ℕ
+end_word k =
+    if k == 1 then codes "range" else
+    if k == 2 then codes "overflow" else
+    if k == 3 then codes "index" else
+    if k == 4 then codes "divisor" else
+    if k == 5 then codes "case" else
+    if k == 6 then codes "no return" else
+    if k == 7 then codes "empty procedure" else
+    if k == 8 then codes "storage" else
+    codes "unknown"
+
+abbrev pub number_of : WFault → ℕ
+number_of faults.Malformed = 80
+number_of faults.OutsideProfile = 81
+number_of faults.Invalid = 82
+number_of faults.Unlinked = 83
+number_of faults.SegmentOutside = 84
+number_of faults.NoMemory = 90
+
+abbrev pub number_of_run : RunFault → ℕ
+number_of_run NoMemory = 90
+number_of_run Write = 91
+number_of_run Ended = 92
+
+-- one line on the second stream, or nothing
+abbrev pub words : Report → List ℕ
+words (Ran (Done k)) = if is_normal k then [] else codes "fault " ++ decimal k ++ codes ": " ++ end_word k ++ codes "\n"
+words (Ran Trap) = codes "trap\n"
+words (Ran StillRunning) = []
+words (Unread name) = codes "cannot read " ++ name.now ++ codes ".wasm\n"
+words (Refused name f) = name.now ++ codes ": refusal " ++ decimal (number_of f) ++ codes "\n"
+words (Broken f) = codes "refusal " ++ decimal (number_of_run f) ++ codes "\n"
+
+-- ---- the streams
+
+-- a stream took these bytes
+pub record Printed {S : Type 0} (told : S → Option (List ℕ)) (failed : S → ℕ) (bytes : List ℕ) (before after : S) : Type 0 where
+  pub taken : told after ≡ with_bytes (told before) bytes
+  pub failures : failed after ≡ failed before
+
+-- it took some of them, and then failed and was left alone
+pub record PartPrinted {S : Type 0} (told : S → Option (List ℕ)) (failed : S → ℕ) (bytes : List ℕ) (before after : S) : Type 0 where
+  pub front : List ℕ
+  pub rest : List ℕ
+  pub all : bytes ≡ front ++ rest
+  pub taken : told after ≡ with_bytes (told before) front
+  pub failures : failed after ≡ failed before + 1
+
+abbrev pub Says : {S : Type 0} → (S → Option (List ℕ)) → (S → ℕ) → Bool → List ℕ → (before after : S) → Type 0
+Says told failed true bytes before after = Printed told failed bytes before after
+Says told failed false bytes before after = PartPrinted told failed bytes before after
+
+-- ---- what a report says
+
+-- linked and executed for so many reductions, the modules printed these bytes and are there
+pub record HasRun (trees : List WModule) (steps : ℕ) (bytes : List ℕ) (config : Config) : Type 0 where
+  pub first : Config
+  pub linked : link trees ≡ Ok first
+  pub is_run : run trees steps first ≡ (config, bytes)
+
+pub record IsRun {S : Type 0} (told : S → Option (List ℕ)) (failed : S → ℕ) (trees : List WModule) (steps : ℕ) (end : End) (before after : S) : Type 0 where
+  pub bytes : List ℕ
+  pub config : Config
+  pub has_run : HasRun trees steps bytes config
+  pub is_end : IsEnd end config
+  pub printed : Printed told failed bytes before after
+
+-- broken off at the latest then, after what some reductions printed
+pub record IsBroken {S : Type 0} (told : S → Option (List ℕ)) (failed : S → ℕ) (trees : List WModule) (steps : ℕ) (fault : RunFault) (before after : S) : Type 0 where
+  pub made : ℕ
+  pub fits : made ≤ steps
+  pub bytes : List ℕ
+  pub config : Config
+  pub has_run : HasRun trees made bytes config
+  pub taken : told after ≡ with_bytes (told before) bytes
+  pub write : (fault ≡ Write) ↔ (failed after ≡ failed before + 1)
+
+-- what a report says of modules and of the stream on which they print
+abbrev pub IsOf : {S : Type 0} → (S → Option (List ℕ)) → (S → ℕ) → List WModule → (steps : ℕ) → Report → (before after : S) → Type 0
+IsOf told failed trees steps (Ran end) before after = IsRun told failed trees steps end before after
+IsOf told failed trees steps (Broken fault) before after = IsBroken told failed trees steps fault before after
+IsOf told failed trees steps (Refused name fault) before after = (name.now ≡ link_name) × Fails fault (link trees) × Printed told failed [] before after
+IsOf told failed trees steps (Unread name) before after = ⊥
+
+-- a module of a directory is not there
+pub data IsMissing (holds : Files) : Report → Type 0 where
+  NoFile : (name : Bor (List ℕ)) → IsMissing holds (Unread name)
+  Unspelled : (name : Bor (List ℕ)) (fault : WFault) (bytes : List ℕ) → holds (file_of name.now) bytes → module_at bytes ≡ Err fault → IsMissing holds (Refused name fault)
+  NotValid : (name : Bor (List ℕ)) (bytes : List ℕ) (tree : WModule) → holds (file_of name.now) bytes → Spells bytes tree → IsMissing holds (Refused name faults.Invalid)
+  Memory : (name : Bor (List ℕ)) → IsMissing holds (Refused name faults.NoMemory)
+
+-- what comes of link and of modules of these names: they are there and the report is of them, or one is not there
+abbrev pub ComesOf : {S : Type 0} → (S → Option (List ℕ)) → (S → ℕ) → Files → (link_tree : WModule) (names : List (List ℕ)) (steps : ℕ) → Report → (before after : S) → Type 0
+ComesOf told failed holds link_tree names steps report before after =
+    ((others : List WModule) × AreModules holds names others × IsOf told failed (link_tree ∷ others) steps report before after) ⊎ (IsMissing holds report × Printed told failed [] before after)
+
+-- what comes of a directory: link is there, and the modules are those that its exports name, or it is not there
+abbrev pub Comes : {S : Type 0} → (S → Option (List ℕ)) → (S → ℕ) → Files → (steps : ℕ) → Report → (before after : S) → Type 0
+Comes told failed holds steps report before after =
+    ((link_tree : WModule) × IsModule holds link_name link_tree × ComesOf told failed holds link_tree (module_names link_tree.exports) steps report before after) ⊎ (IsMissing holds report × Printed told failed [] before after)
+
+-- the status and the words are those of a report that comes
+pub record Executes {S E : Type 0} (told : S → Option (List ℕ)) (failed : S → ℕ) (told_words : E → Option (List ℕ)) (failed_words : E → ℕ) (holds : Files) (steps : ℕ) (answer : ℕ) (before after : S) (words_before words_after : E) : Type 0 where
+  pub report : Report
+  pub comes : Comes told failed holds steps report before after
+  pub answers : answer ≡ status report
+  pub all_said : Bool
+  pub says : Says told_words failed_words all_said (words report) words_before words_after

@@ -1,0 +1,88 @@
+//! The modules of a directory.
+
+ghost use Rattle.std.specs.Prelude.{◌≡◌, ◌∷◌, [], ◌++◌, List, map, IfOk, IfErr};
+ghost use Rattle.std.specs.String.{string_bytes};
+ghost use Rattle.wasm_core.specs.declared.module.WModule.{WModule};
+ghost use Rattle.m2_execute.specs.Directory.{file_of, IsModule, AreModules, Stays};
+ghost use Rattle.m2_execute.specs.Told.{IsMissing};
+
+use crate::dir::InDir;
+use crate::report::Report;
+use std::alloc::Global;
+use wasm_core::{ValidModule, WFault, read_module, validate};
+
+/// The bytes of a module's file.
+fn bytes_of<'n, D: InDir>(alloc: Global, dir: &mut D, name: &'n str) -> Result<Vec<u8>, Report<'n>>
+    ensures ok { IfOk result (λ bytes. D.holds dir.old (file_of name.now) bytes.items) }
+    ensures err { IfErr result (λ r. IsMissing (D.holds dir.old) r) }
+    ensures stays { Stays (D.holds dir.old) (D.holds dir.new) }
+{
+    let Ok(file) = format!(in alloc; "{name}.wasm") else {
+        return Err(Report::Refused(name, WFault::NoMemory));
+    };
+    match dir.read(alloc, file.as_str()) {
+        None => Err(Report::Unread(name)),
+        Some(bytes) => Ok(bytes),
+    }
+}
+
+/// The module of this name.
+pub fn module_of<'n, D: InDir>(
+    alloc: Global,
+    dir: &mut D,
+    name: &'n str,
+) -> Result<ValidModule, Report<'n>>
+    ensures ok { IfOk result (λ tree. IsModule (D.holds dir.old) name.now tree) }
+    ensures err { IfErr result (λ r. IsMissing (D.holds dir.old) r) }
+    ensures stays { Stays (D.holds dir.old) (D.holds dir.new) }
+{
+    let bytes = bytes_of(alloc, dir, name)?;
+    let tree = match read_module(alloc, &bytes) {
+        Ok(tree) => tree,
+        Err(fault) => return Err(Report::Refused(name, fault)),
+    };
+    match validate(alloc, tree) {
+        Ok(module) => Ok(module),
+        Err(fault) => Err(Report::Refused(name, fault)),
+    }
+}
+
+fn add_module<'n, D: InDir>(
+    alloc: Global,
+    dir: &mut D,
+    name: &'n str,
+    modules: &mut Vec<ValidModule>,
+) -> Result<(), Report<'n>>
+    ensures ok { IfOk result (λ _. (tree : WModule) × (modules.new.items ≡ modules.old.items ++ tree ∷ []) × IsModule (D.holds dir.old) name.now tree) }
+    ensures err { IfErr result (λ r. IsMissing (D.holds dir.old) r) }
+    ensures stays { Stays (D.holds dir.old) (D.holds dir.new) }
+{
+    let module = module_of(alloc, dir, name)?;
+    if modules.push(module).is_err() {
+        return Err(Report::Refused(name, WFault::NoMemory));
+    }
+    Ok(())
+}
+
+/// The modules of these names, behind the first.
+pub fn modules_of<'n, D: InDir>(
+    alloc: Global,
+    dir: &mut D,
+    first: ValidModule,
+    names: &'n [String],
+) -> Result<Vec<ValidModule>, Report<'n>>
+    ensures ok { IfOk result (λ v. (others : List WModule) × (v.items ≡ first ∷ others) × AreModules (D.holds dir.old) (map string_bytes names.now) others) }
+    ensures err { IfErr result (λ r. IsMissing (D.holds dir.old) r) }
+{
+    let mut modules = Vec::new(alloc);
+    if modules.push(first).is_err() {
+        return Err(Report::Refused("link", WFault::NoMemory));
+    }
+    for name in names {
+        match add_module(alloc, dir, name, &mut modules) {
+            Ok(()) => {}
+            Err(report) => return Err(report),
+        }
+    }
+    Ok(modules)
+}

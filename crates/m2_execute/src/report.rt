@@ -1,0 +1,17 @@
+//! What comes of a directory.
+
+use wasm_core::WFault;
+use wasm_run::{End, RunFault};
+
+/// What comes of the modules of a directory.
+#[derive(Clone, Copy, Debug)]
+pub enum Report<'a> {
+    /// They were linked and executed up to here.
+    Ran(End),
+    /// The file of the module of this name could not be read.
+    Unread(&'a str),
+    /// A fault of the module of this name; `link` stands for all where they could not be linked.
+    Refused(&'a str, WFault),
+    /// The run was broken off.
+    Broken(RunFault),
+}

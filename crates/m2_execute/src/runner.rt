@@ -1,0 +1,79 @@
+//! The run of a directory's modules.
+
+ghost use Rattle.std.specs.Prelude.{◌≡◌, ◌+◌, ◌<◌, ◌^◌, map};
+ghost use Rattle.std.specs.String.{string_bytes};
+ghost use Rattle.m2_execute.specs.Told.{IsOf, ComesOf, Executes};
+
+use crate::dir::InDir;
+use crate::load::{module_of, modules_of};
+use crate::names::module_names;
+use crate::report::Report;
+use crate::say::tell;
+use std::alloc::Global;
+use wasm_core::{ValidModule, WFault};
+use wasm_run::{Instances, Sink};
+
+/// Links the modules, and executes them for so many reductions.
+fn run_all<S: Sink>(
+    alloc: Global,
+    modules: &[ValidModule],
+    steps: u64,
+    out: &mut S,
+) -> Report<'static>
+    requires { S.failed out.old + 1 < 2 ^ 64 }
+    ensures { IsOf S.told S.failed modules.now steps result out.old out.new }
+{
+    match Instances::link(alloc, modules) {
+        Err(fault) => Report::Refused("link", fault),
+        Ok(mut instances) => match instances.run(steps, out) {
+            Ok(end) => Report::Ran(end),
+            Err(fault) => Report::Broken(fault),
+        },
+    }
+}
+
+/// Reads and executes the modules that these names stand for, behind link.
+fn run_named<'n, D: InDir, S: Sink>(
+    alloc: Global,
+    dir: &mut D,
+    link: ValidModule,
+    names: &'n [String],
+    steps: u64,
+    out: &mut S,
+) -> Report<'n>
+    requires { S.failed out.old + 1 < 2 ^ 64 }
+    ensures { ComesOf S.told S.failed (D.holds dir.old) link (map string_bytes names.now) steps result out.old out.new }
+{
+    match modules_of(alloc, dir, link, names) {
+        Ok(modules) => run_all(alloc, &modules, steps, out),
+        Err(report) => report,
+    }
+}
+
+/// Does what `m2run` does after its command line: reads `link.wasm` in this directory, and the file `M.wasm` for each of
+/// its exports `tab.M` (M a name other than link), in their order, each of them decoded and validated before the next;
+/// links them and executes them for so many reductions. The program prints on `out`.
+///
+/// The answer is the status: 0 where the program ended by itself or by HALT; 1 where it ended otherwise; 3 where a file, a
+/// module, memory or `out` failed; 4 where it goes on. What 1 and 3 mean is told in a line on `err`. Each stream is left
+/// alone after its first failure; one of `err` changes no status.
+pub fn execute<D: InDir, S: Sink, E: Sink>(
+    alloc: Global,
+    dir: &mut D,
+    steps: u64,
+    out: &mut S,
+    err: &mut E,
+) -> u8
+    requires out { S.failed out.old + 1 < 2 ^ 64 }
+    requires err { E.failed err.old + 1 < 2 ^ 64 }
+    ensures { Executes S.told S.failed E.told E.failed (D.holds dir.old) steps result out.old out.new err.old err.new }
+{
+    let link = match module_of(alloc, dir, "link") {
+        Ok(link) => link,
+        Err(report) => return tell(err, report),
+    };
+    let Ok(names) = module_names(alloc, link.exports()) else {
+        return tell(err, Report::Refused("link", WFault::NoMemory));
+    };
+    tell(err, run_named(alloc, dir, link, &names, steps, out))
+}

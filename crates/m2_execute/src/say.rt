@@ -1,0 +1,133 @@
+//! What is told of a report.
+
+ghost use Rattle.std.specs.Prelude.{◌≡◌, ◌<◌, ◌^◌, ◌+◌, ◌++◌, Bool, codes};
+ghost use Rattle.std.specs.List.{flat_map};
+ghost use Rattle.m2_execute.specs.Told.{status, end_word, number_of, number_of_run, words, is_normal, Says};
+
+use crate::report::Report;
+use itoa::Buffer;
+use wasm_core::WFault;
+use wasm_run::{End, RunFault, Sink};
+
+/// Hands bytes to a stream, up to its first failure.
+fn say<E: Sink>(err: &mut E, bytes: &[u8]) -> bool
+    requires { E.failed err.old + 1 < 2 ^ 64 }
+    ensures { Says E.told E.failed result bytes.now err.old err.new }
+{
+    for byte in bytes {
+        if !err.take(*byte) {
+            return false;
+        }
+    }
+    true
+}
+
+/// Hands several texts to a stream, up to its first failure.
+fn say_all<E: Sink>(err: &mut E, texts: &[&str]) -> bool
+    requires { E.failed err.old + 1 < 2 ^ 64 }
+    ensures { Says E.told E.failed result (flat_map (λ t. t.now) texts.now) err.old err.new }
+{
+    for text in texts {
+        if !say(err, text.as_bytes()) {
+            return false;
+        }
+    }
+    true
+}
+
+/// Whether a program ended by itself or by HALT.
+fn is_normal(number: u8) -> bool
+    ensures { result ≡ is_normal number }
+{
+    number == 0 || number == 9
+}
+
+/// The status that stands for a report.
+fn status(report: Report<'_>) -> u8
+    ensures { result ≡ status report.entry }
+{
+    match report {
+        Report::Ran(End::Done(number)) => { if is_normal(number) { 0 } else { 1 } }
+        Report::Ran(End::Trap) => 1,
+        Report::Ran(End::StillRunning) => 4,
+        Report::Unread(_) | Report::Refused(_, _) | Report::Broken(_) => 3,
+    }
+}
+
+fn end_word(number: u8) -> &'static str
+    ensures { result.now ≡ end_word number }
+{
+    match number {
+        1 => "range",
+        2 => "overflow",
+        3 => "index",
+        4 => "divisor",
+        5 => "case",
+        6 => "no return",
+        7 => "empty procedure",
+        8 => "storage",
+        _ => "unknown",
+    }
+}
+
+fn number_of(fault: WFault) -> u8
+    ensures { result ≡ number_of fault }
+{
+    match fault {
+        WFault::Malformed => 80,
+        WFault::OutsideProfile => 81,
+        WFault::Invalid => 82,
+        WFault::Unlinked => 83,
+        WFault::SegmentOutside => 84,
+        WFault::NoMemory => 90,
+    }
+}
+
+fn number_of_run(fault: RunFault) -> u8
+    ensures { result ≡ number_of_run fault }
+{
+    match fault {
+        RunFault::NoMemory => 90,
+        RunFault::Write => 91,
+        RunFault::Ended => 92,
+    }
+}
+
+/// Tells a report in one line, or says nothing where the run ended by itself or goes on. False where the stream failed.
+fn say_report<E: Sink>(err: &mut E, report: Report<'_>) -> bool
+    requires { E.failed err.old + 1 < 2 ^ 64 }
+    ensures { Says E.told E.failed result (words report.entry) err.old err.new }
+{
+    let mut digits = Buffer::new();
+    match report {
+        Report::Ran(End::Done(number)) => {
+            if is_normal(number) {
+                true
+            } else {
+                let shown = digits.format(number);
+                say_all(err, &["fault ", shown, ": ", end_word(number), "\n"])
+            }
+        }
+        Report::Ran(End::Trap) => say(err, b"trap\n"),
+        Report::Ran(End::StillRunning) => true,
+        Report::Unread(name) => say_all(err, &["cannot read ", name, ".wasm\n"]),
+        Report::Refused(name, fault) => {
+            let shown = digits.format(number_of(fault));
+            say_all(err, &[name, ": refusal ", shown, "\n"])
+        }
+        Report::Broken(fault) => {
+            let shown = digits.format(number_of_run(fault));
+            say_all(err, &["refusal ", shown, "\n"])
+        }
+    }
+}
+
+/// Tells a report on a stream, and answers its status.
+pub fn tell<E: Sink>(err: &mut E, report: Report<'_>) -> u8
+    requires { E.failed err.old + 1 < 2 ^ 64 }
+    ensures status { result ≡ status report.entry }
+    ensures says { (all : Bool) × Says E.told E.failed all (words report.entry) err.old err.new }
+{
+    say_report(err, report);
+    status(report)
+}
