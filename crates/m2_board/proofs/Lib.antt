@@ -7,3 +7,4 @@ pub mod Seated
 pub mod Tallied
 pub mod Graphs
 pub mod Laws
+pub mod Marks

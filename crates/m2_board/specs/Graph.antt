@@ -1,5 +1,5 @@
 -- A graph of jobs: for each job its prerequisites, the jobs that are done before it.
-use Rattle.std.specs.Prelude.{ℕ, suc, zero, ◌<◌, ◌≤◌, nat_lt, if◌then◌else◌, List, [], ◌∷◌, length, slice_index_or}
+use Rattle.std.specs.Prelude.{ℕ, suc, zero, ◌<◌, ◌≤◌, nat_lt, if◌then◌else◌, List, [], ◌∷◌, length, Option, None, IfSome, slice_index_or}
 use Rattle.m2_board.specs.Lists.{times}
 
 abbrev pub prerequisites_of : List (List ℕ) → ℕ → List ℕ
@@ -11,6 +11,10 @@ IsJob prerequisites job = (p : ℕ) → (0 < times p prerequisites → p < job) 
 
 abbrev pub IsJobGraph : List (List ℕ) → Type 0
 IsJobGraph graph = (job p : ℕ) → job < length graph → (0 < times p (prerequisites_of graph job) → p < job) × (times p (prerequisites_of graph job) ≤ 1)
+
+-- every mark is that of a smaller job
+abbrev pub AreBelow : List (Option ℕ) → ℕ → Type 0
+AreBelow marks job = (p : ℕ) → IfSome (slice_index_or marks p None) (λ mark. mark < job)
 
 -- the jobs that name the job, where the first row is of the job `first`
 abbrev pub naming_from : ℕ → List (List ℕ) → ℕ → List ℕ

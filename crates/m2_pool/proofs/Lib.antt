@@ -1,4 +1,2 @@
 pub mod Items
-pub mod Picks
 pub mod Places
-pub mod Resulting

@@ -4,12 +4,10 @@ ghost use Rattle.std.specs.List.{HoldsAt};
 ghost use Rattle.once_cell.specs.Once.{cell_name};
 ghost use Rattle.m2_board.specs.Lists.{times};
 ghost use Rattle.m2_board.specs.Graph.{prerequisites_of, IsJobGraph};
-ghost use Rattle.m2_pool.specs.Results.{picked, results, results_below};
+ghost use Rattle.m2_worker.specs.Results.{picked, results, results_below};
 
-use crate::published::Published;
-use crate::ran::Ran;
-use crate::work::Work;
 use m2_board::JobGraph;
+use m2_worker::{Published, Ran, Work};
 use once_cell::race::OnceBox;
 use std::alloc::{AllocError, Global};
 

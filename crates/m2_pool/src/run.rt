@@ -4,16 +4,12 @@ ghost use Rattle.std.specs.List.{HoldsAt};
 ghost use Rattle.once_cell.specs.Once.{cell_name};
 ghost use Rattle.m2_board.specs.Lists.{times, listed};
 ghost use Rattle.m2_board.specs.Seats.{IsAllSeats, all_had};
-ghost use Rattle.m2_pool.specs.Results.{results};
+ghost use Rattle.m2_worker.specs.Results.{results};
 
-use crate::cells::empty_cells;
 use crate::gather::{gathered, placed};
-use crate::published::Published;
-use crate::ran::Ran;
-use crate::work::{Gate, Work};
-use crate::worker::{Member, Shop, work_on};
 use crossbeam_deque::{Stealer, Worker};
 use m2_board::{Board, BoardSeat, JobGraph, PoolRefusal, Tally};
+use m2_worker::{Gate, Member, Published, Ran, Shop, Work, empty_cells, work_on};
 use once_cell::race::OnceBox;
 use std::alloc::{AllocError, Global};
 use std::thread;

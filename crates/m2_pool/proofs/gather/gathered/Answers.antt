@@ -1,9 +1,9 @@
 use Rattle.std.proofs.Common.{◌≡◌, ℕ, suc, List, [], ◌∷◌, ◌++◌, length, None, sym, ap, ◌∙◌, arith, append_assoc, length-append}
 use Rattle.std.proofs.lemmas.Grind.{common_steps}
 use Rattle.m2_board.specs.Graph.{prerequisites_of}
-use Rattle.m2_pool.specs.Results.{picked, results_below}
+use Rattle.m2_worker.specs.Results.{picked, results_below}
 use Rattle.m2_pool.proofs.Items.{next_in}
-use Rattle.m2_pool.proofs.Resulting.{results-length}
+use Rattle.m2_worker.proofs.Resulting.{results-length}
 use Rattle.m2_pool.proofs.gather.gathered.Goals as goal
 
 pub one-requires-clause-graph : goal.one-requires-clause-graph

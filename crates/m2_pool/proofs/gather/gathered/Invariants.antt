@@ -1,6 +1,6 @@
 use Rattle.std.proofs.Common.{◌≡◌, ◌++◌, length}
 use Rattle.std.specs.Vec.Iter.{into_iter_items, into_iter_len}
-use Rattle.m2_pool.specs.Results.{results_below}
+use Rattle.m2_worker.specs.Results.{results_below}
 use Rattle.m2_pool.proofs.gather.gathered.Given as goal
 
 abbrev pub invariant-loop-place : goal.invariant-loop-place

@@ -1,8 +1,8 @@
 use Rattle.std.proofs.Common.{sym, ap, ◌∙◌}
 use Rattle.m2_board.specs.Graph.{prerequisites_of}
-use Rattle.m2_pool.specs.Results.{IsResult, picked}
+use Rattle.m2_worker.specs.Results.{IsResult, picked}
 use Rattle.m2_pool.proofs.Items.{if_ok}
-use Rattle.m2_pool.proofs.Resulting.{result_is}
+use Rattle.m2_worker.proofs.Resulting.{result_is}
 use Rattle.m2_pool.proofs.gather.one.Goals as goal
 
 pub returns-in-Some : goal.returns-in-Some

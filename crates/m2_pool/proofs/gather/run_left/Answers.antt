@@ -1,7 +1,7 @@
 use Rattle.std.proofs.Common.{ℕ, List, map, ap, ◌∙◌}
 use Rattle.m2_board.specs.Graph.{prerequisites_of}
-use Rattle.m2_pool.specs.Results.{picked, results}
-use Rattle.m2_pool.proofs.Resulting.{inputs_at}
+use Rattle.m2_worker.specs.Results.{picked, results}
+use Rattle.m2_worker.proofs.Resulting.{inputs_at}
 use Rattle.m2_pool.proofs.gather.run_left.Goals as goal
 
 pub run-requires-clause-prerequisites : goal.run-requires-clause-prerequisites

@@ -1,6 +1,0 @@
-use Rattle.std.proofs.Common.{◌≡◌, map, take}
-use Rattle.m2_pool.specs.Results.{picked, results}
-use Rattle.m2_pool.proofs.cells.all_finished.Given as goal
-
-abbrev pub invariant-loop-job : goal.invariant-loop-job
-invariant-loop-job g l = map (λ x. x.now) l.outs.items ≡ picked (results (g.W.Work.graph l.key) (g.W.Work.defined l.key)) (take l.job-index l.jobs)

@@ -1,0 +1,175 @@
+// One worker: it takes jobs from deques, runs those that it gets, and publishes their results.
+ghost use Rattle.std.specs.Prelude.{◌≡◌, ◌++◌, ◌∷◌, [], ℕ, ◌<◌, length, map, All, IfOk, OnOk};
+ghost use Rattle.std.specs.List.{HoldsAt};
+ghost use Rattle.once_cell.specs.Once.{cell_name};
+ghost use Rattle.m2_board.specs.Lists.{times};
+ghost use Rattle.m2_board.specs.Graph.{prerequisites_of, targets_of, IsJobGraph};
+ghost use Rattle.m2_board.specs.Rule.{counted};
+ghost use Rattle.m2_board.specs.Seats.{SeatState};
+ghost use Rattle.m2_worker.specs.Results.{picked, results};
+
+use crate::cells::all_finished;
+use crate::published::Published;
+use crate::ran::Ran;
+use crate::work::{Gate, Work};
+use crossbeam_deque::{Steal, Stealer, Worker};
+use m2_board::{Board, BoardSeat, JobGraph};
+use once_cell::race::OnceBox;
+use std::alloc::{AllocError, Global};
+
+// How often a worker whose own deque is empty goes round those of the others before it ends.
+const ROUNDS: usize = 1000;
+
+/// A worker: its place among the workers, its seat, its own deque, and what it ran, in the order of its seat's list.
+#[derive(Drop)]
+pub struct Member<W: Work> {
+    pub number: usize,
+    pub seat: BoardSeat,
+    pub own: Worker<usize>,
+    pub ran: Vec<Ran<W>>,
+}
+
+/// What all workers share.
+#[derive(Drop)]
+pub struct Shop<'a, W: Work, G: Gate> {
+    pub board: &'a Board,
+    pub graph: &'a JobGraph,
+    pub cells: &'a [OnceBox<Published<W>>],
+    pub stealers: &'a [Stealer<usize>],
+    pub gate: &'a G,
+    pub work: &'a W,
+    pub ghost of_board: { graph.now ≡ board.now.graph },
+    pub ghost of_work: { graph.now ≡ W.graph (W.key_of work.now) },
+    pub ghost cell_each: { length cells.now ≡ length graph.now },
+}
+
+/// Works, as a worker that ran nothing yet, until nothing is found, or as many jobs were taken as the graph has.
+///
+/// What the worker ran is what its seat had. It fails only for want of memory.
+pub fn work_on<W: Work, G: Gate>(
+    alloc: Global,
+    shop: &Shop<'_, W, G>,
+    mut member: Member<W>,
+) -> Result<Member<W>, AllocError>
+    requires seat { member.seat.board ≡ shop.now.board.now.id }
+    requires new { (member.seat.had ≡ []) × (member.ran.items ≡ []) }
+    ensures seat { IfOk result (λ m. m.seat.board ≡ shop.now.board.now.id) }
+    ensures ran { IfOk result (λ m. map (λ r. r.job) m.ran.items ≡ m.seat.had) }
+    ensures notes { IfOk result (λ m. All (λ r. (W.key_of r.work ≡ W.key_of shop.now.work.now) × HoldsAt (λ c. r.note.cell ≡ cell_name c) shop.now.cells.now r.job) m.ran.items) }
+{
+    for _ in 0..shop.graph.jobs() {
+        let Some(job) = next_job(&mut member.own, shop.stealers, member.number) else {
+            return Ok(member);
+        };
+        attempt(alloc, shop, &mut member, job)?;
+    }
+    Ok(member)
+}
+
+// A job from the worker's own deque, else one that it steals. A steal that would have to be tried again gives nothing.
+fn next_job(own: &mut Worker<usize>, stealers: &[Stealer<usize>], number: usize) -> Option<usize> {
+    if let Some(job) = own.pop() {
+        return Some(job);
+    }
+    for _ in 0..ROUNDS {
+        if let Some(job) = stolen(stealers, number) {
+            return Some(job);
+        }
+    }
+    None
+}
+
+// A job from the deque of another worker than that of this number.
+fn stolen(stealers: &[Stealer<usize>], number: usize) -> Option<usize> {
+    for (other, stealer) in stealers.iter().enumerate() {
+        if other != number
+            && let Steal::Success(job) = stealer.steal()
+        {
+            return Some(job);
+        }
+    }
+    None
+}
+
+// Tries a job: runs it if the results of its prerequisites are seen, the gate lets the worker in and the seat gets it.
+fn attempt<W: Work, G: Gate>(
+    alloc: Global,
+    shop: &Shop<'_, W, G>,
+    member: &mut Member<W>,
+    job: usize,
+) -> Result<(), AllocError>
+    requires seat { member.old.seat.board ≡ shop.now.board.now.id }
+    requires ran { map (λ r. r.job) member.old.ran.items ≡ member.old.seat.had }
+    requires notes { All (λ r. (W.key_of r.work ≡ W.key_of shop.now.work.now) × HoldsAt (λ c. r.note.cell ≡ cell_name c) shop.now.cells.now r.job) member.old.ran.items }
+    ensures seat { member.new.seat.board ≡ shop.now.board.now.id }
+    ensures ran { OnOk result (map (λ r. r.job) member.new.ran.items ≡ member.new.seat.had) }
+    ensures notes { All (λ r. (W.key_of r.work ≡ W.key_of shop.now.work.now) × HoldsAt (λ c. r.note.cell ≡ cell_name c) shop.now.cells.now r.job) member.new.ran.items }
+{
+    if job >= shop.graph.jobs() {
+        return Ok(());
+    }
+    let prerequisites = shop.graph.prerequisites(job);
+    let Some(outs) = all_finished(alloc, shop.cells, prerequisites, shop.work.key())? else {
+        return Ok(());
+    };
+    if !shop.gate.enter(job) {
+        return Ok(());
+    }
+    if !shop.board.claim(&mut member.seat, job) {
+        return Ok(());
+    }
+    let ran = run(alloc, shop, job, outs.as_slice())?;
+    member.ran.push(ran)?;
+    count_all(
+        shop.board,
+        shop.graph,
+        &mut member.seat,
+        job,
+        &mut member.own,
+    );
+    Ok(())
+}
+
+// Runs a job and publishes its result.
+fn run<W: Work, G: Gate>(
+    alloc: Global,
+    shop: &Shop<'_, W, G>,
+    job: usize,
+    prerequisites: &[&W::Out],
+) -> Result<Ran<W>, AllocError>
+    requires job { job < length shop.now.graph.now }
+    requires prerequisites { map (λ x. x.now) prerequisites.now ≡ picked (results (W.graph (W.key_of shop.now.work.now)) (W.defined (W.key_of shop.now.work.now))) (prerequisites_of shop.now.graph.now job) }
+    ensures job { IfOk result (λ r. r.job ≡ job) }
+    ensures work { IfOk result (λ r. W.key_of r.work ≡ W.key_of shop.now.work.now) }
+    ensures note { IfOk result (λ r. HoldsAt (λ c. r.note.cell ≡ cell_name c) shop.now.cells.now job) }
+{
+    // This tells the proof that the graph is sound, here and in the gatherer.
+    let _jobs = shop.graph.jobs();
+    let out = shop.work.run(job, prerequisites)?;
+    let work = *shop.work;
+    let published = Box::new(alloc, Published { job, work, out })?;
+    Ok(Ran::publish(&shop.cells[job], published))
+}
+
+// Counts each edge of a job down, and keeps the jobs whose wait it ended.
+fn count_all(
+    board: &Board,
+    graph: &JobGraph,
+    seat: &mut BoardSeat,
+    job: usize,
+    own: &mut Worker<usize>,
+)
+    requires board { (seat.old.board ≡ board.now.id) × (graph.now ≡ board.now.graph) }
+    requires job { (job < length graph.now) × (0 < times job seat.old.had) }
+    requires fresh { (edge : ℕ) → counted job edge seat.old.counts ≡ 0 }
+    ensures board { seat.new.board ≡ seat.old.board }
+    ensures had { seat.new.had ≡ seat.old.had }
+{
+    let targets = graph.targets(job);
+    for edge in 0..targets.len() {
+        if board.count_down(seat, job, edge) {
+            // A job that the deque does not take is left to the gatherer.
+            let _ = own.push(targets[edge]);
+        }
+    }
+}
