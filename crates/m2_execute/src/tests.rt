@@ -3,6 +3,8 @@ ghost use Rattle.std.specs.Prelude.{◌≡◌, Some};
 use crate::{InDir, Sink, execute};
 use std::alloc::{AllocError, Global};
 use std::test::Fail;
+use wasm_core::{read_module, validate};
+use wasm_run::{End, Instances};
 
 /// The module link of the program `MODULE M; FROM Console IMPORT Put; BEGIN Put("A") END M.` with 16 pages, encoded by
 /// hand from Core 1.0, section 5.
@@ -150,5 +152,29 @@ fn tells_a_stream_that_failed(rt: HostRuntime) -> Result<(), Fail> {
     let alloc = rt.alloc();
     let text = told(alloc, &LINK, Some(&BODY), 100, 0)?;
     assert_eq!(rt; text.as_str(), "3||refusal 91\n");
+    Ok(())
+}
+
+#[test]
+fn goes_on_from_call_to_call(rt: HostRuntime) -> Result<(), Fail> {
+    let alloc = rt.alloc();
+    let link = validate(alloc, read_module(alloc, &LINK)?)?;
+    let body = validate(alloc, read_module(alloc, &BODY)?)?;
+    let modules = vec![in alloc; link, body]?;
+    let mut instances = Instances::link(alloc, &modules)?;
+    let mut first = make_screen(alloc, 9);
+    assert_eq!(rt; instances.run(4, &mut first), Ok(End::StillRunning));
+    assert_eq!(rt; first.bytes.len(), 0);
+    let mut second = make_screen(alloc, 9);
+    assert_eq!(rt; instances.run(1, &mut second), Ok(End::StillRunning));
+    assert_eq!(rt; second.bytes.as_slice(), b"A".as_slice());
+    let mut third = make_screen(alloc, 9);
+    assert_eq!(rt; instances.run(2, &mut third), Ok(End::Done(0)));
+    assert_eq!(rt; third.bytes.len(), 0);
+    for steps in [0, 1, 1000] {
+        let mut later = make_screen(alloc, 9);
+        assert_eq!(rt; instances.run(steps, &mut later), Ok(End::Done(0)));
+        assert_eq!(rt; later.bytes.len(), 0);
+    }
     Ok(())
 }

@@ -91,7 +91,7 @@ opening_says w (Some t) e h =
     let none : Some t ≡ None = k ∙ ap (λ w. option_map lexeme.Symbol (sign_of w)) e ∙ ap (option_map lexeme.Symbol) no_sign_opens in
     cc
 
-large_stuck : (v : Text) (form other : Numeral) (n l : ℕ) → IsRun Digit v → Writes v form n → Writes v other l → limit form ≤ n → l < limit other → ⊥
+pub large_stuck : (v : Text) (form other : Numeral) (n l : ℕ) → IsRun Digit v → Writes v form n → Writes v other l → limit form ≤ n → l < limit other → ⊥
 large_stuck [] form other n l r h k much few = r
 large_stuck (b ∷ v) form other n l r h k much few =
     let last = last_of b v in

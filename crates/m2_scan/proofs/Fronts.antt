@@ -19,7 +19,8 @@ use Rattle.m2_scan.specs.Bytes.{Text, class, in_run, is_run_byte, is_printable, 
 use Rattle.m2_scan.specs.Symbols.{sign_of}
 use Rattle.m2_scan.specs.Forms.{IsRun, IsQuoted, IsForm, quoted, Spells, opening, max_name}
 use Rattle.m2_scan.specs.Division.{RefusesIn}
-use Rattle.m2_scan.specs.Steps.{moved, over, Begins, Opens, IsPair, Takes, Stops, RefusesNumber, Closes}
+use Rattle.m2_scan.specs.Numbers.{RefusesNumber}
+use Rattle.m2_scan.specs.Steps.{moved, over, Begins, Opens, IsPair, Takes, Stops, Closes}
 use Rattle.m2_scan.proofs.Lists.{and_true, same_head, all_append, all_prefix, passes_within, fails_beyond}
 use Rattle.m2_scan.proofs.Places.{in_one_line, over_line}
 use Rattle.m2_scan.proofs.Shapes.{longest_space, longest_name, longest_number, longest_string, longest_comment, longest_sign, longest_pair, begins_nothing, quoted_length, sign_is, class_open}

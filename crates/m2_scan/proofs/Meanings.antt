@@ -78,7 +78,7 @@ pub last_of : (b : ℕ) (v : Text) → (front : Text) × (c : ℕ) × (b ∷ v �
 last_of b [] = ([], b, refl)
 last_of b (c ∷ v) = let h = last_of c v in (b ∷ h.0, h.1, ap (λ t. b ∷ t) h.2)
 
-quoted_once : (w i j : Text) → IsQuoted w i → IsQuoted w j → i ≡ j
+pub quoted_once : (w i j : Text) → IsQuoted w i → IsQuoted w j → i ≡ j
 quoted_once w i j h k =
     let whole : h.0 ∷ i ++ h.0 ∷ [] ≡ k.0 ∷ j ++ k.0 ∷ [] = sym h.3 ∙ k.3 in
     let tails : i ++ h.0 ∷ [] ≡ j ++ k.0 ∷ [] = cc in

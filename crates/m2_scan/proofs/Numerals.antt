@@ -8,8 +8,8 @@ use Rattle.m2_scan.specs.declared.number.Numeral.TheVariants.{Decimal, Octal, He
 use Rattle.m2_scan.specs.declared.refusal.Fault.{Fault}
 use Rattle.m2_scan.specs.declared.refusal.Fault.TheVariants.{TooLong, StrayByte, OpenComment, OpenString, BadNumber, LargeNumber, LongName}
 use Rattle.m2_scan.specs.Bytes.{Text}
-use Rattle.m2_scan.specs.Numbers.{Writes, base, suffix, digit, is_digit_of, value}
-use Rattle.m2_scan.specs.Steps.{form_by, RefusesDigits, RefusesNumber}
+use Rattle.m2_scan.specs.Numbers.{RefusesNumber, Writes, base, suffix, digit, is_digit_of, value}
+use Rattle.m2_scan.specs.Steps.{form_by, RefusesDigits}
 use Rattle.m2_scan.proofs.Lists.{and_true, all_append}
 
 no_digits : (is_digit_of 10 66 ≡ false) × (is_digit_of 10 72 ≡ false) × (is_digit_of 10 67 ≡ false)

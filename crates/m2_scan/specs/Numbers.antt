@@ -1,8 +1,10 @@
 -- Numbers as they are written: digits, and a letter that tells the base.
-use Rattle.std.specs.Prelude.{◌≡◌, ℕ, ◌+◌, ◌-◌, ◌*◌, ◌^◌, true, ◌&&◌, nat_le, nat_lt, Bool, [], ◌∷◌, ◌++◌, fold, if◌then◌else◌}
+use Rattle.std.specs.Prelude.{◌≡◌, ◌≤◌, ℕ, ◌+◌, ◌-◌, ◌*◌, ◌^◌, true, ◌&&◌, nat_le, nat_lt, Bool, [], ◌∷◌, ◌++◌, fold, if◌then◌else◌}
 use Rattle.std.specs.List.{list_all}
 use Rattle.m2_scan.specs.declared.number.Numeral.{Numeral}
 use Rattle.m2_scan.specs.declared.number.Numeral.TheVariants.{Decimal, Octal, Hexadecimal, Code}
+use Rattle.m2_scan.specs.declared.refusal.Fault.{Fault}
+use Rattle.m2_scan.specs.declared.refusal.Fault.TheVariants.{BadNumber, LargeNumber}
 use Rattle.m2_scan.specs.Bytes.{Text, is_digit}
 
 abbrev pub base : Numeral → ℕ
@@ -36,3 +38,9 @@ value base digits = fold (λ n b. n * base + digit b) 0 digits
 -- The bytes are a number that is written so, and this is its value.
 abbrev pub Writes : Text → Numeral → ℕ → Type 0
 Writes w form n = (digits : Text) × (w ≡ digits ++ suffix form) × (list_all (is_digit_of (base form)) digits ≡ true) × (n ≡ value (base form) digits)
+
+-- what is wrong with digits and letters that are no number
+abbrev pub RefusesNumber : Text → Fault → Type 0
+RefusesNumber w BadNumber = (form : Numeral) (n : ℕ) → Writes w form n → ⊥
+RefusesNumber w LargeNumber = (form : Numeral) × (n : ℕ) × Writes w form n × (limit form ≤ n)
+RefusesNumber w _ = ⊥

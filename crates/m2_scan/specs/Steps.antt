@@ -1,7 +1,8 @@
 -- What the parts of the scanner say to one another. No public contract speaks of it.
-use Rattle.std.specs.Prelude.{◌≡◌, ◌≢◌, ◌≤◌, ◌<◌, ℕ, ◌+◌, ◌^◌, ◌==◌, true, false, [], ◌∷◌, ◌++◌, length, Option, Some, None, if◌then◌else◌}
+use Rattle.std.specs.Prelude.{◌≡◌, ◌≢◌, ◌≤◌, ◌<◌, ℕ, ◌+◌, ◌^◌, ◌==◌, true, false, List, [], ◌∷◌, ◌++◌, length, Option, Some, None, if◌then◌else◌}
 use Rattle.std.specs.List.{list_all}
 use Rattle.m2_tree.specs.declared.pos.Pos.{Pos}
+use Rattle.m2_tree.specs.declared.token.Token.{Token}
 use Rattle.m2_tree.specs.declared.token.Lexeme.{Lexeme}
 use Rattle.m2_tree.specs.declared.token.Symbol.{Symbol}
 use Rattle.m2_scan.specs.declared.class.Class.{Class}
@@ -14,11 +15,11 @@ use Rattle.m2_scan.specs.declared.refusal.ScanRefusal.{ScanRefusal}
 use Rattle.m2_scan.specs.declared.refusal.ScanError.TheVariants.{Refused, NoMemory}
 use Rattle.m2_scan.specs.Bytes.{Text, class, is_line_end}
 use Rattle.m2_scan.specs.Symbols.{sign_of}
-use Rattle.m2_scan.specs.Numbers.{Writes, base, limit, is_digit_of, value}
+use Rattle.m2_scan.specs.Numbers.{base, limit, is_digit_of, value}
 use Rattle.m2_scan.specs.declared.comment.Mark.{Mark}
 use Rattle.m2_scan.specs.declared.comment.Mark.TheVariants.{Opening, Closing, Byte, End}
 use Rattle.m2_scan.specs.Forms.{IsLongest, IsMember, IsClosed, opening, closing}
-use Rattle.m2_scan.specs.Division.{RefusesIn}
+use Rattle.m2_scan.specs.Division.{RefusesIn, tokens_at}
 
 -- the place behind one byte more
 abbrev pub moved : Pos → ℕ → Pos
@@ -37,6 +38,10 @@ HasRoom p w = (p.line + length w < 2 ^ 32) × (p.col + length w < 2 ^ 32)
 abbrev pub Takes : Text → Pos → Option Lexeme → Text → Pos → Type 0
 Takes text pos m rest after = (w : Text) × (text ≡ w ++ rest) × (0 < length w) × IsLongest w rest × IsMember (w, m) × (after ≡ over pos w)
 
+-- A member was taken so, and its token, if it is one, put behind those that were there before.
+abbrev pub Adds : Text → Pos → Text → Pos → List Token → List Token → Type 0
+Adds text pos rest after before tokens = (m : Option Lexeme) × Takes text pos m rest after × (tokens ≡ before ++ tokens_at pos m)
+
 -- What stands at the front of the text is refused, and this is the least place of a refusal there.
 abbrev pub Stops : Text → Pos → ScanError → Type 0
 Stops text pos NoMemory = Unit {0}
@@ -47,12 +52,6 @@ Stops text pos (Refused r) =
 -- how a number is written, by its last byte
 abbrev pub form_by : ℕ → Numeral
 form_by c = if c == 66 then Octal else if c == 72 then Hexadecimal else if c == 67 then Code else Decimal
-
--- what is wrong with digits and letters that are no number
-abbrev pub RefusesNumber : Text → Fault → Type 0
-RefusesNumber w BadNumber = (form : Numeral) (n : ℕ) → Writes w form n → ⊥
-RefusesNumber w LargeNumber = (form : Numeral) × (n : ℕ) × Writes w form n × (limit form ≤ n)
-RefusesNumber w _ = ⊥
 
 -- what is wrong with the digits of a number
 abbrev pub RefusesDigits : Numeral → Text → Fault → Type 0

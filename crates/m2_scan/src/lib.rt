@@ -12,5 +12,7 @@ mod symbols;
 mod tests;
 mod tokens;
 
+pub use number::number_of;
 pub use refusal::{Fault, ScanError, ScanRefusal};
+pub use symbols::{pair_of, single_of, word_of};
 pub use tokens::{MAX_TEXT, one_division, one_refusal, scan, tokens_or_refusal};

@@ -4,8 +4,8 @@ ghost use Rattle.std.specs.Prelude.{◌≡◌, ◌≤◌, ◌<◌, ◌^◌, ◌+
 ghost use Rattle.std.specs.List.{list_all};
 ghost use Rattle.m2_scan.specs.declared.class.Class.TheVariants as class;
 ghost use Rattle.m2_scan.specs.Forms.{IsRun, Spells};
-ghost use Rattle.m2_scan.specs.Numbers.{base, limit, digit, is_digit_of, value, suffix};
-ghost use Rattle.m2_scan.specs.Steps.{form_by, RefusesDigits, RefusesNumber};
+ghost use Rattle.m2_scan.specs.Numbers.{base, limit, digit, is_digit_of, value, suffix, RefusesNumber};
+ghost use Rattle.m2_scan.specs.Steps.{form_by, RefusesDigits};
 
 use crate::refusal::Fault;
 use m2_tree::Lexeme;
@@ -91,7 +91,8 @@ fn split(run: &[u8]) -> (Numeral, &[u8])
     }
 }
 
-/// The token that digits and letters are.
+/// The number or character that digits and letters are, of which the first is a digit. The errors are that they are no
+/// number, and that it is too large.
 pub fn number_of(run: &[u8]) -> Result<Lexeme, Fault>
     requires { IsRun class.Digit run.now }
     ensures ok { IfOk result (λ token. Spells run.now token) }

@@ -1,34 +1,21 @@
 //! The tokens of a text.
 
-ghost use Rattle.std.specs.Prelude.{◌≡◌, ◌≤◌, List, [], ◌++◌, MatchResult, IfOk, IfErr, OnOk, Ok, Err, length, ◌⊎◌};
+ghost use Rattle.std.specs.Prelude.{◌≡◌, ◌≤◌, List, [], MatchResult, IfOk, IfErr, Ok, Err, length, ◌⊎◌};
 ghost use Rattle.m2_tree.specs.declared.token.Token.{Token};
 ghost use Rattle.m2_scan.specs.declared.refusal.ScanRefusal.{ScanRefusal};
 ghost use Rattle.m2_scan.specs.declared.refusal.ScanError.TheVariants.{Refused, NoMemory};
 ghost use Rattle.m2_scan.specs.Bytes.{Text};
 ghost use Rattle.m2_scan.specs.Forms.{Member};
-ghost use Rattle.m2_scan.specs.Division.{Divides, HasTokens, Refuses, max_text, tokens_at};
+ghost use Rattle.m2_scan.specs.Division.{Divides, HasTokens, Refuses, max_text};
 ghost use Rattle.m2_scan.specs.Steps.{IfRefused};
 
-use crate::cut::{next_cut, refused};
+use crate::cut::{next_cut, put, refused};
 use crate::refusal::{Fault, ScanError};
 use m2_tree::{Lexeme, Pos, Token};
-use std::alloc::{AllocError, Global};
+use std::alloc::Global;
 
 /// The bytes of the longest text.
 pub const MAX_TEXT: usize = 1_048_576;
-
-/// Adds a token at a place, if there is one.
-fn add(tokens: &mut Vec<Token>, lexeme: Option<Lexeme>, pos: Pos) -> Result<(), AllocError>
-    ensures { OnOk result (tokens.new.items ≡ tokens.old.items ++ tokens_at pos lexeme) }
-{
-    match lexeme {
-        None => Ok(()),
-        Some(lexeme) => {
-            tokens.push(Token { lexeme, pos })?;
-            Ok(())
-        }
-    }
-}
 
 /// The tokens of a text, with their places, and the end of the text behind them.
 ///
@@ -54,12 +41,11 @@ pub fn scan(alloc: Global, text: &[u8]) -> Result<Vec<Token>, ScanError>
     let mut tokens = Vec::new(alloc);
     let mut rest = text;
     while !rest.is_empty() {
-        let cut = next_cut(alloc, rest, pos)?;
-        add(&mut tokens, cut.token, pos)?;
+        let cut = next_cut(alloc, rest, pos, &mut tokens)?;
         rest = cut.rest;
         pos = cut.pos;
     }
-    add(&mut tokens, Some(Lexeme::End), pos)?;
+    put(&mut tokens, Lexeme::End, pos)?;
     Ok(tokens)
 }
 

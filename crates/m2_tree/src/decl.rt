@@ -1,13 +1,14 @@
 //! Types, declarations and modules as they are written.
 
+use crate::boxed::Boxed;
 use crate::expr::{Expr, Qualified};
+use crate::items::Items;
 use crate::name::Ident;
 use crate::pos::Pos;
 use crate::stmt::Stmt;
-use sqlite_items::{Boxed, Items};
 
 /// A type that can stand as an index: a name, an enumeration or a subrange.
-#[derive(Drop)]
+#[derive(Debug, PartialEq, Eq, Drop)]
 pub enum Simple {
     Named(Qualified),
     /// The place of the bracket, and the constants.
@@ -18,7 +19,7 @@ pub enum Simple {
 
 /// A type.
 #[cycle(types)]
-#[derive(Drop)]
+#[derive(Debug, PartialEq, Eq, Drop)]
 pub enum TypeExpr {
     Simple(Simple),
     /// The place of its first token, the index and the elements. `ARRAY a, b OF T` is `ARRAY a OF ARRAY b OF T`, in
@@ -32,7 +33,7 @@ pub enum TypeExpr {
 
 /// Fields of one type.
 #[cycle(types)]
-#[derive(Drop)]
+#[derive(Debug, PartialEq, Eq, Drop)]
 pub struct Field {
     pub names: Items<Ident>,
     pub of: TypeExpr,
@@ -55,7 +56,7 @@ pub struct Parameter {
 }
 
 /// Formals of one type, with their names.
-#[derive(Drop)]
+#[derive(Debug, PartialEq, Eq, Drop)]
 pub struct Section {
     /// Whether VAR stands before them.
     pub is_var: bool,
@@ -64,7 +65,7 @@ pub struct Section {
 }
 
 /// The heading of a procedure.
-#[derive(Drop)]
+#[derive(Debug, PartialEq, Eq, Drop)]
 pub struct Heading {
     pub name: Ident,
     pub formals: Items<Section>,
@@ -72,28 +73,28 @@ pub struct Heading {
 }
 
 /// A constant, and its value.
-#[derive(Drop)]
+#[derive(Debug, PartialEq, Eq, Drop)]
 pub struct Constant {
     pub name: Ident,
     pub value: Expr,
 }
 
 /// The name of a type, and the type.
-#[derive(Drop)]
+#[derive(Debug, PartialEq, Eq, Drop)]
 pub struct TypeDecl {
     pub name: Ident,
     pub of: TypeExpr,
 }
 
 /// Variables of one type.
-#[derive(Drop)]
+#[derive(Debug, PartialEq, Eq, Drop)]
 pub struct Variables {
     pub names: Items<Ident>,
     pub of: TypeExpr,
 }
 
 /// What a definition module declares.
-#[derive(Drop)]
+#[derive(Debug, PartialEq, Eq, Drop)]
 pub enum Def {
     Constants(Items<Constant>),
     Types(Items<TypeDecl>),
@@ -103,7 +104,7 @@ pub enum Def {
 
 /// What a program module, an implementation module or a procedure declares.
 #[cycle(decl)]
-#[derive(Drop)]
+#[derive(Debug, PartialEq, Eq, Drop)]
 pub enum Decl {
     Constants(Items<Constant>),
     Types(Items<TypeDecl>),
@@ -113,14 +114,14 @@ pub enum Decl {
 
 /// Declarations, and the statements behind the BEGIN if there is one.
 #[cycle(decl)]
-#[derive(Drop)]
+#[derive(Debug, PartialEq, Eq, Drop)]
 pub struct Block {
     pub decls: Items<Decl>,
     pub body: Option<Items<Stmt>>,
 }
 
 /// An import: of modules, or of names from a module.
-#[derive(Drop)]
+#[derive(Debug, PartialEq, Eq, Drop)]
 pub struct Import {
     /// The module behind the FROM.
     pub from: Option<Ident>,
@@ -128,7 +129,7 @@ pub struct Import {
 }
 
 /// Which sort of module it is, and what it holds.
-#[derive(Drop)]
+#[derive(Debug, PartialEq, Eq, Drop)]
 pub enum Contents {
     Definition(Items<Def>),
     Implementation(Block),
@@ -136,7 +137,7 @@ pub enum Contents {
 }
 
 /// A module.
-#[derive(Drop)]
+#[derive(Debug, PartialEq, Eq, Drop)]
 pub struct Module {
     pub name: Ident,
     pub imports: Items<Import>,

@@ -1,9 +1,10 @@
 //! Expressions and designators as they are written.
 
+use crate::boxed::Boxed;
+use crate::items::Items;
 use crate::name::Ident;
 use crate::pos::Pos;
 use crate::text::Quoted;
-use sqlite_items::{Boxed, Items};
 
 /// A relation between two values.
 #[derive(Clone, Copy, Debug, PartialEq, Eq)]
@@ -59,7 +60,7 @@ pub struct Qualified {
 
 /// An expression. The place of an expression is the place of its first token.
 #[cycle(expr)]
-#[derive(Drop)]
+#[derive(Debug, PartialEq, Eq, Drop)]
 pub enum Expr {
     Number(Pos, u32),
     /// A character by its code.
@@ -83,7 +84,7 @@ pub enum Expr {
 
 /// One value, or a range: an element of a set, or a label of a case.
 #[cycle(expr)]
-#[derive(Drop)]
+#[derive(Debug, PartialEq, Eq, Drop)]
 pub struct Item {
     pub low: Expr,
     pub high: Option<Expr>,
@@ -91,7 +92,7 @@ pub struct Item {
 
 /// A component of a variable.
 #[cycle(expr)]
-#[derive(Drop)]
+#[derive(Debug, PartialEq, Eq, Drop)]
 pub enum Selector {
     /// The place of the point, and the field.
     Field(Pos, Ident),
@@ -101,7 +102,7 @@ pub enum Selector {
 
 /// A name and the components that are picked.
 #[cycle(expr)]
-#[derive(Drop)]
+#[derive(Debug, PartialEq, Eq, Drop)]
 pub struct Designator {
     pub name: Ident,
     pub selectors: Items<Selector>,

@@ -1,11 +1,14 @@
 //! What every part of the compiler speaks of: places, refusals, tokens, and the tree of a module as it is written.
 //!
 //! The trees hold their lists and boxes as `Items` and `Boxed`, which contracts see as plain lists and values, so a
-//! clause can say that two trees are equal. Whatever a refusal can point at carries its place.
+//! clause can say that two trees are equal, and `==` decides it. Whatever a refusal can point at carries its place.
 #![tactic(auto)]
 
+mod boxed;
 mod decl;
+mod exact;
 mod expr;
+mod items;
 mod name;
 mod pos;
 mod refusal;
@@ -15,11 +18,14 @@ mod tests;
 mod text;
 mod token;
 
+pub use boxed::Boxed;
 pub use decl::{
     Block, Constant, Contents, Decl, Def, Field, FormalType, Heading, Import, Module, Parameter,
     Section, Simple, TypeDecl, TypeExpr, Variables,
 };
+pub use exact::{Exact, are_equal};
 pub use expr::{AddOp, Designator, Expr, Item, MulOp, Operator, Qualified, RelOp, Selector, Sign};
+pub use items::Items;
 pub use name::{Ident, MAX_NAME, Name};
 pub use pos::Pos;
 pub use refusal::Refusal;

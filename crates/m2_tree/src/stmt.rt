@@ -1,13 +1,14 @@
 //! Statements as they are written. An empty statement leaves no trace.
 
+use crate::boxed::Boxed;
 use crate::expr::{Designator, Expr, Item};
+use crate::items::Items;
 use crate::name::Ident;
 use crate::pos::Pos;
-use sqlite_items::{Boxed, Items};
 
 /// A statement.
 #[cycle(stmt)]
-#[derive(Drop)]
+#[derive(Debug, PartialEq, Eq, Drop)]
 pub enum Stmt {
     /// What is assigned to, and the value.
     Assign(Designator, Expr),
@@ -32,7 +33,7 @@ pub enum Stmt {
 
 /// What follows the first part of an IF.
 #[cycle(stmt)]
-#[derive(Drop)]
+#[derive(Debug, PartialEq, Eq, Drop)]
 pub enum Rest {
     Elsif(Expr, Items<Stmt>, Boxed<Rest>),
     Else(Option<Items<Stmt>>),
@@ -40,7 +41,7 @@ pub enum Rest {
 
 /// The labels and the statements of an arm of a CASE.
 #[cycle(stmt)]
-#[derive(Drop)]
+#[derive(Debug, PartialEq, Eq, Drop)]
 pub struct Arm {
     pub labels: Items<Item>,
     pub body: Items<Stmt>,

@@ -4,5 +4,7 @@ pub mod Runs
 pub mod Validates
 pub mod Fits
 pub mod Kept
-pub mod Reading
+pub mod Ordered
+pub mod Fragments
+pub mod Texts
 pub mod Sources

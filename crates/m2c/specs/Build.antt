@@ -1,9 +1,6 @@
 -- What the build of files answers.
-use Rattle.std.specs.Prelude.{◌≡◌, ℕ, ◌+◌, Bool, true, false, not, List, [], ◌∷◌, ◌++◌, map, fold, insert, Option, Some, None, option_map, if◌then◌else◌}
-use Rattle.std.specs.List.{flat_map, list_any, position_or_len}
-use Rattle.std.specs.Option.{option_to_list, is_some}
-use Rattle.std.specs.Ordering.{nat_cmp, is_lt}
-use Rattle.std.specs.Cmp.Lexicographic.{slice_cmp}
+use Rattle.std.specs.Prelude.{◌≡◌, ℕ, List, [], ◌∷◌, ◌++◌, map, Option, Some, None, if◌then◌else◌}
+use Rattle.std.specs.List.{flat_map, list_any}
 use Rattle.std.specs.Str.{bytes_eq}
 use Rattle.std.specs.String.{string_bytes}
 use Rattle.m2_tree.specs.declared.refusal.Refusal.{Refusal}
@@ -11,26 +8,14 @@ use Rattle.wasm_core.specs.Binary.{module_spelling}
 use Rattle.m2c.specs.declared.files.SourceFile.{SourceFile}
 use Rattle.m2c.specs.declared.files.Outcome.{Outcome}
 use Rattle.m2c.specs.declared.files.Outcome.TheVariants as outcome
-use Rattle.m2c.specs.declared.files.Found.{Found as FoundSource}
-use Rattle.m2c.specs.declared.files.Texts.{Texts}
+use Rattle.m2c.specs.declared.reading.Read.{Read}
+use Rattle.m2c.specs.declared.reading.Read.TheVariants as read
+use Rattle.m2c.specs.Order.{AreInOrder}
+use Rattle.m2c.specs.Reading.{ReadFile, AreRead}
 use Rattle.m2c.specs.Program.{Program}
-use Rattle.m2c.specs.Text.{program_of, program}
+use Rattle.m2c.specs.Fragment.{program_of}
 use Rattle.m2c.specs.Scheme.{link_module, body_module}
 use Rattle.m2c.specs.Headline.{Keeps}
-
--- ---- the order of files
-
--- the first file's name is less, by its bytes
-abbrev pub is_before : SourceFile → SourceFile → Bool
-is_before f g = is_lt (slice_cmp nat_cmp (string_bytes f.name) (string_bytes g.name))
-
--- with a file put before the first of a greater name
-abbrev pub with_file : List SourceFile → SourceFile → List SourceFile
-with_file files f = insert files (position_or_len (λ g. is_before f g) files) f
-
--- by their names, and as given where these are equal
-abbrev pub in_order : List SourceFile → List SourceFile
-in_order files = fold with_file [] files
 
 -- ---- what is told
 
@@ -47,33 +32,41 @@ told r = record { file = string_bytes r.file; line = r.pos.line; column = r.pos.
 abbrev pub told_at : (file : List ℕ) (line column number : ℕ) → Told
 told_at file line column number = record { file = file; line = line; column = column; number = number }
 
--- what is told of a text that is no program: 99 at its begin
-abbrev pub unread_text : SourceFile → Option Program → List Told
-unread_text f None = told_at (string_bytes f.name) 1 1 99 ∷ []
-unread_text f (Some p) = []
+-- the rule that a text breaks
+abbrev pub refused_in : (file : List ℕ) → Read → List Told
+refused_in file (read.Refused pos number) = told_at file pos.line pos.col number ∷ []
+refused_in file (read.Parsed tree) = []
 
-abbrev pub unread_of : List SourceFile → List Told
-unread_of files = flat_map (λ f. unread_text f (program_of f.bytes.items)) files
+-- 99 at its begin for a tree that is no program so far
+abbrev pub unknown_tree : (file : List ℕ) → Option Program → List Told
+unknown_tree file None = told_at file 1 1 99 ∷ []
+unknown_tree file (Some p) = []
+
+abbrev pub unknown_in : (file : List ℕ) → Read → List Told
+unknown_in file (read.Refused pos number) = []
+unknown_in file (read.Parsed tree) = unknown_tree file (program_of tree)
 
 -- a program in a file of this name
 pub record Found : Type 0 where
   pub file : List ℕ
   pub program : Program
 
-abbrev pub found : FoundSource → Found
-found f = record { file = string_bytes f.file.now.name; program = program f.source }
+abbrev pub found_tree : (file : List ℕ) → Option Program → List Found
+found_tree file None = []
+found_tree file (Some p) = record { file = file; program = p } ∷ []
 
-abbrev pub found_text : SourceFile → Option Program → List Found
-found_text f None = []
-found_text f (Some p) = record { file = string_bytes f.name; program = p } ∷ []
+abbrev pub found_in : (file : List ℕ) → Read → List Found
+found_in file (read.Refused pos number) = []
+found_in file (read.Parsed tree) = found_tree file (program_of tree)
 
-abbrev pub found_of : List SourceFile → List Found
-found_of files = flat_map (λ f. found_text f (program_of f.bytes.items)) files
+abbrev pub refused_of : List ReadFile → List Told
+refused_of reads = flat_map (λ r. refused_in r.file r.read) reads
 
--- with what was read of one more file
-pub record AddsText (old new : Texts) (f : SourceFile) : Type 0 where
-  pub unread : map told new.unread.items ≡ map told old.unread.items ++ unread_text f (program_of f.bytes.items)
-  pub found_all : map found new.found.items ≡ map found old.found.items ++ found_text f (program_of f.bytes.items)
+abbrev pub unknown_of : List ReadFile → List Told
+unknown_of reads = flat_map (λ r. unknown_in r.file r.read) reads
+
+abbrev pub found_of : List ReadFile → List Found
+found_of reads = flat_map (λ r. found_in r.file r.read) reads
 
 -- 21 where a module of that name stands before, and else 23, since a program has one module
 abbrev pub extra : (before : List (List ℕ)) → Found → Told
@@ -96,13 +89,14 @@ of_found [] = Refused (told_at [] 1 1 23 ∷ [])
 of_found (f ∷ []) = Compiled f.program
 of_found (f ∷ g ∷ fs) = Refused (extras (f.program.name ∷ []) (g ∷ fs))
 
--- texts that are no program are told alone
-abbrev pub answer_from : List Told → List Found → Answer
-answer_from [] found = of_found found
-answer_from (t ∷ ts) found = Refused (t ∷ ts)
+-- what is told, or if that is nothing, the other answer
+abbrev pub or_else : List Told → Answer → Answer
+or_else [] answer = answer
+or_else (t ∷ ts) answer = Refused (t ∷ ts)
 
-abbrev pub answer_of : List SourceFile → Answer
-answer_of files = answer_from (unread_of (in_order files)) (found_of (in_order files))
+-- broken rules of texts come before trees that are not compiled so far, and these before what is wrong with the programs
+abbrev pub answer_of : List ReadFile → Answer
+answer_of reads = or_else (refused_of reads) (or_else (unknown_of reads) (of_found (found_of reads)))
 
 -- the code of the program: the bytes of link, and the module of its body under its name
 pub record IsCode (p : Program) (pages : ℕ) (link : List ℕ) (modules : List (List ℕ × List ℕ)) : Type 0 where
@@ -120,3 +114,14 @@ IsOutcome pages (Compiled p) (outcome.Built link modules) = IsCode p pages link.
 abbrev pub IsKept : Answer → Outcome → Type 0
 IsKept answer (outcome.Refused refusals) = Unit {0}
 IsKept answer (outcome.Built link modules) = (p : Program) × (answer ≡ Compiled p) × Keeps p link.items (map (λ m. m.1.items) modules.items)
+
+-- The outcome of a build of these files: in order, read, and answered.
+pub record IsBuilt (files : List SourceFile) (pages : ℕ) (outcome : Outcome) : Type 0 where
+  pub ordered : List SourceFile
+  pub in_order : AreInOrder files ordered
+  pub reads : List ReadFile
+  pub are_read : AreRead ordered reads
+  -- the outcome that they have
+  pub is_outcome : IsOutcome pages (answer_of reads) outcome
+  -- the modules do what the program does
+  pub is_kept : IsKept (answer_of reads) outcome

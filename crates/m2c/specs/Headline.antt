@@ -1,5 +1,5 @@
 -- The headline: the modules do what the program does.
-use Rattle.std.specs.Prelude.{◌≡◌, ℕ, List, [], ◌∷◌, All, map, Ok}
+use Rattle.std.specs.Prelude.{◌≡◌, ℕ, List, [], ◌∷◌, All, Ok}
 use Rattle.wasm_core.specs.declared.module.WModule.{WModule}
 use Rattle.wasm_core.specs.Validity.{IsValid}
 use Rattle.wasm_core.specs.Binary.{Spells}

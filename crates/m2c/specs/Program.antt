@@ -1,5 +1,5 @@
 -- Programs, and what they do by the language's definition.
-use Rattle.std.specs.Prelude.{◌≡◌, ℕ, zero, suc, List, [], ◌∷◌, ◌++◌}
+use Rattle.std.specs.Prelude.{ℕ, List, [], ◌∷◌, ◌++◌}
 
 -- a call of Put with a constant
 pub data Stmt : Type 0 where

@@ -1,5 +1,5 @@
 -- The code that a program gets: one module for its body, and the module link that runs it.
-use Rattle.std.specs.Prelude.{◌≡◌, ℕ, ◌+◌, ◌*◌, List, [], ◌∷◌, ◌++◌, Option, Some, None, map, codes}
+use Rattle.std.specs.Prelude.{ℕ, ◌*◌, List, [], ◌∷◌, ◌++◌, Some, None, codes}
 use Rattle.std.specs.List.{flat_map}
 use Rattle.wasm_core.specs.declared.kinds.ValueType.{ValueType}
 use Rattle.wasm_core.specs.declared.kinds.ValueType.TheVariants.{I32, I64}

@@ -2,11 +2,13 @@
 #![tactic(auto)]
 
 mod files;
-mod run;
+mod fragment;
+mod order;
+mod outcome;
+mod reading;
 mod scheme;
 mod source;
 #[cfg(test)]
 mod tests;
-mod text;
 
 pub use files::{BuildFault, Options, Outcome, SourceFile, build};

@@ -3,7 +3,7 @@
 ghost use Rattle.std.specs.Prelude.{◌≡◌, ◌≤◌, ◌*◌, ◌++◌, ◌∷◌, ◌<◌, [], All, IfOk, OnOk, map};
 ghost use Rattle.m2c.specs.Program.{Put};
 ghost use Rattle.m2c.specs.Scheme.{type_from, body_code, base_name, text_name, tab_name, from_link, from_host, body_types, body_imports, body_module, constant_global, exported_as, link_exports, stack_begin, link_module};
-ghost use Rattle.m2c.specs.Text.{program};
+ghost use Rattle.m2c.specs.Fragment.{program};
 
 use crate::source::Source;
 use sqlite_items::Items;
@@ -166,7 +166,7 @@ pub fn body_module(alloc: Global, source: &Source) -> Result<WModule, AllocError
     };
     Ok(WModule {
         types: body_types(alloc)?,
-        imports: body_imports(alloc, source.name.as_slice())?,
+        imports: body_imports(alloc, source.name.name.as_bytes())?,
         functions: one(alloc, body_function(alloc, source.printed.as_slice())?)?,
         tables: Items::new(alloc),
         memories: Items::new(alloc),
@@ -276,7 +276,7 @@ pub fn link_module(alloc: Global, source: &Source, pages: u32) -> Result<WModule
         tables: one(alloc, TableType { limits: slots })?,
         memories: one(alloc, MemoryType { limits: size })?,
         globals: link_globals(alloc, pages)?,
-        exports: link_exports(alloc, source.name.as_slice())?,
+        exports: link_exports(alloc, source.name.name.as_bytes())?,
         elements: Items::new(alloc),
         data: Items::new(alloc),
     })

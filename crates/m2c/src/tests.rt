@@ -86,20 +86,67 @@ fn tells_the_second_program(rt: HostRuntime) -> Result<(), Fail> {
 #[test]
 fn tells_what_is_refused(rt: HostRuntime) -> Result<(), Fail> {
     let alloc = rt.alloc();
-    let texts = [
-        "",
-        "MODULE M; BEGIN Put(101C) END M.",
-        "MODULE M; FROM Console IMPORT Put; BEGIN Put(400C) END M.",
-        "MODULE END; BEGIN END END.",
-        "MODULE M; BEGIN END N.",
-        "MODULE Put; BEGIN END Put.",
+    let rows = [
+        ("", "b.mod:1:1: refusal 10;"),
+        ("MODULE M; BEGIN", "b.mod:1:16: refusal 10;"),
+        ("MODULE END; BEGIN END END.", "b.mod:1:8: refusal 10;"),
+        ("MODULE M; END N.", "b.mod:1:15: refusal 11;"),
+        ("MODULE M; MODULE", "b.mod:1:11: refusal 13;"),
+        (
+            "MODULE M; VAR p: POINTER TO CHAR; END M.",
+            "b.mod:1:18: refusal 13;",
+        ),
+        ("(* (* *) END", "b.mod:1:1: refusal 3;"),
+        (
+            "MODULE M; FROM Console IMPORT Put; BEGIN Put(400C) END M.",
+            "b.mod:1:46: refusal 6;",
+        ),
+        ("MODULE M; BEGIN Put(101C) END M.", "b.mod:1:1: refusal 99;"),
+        (
+            "MODULE M; VAR i: CARDINAL; END M.",
+            "b.mod:1:1: refusal 99;",
+        ),
+        ("DEFINITION MODULE M; END M.", "b.mod:1:1: refusal 99;"),
+        ("MODULE Put; BEGIN END Put.", "b.mod:1:1: refusal 99;"),
     ];
-    for text in texts {
-        let files = [file(alloc, "a.mod", EMPTY)?, file(alloc, "b.mod", text)?];
+    for (text, expected) in rows {
+        let files = [file(alloc, "b.mod", text)?, file(alloc, "a.mod", EMPTY)?];
         let told = told(alloc, &files, 1)?;
-        assert_eq!(rt; told.as_str(), "b.mod:1:1: refusal 99;", "{text}");
+        assert_eq!(rt; told.as_str(), expected, "{text}");
     }
     let text = told(alloc, &[], 1)?;
     assert_eq!(rt; text.as_str(), ":1:1: refusal 23;");
+    Ok(())
+}
+
+#[test]
+fn tells_files_in_order_of_their_names(rt: HostRuntime) -> Result<(), Fail> {
+    let alloc = rt.alloc();
+    let files = [
+        file(alloc, "c.mod", "MODULE")?,
+        file(alloc, "b.mod", "DEFINITION MODULE M; END M.")?,
+        file(alloc, "a.mod", "x_y")?,
+        file(alloc, "a.mod", "8B")?,
+    ];
+    let text = told(alloc, &files, 1)?;
+    assert_eq!(rt;
+        text.as_str(),
+        "a.mod:1:2: refusal 2;a.mod:1:1: refusal 5;c.mod:1:7: refusal 10;"
+    );
+    Ok(())
+}
+
+#[test]
+fn compiles_programs_without_statements(rt: HostRuntime) -> Result<(), Fail> {
+    let alloc = rt.alloc();
+    let texts = [
+        "MODULE N; END N.",
+        "MODULE N; (* no statement *) BEGIN ; END N.",
+        "MODULE N; FROM Console IMPORT Put; END N.",
+    ];
+    for text in texts {
+        let told = told(alloc, &[file(alloc, "n.mod", text)?], 64)?;
+        assert_eq!(rt; told.as_str(), "", "{text}");
+    }
     Ok(())
 }

@@ -1,5 +1,5 @@
 -- What follows the opening of a comment, by its first two bytes.
-use Rattle.std.proofs.Common.{◌≡◌, ◌≢◌, ◌≤◌, ◌↔◌, ℕ, ◌+◌, [], ◌∷◌, ◌++◌, length, get_or, drop, ap, sym, refl, ◌∙◌, subst, arith}
+use Rattle.std.proofs.Common.{◌≡◌, ◌≢◌, ◌≤◌, ◌↔◌, ℕ, [], ◌∷◌, ◌++◌, length, get_or, drop, ap, sym, refl, ◌∙◌, subst, arith}
 use Rattle.m2_scan.specs.Bytes.{Text}
 use Rattle.m2_scan.specs.Forms.{IsClosed, close, other, inner, opening, closing}
 use Rattle.m2_scan.proofs.Lists.{same_head}

@@ -1,3 +1,5 @@
 pub mod Closed
-pub mod Looks
 pub mod Failing
+pub mod Found
+pub mod Looks
+pub mod Said

@@ -2,7 +2,7 @@
 
 ghost use Rattle.std.specs.Prelude.{◌≡◌, ◌↔◌, IsTrue};
 ghost use Rattle.std.specs.List.{list_all};
-ghost use Rattle.m2_scan.specs.Bytes.{class, is_run_byte, is_inside};
+ghost use Rattle.m2_scan.specs.Bytes.{class, is_run_byte, is_inside, is_line_end, is_printable};
 ghost use Rattle.m2_scan.specs.declared.class.Class.TheVariants as class;
 
 #[tactic(auto, unfolding(m2_scan::specs::Bytes::class))]
@@ -59,4 +59,25 @@ pub fn are_inside(quote: u8, text: &[u8]) -> bool
     ensures { result ≡ list_all (is_inside quote) text.now }
 {
     text.iter().all(|byte| is_inside(quote, *byte))
+}
+
+#[tactic(auto, unfolding(m2_scan::specs::Bytes::is_printable))]
+fn is_printable(byte: u8) -> bool
+    ensures { result ≡ is_printable byte }
+{
+    b' ' <= byte && byte <= b'~'
+}
+
+/// Whether all of these may stand in a string.
+pub fn are_printable(text: &[u8]) -> bool
+    ensures { result ≡ list_all is_printable text.now }
+{
+    text.iter().all(|byte| is_printable(*byte))
+}
+
+#[tactic(auto, unfolding(m2_scan::specs::Bytes::is_line_end))]
+pub fn is_line_end(byte: u8) -> bool
+    ensures { result ≡ is_line_end byte }
+{
+    byte == b'\n'
 }

@@ -9,14 +9,16 @@ ghost use Rattle.m2_scan.specs.declared.class.Class.TheVariants as class;
 
 use crate::bytes::{are_inside, are_run_bytes, is_digit, is_letter, is_quote, is_space};
 use crate::comment::is_closed;
+use m2_scan::{pair_of, single_of};
+use m2_tree::Symbol;
 
-fn is_one_space(text: &[u8]) -> bool
+pub fn is_one_space(text: &[u8]) -> bool
     ensures { IsTrue result ↔ IsSpace text.now }
 {
     text.len() == 1 && is_space(text[0])
 }
 
-fn is_name(text: &[u8]) -> bool
+pub fn is_name(text: &[u8]) -> bool
     ensures { IsTrue result ↔ IsRun class.Letter text.now }
 {
     match text {
@@ -25,7 +27,7 @@ fn is_name(text: &[u8]) -> bool
     }
 }
 
-fn is_number(text: &[u8]) -> bool
+pub fn is_number(text: &[u8]) -> bool
     ensures { IsTrue result ↔ IsRun class.Digit text.now }
 {
     match text {
@@ -34,7 +36,7 @@ fn is_number(text: &[u8]) -> bool
     }
 }
 
-fn is_quoted(text: &[u8]) -> bool
+pub fn is_quoted(text: &[u8]) -> bool
     ensures { IsTrue result ↔ ((inside : Text) × IsQuoted text.now inside) }
 {
     match text {
@@ -45,40 +47,22 @@ fn is_quoted(text: &[u8]) -> bool
     }
 }
 
+/// The operator or delimiter that these bytes are.
 #[tactic(auto, unfolding(m2_scan::specs::Symbols::sign_of))]
+pub fn sign_of(text: &[u8]) -> Option<Symbol>
+    ensures { result ≡ sign_of text.now }
+{
+    match text {
+        [first] => single_of(*first),
+        [first, second] => pair_of(*first, *second),
+        _ => None,
+    }
+}
+
 fn is_sign(text: &[u8]) -> bool
     ensures { result ≡ is_some (sign_of text.now) }
 {
-    match text {
-        [first] => matches!(
-            *first,
-            b'+' | b'-'
-                | b'*'
-                | b'/'
-                | b'&'
-                | b'.'
-                | b','
-                | b';'
-                | b'('
-                | b'['
-                | b'{'
-                | b'='
-                | b'#'
-                | b'<'
-                | b'>'
-                | b':'
-                | b')'
-                | b']'
-                | b'}'
-                | b'|'
-                | b'~'
-        ),
-        [first, second] => matches!(
-            (*first, *second),
-            (b':', b'=') | (b'<', b'>') | (b'<', b'=') | (b'>', b'=') | (b'.', b'.')
-        ),
-        _ => false,
-    }
+    sign_of(text).is_some()
 }
 
 fn is_opening(text: &[u8]) -> bool
@@ -87,7 +71,7 @@ fn is_opening(text: &[u8]) -> bool
     text.len() == 2 && text[0] == b'(' && text[1] == b'*'
 }
 
-fn is_comment(text: &[u8]) -> bool
+pub fn is_comment(text: &[u8]) -> bool
     ensures { IsTrue result ↔ IsComment text.now }
 {
     text.len() >= 2 && is_opening(&text[..2]) && is_closed(&text[2..])

@@ -3,11 +3,15 @@
 
 mod bytes;
 mod comment;
+mod division;
 mod form;
 mod longest;
+mod place;
 #[cfg(test)]
 mod tests;
+mod token;
 
 pub use comment::is_closed;
+pub use division::tokens;
 pub use form::is_form;
 pub use longest::is_longest;

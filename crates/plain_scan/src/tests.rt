@@ -1,5 +1,7 @@
-use crate::{is_closed, is_form, is_longest};
-use m2_scan::scan;
+use crate::{is_closed, is_form, is_longest, tokens};
+use m2_scan::{MAX_TEXT, scan};
+use m2_tree::Pos;
+use std::alloc::{AllocError, Global};
 use std::test::Fail;
 
 #[test]
@@ -65,25 +67,116 @@ fn comments(rt: HostRuntime) {
     }
 }
 
-/// Each token of a text of one line without spaces is the longest where it stands.
+/// Whether the plain search and the scanner find the same tokens, or both find none.
+fn agree(alloc: Global, text: &[u8]) -> Result<bool, AllocError> {
+    if text.len() > MAX_TEXT {
+        return Ok(false);
+    }
+    let plain = tokens(alloc, text)?;
+    match scan(alloc, text) {
+        Ok(found) => Ok(plain == Some(found)),
+        Err(_) => Ok(plain.is_none()),
+    }
+}
+
+/// On how many texts they do not, which begin with these bytes and have so many more of an alphabet at most.
+fn disagreements(
+    alloc: Global,
+    alphabet: &[u8],
+    text: &mut Vec<u8>,
+    more: u32,
+) -> Result<u32, AllocError> {
+    let mut count = u32::from(!agree(alloc, text.as_slice())?);
+    if more == 0 {
+        return Ok(count);
+    }
+    for byte in alphabet {
+        text.push(*byte)?;
+        count = count.saturating_add(disagreements(alloc, alphabet, text, more - 1)?);
+        text.pop();
+    }
+    Ok(count)
+}
+
 #[test]
 fn agrees_with_the_scanner(rt: HostRuntime) -> Result<(), Fail> {
-    let rows: [&[u8]; 5] = [
-        b"a..b",
-        b"<=>",
-        b"1..2",
-        b"x:=y*(z+17B)",
-        b"ENDx.'q'#12C&<>",
+    let alphabets: [(&[u8], u32); 4] = [
+        (b"(*)", 8),
+        (b"'\"\n a\x80", 4),
+        (b"0189ABCFHx", 3),
+        (b".:<=>~_a1 ", 3),
     ];
-    for text in rows {
-        let tokens = scan(rt.alloc(), text)?;
-        for pair in tokens.as_slice().windows(2) {
-            let start = pair[0].pos.col as usize;
-            let end = pair[1].pos.col as usize;
-            assert!(rt; 1 <= start && start <= end && end <= text.len() + 1);
-            let (_, rest) = text.split_at(start - 1);
-            assert!(rt; is_longest(rest, end - start), "at {text:?}, {start}");
-        }
+    for (alphabet, more) in alphabets {
+        let mut text = Vec::new(rt.alloc());
+        assert_eq!(rt;
+            disagreements(rt.alloc(), alphabet, &mut text, more)?,
+            0,
+            "at {alphabet:?}"
+        );
+    }
+    Ok(())
+}
+
+/// Texts with the number of their tokens, the end included, or 0 where they have none.
+#[test]
+fn divisions(rt: HostRuntime) -> Result<(), Fail> {
+    let rows: [(&[u8], usize); 24] = [
+        (b"", 1),
+        (b"a..b", 4),
+        (b"1..2", 4),
+        (b"<=>", 3),
+        (b"a\r\nb\n", 3),
+        (b"x(*\n(* *)*):=y", 4),
+        (b"ENDx END'q\"'12C 17B 0FH", 7),
+        (b"(*(*)*)*)", 1),
+        (b"\"~ \"", 2),
+        (b"0FFFFFFFFH", 2),
+        (b"37777777777B", 2),
+        (b"377C", 2),
+        (
+            b"B1B1B1B1B1B1B1B1B1B1B1B1B1B1B1B1B1B1B1B1B1B1B1B1B1B1B1B1B1B1B1B1",
+            2,
+        ),
+        (
+            b"B1B1B1B1B1B1B1B1B1B1B1B1B1B1B1B1B1B1B1B1B1B1B1B1B1B1B1B1B1B1B1B1_",
+            0,
+        ),
+        (
+            b"B1B1B1B1B1B1B1B1B1B1B1B1B1B1B1B1B1B1B1B1B1B1B1B1B1B1B1B1B1B1B1B1x",
+            0,
+        ),
+        (b"(*(*)*)", 0),
+        (b"x_y", 0),
+        (b"12A", 0),
+        (b"378C", 0),
+        (b"400C", 0),
+        (b"4294967296", 0),
+        (b"100000000H", 0),
+        (b"'a\r'", 0),
+        (b"'a\n'", 0),
+    ];
+    for (text, want) in rows {
+        let found = tokens(rt.alloc(), text)?;
+        assert_eq!(rt; found.map_or(0, |tokens| tokens.len()), want, "at {text:?}");
+        assert_eq!(rt; agree(rt.alloc(), text)?, true, "at {text:?}");
+    }
+    Ok(())
+}
+
+#[test]
+fn places(rt: HostRuntime) -> Result<(), Fail> {
+    let Some(found) = tokens(rt.alloc(), b"x(*\n(* *)*):=y")? else {
+        return Ok(());
+    };
+    let rows: [(u32, u32); 4] = [(1, 1), (2, 8), (2, 10), (2, 11)];
+    for (token, (line, col)) in found.iter().zip(rows.iter()) {
+        assert_eq!(rt;
+            token.pos,
+            Pos {
+                line: *line,
+                col: *col
+            }
+        );
     }
     Ok(())
 }

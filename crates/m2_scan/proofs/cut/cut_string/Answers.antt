@@ -1,4 +1,5 @@
-use Rattle.std.proofs.Common.{◌≡◌, ◌≢◌, ◌+◌, length, drop, get_or, ◌⊎◌, inl, inr, refl}
+use Rattle.std.proofs.Common.{◌≡◌, ◌≢◌, ◌+◌, length, drop, get_or, ◌⊎◌, Some, inl, inr, refl}
+use Rattle.m2_tree.specs.declared.token.Lexeme.TheVariants as lexeme
 use Rattle.m2_scan.proofs.Fronts.{string_open, string_is, string_stops, string_taken}
 use Rattle.m2_scan.proofs.cut.cut_string.Goals as goal
 use Rattle.m2_scan.proofs.cut.cut_string.Goals.{then-len-behind-via-then-len-behind, then-len-behind-via-else-len-behind+then-behind-len}
@@ -32,6 +33,9 @@ returns-clause-taken c =
     let len = c.inside_len-len.result in
     let quote = get_or text 0 0 in
     let rest = c.split_at-3.result.1.now in
-    let s = string_is text behind inside rest quote len c.requires.begins c.split_at.ensures.back refl c.inside_len-len.ensures.value c.if-len-behind.false c.if-behind-len.false c.split_at-2.ensures.front c.split_at-3.ensures.back in
-    string_taken text inside rest quote len c.printable_len-good.result c.args.pos c.right-2.result c.in_ok-bytes.bytes s c.printable_len-good.ensures.value c.if-good-len.false c.in_ok-bytes.ensures
-    c.right-2.ensures.line c.right-2.ensures.col
+    let s = string_is text behind inside rest quote len c.requires.begins c.split_at.ensures.back refl c.inside_len-len.ensures.value c.if-len-behind.false c.if-behind-len.false c.split_at-2.ensures.front c.split_at-3.ensures.back in (
+      Some (lexeme.Text c.in_ok-bytes.bytes),
+      string_taken text inside rest quote len c.printable_len-good.result c.args.pos c.right-2.result c.in_ok-bytes.bytes s c.printable_len-good.ensures.value c.if-good-len.false c.in_ok-bytes.ensures
+          c.right-2.ensures.line c.right-2.ensures.col,
+      c.in_ok-put.ensures,
+    )

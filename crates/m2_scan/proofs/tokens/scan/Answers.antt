@@ -26,17 +26,17 @@ returns-in_err-cut-clause-accepted c =
 
 pub loop-rest-preserved : goal.loop-rest-preserved
 loop-rest-preserved c =
-    goes_on c.args.text.now c.loop-rest.rest.now c.loop-rest.pos c.loop-rest.tokens.items c.in_ok-cut.cut.token c.in_ok-cut.cut.rest.now c.in_ok-cut.cut.pos c.add.new.tokens.items c.loop-rest.invariant c.in_ok-cut.ensures.taken
-    c.in_ok-add.ensures
+    let a = c.in_ok-cut.ensures.taken in
+    goes_on c.args.text.now c.loop-rest.rest.now c.loop-rest.pos c.loop-rest.tokens.items a.0 c.in_ok-cut.cut.rest.now c.in_ok-cut.cut.pos c.next_cut.new.tokens.items c.loop-rest.invariant a.1 a.2
 
 pub returns-clause-tokens : goal.returns-clause-tokens
 returns-clause-tokens c =
-    (c.loop-rest.invariant.small, ends c.args.text.now c.loop-rest.rest.now c.loop-rest.pos c.loop-rest.tokens.items c.add-2.new.tokens.items c.loop-rest.invariant (nil_from_length c.loop-rest.rest.now (eqb-true (length c.loop-rest.rest.now) 0 (sym c.is_empty.ensures ∙ c.loop-rest-test.false))) c.in_ok-add-2.ensures)
+    (c.loop-rest.invariant.small, ends c.args.text.now c.loop-rest.rest.now c.loop-rest.pos c.loop-rest.tokens.items c.put.new.tokens.items c.loop-rest.invariant (nil_from_length c.loop-rest.rest.now (eqb-true (length c.loop-rest.rest.now) 0 (sym c.is_empty.ensures ∙ c.loop-rest-test.false))) c.in_ok-put.ensures)
 
 pub returns-clause-accepted : goal.returns-clause-accepted
 returns-clause-accepted c = λ ts small h.
-    tokens_once c.args.text.now c.add-2.new.tokens.items ts
-    (ends c.args.text.now c.loop-rest.rest.now c.loop-rest.pos c.loop-rest.tokens.items c.add-2.new.tokens.items c.loop-rest.invariant (nil_from_length c.loop-rest.rest.now (eqb-true (length c.loop-rest.rest.now) 0 (sym c.is_empty.ensures ∙ c.loop-rest-test.false))) c.in_ok-add-2.ensures) h
+    tokens_once c.args.text.now c.put.new.tokens.items ts
+    (ends c.args.text.now c.loop-rest.rest.now c.loop-rest.pos c.loop-rest.tokens.items c.put.new.tokens.items c.loop-rest.invariant (nil_from_length c.loop-rest.rest.now (eqb-true (length c.loop-rest.rest.now) 0 (sym c.is_empty.ensures ∙ c.loop-rest-test.false))) c.in_ok-put.ensures) h
 
 pub returns-then-text-gt-MAX_TEXT-clause-told : goal.returns-then-text-gt-MAX_TEXT-clause-told
 returns-then-text-gt-MAX_TEXT-clause-told c = λ r h. only_refusal c.args.text.now c.refused.result r h (too_long c.args.text.now c.refused.result c.if-text-gt-MAX_TEXT.true c.refused.ensures)
@@ -49,5 +49,5 @@ returns-in_err-cut-clause-told c =
 pub returns-clause-told : goal.returns-clause-told
 returns-clause-told c = λ r h.
     let last = nil_from_length c.loop-rest.rest.now (eqb-true (length c.loop-rest.rest.now) 0 (sym c.is_empty.ensures ∙ c.loop-rest-test.false)) in
-    never_both c.args.text.now c.add-2.new.tokens.items r c.loop-rest.invariant.small
-    (ends c.args.text.now c.loop-rest.rest.now c.loop-rest.pos c.loop-rest.tokens.items c.add-2.new.tokens.items c.loop-rest.invariant last c.in_ok-add-2.ensures) h
+    never_both c.args.text.now c.put.new.tokens.items r c.loop-rest.invariant.small
+    (ends c.args.text.now c.loop-rest.rest.now c.loop-rest.pos c.loop-rest.tokens.items c.put.new.tokens.items c.loop-rest.invariant last c.in_ok-put.ensures) h

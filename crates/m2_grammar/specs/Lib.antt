@@ -1,0 +1,10 @@
+pub mod Kinds
+pub mod Rule
+pub mod Grammar
+pub mod Ebnf
+pub mod Trees
+pub mod Tables
+pub mod Spelling
+pub mod Reading
+pub mod Refusal
+pub mod Factored

@@ -1,0 +1,27 @@
+use Rattle.std.proofs.Common.{◌≡◌, true, false, refl, sym, ◌∙◌, rules, arith, [], ◌∷◌}
+use Rattle.std.proofs.lemmas.Grind.{common_steps}
+use Rattle.m2_grammar.specs.declared.kind.Kind.TheVariants as the
+use Rattle.m2_grammar.specs.Ebnf.{constant}
+use Rattle.m2_grammar.specs.Reading.{begins}
+use Rattle.m2_grammar.proofs.Turns.{many-is}
+use Rattle.m2_grammar.proofs.Loops.{plain, loop_turn, loop_stop, turn_shorter, mapped_ok}
+use Rattle.m2_grammar.proofs.Items as each
+use Rattle.m2_parse.proofs.decl.constants.Goals as goal
+
+pub returns-in_err-constant : goal.returns-in_err-constant
+returns-in_err-constant c =
+    let u = many-is constant c.args.room each.more_constants c.loop-found.cursor in
+    first_of (search rules, grind (arith, common_steps))
+
+pub loop-found-smaller : goal.loop-found-smaller
+loop-found-smaller c = turn_shorter constant c.args.room _ _ _ refl c.in_ok-constant.ensures
+
+pub loop-found-preserved : goal.loop-found-preserved
+loop-found-preserved c =
+    let b : begins (the.Name ∷ []) c.loop-found.cursor ≡ true = cc in
+    rw c.in_ok-push.ensures.ok (sym (loop_turn constant _ _ plain each.more_constants c.args.room _ c.loop-found.found _ _ b c.in_ok-constant.ensures) ∙ c.loop-found.invariant)
+
+pub returns : goal.returns
+returns c =
+    let b : begins (the.Name ∷ []) c.loop-found.cursor ≡ false = cc in
+    mapped_ok (λ xs. xs) _ _ _ (sym c.loop-found.invariant ∙ loop_stop constant _ _ plain each.more_constants c.args.room _ c.loop-found.found b)

@@ -1,0 +1,13 @@
+use Rattle.std.proofs.Common.{◌≡◌, length}
+use Rattle.m2_tree.specs.declared.token.Symbol.TheVariants.{Semicolon}
+use Rattle.m2_grammar.specs.Grammar.{◌▸◌, many}
+use Rattle.m2_grammar.specs.Ebnf.{section, sections}
+use Rattle.m2_grammar.specs.Trees.{with_first}
+use Rattle.m2_grammar.specs.Reading.{gathered, mapped, read}
+use Rattle.m2_parse.proofs.decl.sections.Given as goal
+
+abbrev pub invariant-loop-semicolon : goal.invariant-loop-semicolon
+invariant-loop-semicolon l = gathered (λ xs. xs) l.found (read (many (Semicolon ▸ section)) 0 l.cursor) ≡ mapped with_first (read sections 0 l.fn.cursor)
+
+abbrev pub decreases-loop-semicolon : goal.decreases-loop-semicolon
+decreases-loop-semicolon l = length l.cursor

@@ -1,0 +1,115 @@
+use crate::in_out;
+use crate::samples::{self, text_of};
+use crate::told::{Told, outcome};
+use std::test::Fail;
+
+/// What is told of a text that is refused.
+fn refused(line: u32, col: u32, number: u32) -> Told {
+    Told::Refused { line, col, number }
+}
+
+#[test]
+fn refuses(rt: HostRuntime) -> Result<(), Fail> {
+    let rows: [(&[u8], (u32, u32, u32)); 40] = [
+        (b"", (1, 1, 10)),
+        (b"MODULE", (1, 7, 10)),
+        (b"\tMODULE M\r\n", (2, 1, 10)),
+        (b"EXPORT", (1, 1, 13)),
+        (b"MODULE MODULE", (1, 8, 13)),
+        (b"MODULE M.", (1, 9, 10)),
+        (b"DEFINITION IMPLEMENTATION MODULE", (1, 12, 10)),
+        (b"DEFINITION SET", (1, 12, 13)),
+        (b"MODULE M; IMPORT ; END M.", (1, 18, 10)),
+        (b"MODULE M; FROM A FROM", (1, 18, 10)),
+        (b"MODULE M; VAR x: CHAR; IMPORT A; END M.", (1, 24, 10)),
+        (b"MODULE M; CONST c := 1; END M.", (1, 19, 10)),
+        (b"MODULE M; CONST c = ; END M.", (1, 21, 10)),
+        (b"MODULE M; CONST c = 1 END M.", (1, 23, 10)),
+        (b"MODULE M; TYPE T = SET OF CHAR; END M.", (1, 20, 13)),
+        (b"MODULE M; TYPE T = POINTER TO T; END M.", (1, 20, 13)),
+        (
+            b"MODULE M; TYPE T = RECORD a: CHAR b: CHAR END; END M.",
+            (1, 35, 10),
+        ),
+        (b"MODULE M; TYPE T = (a; b); END M.", (1, 22, 10)),
+        (b"MODULE M; TYPE T = [1, 2]; END M.", (1, 22, 10)),
+        (
+            b"MODULE M; TYPE T = PROCEDURE (x: CHAR); END M.",
+            (1, 32, 10),
+        ),
+        (b"MODULE M; TYPE T = PROCEDURE : CHAR; END M.", (1, 30, 10)),
+        (
+            b"MODULE M; PROCEDURE P: CHAR; BEGIN END P; END M.",
+            (1, 22, 10),
+        ),
+        (
+            b"MODULE M; PROCEDURE P(a: CHAR;); BEGIN END P; END M.",
+            (1, 31, 10),
+        ),
+        (b"MODULE M; BEGIN x = 1 END M.", (1, 19, 10)),
+        (b"MODULE M; BEGIN x(1)(2) END M.", (1, 21, 10)),
+        (b"MODULE M; BEGIN x(1).y END M.", (1, 21, 10)),
+        (b"MODULE M; BEGIN x := a[] END M.", (1, 24, 10)),
+        (b"MODULE M; BEGIN x := NOT -a END M.", (1, 26, 10)),
+        (b"MODULE M; BEGIN CASE x OF 1 END END M.", (1, 29, 10)),
+        (b"MODULE M; BEGIN REPEAT END M.", (1, 24, 10)),
+        (b"MODULE M; BEGIN WITH 1 DO END END M.", (1, 22, 10)),
+        (b"MODULE M; BEGIN WITH f(x) DO END END M.", (1, 23, 10)),
+        (b"MODULE M; END M. MODULE", (1, 18, 13)),
+        (b"MODULE M; END m x", (1, 15, 11)),
+        (b"DEFINITION MODULE D; END E.", (1, 26, 11)),
+        (b"MODULE M; PROCEDURE P; BEGIN END P. END M.", (1, 35, 10)),
+        (b"MODULE M; BEGIN", (1, 16, 10)),
+        (b"MODULE M; VAR p: POINTER TO CHAR; END M.", (1, 18, 13)),
+        (b"MODULE M; MODULE", (1, 11, 13)),
+        (b"MODULE M; END N.", (1, 15, 11)),
+    ];
+    for (text, refusal) in rows.iter() {
+        let (line, col, number) = *refusal;
+        assert_eq!(rt; outcome(rt.alloc(), text), refused(line, col, number));
+    }
+    Ok(())
+}
+
+#[test]
+fn accepts(rt: HostRuntime) -> Result<(), Fail> {
+    let texts: [&[u8]; 6] = [
+        b"MODULE M; END M.",
+        b"DEFINITION MODULE D; END D.",
+        b"IMPLEMENTATION MODULE D; FROM A IMPORT b, c; IMPORT E; END D.",
+        b"MODULE M; BEGIN ;; x; ; y := +1 END M.",
+        b"MODULE M; VAR x: CARDINAL; BEGIN IF x = 1 THEN ELSIF x # 2 THEN y ELSE END; CASE x OF | 1, 2..3: y | END; WHILE x < 1 DO END; LOOP EXIT END; RETURN; RETURN x; FOR i := 1 TO 2 BY 3 DO END; WITH a.b[1, 2] DO END; REPEAT UNTIL ~x & {1..2} IN S{} END M.",
+        b"MODULE M; TYPE T = ARRAY [0..1], B OF RECORD ; a, b: C.D; END; U = PROCEDURE (VAR ARRAY OF A, B): C; V = PROCEDURE; W = (a, b); X = B[1..2]; CONST c = 'a'; d = 12C; END M.",
+    ];
+    for text in texts.iter() {
+        assert_eq!(rt; outcome(rt.alloc(), text), Told::Tree);
+    }
+    Ok(())
+}
+
+/// One level too many begins at this column of line 1.
+#[test]
+fn counts_nesting(rt: HostRuntime) -> Result<(), Fail> {
+    let rows = [
+        (samples::BRACKETS, 200, 239),
+        (samples::NOTS, 200, 239),
+        (samples::SUBSCRIPTS, 200, 423),
+        (samples::ELSIFS, 199, 2614),
+        (samples::PROCEDURES, 200, 2611),
+        (samples::DIMENSIONS, 198, 628),
+    ];
+    for (nested, most, col) in rows.iter() {
+        let deepest = text_of(rt.alloc(), nested, *most)?;
+        assert_eq!(rt; outcome(rt.alloc(), deepest.as_slice()), Told::Tree);
+        let over = text_of(rt.alloc(), nested, *most + 1)?;
+        assert_eq!(rt; outcome(rt.alloc(), over.as_slice()), refused(1, *col, 12));
+    }
+    Ok(())
+}
+
+#[test]
+fn parses_the_library(rt: HostRuntime) -> Result<(), Fail> {
+    assert_eq!(rt; outcome(rt.alloc(), in_out::DEFINITION), Told::Tree);
+    assert_eq!(rt; outcome(rt.alloc(), in_out::IMPLEMENTATION), Told::Tree);
+    Ok(())
+}
