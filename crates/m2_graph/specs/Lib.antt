@@ -1,0 +1,9 @@
+pub mod Frames
+pub mod Marks
+pub mod Links
+pub mod Starts
+pub mod Numbering
+pub mod Order
+pub mod Imports
+pub mod Jobs
+pub mod Refused

@@ -1,0 +1,104 @@
+-- Which files are refused, and where. The modules are in the order of their files: by the files' names, and as given
+-- where these are equal.
+use Rattle.std.specs.Prelude.{◌≡◌, ◌<◌, ℕ, Bool, not, ◌&&◌, ◌||◌, ◌==◌, nat_lt, List, [], ◌∷◌, ◌++◌, Option, Some, None, map, cond, codes, fold, length, ◌⊎◌}
+use Rattle.std.specs.List.{filter}
+use Rattle.std.specs.Option.{is_none, is_some}
+use Rattle.m2_tree.specs.declared.pos.Pos.{Pos}
+use Rattle.m2_tree.specs.declared.name.Ident.{Ident}
+use Rattle.m2_tree.specs.declared.decl.Module.{Module}
+use Rattle.m2_graph.specs.declared.faults.Fault.{Fault}
+use Rattle.m2_graph.specs.Links.{Leads}
+use Rattle.m2_graph.specs.Imports.{same_name, imported, is_definition, is_program, is_implementation, defines, implements, definition_of, first_that, links}
+
+abbrev pub fault : Pos → ℕ → Fault
+fault pos number = record { pos = pos; number = number }
+
+-- the place of a text's first byte
+abbrev pub first_place : Pos
+first_place = record { line = 1; col = 1 }
+
+-- ---- the least of several
+
+-- by place, and then by number
+abbrev pub is_less : Fault → Fault → Bool
+is_less f g = nat_lt f.pos.line g.pos.line || (f.pos.line == g.pos.line && (nat_lt f.pos.col g.pos.col || (f.pos.col == g.pos.col && nat_lt f.number g.number)))
+
+abbrev pub lesser : Option Fault → Fault → Option Fault
+lesser None g = Some g
+lesser (Some f) g = Some (cond (is_less g f) g f)
+
+abbrev pub least_of : List Fault → Option Fault
+least_of fs = fold lesser None fs
+
+abbrev pub fault_where : Bool → Pos → ℕ → List Fault
+fault_where holds pos number = cond holds (fault pos number ∷ []) []
+
+-- ---- what is refused in a module, beside circles
+
+-- whether a module passes
+abbrev pub any_that : (Module → Bool) → List Module → Bool
+any_that test modules = is_some (first_that test modules)
+
+-- the built in module is imported without a definition
+abbrev pub is_console : List ℕ → Bool
+is_console name = same_name name (codes "Console")
+
+abbrev pub is_built_in : List ℕ → Bool
+is_built_in name = is_console name || same_name name (codes "link")
+
+-- an import of a module that has no definition, or by a body of its own module
+abbrev pub is_bad_import : List Module → Module → List ℕ → Bool
+is_bad_import modules m name = (not (is_console name) && is_none (definition_of modules name)) || (not (is_definition m) && same_name name m.name.name)
+
+abbrev pub import_faults : List Module → Module → List Ident → List Fault
+import_faults modules m names = map (λ x. fault x.pos 20) (filter (λ x. is_bad_import modules m x.name) names)
+
+-- two definitions, or two bodies, of one name
+abbrev pub are_one_part : Module → Module → Bool
+are_one_part m other = cond (is_definition m) (is_definition other) (not (is_definition other)) && same_name m.name.name other.name.name
+
+abbrev pub is_second : List Module → Module → Bool
+is_second before m = any_that (are_one_part m) before
+
+-- a second file for a definition or a body, or a module with the name of one that is built in
+abbrev pub is_repeated : List Module → Module → Bool
+is_repeated before m = is_second before m || is_built_in m.name.name
+
+-- the first of modules without a program module
+abbrev pub is_without_program : List Module → List Module → Bool
+is_without_program modules before = length before == 0 && not (any_that is_program modules)
+
+-- a second program module
+abbrev pub is_second_program : List Module → Module → Bool
+is_second_program before m = is_program m && any_that is_program before
+
+-- an implementation without definition, or the reverse
+abbrev pub is_lone : List Module → Module → Bool
+is_lone modules m = (is_implementation m && not (any_that (defines m.name.name) modules)) || (is_definition m && not (any_that (implements m.name.name) modules))
+
+abbrev pub max_files : ℕ
+max_files = 1024
+
+-- What is refused in the file with this many before it in order, and this many given before it.
+abbrev pub faults_of : List Module → List Module → ℕ → Module → List Fault
+faults_of modules before given m =
+    import_faults modules m (imported m)
+    ++ fault_where (is_repeated before m) m.name.pos 21
+    ++ fault_where (is_second_program before m) m.name.pos 23
+    ++ fault_where (is_without_program modules before) first_place 23
+    ++ fault_where (is_lone modules m) m.name.pos 24
+    ++ fault_where (given == max_files) first_place 25
+
+-- ---- circles
+
+-- the definition that this import names is the node, or a chain leads from it to the node
+abbrev pub LeadsBack : List Module → ℕ → Ident → Type 0
+LeadsBack modules node x = (to : ℕ) × (definition_of modules x.name ≡ Some to) × ((to ≡ node) ⊎ Leads (links modules) to node)
+
+-- The definition is the first of those on circles, and this import is its first that leads back to it.
+pub record IsToldCircle (modules : List Module) (node : ℕ) (before : List Ident) (x : Ident) (after : List Ident) (m : Module) : Type 0 where
+  pub on_circle : Leads (links modules) node node
+  pub first : (k : ℕ) → k < node → ¬ Leads (links modules) k k
+  pub written : imported m ≡ before ++ x ∷ after
+  pub back : LeadsBack modules node x
+  pub none_before : (y : Ident) → (more : List Ident) × (less : List Ident) × (before ≡ more ++ y ∷ less) → ¬ LeadsBack modules node y
