@@ -1,7 +1,7 @@
 -- Runs of linked modules.
-use Rattle.std.proofs.Common.{◌≡◌, ℕ, ◌+◌, ◌≤◌, ◌↔◌, List, Option, Result, Ok, Err, refl, sym, ap, subst, ◌∙◌}
+use Rattle.std.proofs.Common.{◌≡◌, ℕ, ◌+◌, ◌↔◌, List, Option, Result, Ok, Err, refl, sym, ap, subst, ◌∙◌}
 use Rattle.wasm_core.specs.declared.module.WModule.{WModule}
-use Rattle.wasm_core.specs.Machine.{Config, run}
+use Rattle.wasm_core.specs.Machine.{run}
 use Rattle.wasm_core.specs.Linking.{link}
 use Rattle.wasm_run.specs.declared.engine.End.{End}
 use Rattle.wasm_run.specs.declared.engine.RunFault.{RunFault}
@@ -9,7 +9,7 @@ use Rattle.wasm_run.specs.declared.engine.RunFault.TheVariants.{Write}
 use Rattle.wasm_run.specs.declared.engine.Instances.{Instances}
 use Rattle.wasm_run.specs.Told.{with_bytes}
 use Rattle.wasm_run.specs.Instances.{modules_of, config_of, RunsPart}
-use Rattle.m2_execute.specs.Told.{HasRun, IsBroken}
+use Rattle.m2_execute.specs.Told.{IsBroken}
 
 abbrev fault_or : RunFault → Result End RunFault → RunFault
 fault_or other (Ok e) = other

@@ -1,5 +1,5 @@
 -- The modules of a directory.
-use Rattle.std.specs.Prelude.{◌≡◌, ℕ, Bool, false, not, ◌&&◌, List, [], ◌∷◌, ◌++◌, length, take, drop, slice_get, Option, Some, None, nat_le, if◌then◌else◌, codes}
+use Rattle.std.specs.Prelude.{ℕ, Bool, false, not, ◌&&◌, List, [], ◌∷◌, ◌++◌, length, take, drop, Option, Some, None, nat_le, if◌then◌else◌, codes}
 use Rattle.std.specs.Borrow.{Bor}
 use Rattle.std.specs.List.{flat_map, list_all}
 use Rattle.std.specs.Option.{option_to_list}
@@ -33,26 +33,26 @@ module_named export = if bytes_eq (take 4 export) (codes "tab.") && is_module_na
 abbrev pub module_names : List Export → List (List ℕ)
 module_names exports = flat_map (λ e. option_to_list (module_named e.name)) exports
 
--- ---- what a directory holds: a relation of names and bytes
+-- ---- what reading a directory may give: a relation of names and bytes, or nothing
 
 abbrev pub Files : Type 1
-Files = List ℕ → List ℕ → Type 0
+Files = List ℕ → Option (List ℕ) → Type 0
 
--- whatever may be held later may be held now
+-- whatever may be given later may be given now
 abbrev pub Stays : (now later : Files) → Type 0
-Stays now later = (name bytes : List ℕ) → later name bytes → now name bytes
+Stays now later = (name : List ℕ) (bytes : Option (List ℕ)) → later name bytes → now name bytes
 
 abbrev pub file_of : List ℕ → List ℕ
 file_of name = name ++ codes ".wasm"
 
 -- the file of the module of this name spells it, and it is valid
-pub record IsModule (holds : Files) (name : List ℕ) (tree : WModule) : Type 0 where
+pub record IsModule (gives : Files) (name : List ℕ) (tree : WModule) : Type 0 where
   pub bytes : List ℕ
-  pub held : holds (file_of name) bytes
+  pub given : gives (file_of name) (Some bytes)
   pub spelled : Spells bytes tree
   pub valid : IsValid tree
 
 -- each name's module, in their order
-pub data AreModules (holds : Files) : List (List ℕ) → List WModule → Type 0 where
-  Empty : AreModules holds [] []
-  More : (name : List ℕ) (tree : WModule) (names : List (List ℕ)) (trees : List WModule) → IsModule holds name tree → AreModules holds names trees → AreModules holds (name ∷ names) (tree ∷ trees)
+pub data AreModules (gives : Files) : List (List ℕ) → List WModule → Type 0 where
+  Empty : AreModules gives [] []
+  More : (name : List ℕ) (tree : WModule) (names : List (List ℕ)) (trees : List WModule) → IsModule gives name tree → AreModules gives names trees → AreModules gives (name ∷ names) (tree ∷ trees)

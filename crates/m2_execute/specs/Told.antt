@@ -1,6 +1,5 @@
 -- What is told of a directory, on two streams and by a status.
-use Rattle.std.specs.Prelude.{◌≡◌, ◌↔◌, ◌≤◌, ◌⊎◌, ℕ, ◌+◌, ◌==◌, ◌||◌, Bool, true, false, List, [], ◌∷◌, ◌++◌, Option, Result, Ok, Err, if◌then◌else◌, codes, decimal}
-use Rattle.std.specs.Borrow.{Bor}
+use Rattle.std.specs.Prelude.{◌≡◌, ◌↔◌, ◌≤◌, ◌⊎◌, ℕ, ◌+◌, ◌==◌, ◌||◌, Bool, true, false, List, [], ◌∷◌, ◌++◌, Option, Some, None, Ok, Err, if◌then◌else◌, codes, decimal}
 use Rattle.wasm_core.specs.declared.fault.WFault.{WFault}
 use Rattle.wasm_core.specs.declared.fault.WFault.TheVariants as faults
 use Rattle.wasm_core.specs.declared.module.WModule.{WModule}
@@ -117,27 +116,49 @@ IsOf told failed trees steps (Broken fault) before after = IsBroken told failed 
 IsOf told failed trees steps (Refused name fault) before after = (name.now ≡ link_name) × Fails fault (link trees) × Printed told failed [] before after
 IsOf told failed trees steps (Unread name) before after = ⊥
 
--- a module of a directory is not there
-pub data IsMissing (holds : Files) : Report → Type 0 where
-  NoFile : (name : Bor (List ℕ)) → IsMissing holds (Unread name)
-  Unspelled : (name : Bor (List ℕ)) (fault : WFault) (bytes : List ℕ) → holds (file_of name.now) bytes → module_at bytes ≡ Err fault → IsMissing holds (Refused name fault)
-  NotValid : (name : Bor (List ℕ)) (bytes : List ℕ) (tree : WModule) → holds (file_of name.now) bytes → Spells bytes tree → IsMissing holds (Refused name faults.Invalid)
-  Memory : (name : Bor (List ℕ)) → IsMissing holds (Refused name faults.NoMemory)
+-- ---- what is missing
 
--- what comes of link and of modules of these names: they are there and the report is of them, or one is not there
-abbrev pub ComesOf : {S : Type 0} → (S → Option (List ℕ)) → (S → ℕ) → Files → (link_tree : WModule) (names : List (List ℕ)) (steps : ℕ) → Report → (before after : S) → Type 0
-ComesOf told failed holds link_tree names steps report before after =
-    ((others : List WModule) × AreModules holds names others × IsOf told failed (link_tree ∷ others) steps report before after) ⊎ (IsMissing holds report × Printed told failed [] before after)
+-- memory was refused for a file, or its bytes spell no module, or one that is told to be invalid
+pub data IsRefused (gives : Files) (file : List ℕ) : WFault → Type 0 where
+  Memory : IsRefused gives file faults.NoMemory
+  Unspelled : (fault : WFault) (bytes : List ℕ) → gives file (Some bytes) → module_at bytes ≡ Err fault → IsRefused gives file fault
+  NotValid : (bytes : List ℕ) (tree : WModule) → gives file (Some bytes) → Spells bytes tree → IsRefused gives file faults.Invalid
 
--- what comes of a directory: link is there, and the modules are those that its exports name, or it is not there
+-- the module of this name is not there, and the report tells of it
+abbrev pub IsMissing : (gives : Files) (name : List ℕ) → Report → Type 0
+IsMissing gives name (Unread told) = (told.now ≡ name) × gives (file_of name) None
+IsMissing gives name (Refused told fault) = (told.now ≡ name) × IsRefused gives (file_of name) fault
+IsMissing gives name (Ran end) = ⊥
+IsMissing gives name (Broken fault) = ⊥
+
+-- of the modules of these names the report tells of the first that is not there
+pub record FirstMissing (gives : Files) (names : List (List ℕ)) (report : Report) : Type 0 where
+  pub before : List (List ℕ)
+  pub name : List ℕ
+  pub after : List (List ℕ)
+  pub are : names ≡ before ++ name ∷ after
+  pub trees : List WModule
+  pub there : AreModules gives before trees
+  pub missing : IsMissing gives name report
+
+-- ---- what comes of a directory
+
+-- what comes of modules that are there, and of those of these names behind them: these are there as well and the report
+-- is of all, or it tells of the first that is not
+abbrev pub ComesOf : {S : Type 0} → (S → Option (List ℕ)) → (S → ℕ) → Files → (first : List WModule) (names : List (List ℕ)) (steps : ℕ) → Report → (before after : S) → Type 0
+ComesOf told failed gives first names steps report before after =
+    ((others : List WModule) × AreModules gives names others × IsOf told failed (first ++ others) steps report before after) ⊎ (FirstMissing gives names report × Printed told failed [] before after)
+
+-- link is there, and behind it come the modules that its exports name; or the report tells of link
 abbrev pub Comes : {S : Type 0} → (S → Option (List ℕ)) → (S → ℕ) → Files → (steps : ℕ) → Report → (before after : S) → Type 0
-Comes told failed holds steps report before after =
-    ((link_tree : WModule) × IsModule holds link_name link_tree × ComesOf told failed holds link_tree (module_names link_tree.exports) steps report before after) ⊎ (IsMissing holds report × Printed told failed [] before after)
+Comes told failed gives steps report before after =
+    ((link_tree : WModule) × IsModule gives link_name link_tree × ComesOf told failed gives (link_tree ∷ []) (module_names link_tree.exports) steps report before after)
+    ⊎ (IsMissing gives link_name report × Printed told failed [] before after)
 
 -- the status and the words are those of a report that comes
-pub record Executes {S E : Type 0} (told : S → Option (List ℕ)) (failed : S → ℕ) (told_words : E → Option (List ℕ)) (failed_words : E → ℕ) (holds : Files) (steps : ℕ) (answer : ℕ) (before after : S) (words_before words_after : E) : Type 0 where
+pub record Executes {S E : Type 0} (told : S → Option (List ℕ)) (failed : S → ℕ) (told_words : E → Option (List ℕ)) (failed_words : E → ℕ) (gives : Files) (steps : ℕ) (answer : ℕ) (before after : S) (words_before words_after : E) : Type 0 where
   pub report : Report
-  pub comes : Comes told failed holds steps report before after
+  pub comes : Comes told failed gives steps report before after
   pub answers : answer ≡ status report
   pub all_said : Bool
   pub says : Says told_words failed_words all_said (words report) words_before words_after

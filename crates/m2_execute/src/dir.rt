@@ -1,16 +1,16 @@
 //! Where modules are read from.
 
-ghost use Rattle.std.specs.Prelude.{List, ℕ, IfSome};
+ghost use Rattle.std.specs.Prelude.{List, ℕ, Option, Some, None, MatchOption};
 
 use std::alloc::Global;
 
 /// A directory, or what stands for one.
 pub trait InDir {
-    /// What a file of that name in it may hold.
-    ghost holds: { Self → List ℕ → List ℕ → Type 0 };
+    /// What reading the file of that name in it may give: its bytes, or nothing.
+    ghost gives: { Self → List ℕ → Option (List ℕ) → Type 0 };
 
     /// The bytes of the file of this name. `None` where the file or memory failed.
     fn read(&mut self, alloc: Global, name: &str) -> Option<Vec<u8>>
-        ensures held { IfSome result (λ bytes. holds self.old name.now bytes.items) }
-        ensures stays { (name bytes : List ℕ) → holds self.new name bytes → holds self.old name bytes };
+        ensures given { MatchOption result (gives self.old name.now None) (λ bytes. gives self.old name.now (Some bytes.items)) }
+        ensures stays { (name : List ℕ) (bytes : Option (List ℕ)) → gives self.new name bytes → gives self.old name bytes };
 }

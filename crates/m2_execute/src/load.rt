@@ -1,21 +1,21 @@
 //! The modules of a directory.
 
-ghost use Rattle.std.specs.Prelude.{◌≡◌, ◌∷◌, [], ◌++◌, List, map, IfOk, IfErr};
+ghost use Rattle.std.specs.Prelude.{◌≡◌, ◌∷◌, [], ◌++◌, List, Some, map, IfOk, IfErr};
 ghost use Rattle.std.specs.String.{string_bytes};
 ghost use Rattle.wasm_core.specs.declared.module.WModule.{WModule};
 ghost use Rattle.m2_execute.specs.Directory.{file_of, IsModule, AreModules, Stays};
-ghost use Rattle.m2_execute.specs.Told.{IsMissing};
+ghost use Rattle.m2_execute.specs.Told.{IsMissing, FirstMissing};
 
 use crate::dir::InDir;
 use crate::report::Report;
-use std::alloc::Global;
+use std::alloc::{AllocError, Global};
 use wasm_core::{ValidModule, WFault, read_module, validate};
 
 /// The bytes of a module's file.
 fn bytes_of<'n, D: InDir>(alloc: Global, dir: &mut D, name: &'n str) -> Result<Vec<u8>, Report<'n>>
-    ensures ok { IfOk result (λ bytes. D.holds dir.old (file_of name.now) bytes.items) }
-    ensures err { IfErr result (λ r. IsMissing (D.holds dir.old) r) }
-    ensures stays { Stays (D.holds dir.old) (D.holds dir.new) }
+    ensures ok { IfOk result (λ bytes. D.gives dir.old (file_of name.now) (Some bytes.items)) }
+    ensures err { IfErr result (λ r. IsMissing (D.gives dir.old) name.now r) }
+    ensures stays { Stays (D.gives dir.old) (D.gives dir.new) }
 {
     let Ok(file) = format!(in alloc; "{name}.wasm") else {
         return Err(Report::Refused(name, WFault::NoMemory));
@@ -32,9 +32,9 @@ pub fn module_of<'n, D: InDir>(
     dir: &mut D,
     name: &'n str,
 ) -> Result<ValidModule, Report<'n>>
-    ensures ok { IfOk result (λ tree. IsModule (D.holds dir.old) name.now tree) }
-    ensures err { IfErr result (λ r. IsMissing (D.holds dir.old) r) }
-    ensures stays { Stays (D.holds dir.old) (D.holds dir.new) }
+    ensures ok { IfOk result (λ tree. IsModule (D.gives dir.old) name.now tree) }
+    ensures err { IfErr result (λ r. IsMissing (D.gives dir.old) name.now r) }
+    ensures stays { Stays (D.gives dir.old) (D.gives dir.new) }
 {
     let bytes = bytes_of(alloc, dir, name)?;
     let tree = match read_module(alloc, &bytes) {
@@ -53,9 +53,9 @@ fn add_module<'n, D: InDir>(
     name: &'n str,
     modules: &mut Vec<ValidModule>,
 ) -> Result<(), Report<'n>>
-    ensures ok { IfOk result (λ _. (tree : WModule) × (modules.new.items ≡ modules.old.items ++ tree ∷ []) × IsModule (D.holds dir.old) name.now tree) }
-    ensures err { IfErr result (λ r. IsMissing (D.holds dir.old) r) }
-    ensures stays { Stays (D.holds dir.old) (D.holds dir.new) }
+    ensures ok { IfOk result (λ _. (tree : WModule) × (modules.new.items ≡ modules.old.items ++ tree ∷ []) × IsModule (D.gives dir.old) name.now tree) }
+    ensures err { IfErr result (λ r. IsMissing (D.gives dir.old) name.now r) }
+    ensures stays { Stays (D.gives dir.old) (D.gives dir.new) }
 {
     let module = module_of(alloc, dir, name)?;
     if modules.push(module).is_err() {
@@ -64,20 +64,26 @@ fn add_module<'n, D: InDir>(
     Ok(())
 }
 
-/// The modules of these names, behind the first.
+/// A list of this module alone.
+pub fn alone(alloc: Global, tree: ValidModule) -> Result<Vec<ValidModule>, AllocError>
+    ensures { IfOk result (λ v. v.items ≡ tree ∷ []) }
+{
+    let mut list = Vec::new(alloc);
+    list.push(tree)?;
+    Ok(list)
+}
+
+/// These modules, and behind them those of these names.
 pub fn modules_of<'n, D: InDir>(
     alloc: Global,
     dir: &mut D,
-    first: ValidModule,
+    first: Vec<ValidModule>,
     names: &'n [String],
 ) -> Result<Vec<ValidModule>, Report<'n>>
-    ensures ok { IfOk result (λ v. (others : List WModule) × (v.items ≡ first ∷ others) × AreModules (D.holds dir.old) (map string_bytes names.now) others) }
-    ensures err { IfErr result (λ r. IsMissing (D.holds dir.old) r) }
+    ensures ok { IfOk result (λ v. (others : List WModule) × (v.items ≡ first.items ++ others) × AreModules (D.gives dir.old) (map string_bytes names.now) others) }
+    ensures err { IfErr result (λ r. FirstMissing (D.gives dir.old) (map string_bytes names.now) r) }
 {
-    let mut modules = Vec::new(alloc);
-    if modules.push(first).is_err() {
-        return Err(Report::Refused("link", WFault::NoMemory));
-    }
+    let mut modules = first;
     for name in names {
         match add_module(alloc, dir, name, &mut modules) {
             Ok(()) => {}

@@ -5,7 +5,7 @@ ghost use Rattle.std.specs.String.{string_bytes};
 ghost use Rattle.m2_execute.specs.Told.{IsOf, ComesOf, Executes};
 
 use crate::dir::InDir;
-use crate::load::{module_of, modules_of};
+use crate::load::{alone, module_of, modules_of};
 use crate::names::module_names;
 use crate::report::Report;
 use crate::say::tell;
@@ -32,19 +32,19 @@ fn run_all<S: Sink>(
     }
 }
 
-/// Reads and executes the modules that these names stand for, behind link.
+/// Reads the modules of these names, and executes them behind the first.
 fn run_named<'n, D: InDir, S: Sink>(
     alloc: Global,
     dir: &mut D,
-    link: ValidModule,
+    first: Vec<ValidModule>,
     names: &'n [String],
     steps: u64,
     out: &mut S,
 ) -> Report<'n>
     requires { S.failed out.old + 1 < 2 ^ 64 }
-    ensures { ComesOf S.told S.failed (D.holds dir.old) link (map string_bytes names.now) steps result out.old out.new }
+    ensures { ComesOf S.told S.failed (D.gives dir.old) first.items (map string_bytes names.now) steps result out.old out.new }
 {
-    match modules_of(alloc, dir, link, names) {
+    match modules_of(alloc, dir, first, names) {
         Ok(modules) => run_all(alloc, &modules, steps, out),
         Err(report) => report,
     }
@@ -66,7 +66,7 @@ pub fn execute<D: InDir, S: Sink, E: Sink>(
 ) -> u8
     requires out { S.failed out.old + 1 < 2 ^ 64 }
     requires err { E.failed err.old + 1 < 2 ^ 64 }
-    ensures { Executes S.told S.failed E.told E.failed (D.holds dir.old) steps result out.old out.new err.old err.new }
+    ensures { Executes S.told S.failed E.told E.failed (D.gives dir.old) steps result out.old out.new err.old err.new }
 {
     let link = match module_of(alloc, dir, "link") {
         Ok(link) => link,
@@ -75,5 +75,8 @@ pub fn execute<D: InDir, S: Sink, E: Sink>(
     let Ok(names) = module_names(alloc, link.exports()) else {
         return tell(err, Report::Refused("link", WFault::NoMemory));
     };
-    tell(err, run_named(alloc, dir, link, &names, steps, out))
+    let Ok(first) = alone(alloc, link) else {
+        return tell(err, Report::Refused("link", WFault::NoMemory));
+    };
+    tell(err, run_named(alloc, dir, first, &names, steps, out))
 }

@@ -47,7 +47,7 @@ struct Folder<'a> {
 }
 
 impl InDir for Folder<'_> {
-    ghost holds = { λ _ _ _. Unit {0} };
+    ghost gives = { λ _ _ _. Unit {0} };
 
     fn read(&mut self, alloc: Global, name: &str) -> Option<Vec<u8>> {
         if name == "link.wasm" {

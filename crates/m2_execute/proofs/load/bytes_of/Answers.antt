@@ -1,8 +1,6 @@
-use Rattle.m2_execute.specs.Told.{NoFile, Memory}
+use Rattle.std.proofs.Common.{refl}
+use Rattle.m2_execute.specs.Told.{Memory}
 use Rattle.m2_execute.proofs.load.bytes_of.Goals as goal
 
 pub returns-in_default-clause-err : goal.returns-in_default-clause-err
-returns-in_default-clause-err g c = Memory c.args.name
-
-pub returns-in-None-clause-err : goal.returns-in-None-clause-err
-returns-in-None-clause-err g c = NoFile c.args.name
+returns-in_default-clause-err g c = (refl, Memory)

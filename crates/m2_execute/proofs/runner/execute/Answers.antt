@@ -1,4 +1,4 @@
-use Rattle.std.proofs.Common.{◌≡◌, ◌∙◌, ap, map, inr}
+use Rattle.std.proofs.Common.{◌∙◌, ap, map, inr, refl}
 use Rattle.std.specs.String.{string_bytes}
 use Rattle.wasm_core.specs.Linking.{link_name}
 use Rattle.wasm_core.specs.declared.fault.WFault.TheVariants.{NoMemory}
@@ -12,18 +12,27 @@ use Rattle.m2_execute.proofs.runner.execute.Goals as goal
 pub returns-in_default : goal.returns-in_default
 returns-in_default g c = record {
   report = Refused (record { ref_ptr = (0, 0); now = link_name }) NoMemory;
-  comes = inr (Memory (record { ref_ptr = (0, 0); now = link_name }), nothing g.S.Sink.told g.S.Sink.failed c.args.out.now);
+  comes = inr ((refl, Memory), nothing g.S.Sink.told g.S.Sink.failed c.args.out.now);
   answers = c.tell-in_default.ensures.status;
   all_said = c.tell-in_default.ensures.says.0;
   says = c.tell-in_default.ensures.says.1;
+}
+
+pub returns-in_default-alone : goal.returns-in_default-alone
+returns-in_default-alone g c = record {
+  report = Refused (record { ref_ptr = (0, 0); now = link_name }) NoMemory;
+  comes = inr ((refl, Memory), nothing g.S.Sink.told g.S.Sink.failed c.args.out.now);
+  answers = c.tell-in_default-alone.ensures.status;
+  all_said = c.tell-in_default-alone.ensures.says.0;
+  says = c.tell-in_default-alone.ensures.says.1;
 }
 
 pub returns : goal.returns
 returns g c = record {
   report = c.run_named.result;
   comes =
-      comes_behind g.S.Sink.told g.S.Sink.failed (g.D.InDir.holds c.args.dir.now) (g.D.InDir.holds c.module_of.new.dir) c.module_of.ensures.stays c.in-Ok.link c.in-Ok.ensures.ok c.args.steps c.run_named.result c.args.out.now c.run_named.new.out
-      (map string_bytes c.deref.result.now) (ap (map string_bytes) c.deref.ensures.value ∙ c.in-Ok-module_names.ensures ∙ ap module_names c.exports.ensures) c.run_named.ensures;
+      comes_behind (g.D.InDir.gives c.args.dir.now) (g.D.InDir.gives c.module_of.new.dir) c.module_of.ensures.stays g.S.Sink.told g.S.Sink.failed c.in-Ok.link c.in-Ok.ensures.ok c.args.steps c.run_named.result c.args.out.now c.run_named.new.out
+      c.in-Ok-alone.first.items (map string_bytes c.deref.result.now) c.in-Ok-alone.ensures (ap (map string_bytes) c.deref.ensures.value ∙ c.in-Ok-module_names.ensures ∙ ap module_names c.exports.ensures) c.run_named.ensures;
   answers = c.tell-2.ensures.status;
   all_said = c.tell-2.ensures.says.0;
   says = c.tell-2.ensures.says.1;
