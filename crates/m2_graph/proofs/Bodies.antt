@@ -3,7 +3,7 @@ use Rattle.std.proofs.Common.{◌≡◌, ◌<◌, ℕ, ◌+◌, cond, List, [], 
 use Rattle.std.specs.List.{AllZip}
 use Rattle.m2_graph.specs.Links.{AreEachOnce, targets}
 use Rattle.m2_graph.specs.Jobs.{numbers_of}
-use Rattle.std.proofs.lemmas.List.{take_more, get_or-map, length-take-le, length-map, take_all}
+use Rattle.std.proofs.lemmas.List.{take_more, get_or-map, length-take-le, length-map, take_all, map-append}
 use Rattle.std.specs.Borrow.{Bor}
 use Rattle.m2_tree.specs.declared.decl.Module.{Module}
 use Rattle.m2_graph.specs.Imports.{is_definition, needs_of}
@@ -42,3 +42,6 @@ zip_more {Y = Y} R xs ys ys' i y l h r e = subst (λ (zs : List Y). AllZip {A = 
 
 pub zip_whole : {Y : Type 0} (R : ℕ → Y → Type 0) (xs : List ℕ) (ys : List Y) (i : ℕ) → length xs ≤ i → AllZip R (take i xs) ys → AllZip R xs ys
 zip_whole {Y = Y} R xs ys i g h = subst (λ (zs : List ℕ). AllZip {A = ℕ} {B = Y} R zs ys) (take_all i xs g) h
+
+pub zip_items : {J : Type 0} (f : J → List ℕ) (R : ℕ → List ℕ → Type 0) (xs : List ℕ) (js js' : List J) (i : ℕ) (j : J) → i < length xs → AllZip R (take i xs) (map f js) → R (get_or xs i 0) (f j) → js' ≡ js ++ j ∷ [] → AllZip R (take (i + 1) xs) (map f js')
+zip_items f R xs js js' i j l h r e = zip_more R xs (map f js) (map f js') i (f j) l h r (ap (map f) e ∙ map-append f js (j ∷ []))

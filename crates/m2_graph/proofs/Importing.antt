@@ -3,13 +3,13 @@ use Rattle.std.proofs.Common.{◌≡◌, ◌<◌, ◌≤◌, ℕ, zero, suc, ◌
 use Rattle.std.specs.List.{filter_map, flat_map, cons_option}
 use Rattle.std.specs.Option.{option_map, option_to_list}
 use Rattle.std.proofs.lemmas.List.{take_more, get_or-map, flat_map_more, take_all, length-map}
-use Rattle.std.proofs.lemmas.List.Elements.{filter_map-append, All-nil, All-cons, All-map}
+use Rattle.std.proofs.lemmas.List.Elements.{filter_map-append, All-nil, All-cons, All-map, All-append}
 use Rattle.std.specs.Borrow.{Bor}
 use Rattle.m2_tree.specs.declared.decl.Module.{Module}
 use Rattle.m2_tree.specs.declared.name.Ident.{Ident}
 use Rattle.m2_graph.specs.Links.{AreNodes}
 use Rattle.m2_graph.specs.Jobs.{number_of, numbers_of}
-use Rattle.m2_graph.specs.Imports.{first_that, defines, definition_of, imported, links_of, links}
+use Rattle.m2_graph.specs.Imports.{first_that, defines, implements, is_definition, definition_of, imported, links_of, links, links_at, body_links, walk_of, walks}
 
 more_case : (b : Bool) (r r' : Option ℕ) → (r ≡ None → r' ≡ None) → cond b (Some 0) (option_map suc r) ≡ None → cond b (Some 0) (option_map suc r') ≡ None
 more_case true r r' h e = cc
@@ -69,7 +69,7 @@ within_case true r n i h e = let s : 0 ≡ i = cc in omega arith
 within_case false None n i h e = cc
 within_case false (Some j) n i h e = let s : suc j ≡ i = cc in omega (arith, h j refl)
 
-first_within : {X : Type 0} (t : X → Bool) (xs : List X) (i : ℕ) → first_that t xs ≡ Some i → i < length xs
+pub first_within : {X : Type 0} (t : X → Bool) (xs : List X) (i : ℕ) → first_that t xs ≡ Some i → i < length xs
 first_within t [] i e = cc
 first_within t (x ∷ xs) i e = let w = within_case (t x) (first_that t xs) (length xs) i (first_within t xs) e in omega (arith, w)
 
@@ -100,3 +100,19 @@ numbers_within order nodes = all_filtered (number_of order) (λ n. n < length or
 
 pub module_at : (xs : List (Bor Module)) (i : ℕ) (b : Bor Module) (d : Module) → i < length xs → b ≡ get_or xs i b → get_or (map (λ (m : Bor Module). m.now) xs) i d ≡ b.now
 module_at xs i b d l e = get_or-map (λ (m : Bor Module). m.now) xs i b d l ∙ ap (λ (m : Bor Module). m.now) (sym e)
+
+links_below : (modules : List Module) (m : Module) → All (λ t. t < length modules) (links_of modules m)
+links_below modules m = all_filtered (λ (i : Ident). definition_of modules i.name) (λ t. t < length modules) (λ (i : Ident) t e. first_within (defines i.name) modules t e) (imported m)
+
+body_below : (modules : List Module) (m : Module) → All (λ t. t < length modules) (body_links modules m)
+body_below modules m = step (is_definition m) (first_that (implements m.name.name) modules)
+  where
+    step : (b : Bool) (o : Option ℕ) → All (λ t. t < length modules) (cond b (links_at modules m o) [])
+    step false o = All-nil (λ t. t < length modules)
+    step true None = All-nil (λ t. t < length modules)
+    step true (Some i) = links_below modules (get_or modules i m)
+
+pub walks_are_nodes : (modules : List Module) → AreNodes (walks modules)
+walks_are_nodes modules = All-map (λ ts. All (λ t. t < length (walks modules)) ts) (walk_of modules) modules
+    (λ k d l. subst (λ (n : ℕ). All (λ t. t < n) (walk_of modules (get_or modules k d))) (sym (length-map modules (walk_of modules)))
+    (All-append (λ t. t < length modules) (links_of modules (get_or modules k d)) (body_links modules (get_or modules k d)) (links_below modules (get_or modules k d)) (body_below modules (get_or modules k d))))

@@ -4,4 +4,13 @@ pub mod Numbers
 pub mod Walking
 pub mod Importing
 pub mod Faulty
+pub mod Tables
 pub mod Bodies
+pub mod Ordered
+pub mod Circles
+pub mod Smaller
+pub mod Places
+pub mod Telling
+pub mod LeadingBack
+pub mod Settled
+pub mod Judging

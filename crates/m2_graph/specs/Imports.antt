@@ -43,10 +43,10 @@ abbrev pub is_implementation : Module → Bool
 is_implementation m = not (is_definition m || is_program m)
 
 abbrev pub defines : List ℕ → Module → Bool
-defines name m = is_definition m && same_name m.name.name name
+defines name m = is_definition m && same_name name m.name.name
 
 abbrev pub implements : List ℕ → Module → Bool
-implements name m = is_implementation m && same_name m.name.name name
+implements name m = is_implementation m && same_name name m.name.name
 
 -- the number of the first that passes
 abbrev pub first_that : {X : Type 0} → (X → Bool) → List X → Option ℕ

@@ -7,3 +7,9 @@ pub mod Order
 pub mod Imports
 pub mod Jobs
 pub mod Refused
+pub mod Parts
+pub mod Program
+pub mod Files
+pub mod Sources
+pub mod Told
+pub mod Graph

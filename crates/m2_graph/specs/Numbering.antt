@@ -3,6 +3,10 @@ use Rattle.std.specs.Prelude.{◌≡◌, ◌<◌, ℕ, Bool, true, false, not, �
 use Rattle.std.specs.List.{list_all}
 use Rattle.m2_graph.specs.Links.{has, targets, flag}
 
+-- a definition without number
+abbrev pub is_open : List Bool → List Bool → ℕ → Bool
+is_open definitions done node = flag definitions node && not (flag done node)
+
 -- a definition that has no number, and to whose imports all numbers were given
 abbrev pub is_ready : List (List ℕ) → (definitions : List Bool) → (done : ℕ → Bool) → ℕ → Bool
 is_ready links definitions done node = (flag definitions node && not (done node)) && list_all done (targets links node)

@@ -1,14 +1,13 @@
 -- Which files are refused, and where. The modules are in the order of their files: by the files' names, and as given
 -- where these are equal.
-use Rattle.std.specs.Prelude.{◌≡◌, ◌<◌, ℕ, Bool, not, ◌&&◌, ◌||◌, ◌==◌, nat_lt, List, [], ◌∷◌, ◌++◌, Option, Some, None, map, cond, codes, fold, length, ◌⊎◌}
+use Rattle.std.specs.Prelude.{◌≡◌, ◌<◌, ℕ, Bool, not, ◌&&◌, ◌||◌, ◌==◌, nat_lt, List, [], ◌∷◌, ◌++◌, Option, Some, None, map, cond, codes, fold, length}
 use Rattle.std.specs.List.{filter}
 use Rattle.std.specs.Option.{is_none, is_some}
 use Rattle.m2_tree.specs.declared.pos.Pos.{Pos}
 use Rattle.m2_tree.specs.declared.name.Ident.{Ident}
 use Rattle.m2_tree.specs.declared.decl.Module.{Module}
 use Rattle.m2_graph.specs.declared.faults.Fault.{Fault}
-use Rattle.m2_graph.specs.Links.{Leads}
-use Rattle.m2_graph.specs.Imports.{same_name, imported, is_definition, is_program, is_implementation, defines, implements, definition_of, first_that, links}
+use Rattle.m2_graph.specs.Imports.{same_name, imported, is_definition, is_program, is_implementation, defines, implements, definition_of, first_that}
 
 abbrev pub fault : Pos → ℕ → Fault
 fault pos number = record { pos = pos; number = number }
@@ -88,17 +87,3 @@ faults_of modules before given m =
     ++ fault_where (is_without_program modules before) first_place 23
     ++ fault_where (is_lone modules m) m.name.pos 24
     ++ fault_where (given == max_files) first_place 25
-
--- ---- circles
-
--- the definition that this import names is the node, or a chain leads from it to the node
-abbrev pub LeadsBack : List Module → ℕ → Ident → Type 0
-LeadsBack modules node x = (to : ℕ) × (definition_of modules x.name ≡ Some to) × ((to ≡ node) ⊎ Leads (links modules) to node)
-
--- The definition is the first of those on circles, and this import is its first that leads back to it.
-pub record IsToldCircle (modules : List Module) (node : ℕ) (before : List Ident) (x : Ident) (after : List Ident) (m : Module) : Type 0 where
-  pub on_circle : Leads (links modules) node node
-  pub first : (k : ℕ) → k < node → ¬ Leads (links modules) k k
-  pub written : imported m ≡ before ++ x ∷ after
-  pub back : LeadsBack modules node x
-  pub none_before : (y : Ident) → (more : List Ident) × (less : List Ident) × (before ≡ more ++ y ∷ less) → ¬ LeadsBack modules node y

@@ -1,12 +1,14 @@
 //! What is refused in a file, beside circles.
 
-ghost use Rattle.std.specs.Prelude.{◌≡◌, ◌<◌, ◌++◌, ◌||◌, List, length, map, take, fold, slice_get, Some, None};
-ghost use Rattle.m2_graph.specs.Imports.{same_name, imported, named_by, is_program, first_that};
-ghost use Rattle.m2_graph.specs.Refused.{fault, fault_where, is_less, lesser, least_of, is_console, is_built_in, is_bad_import, import_faults, are_one_part, is_repeated, is_without_program, is_second_program, is_lone, faults_of};
+ghost use Rattle.std.specs.Prelude.{◌≡◌, ◌<◌, ◌++◌, ◌||◌, length, take, fold};
+ghost use Rattle.m2_graph.specs.Imports.{imported, named_by, is_program};
+ghost use Rattle.m2_graph.specs.Refused.{fault, fault_where, is_less, lesser, least_of, is_console, is_built_in, is_bad_import, import_faults, any_that, is_second, is_repeated, is_without_program, is_second_program, is_lone, faults_of};
+ghost use Rattle.m2_graph.specs.Program.{modules_of, IsIndexed};
+ghost use Rattle.m2_graph.specs.Parts.{is_earlier};
+ghost use Rattle.m2_graph.specs.Told.{circle_faults};
 
-use crate::imports::{
-    definition_of, implementation_of, is_definition, is_implementation, is_program, program_of,
-};
+use crate::imports::{is_definition, is_implementation, is_program};
+use crate::program::{Program, definition_of, first_file_of, implementation_of};
 use m2_tree::{Ident, Import, Module, Name, Pos};
 
 /// The most files of a program.
@@ -63,123 +65,164 @@ fn is_built_in(name: &Name) -> bool
     is_console(name) || name.as_bytes() == b"link".as_slice()
 }
 
-fn is_bad_import(modules: &[&Module], tree: &Module, name: &Name) -> bool
-    ensures { result ≡ is_bad_import (map (λ m. m.now) modules.now) tree.now name.now }
+fn is_bad_import(program: &Program<'_>, tree: &Module, name: &Name) -> bool
+    requires { IsIndexed program.now }
+    ensures { result ≡ is_bad_import (modules_of program.now) tree.now name.now }
 {
-    (!is_console(name) && definition_of(modules, name).is_none())
+    (!is_console(name) && definition_of(program, name).is_none())
         || (!is_definition(tree) && *name == tree.name.name)
 }
 
 /// The least, where the faults of these imports are added.
 fn with_names(
-    modules: &[&Module],
+    program: &Program<'_>,
     tree: &Module,
     names: &[Ident],
     least: Option<Fault>,
 ) -> Option<Fault>
-    ensures { result ≡ fold lesser least (import_faults (map (λ m. m.now) modules.now) tree.now names.now) }
+    requires { IsIndexed program.now }
+    ensures { result ≡ fold lesser least (import_faults (modules_of program.now) tree.now names.now) }
 {
     let mut found = least;
     for ident in names {
-        let is_bad = is_bad_import(modules, tree, &ident.name);
+        let is_bad = is_bad_import(program, tree, &ident.name);
         found = with_fault(found, is_bad, ident.pos, 20);
     }
     found
 }
 
-fn are_one_part(tree: &Module, other: &Module) -> bool
-    ensures { result ≡ are_one_part tree.now other.now }
+/// Whether the first of some modules stands before this number.
+fn is_earlier(first: Option<usize>, number: usize) -> bool
+    ensures { result ≡ is_earlier first number }
 {
-    is_definition(tree) == is_definition(other) && tree.name.name == other.name.name
-}
-
-fn second_of(before: &[&Module], tree: &Module) -> Option<usize>
-    ensures { result ≡ first_that (are_one_part tree.now) (map (λ m. m.now) before.now) }
-{
-    for (number, module) in before.iter().enumerate() {
-        if are_one_part(tree, module) {
-            return Some(number);
-        }
+    match first {
+        None => false,
+        Some(earlier) => earlier < number,
     }
-    None
 }
 
-fn is_repeated(before: &[&Module], tree: &Module) -> bool
-    ensures { result ≡ is_repeated (map (λ m. m.now) before.now) tree.now }
+/// Whether the definition or the body stands before this number.
+fn is_second(program: &Program<'_>, number: usize, tree: &Module) -> bool
+    requires { IsIndexed program.now }
+    ensures { result ≡ is_second (take number (modules_of program.now)) tree.now }
 {
-    second_of(before, tree).is_some() || is_built_in(&tree.name.name)
+    let first = first_file_of(program, tree);
+    is_earlier(first, number)
 }
 
-fn is_without_program(modules: &[&Module], before: &[&Module]) -> bool
-    ensures { result ≡ is_without_program (map (λ m. m.now) modules.now) (map (λ m. m.now) before.now) }
+fn is_repeated(program: &Program<'_>, number: usize, tree: &Module) -> bool
+    requires { IsIndexed program.now }
+    ensures { result ≡ is_repeated (take number (modules_of program.now)) tree.now }
 {
-    before.len() == 0 && program_of(modules).is_none()
+    is_second(program, number, tree) || is_built_in(&tree.name.name)
 }
 
-fn is_second_program(before: &[&Module], tree: &Module) -> bool
-    ensures { result ≡ is_second_program (map (λ m. m.now) before.now) tree.now }
+fn is_without_program(program: &Program<'_>, number: usize) -> bool
+    requires indexed { IsIndexed program.now }
+    requires within { number < length (modules_of program.now) }
+    ensures { result ≡ is_without_program (modules_of program.now) (take number (modules_of program.now)) }
 {
-    is_program(tree) && program_of(before).is_some()
+    number == 0 && program.program.is_none()
 }
 
-fn is_lone(modules: &[&Module], tree: &Module) -> bool
-    ensures { result ≡ is_lone (map (λ m. m.now) modules.now) tree.now }
+/// Whether a program module stands before this number.
+fn has_program_before(program: &Program<'_>, number: usize) -> bool
+    requires { IsIndexed program.now }
+    ensures { result ≡ any_that is_program (take number (modules_of program.now)) }
 {
-    (is_implementation(tree) && definition_of(modules, &tree.name.name).is_none())
-        || (is_definition(tree) && implementation_of(modules, &tree.name.name).is_none())
+    is_earlier(program.program, number)
+}
+
+fn is_second_program(program: &Program<'_>, number: usize, tree: &Module) -> bool
+    requires { IsIndexed program.now }
+    ensures { result ≡ is_second_program (take number (modules_of program.now)) tree.now }
+{
+    is_program(tree) && has_program_before(program, number)
+}
+
+fn is_lone(program: &Program<'_>, tree: &Module) -> bool
+    requires { IsIndexed program.now }
+    ensures { result ≡ is_lone (modules_of program.now) tree.now }
+{
+    (is_implementation(tree) && definition_of(program, &tree.name.name).is_none())
+        || (is_definition(tree) && implementation_of(program, &tree.name.name).is_none())
 }
 
 /// The least fault of an import.
-fn import_fault(modules: &[&Module], tree: &Module) -> Option<Fault>
-    ensures { result ≡ least_of (import_faults (map (λ m. m.now) modules.now) tree.now (imported tree.now)) }
+fn import_fault(program: &Program<'_>, tree: &Module) -> Option<Fault>
+    requires { IsIndexed program.now }
+    ensures { result ≡ least_of (import_faults (modules_of program.now) tree.now (imported tree.now)) }
 {
     let mut found = None;
     let imports = tree.imports.as_slice();
     for import in imports {
-        found = with_import(modules, tree, import, found);
+        found = with_import(program, tree, import, found);
     }
     found
 }
 
 fn with_import(
-    modules: &[&Module],
+    program: &Program<'_>,
     tree: &Module,
     import: &Import,
     least: Option<Fault>,
 ) -> Option<Fault>
-    ensures { result ≡ fold lesser least (import_faults (map (λ m. m.now) modules.now) tree.now (named_by import.now.from import.now.names)) }
+    requires { IsIndexed program.now }
+    ensures { result ≡ fold lesser least (import_faults (modules_of program.now) tree.now (named_by import.now.from import.now.names)) }
 {
     match &import.from {
         Some(from) => {
-            let is_bad = is_bad_import(modules, tree, &from.name);
+            let is_bad = is_bad_import(program, tree, &from.name);
             with_fault(least, is_bad, from.pos, 20)
         }
-        None => with_names(modules, tree, import.names.as_slice(), least),
+        None => with_names(program, tree, import.names.as_slice(), least),
     }
 }
 
-/// The least (place, number) at which a module of a program breaks a rule of imports, circles left aside: 20 an import
-/// of a module without definition, or by a body of its own module; 21 a second file for a definition or a body, or a
-/// module named Console or link; 23 a second program module, or none; 24 an implementation without definition, or the
-/// reverse; 25 over 1024 files. `modules` are in the order of their files, `before` are those before this one, and
-/// `given` says how many files were given before it.
-pub fn file_fault(
-    modules: &[&Module],
-    before: &[&Module],
-    given: usize,
-    tree: &Module,
-) -> Option<Fault>
-    ensures { result ≡ least_of (faults_of (map (λ m. m.now) modules.now) (map (λ m. m.now) before.now) given tree.now) }
+/// The least (place, number) at which the module with this number breaks a rule of imports, circles left aside: 20 an
+/// import of a module without definition, or by a body of its own module; 21 a second file for a definition or a body, or
+/// a module named Console or link; 23 a second program module, or none; 24 an implementation without definition, or the
+/// reverse; 25 over 1024 files. `given` says how many files were given before its file.
+fn file_fault(program: &Program<'_>, number: usize, given: usize, tree: &Module) -> Option<Fault>
+    requires indexed { IsIndexed program.now }
+    requires within { number < length (modules_of program.now) }
+    ensures { result ≡ least_of (faults_of (modules_of program.now) (take number (modules_of program.now)) given tree.now) }
 {
     let name = tree.name;
-    let repeated = is_repeated(before, tree);
-    let second = is_second_program(before, tree);
-    let without = is_without_program(modules, before);
-    let lone = is_lone(modules, tree);
-    let imports = import_fault(modules, tree);
+    let repeated = is_repeated(program, number, tree);
+    let second = is_second_program(program, number, tree);
+    let without = is_without_program(program, number);
+    let lone = is_lone(program, tree);
+    let imports = import_fault(program, tree);
     let repeats = with_fault(imports, repeated, name.pos, 21);
     let programs = with_fault(repeats, second, name.pos, 23);
     let without_program = with_fault(programs, without, FIRST_PLACE, 23);
     let lonely = with_fault(without_program, lone, name.pos, 24);
     with_fault(lonely, given == MAX_FILES, FIRST_PLACE, 25)
+}
+
+/// The least, where what is told of circles is added.
+fn with_circle(least: Option<Fault>, circle: Option<(usize, Pos)>, number: usize) -> Option<Fault>
+    ensures { result ≡ fold lesser least (circle_faults circle number) }
+{
+    match circle {
+        None => least,
+        Some((node, pos)) => with_fault(least, node == number, pos, 22),
+    }
+}
+
+/// The least (place, number) at which the module with this number breaks a rule. `circle` is what is told of circles.
+pub fn fault_of(
+    program: &Program<'_>,
+    circle: Option<(usize, Pos)>,
+    number: usize,
+    given: usize,
+    tree: &Module,
+) -> Option<Fault>
+    requires indexed { IsIndexed program.now }
+    requires within { number < length (modules_of program.now) }
+    ensures { result ≡ least_of (faults_of (modules_of program.now) (take number (modules_of program.now)) given tree.now ++ circle_faults circle number) }
+{
+    let fault = file_fault(program, number, given, tree);
+    with_circle(fault, circle, number)
 }

@@ -4,8 +4,10 @@ ghost use Rattle.std.specs.Prelude.{◌≡◌, ◌<◌, ◌++◌, length, map, I
 ghost use Rattle.std.specs.List.{All, filter_map};
 ghost use Rattle.std.specs.Option.{option_to_list};
 ghost use Rattle.m2_graph.specs.Links.{AreNodes};
-ghost use Rattle.m2_graph.specs.Imports.{same_name, named_by, imported, is_definition, is_program, is_implementation, defines, implements, first_that, definition_of, links_of, links};
+ghost use Rattle.m2_graph.specs.Imports.{named_by, imported, is_definition, is_program, is_implementation, first_that, definition_of, links_of, links};
+ghost use Rattle.m2_graph.specs.Program.{modules_of, IsIndexed};
 
+use crate::program::{Program, definition_of};
 use m2_tree::{Contents, Ident, Import, Module, Name};
 use sqlite_items::Items;
 use std::alloc::{AllocError, Global};
@@ -39,45 +41,6 @@ pub fn is_implementation(tree: &Module) -> bool
     !is_definition(tree) && !is_program(tree)
 }
 
-/// Whether it is the definition module of this name.
-pub fn defines(tree: &Module, name: &Name) -> bool
-    ensures { result ≡ defines name.now tree.now }
-{
-    is_definition(tree) && tree.name.name == *name
-}
-
-/// Whether it is the implementation module of this name.
-pub fn implements(tree: &Module, name: &Name) -> bool
-    ensures { result ≡ implements name.now tree.now }
-{
-    is_implementation(tree) && tree.name.name == *name
-}
-
-/// The definition that a name means: the first of this name.
-pub fn definition_of(modules: &[&Module], name: &Name) -> Option<usize>
-    ensures { result ≡ definition_of (map (λ m. m.now) modules.now) name.now }
-{
-    for (number, module) in modules.iter().enumerate() {
-        if defines(module, name) {
-            return Some(number);
-        }
-    }
-    None
-}
-
-/// The implementation of the module of this name: the first.
-pub fn implementation_of(modules: &[&Module], name: &Name) -> Option<usize>
-    ensures value { result ≡ first_that (implements name.now) (map (λ m. m.now) modules.now) }
-    ensures within { IfSome result (λ number. number < length modules.now) }
-{
-    for (number, module) in modules.iter().enumerate() {
-        if implements(module, name) {
-            return Some(number);
-        }
-    }
-    None
-}
-
 /// The first program module.
 pub fn program_of(modules: &[&Module]) -> Option<usize>
     ensures { result ≡ first_that is_program (map (λ m. m.now) modules.now) }
@@ -92,13 +55,14 @@ pub fn program_of(modules: &[&Module]) -> Option<usize>
 
 /// Adds the definition that a name means, if it has one.
 pub fn add_link(
-    modules: &[&Module],
+    program: &Program<'_>,
     name: &Name,
     targets: &mut Items<usize>,
 ) -> Result<(), AllocError>
-    ensures { OnOk result (targets.new ≡ targets.old ++ option_to_list (definition_of (map (λ m. m.now) modules.now) name.now)) }
+    requires { IsIndexed program.now }
+    ensures { OnOk result (targets.new ≡ targets.old ++ option_to_list (definition_of (modules_of program.now) name.now)) }
 {
-    if let Some(number) = definition_of(modules, name) {
+    if let Some(number) = definition_of(program, name) {
         targets.push(number)?;
     }
     Ok(())
@@ -106,67 +70,73 @@ pub fn add_link(
 
 /// Adds the definitions that these names mean.
 fn add_links(
-    modules: &[&Module],
+    program: &Program<'_>,
     names: &[Ident],
     targets: &mut Items<usize>,
 ) -> Result<(), AllocError>
-    ensures { OnOk result (targets.new ≡ targets.old ++ filter_map (λ i. definition_of (map (λ m. m.now) modules.now) i.name) names.now) }
+    requires { IsIndexed program.now }
+    ensures { OnOk result (targets.new ≡ targets.old ++ filter_map (λ i. definition_of (modules_of program.now) i.name) names.now) }
 {
     for ident in names {
-        add_link(modules, &ident.name, targets)?;
+        add_link(program, &ident.name, targets)?;
     }
     Ok(())
 }
 
 /// Adds the definitions that an import names.
 fn add_import(
-    modules: &[&Module],
+    program: &Program<'_>,
     import: &Import,
     targets: &mut Items<usize>,
 ) -> Result<(), AllocError>
-    ensures { OnOk result (targets.new ≡ targets.old ++ filter_map (λ i. definition_of (map (λ m. m.now) modules.now) i.name) (named_by import.now.from import.now.names)) }
+    requires { IsIndexed program.now }
+    ensures { OnOk result (targets.new ≡ targets.old ++ filter_map (λ i. definition_of (modules_of program.now) i.name) (named_by import.now.from import.now.names)) }
 {
     match &import.from {
-        Some(from) => add_link(modules, &from.name, targets),
-        None => add_links(modules, import.names.as_slice(), targets),
+        Some(from) => add_link(program, &from.name, targets),
+        None => add_links(program, import.names.as_slice(), targets),
     }
 }
 
 /// Adds the definitions that a module imports, in the order in which it imports them.
 pub fn add_imports(
-    modules: &[&Module],
+    program: &Program<'_>,
     tree: &Module,
     targets: &mut Items<usize>,
 ) -> Result<(), AllocError>
-    ensures { OnOk result (targets.new ≡ targets.old ++ links_of (map (λ m. m.now) modules.now) tree.now) }
+    requires { IsIndexed program.now }
+    ensures { OnOk result (targets.new ≡ targets.old ++ links_of (modules_of program.now) tree.now) }
 {
     let imports = tree.imports.as_slice();
     for import in imports {
-        add_import(modules, import, targets)?;
+        add_import(program, import, targets)?;
     }
     Ok(())
 }
 
 /// The definitions that a module imports, in the order in which it imports them.
-fn links_of(alloc: Global, modules: &[&Module], tree: &Module) -> Result<Items<usize>, AllocError>
-    ensures { IfOk result (λ targets. targets ≡ links_of (map (λ m. m.now) modules.now) tree.now) }
+fn links_of(alloc: Global, program: &Program<'_>, tree: &Module) -> Result<Items<usize>, AllocError>
+    requires { IsIndexed program.now }
+    ensures { IfOk result (λ targets. targets ≡ links_of (modules_of program.now) tree.now) }
 {
     let mut targets = Items::new(alloc);
-    add_imports(modules, tree, &mut targets)?;
+    add_imports(program, tree, &mut targets)?;
     Ok(targets)
 }
 
 /// For each module the numbers of the definitions that it imports, in the order in which it imports them. A name
 /// without definition, as that of a built in module, gives none; where there are several definitions of a name, the
 /// first stands for all.
-pub fn links(alloc: Global, modules: &[&Module]) -> Result<Vec<Items<usize>>, AllocError>
-    ensures value { IfOk result (λ all. all.items ≡ links (map (λ m. m.now) modules.now)) }
+pub fn links(alloc: Global, program: &Program<'_>) -> Result<Vec<Items<usize>>, AllocError>
+    requires { IsIndexed program.now }
+    ensures value { IfOk result (λ all. all.items ≡ links (modules_of program.now)) }
     ensures nodes { IfOk result (λ all. AreNodes all.items) }
-    ensures len { IfOk result (λ all. length all.items ≡ length modules.now) }
+    ensures len { IfOk result (λ all. length all.items ≡ length (modules_of program.now)) }
 {
     let mut all = Vec::new(alloc);
+    let modules = program.modules;
     for module in modules {
-        all.push(links_of(alloc, modules, module)?)?;
+        all.push(links_of(alloc, program, module)?)?;
     }
     Ok(all)
 }

@@ -1,10 +1,11 @@
 //! The prerequisites of jobs.
 
-ghost use Rattle.std.specs.Prelude.{◌≡◌, ◌<◌, ◌++◌, length, IfOk, OnOk, IfSome};
+ghost use Rattle.std.specs.Prelude.{◌≡◌, ◌<◌, ◌++◌, ℕ, ◌==◌, Some, None, length, replicate, cond, IfOk, OnOk};
 ghost use Rattle.std.specs.List.{All, filter_map};
 ghost use Rattle.std.specs.Option.{option_to_list};
 ghost use Rattle.m2_graph.specs.Links.{AreEachOnce};
-ghost use Rattle.m2_graph.specs.Jobs.{number_of, numbers_of};
+ghost use Rattle.m2_graph.specs.Jobs.{number_of, numbers_of, place_of, ArePlaces};
+ghost use Rattle.m2_graph.specs.Parts.{or_first};
 
 use crate::flags::{mark_all, unmarked};
 use sqlite_items::Items;
@@ -21,48 +22,92 @@ fn each_once(alloc: Global, count: usize, numbers: &[usize]) -> Result<Items<usi
     Ok(once)
 }
 
-/// The number of the job of this node: its place in the order of the jobs.
-pub fn number_of(order: &[usize], node: usize) -> Option<usize>
-    ensures { result ≡ number_of order.now node }
+/// The place of a node.
+fn place_of(places: &[Option<usize>], node: usize) -> Option<usize>
+    ensures { result ≡ place_of places.now node }
 {
-    for (number, one) in order.iter().enumerate() {
-        if *one == node {
-            return Some(number);
-        }
+    if node < places.len() {
+        places[node]
+    } else {
+        None
     }
-    None
+}
+
+/// No place for each of this many nodes.
+fn no_places(alloc: Global, count: usize) -> Result<Vec<Option<usize>>, AllocError>
+    ensures { IfOk result (λ places. places.items ≡ replicate count None) }
+{
+    vec![in alloc; None; count]
+}
+
+/// Gives a node its place, unless it has one.
+fn put_place(places: &mut [Option<usize>], node: usize, number: usize)
+    requires { node < length places.old }
+    ensures len { length places.new ≡ length places.old }
+    ensures places { (k : ℕ) → place_of places.new k ≡ or_first (place_of places.old k) (cond (node == k) (Some number) None) }
+{
+    if places[node].is_none() {
+        places[node] = Some(number);
+    }
+}
+
+/// For each of `count` nodes its place in the order of the jobs, if it has one.
+pub fn places_of(
+    alloc: Global,
+    count: usize,
+    order: &[usize],
+) -> Result<Vec<Option<usize>>, AllocError>
+    requires { All (λ node. node < count) order.now }
+    ensures { IfOk result (λ places. ArePlaces order.now places.items) }
+{
+    let mut places = no_places(alloc, count)?;
+    for (number, node) in order.iter().enumerate() {
+        put_place(&mut places, *node, number);
+    }
+    Ok(places)
 }
 
 /// Adds the number of a node's job, if it has one.
-fn add_number(order: &[usize], node: usize, numbers: &mut Items<usize>) -> Result<(), AllocError>
-    ensures { OnOk result (numbers.new ≡ numbers.old ++ option_to_list (number_of order.now node)) }
+fn add_number(
+    places: &[Option<usize>],
+    node: usize,
+    numbers: &mut Items<usize>,
+) -> Result<(), AllocError>
+    ensures { OnOk result (numbers.new ≡ numbers.old ++ option_to_list (place_of places.now node)) }
 {
-    if let Some(number) = number_of(order, node) {
+    if let Some(number) = place_of(places, node) {
         numbers.push(number)?;
     }
     Ok(())
 }
 
 /// The numbers of the nodes' jobs.
-fn numbers_of(alloc: Global, order: &[usize], nodes: &[usize]) -> Result<Items<usize>, AllocError>
-    ensures { IfOk result (λ numbers. numbers ≡ numbers_of order.now nodes.now) }
+fn numbers_of(
+    alloc: Global,
+    places: &[Option<usize>],
+    nodes: &[usize],
+) -> Result<Items<usize>, AllocError>
+    ensures { IfOk result (λ numbers. numbers ≡ filter_map (place_of places.now) nodes.now) }
 {
     let mut numbers = Items::new(alloc);
     for node in nodes {
-        add_number(order, *node, &mut numbers)?;
+        add_number(places, *node, &mut numbers)?;
     }
     Ok(numbers)
 }
 
 /// The prerequisites of a job that needs these nodes: the numbers of their jobs, each once. `order` has the nodes in the
-/// order of their jobs.
+/// order of their jobs, and `places` the place there of each.
 pub fn prerequisites(
     alloc: Global,
     order: &[usize],
+    places: &[Option<usize>],
     nodes: &[usize],
-) -> Result<Items<usize>, AllocError>
-    ensures { IfOk result (λ jobs. AreEachOnce jobs (numbers_of order.now nodes.now)) }
+) -> Result<Vec<usize>, AllocError>
+    requires { ArePlaces order.now places.now }
+    ensures { IfOk result (λ jobs. AreEachOnce jobs.items (numbers_of order.now nodes.now)) }
 {
-    let numbers = numbers_of(alloc, order, nodes)?;
-    each_once(alloc, order.len(), numbers.as_slice())
+    let numbers = numbers_of(alloc, places, nodes)?;
+    let once = each_once(alloc, order.len(), numbers.as_slice())?;
+    Vec::from_slice(alloc, once.as_slice())
 }

@@ -1,10 +1,14 @@
 //! The order in which definitions get their numbers.
 
-ghost use Rattle.std.specs.Prelude.{◌≡◌, ◌<◌, ℕ, false, length, IfOk, MatchOption};
+ghost use Rattle.std.specs.Prelude.{◌≡◌, ◌<◌, ℕ, false, length, map, IfOk, MatchOption};
 ghost use Rattle.m2_graph.specs.Links.{flag};
+ghost use Rattle.m2_graph.specs.Imports.{is_definition, links};
+ghost use Rattle.m2_graph.specs.Program.{modules_of};
 ghost use Rattle.m2_graph.specs.Numbering.{is_ready, IsNext, IsNumbering};
 
 use crate::flags::{are_marked, is_marked, targets, unmarked};
+use crate::order::definition_flags;
+use crate::program::Program;
 use sqlite_items::Items;
 use std::alloc::{AllocError, Global};
 
@@ -30,7 +34,7 @@ fn next_ready(links: &[Items<usize>], definitions: &[bool], done: &[bool]) -> Op
 /// The definitions in the order in which they get numbers: each time the first whose imports all have numbers. Those
 /// that are on circles, or import such definitions, get none. `links` has for each node those that it imports, and
 /// `definitions` says which nodes are definitions.
-pub fn definition_order(
+fn definition_order(
     alloc: Global,
     links: &[Items<usize>],
     definitions: &[bool],
@@ -44,5 +48,20 @@ pub fn definition_order(
         order.push(node)?;
         done[node] = true;
     }
+    Ok(order)
+}
+
+/// The definitions of a program in the order in which they get numbers. `pairs` has for each module the definitions that
+/// it imports.
+pub fn numbering_of(
+    alloc: Global,
+    program: &Program<'_>,
+    pairs: &[Items<usize>],
+) -> Result<Items<usize>, AllocError>
+    requires { pairs.now ≡ links (modules_of program.now) }
+    ensures { IfOk result (λ order. IsNumbering pairs.now (map is_definition (modules_of program.now)) order) }
+{
+    let flags = definition_flags(alloc, program.modules)?;
+    let order = definition_order(alloc, pairs, &flags)?;
     Ok(order)
 }

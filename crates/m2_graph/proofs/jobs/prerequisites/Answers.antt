@@ -1,6 +1,5 @@
-use Rattle.std.proofs.Common.{◌<◌, length, sym, subst, ◌∙◌, All}
-use Rattle.m2_graph.proofs.Importing.{numbers_within}
+use Rattle.m2_graph.proofs.Places.{small_numbers, once_by_places}
 use Rattle.m2_graph.proofs.jobs.prerequisites.Goals as goal
 
 pub each_once-requires : goal.each_once-requires
-each_once-requires c = subst (All (λ n. n < length c.args.order.now)) (sym (c.as_slice.ensures ∙ c.in_ok-numbers.ensures)) (numbers_within c.args.order.now c.args.nodes.now)
+each_once-requires c = small_numbers c.args.order.now c.args.places.now c.args.nodes.now c.in_ok-numbers.numbers _ c.requires c.in_ok-numbers.ensures c.as_slice.ensures

@@ -1,9 +1,8 @@
-use Rattle.std.proofs.Common.{take, map}
+use Rattle.std.proofs.Common.{map, take}
 use Rattle.std.specs.List.{AllZip}
-use Rattle.std.specs.Borrow.{Bor}
-use Rattle.m2_tree.specs.declared.decl.Module.{Module}
 use Rattle.m2_graph.specs.Order.{IsJob}
+use Rattle.m2_graph.specs.Program.{modules_of}
 use Rattle.m2_graph.proofs.order.jobs_of.Given as goal
 
 abbrev pub invariant-loop-node : goal.invariant-loop-node
-invariant-loop-node l = AllZip (IsJob (map (λ (m : Bor Module). m.now) l.modules) l.order) (take l.node-index l.order) l.jobs
+invariant-loop-node l = AllZip (IsJob (modules_of l.program) l.order) (take l.node-index l.order) (map (λ job. job.items) l.jobs.items)

@@ -1,0 +1,86 @@
+-- What is told of files in order.
+use Rattle.std.specs.Prelude.{◌≡◌, ◌<◌, ℕ, ◌==◌, List, [], ◌∷◌, ◌++◌, Option, Some, None, length, slice_get, ◌⊎◌}
+use Rattle.std.specs.List.{All}
+use Rattle.std.specs.String.{string_bytes}
+use Rattle.m2_tree.specs.declared.pos.Pos.{Pos}
+use Rattle.m2_tree.specs.declared.name.Ident.{Ident}
+use Rattle.m2_tree.specs.declared.decl.Module.{Module}
+use Rattle.m2_tree.specs.declared.refusal.Refusal.{Refusal}
+use Rattle.m2_graph.specs.declared.faults.Fault.{Fault}
+use Rattle.m2_graph.specs.Links.{Leads}
+use Rattle.m2_graph.specs.Imports.{imported, definition_of, links}
+use Rattle.m2_graph.specs.Refused.{fault, first_place, fault_where, faults_of, least_of}
+use Rattle.m2_graph.specs.Files.{File, trees}
+
+-- ---- circles
+
+-- the definition that this import names is the node, or a chain of pairs leads from it to the node
+abbrev pub LeadsBack : List Module → ℕ → Ident → Type 0
+LeadsBack modules node x = (to : ℕ) × (definition_of modules x.name ≡ Some to) × ((to ≡ node) ⊎ Leads (links modules) to node)
+
+-- This is the place of the first of these imports that leads back to the node.
+pub record IsBack (modules : List Module) (node : ℕ) (imports : List Ident) (pos : Pos) : Type 0 where
+  pub before : List Ident
+  pub back : Ident
+  pub after : List Ident
+  pub written : imports ≡ before ++ back ∷ after
+  pub leads_back : LeadsBack modules node back
+  pub none_before : All (λ x. ¬ LeadsBack modules node x) before
+  pub place : pos ≡ back.pos
+
+-- the place of the first import that leads back to the node, if one does
+abbrev pub IsFirstBack : List Module → ℕ → List Ident → Option Pos → Type 0
+IsFirstBack modules node imports None = All (λ x. ¬ LeadsBack modules node x) imports
+IsFirstBack modules node imports (Some pos) = IsBack modules node imports pos
+
+-- Of the definitions on circles this is the first in order, and at this place it has the first import that leads back
+-- to it.
+pub record IsToldCircle (modules : List Module) (node : ℕ) (pos : Pos) : Type 0 where
+  pub on_circle : Leads (links modules) node node
+  pub first : (other : ℕ) → other < node → ¬ Leads (links modules) other other
+  pub tree : Module
+  pub is_tree : slice_get modules node ≡ Some tree
+  pub back : IsBack modules node (imported tree) pos
+
+-- what is told of circles: nothing where there are none, else a definition, and the place of one of its imports
+abbrev pub AreCircles : List Module → Option (ℕ × Pos) → Type 0
+AreCircles modules None = (node : ℕ) → ¬ Leads (links modules) node node
+AreCircles modules (Some told) = IsToldCircle modules told.0 told.1
+
+abbrev pub circle_faults : Option (ℕ × Pos) → ℕ → List Fault
+circle_faults None number = []
+circle_faults (Some told) number = fault_where (told.0 == number) told.1 22
+
+-- ---- refusals
+
+-- a refusal without where it lies in memory
+pub record Told : Type 0 where
+  pub file : List ℕ
+  pub pos : Pos
+  pub number : ℕ
+
+abbrev pub told : Refusal → Told
+told r = record { file = string_bytes r.file; pos = r.pos; number = r.number }
+
+abbrev pub told_of : (file : List ℕ) → Fault → Told
+told_of file fault = record { file = file; pos = fault.pos; number = fault.number }
+
+abbrev pub told_at : (file : List ℕ) → Option Fault → List Told
+told_at file None = []
+told_at file (Some fault) = told_of file fault ∷ []
+
+-- for each of these files, which stand behind those modules, the least that is refused in it
+abbrev pub refused_from : List Module → Option (ℕ × Pos) → (before : List Module) → List File → List Told
+refused_from modules circle before [] = []
+refused_from modules circle before (f ∷ fs) =
+    told_at f.name (least_of (faults_of modules before f.given f.tree ++ circle_faults circle (length before)))
+    ++ refused_from modules circle (before ++ f.tree ∷ []) fs
+
+-- files in order, of which the first is the least; without any file there is no program module
+abbrev pub refused_of : List File → Option (ℕ × Pos) → List Told
+refused_of [] circle = told_of [] (fault first_place 23) ∷ []
+refused_of (f ∷ fs) circle = refused_from (trees (f ∷ fs)) circle [] (f ∷ fs)
+
+-- this is told of files in order
+abbrev pub IsTold : List File → List Told → Type 0
+IsTold ordered all = (circle : Option (ℕ × Pos)) × AreCircles (trees ordered) circle × (all ≡ refused_of ordered circle)
