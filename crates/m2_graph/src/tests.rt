@@ -1,1 +1,218 @@
 //! Worked rows.
+
+use crate::program::Part;
+use crate::{Graph, GraphError};
+use m2_tree::{Block, Contents, Ident, Import, Items, Module, Name, Pos, Refusal};
+use std::alloc::{AllocError, Global};
+use std::test::Fail;
+
+/// A file with a module that has at most one import, at column 20; its own name is at column 8.
+#[derive(Clone, Copy)]
+struct Row<'a> {
+    file: &'a str,
+    part: Part,
+    name: &'a str,
+    import: &'a str,
+}
+
+fn make_row<'a>(file: &'a str, part: Part, name: &'a str, import: &'a str) -> Row<'a> {
+    Row {
+        file,
+        part,
+        name,
+        import,
+    }
+}
+
+fn ident(name: &str, col: u32) -> Ident {
+    let bytes = name.as_bytes();
+    let short = if bytes.len() <= 64 {
+        bytes
+    } else {
+        b"".as_slice()
+    };
+    Ident {
+        name: Name::new(short),
+        pos: Pos { line: 1, col },
+    }
+}
+
+fn imports_of(alloc: Global, import: &str) -> Result<Items<Import>, AllocError> {
+    let mut names = Items::new(alloc);
+    names.push(ident(import, 20))?;
+    let mut all = Items::new(alloc);
+    if !import.is_empty() {
+        all.push(Import { from: None, names })?;
+    }
+    Ok(all)
+}
+
+fn contents_of(alloc: Global, part: Part) -> Contents {
+    let block = Block {
+        decls: Items::new(alloc),
+        body: None,
+    };
+    match part {
+        Part::Definition => Contents::Definition(Items::new(alloc)),
+        Part::Implementation => Contents::Implementation(block),
+        Part::Body => Contents::Program(block),
+    }
+}
+
+fn tree_of(alloc: Global, row: Row<'_>) -> Result<Module, AllocError> {
+    let imports = imports_of(alloc, row.import)?;
+    Ok(Module {
+        name: ident(row.name, 8),
+        imports,
+        contents: contents_of(alloc, row.part),
+    })
+}
+
+fn trees_of(alloc: Global, rows: &[Row<'_>]) -> Result<Vec<Module>, AllocError> {
+    let mut trees = Vec::new(alloc);
+    for row in rows {
+        trees.push(tree_of(alloc, *row)?)?;
+    }
+    Ok(trees)
+}
+
+fn lent<'r, 't>(
+    alloc: Global,
+    rows: &[Row<'r>],
+    trees: &'t [Module],
+) -> Result<Vec<(&'r str, &'t Module)>, AllocError> {
+    let mut files = Vec::new(alloc);
+    for (row, tree) in rows.iter().zip(trees) {
+        files.push((row.file, tree))?;
+    }
+    Ok(files)
+}
+
+fn graph_of(alloc: Global, rows: &[Row<'_>]) -> Result<Graph, GraphError> {
+    let trees = trees_of(alloc, rows)?;
+    let files = lent(alloc, rows, &trees)?;
+    Graph::of(alloc, &files)
+}
+
+/// Whether these files start in this order.
+fn starts(alloc: Global, rows: &[Row<'_>], order: &[usize]) -> bool {
+    match graph_of(alloc, rows) {
+        Ok(graph) => graph.start_order() == order,
+        Err(_) => false,
+    }
+}
+
+fn is_refusal(refusal: &Refusal, file: &str, col: u32, number: u32) -> bool {
+    refusal.file.as_str() == file && refusal.pos == Pos { line: 1, col } && refusal.number == number
+}
+
+/// Whether this alone is told.
+fn tells(alloc: Global, rows: &[Row<'_>], file: &str, col: u32, number: u32) -> bool {
+    match graph_of(alloc, rows) {
+        Err(GraphError::Refused(refusals)) => match refusals.as_slice() {
+            [only] => is_refusal(only, file, col, number),
+            _ => false,
+        },
+        Err(GraphError::NoMemory) => false,
+        Ok(_) => false,
+    }
+}
+
+/// P imports A, and the implementations of A and B import each other.
+#[test]
+fn bodies_start_after_their_imports(rt: HostRuntime) -> Result<(), Fail> {
+    let rows = [
+        make_row("p.mod", Part::Body, "P", "A"),
+        make_row("A.mod", Part::Implementation, "A", "B"),
+        make_row("B.mod", Part::Implementation, "B", "A"),
+        make_row("A.def", Part::Definition, "A", ""),
+        make_row("B.def", Part::Definition, "B", ""),
+    ];
+    assert!(rt; starts(rt.alloc(), rows.as_slice(), [2, 1, 0].as_slice()));
+    Ok(())
+}
+
+/// Two definitions that import each other are told once.
+#[test]
+fn a_circle_is_told_once(rt: HostRuntime) -> Result<(), Fail> {
+    let rows = [
+        make_row("p.mod", Part::Body, "P", ""),
+        make_row("A.mod", Part::Implementation, "A", ""),
+        make_row("B.mod", Part::Implementation, "B", ""),
+        make_row("B.def", Part::Definition, "B", "A"),
+        make_row("A.def", Part::Definition, "A", "B"),
+    ];
+    assert!(rt; tells(rt.alloc(), rows.as_slice(), "A.def", 20, 22));
+    Ok(())
+}
+
+#[test]
+fn a_definition_that_imports_itself_is_a_circle(rt: HostRuntime) -> Result<(), Fail> {
+    let rows = [
+        make_row("p.mod", Part::Body, "P", ""),
+        make_row("A.mod", Part::Implementation, "A", ""),
+        make_row("A.def", Part::Definition, "A", "A"),
+    ];
+    assert!(rt; tells(rt.alloc(), rows.as_slice(), "A.def", 20, 22));
+    Ok(())
+}
+
+#[test]
+fn a_body_may_not_import_its_own_module(rt: HostRuntime) -> Result<(), Fail> {
+    let rows = [
+        make_row("p.mod", Part::Body, "P", ""),
+        make_row("A.mod", Part::Implementation, "A", "A"),
+        make_row("A.def", Part::Definition, "A", ""),
+    ];
+    assert!(rt; tells(rt.alloc(), rows.as_slice(), "A.mod", 20, 20));
+    Ok(())
+}
+
+#[test]
+fn no_files_have_no_program(rt: HostRuntime) -> Result<(), Fail> {
+    assert!(rt; tells(rt.alloc(), [].as_slice(), "", 1, 23));
+    Ok(())
+}
+
+#[test]
+fn one_program_is_enough(rt: HostRuntime) -> Result<(), Fail> {
+    let rows = [
+        make_row("q.mod", Part::Body, "Q", ""),
+        make_row("p.mod", Part::Body, "P", ""),
+    ];
+    assert!(rt; tells(rt.alloc(), rows.as_slice(), "q.mod", 8, 23));
+    Ok(())
+}
+
+#[test]
+fn built_in_names_are_taken(rt: HostRuntime) -> Result<(), Fail> {
+    let console = [make_row("p.mod", Part::Body, "Console", "")];
+    assert!(rt; tells(rt.alloc(), console.as_slice(), "p.mod", 8, 21));
+    let link = [make_row("p.mod", Part::Body, "link", "Console")];
+    assert!(rt; tells(rt.alloc(), link.as_slice(), "p.mod", 8, 21));
+    Ok(())
+}
+
+/// Whether the last of so many files is told to be one too many.
+fn is_one_too_many(alloc: Global, count: usize) -> Result<bool, AllocError> {
+    let tree = tree_of(alloc, make_row("p.mod", Part::Body, "P", ""))?;
+    let mut files = Vec::new(alloc);
+    for _ in 0..count {
+        files.push(("p.mod", &tree))?;
+    }
+    match Graph::of(alloc, &files) {
+        Err(GraphError::Refused(refusals)) => match refusals.as_slice() {
+            [.., last] => Ok(is_refusal(last, "p.mod", 1, 25)),
+            [] => Ok(false),
+        },
+        Err(GraphError::NoMemory) => Err(AllocError),
+        Ok(_) => Ok(false),
+    }
+}
+
+#[test]
+fn a_thousand_and_twenty_four_files_are_enough(rt: HostRuntime) -> Result<(), Fail> {
+    assert!(rt; !is_one_too_many(rt.alloc(), 1024)?);
+    assert!(rt; is_one_too_many(rt.alloc(), 1025)?);
+    Ok(())
+}
