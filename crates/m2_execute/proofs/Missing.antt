@@ -3,12 +3,13 @@ use Rattle.std.proofs.Common.{◌≡◌, ℕ, ◌+◌, ◌<◌, suc, ◌⊎◌, 
 use Rattle.std.specs.Borrow.{Bor}
 use Rattle.std.proofs.lemmas.List.{map_more, map-append, append-nil, take-append-drop}
 use Rattle.std.proofs.Math.Seq.{drop-cons}
-use Rattle.wasm_core.specs.declared.fault.WFault.{WFault}
-use Rattle.wasm_core.specs.declared.fault.WFault.TheVariants.{Malformed, OutsideProfile, Invalid, Unlinked, SegmentOutside, NoMemory}
-use Rattle.wasm_core.specs.declared.module.WModule.{WModule}
-use Rattle.wasm_core.specs.Format.{Fails}
-use Rattle.wasm_core.specs.Linking.{link_name}
-use Rattle.wasm_core.specs.Binary.{Spells, module_at}
+use Rattle.wasm_tree.specs.declared.fault.WFault.{WFault}
+use Rattle.wasm_tree.specs.declared.fault.WFault.TheVariants.{Malformed, OutsideProfile, Invalid, Unlinked, SegmentOutside, NoMemory}
+use Rattle.wasm_tree.specs.declared.module.WModule.{WModule}
+use Rattle.wasm_tree.specs.Format.{Fails}
+use Rattle.wasm_tree.specs.Linking.{link_name}
+use Rattle.wasm_binary.specs.Binary.{Spells, module_at}
+use Rattle.wasm_tree.specs.Validity.{IsValid}
 use Rattle.m2_execute.specs.declared.report.Report.{Report}
 use Rattle.m2_execute.specs.declared.report.Report.TheVariants.{Ran, Unread, Refused, Broken}
 use Rattle.m2_execute.specs.Directory.{Files, Stays, file_of, module_names, IsModule, AreModules, Empty, More}
@@ -23,8 +24,8 @@ module _ (gives : Files) (name : Bor (List ℕ)) (bytes slice : List ℕ) (given
   unspelled SegmentOutside e = (refl, Unspelled SegmentOutside bytes given (ap module_at (sym same) ∙ e))
   unspelled NoMemory e = (refl, Memory)
 
-  pub not_valid : (tree : WModule) (fault : WFault) → Spells slice tree → (fault ≡ Invalid) ⊎ (fault ≡ NoMemory) → IsMissing gives name.now (Refused name fault)
-  not_valid tree fault s (inl e) = (refl, subst (λ (f : WFault). IsRefused gives (file_of name.now) f) (sym e) (NotValid bytes tree given (subst (λ (b : List ℕ). Spells b tree) same s)))
+  pub not_valid : (tree : WModule) (fault : WFault) → Spells slice tree → ((fault ≡ Invalid) × (IsValid tree → ⊥)) ⊎ (fault ≡ NoMemory) → IsMissing gives name.now (Refused name fault)
+  not_valid tree fault s (inl e) = (refl, subst (λ (f : WFault). IsRefused gives (file_of name.now) f) (sym e.0) (NotValid bytes tree given (subst (λ (b : List ℕ). Spells b tree) same s) e.1))
   not_valid tree fault s (inr e) = (refl, subst (λ (f : WFault). IsRefused gives (file_of name.now) f) (sym e) Memory)
 
 -- ---- what was seen later holds now
@@ -33,7 +34,7 @@ module _ (now later : Files) (stays : Stays now later) where
   refused_before : (file : List ℕ) (f : WFault) → IsRefused later file f → IsRefused now file f
   refused_before file _ Memory = Memory
   refused_before file _ (Unspelled fault bytes given e) = Unspelled fault bytes (stays file (Some bytes) given) e
-  refused_before file _ (NotValid bytes tree given s) = NotValid bytes tree (stays file (Some bytes) given) s
+  refused_before file _ (NotValid bytes tree given s n) = NotValid bytes tree (stays file (Some bytes) given) s n
 
   pub missing_before : (name : List ℕ) (r : Report) → IsMissing later name r → IsMissing now name r
   missing_before name (Unread told) h = (h.0, stays (file_of name) None h.1)

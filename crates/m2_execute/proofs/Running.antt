@@ -1,14 +1,14 @@
 -- Runs of linked modules.
 use Rattle.std.proofs.Common.{◌≡◌, ℕ, ◌+◌, ◌↔◌, List, Option, Result, Ok, Err, refl, sym, ap, subst, ◌∙◌}
-use Rattle.wasm_core.specs.declared.module.WModule.{WModule}
-use Rattle.wasm_core.specs.Machine.{run}
-use Rattle.wasm_core.specs.Linking.{link}
-use Rattle.wasm_run.specs.declared.engine.End.{End}
-use Rattle.wasm_run.specs.declared.engine.RunFault.{RunFault}
-use Rattle.wasm_run.specs.declared.engine.RunFault.TheVariants.{Write}
-use Rattle.wasm_run.specs.declared.engine.Instances.{Instances}
-use Rattle.wasm_run.specs.Told.{with_bytes}
-use Rattle.wasm_run.specs.Instances.{modules_of, config_of, RunsPart}
+use Rattle.wasm_tree.specs.declared.module.WModule.{WModule}
+use Rattle.wasm_tree.specs.Machine.{run}
+use Rattle.wasm_tree.specs.Linking.{link}
+use Rattle.wasm_engine.specs.declared.engine.End.{End}
+use Rattle.wasm_engine.specs.declared.engine.RunFault.{RunFault}
+use Rattle.wasm_engine.specs.declared.engine.RunFault.TheVariants.{Write}
+use Rattle.wasm_engine.specs.declared.engine.Instances.{Instances}
+use Rattle.wasm_engine.specs.Told.{with_bytes}
+use Rattle.wasm_engine.specs.Instances.{modules_of, config_of, RunsPart}
 use Rattle.m2_execute.specs.Told.{IsBroken}
 
 abbrev fault_or : RunFault → Result End RunFault → RunFault

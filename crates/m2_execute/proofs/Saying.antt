@@ -5,7 +5,7 @@ use Rattle.std.specs.Borrow.{Bor}
 use Rattle.std.proofs.lemmas.List.{append-nil, take-append-drop}
 use Rattle.std.proofs.lemmas.Grind.{flat_map-append}
 use Rattle.std.proofs.Math.Seq.{drop-cons}
-use Rattle.wasm_run.specs.Told.{with_bytes}
+use Rattle.wasm_engine.specs.Told.{with_bytes}
 use Rattle.m2_execute.specs.Told.{Printed, PartPrinted, Says}
 
 more_bytes : (told : Option (List ℕ)) (a b : List ℕ) → with_bytes (with_bytes told a) b ≡ with_bytes told (a ++ b)

@@ -12,7 +12,7 @@ use Rattle.std.proofs.lemmas.List.Elements.{All-weaker}
 use Rattle.std.proofs.lemmas.Str.Ascii.{IsAscii-from_all}
 use Rattle.std.proofs.lemmas.Str.{IsUtf8-from_ascii}
 use Rattle.std.proofs.lemmas.List.{map-append}
-use Rattle.wasm_core.specs.Linking.{link_name}
+use Rattle.wasm_tree.specs.Linking.{link_name}
 use Rattle.m2_execute.specs.Directory.{begins_with_letter, is_module_name, module_named, bytes_of}
 
 either : (p q : Bool) → p || q ≡ true → (p ≡ true) ⊎ (q ≡ true)

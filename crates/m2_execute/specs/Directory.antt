@@ -5,11 +5,11 @@ use Rattle.std.specs.List.{flat_map, list_all}
 use Rattle.std.specs.Option.{option_to_list}
 use Rattle.std.specs.Char.{is_ascii_alphabetic, is_ascii_alphanumeric}
 use Rattle.std.specs.Str.{bytes_eq}
-use Rattle.wasm_core.specs.declared.module.Export.{Export}
-use Rattle.wasm_core.specs.declared.module.WModule.{WModule}
-use Rattle.wasm_core.specs.Binary.{Spells}
-use Rattle.wasm_core.specs.Validity.{IsValid}
-use Rattle.wasm_core.specs.Linking.{link_name}
+use Rattle.wasm_tree.specs.declared.module.Export.{Export}
+use Rattle.wasm_tree.specs.declared.module.WModule.{WModule}
+use Rattle.wasm_binary.specs.Binary.{Spells}
+use Rattle.wasm_tree.specs.Validity.{IsValid}
+use Rattle.wasm_tree.specs.Linking.{link_name}
 
 abbrev pub bytes_of : Option (Bor (List ℕ)) → Option (List ℕ)
 bytes_of None = None

@@ -1,18 +1,19 @@
 -- What is told of a directory, on two streams and by a status.
 use Rattle.std.specs.Prelude.{◌≡◌, ◌↔◌, ◌≤◌, ◌⊎◌, ℕ, ◌+◌, ◌==◌, ◌||◌, Bool, true, false, List, [], ◌∷◌, ◌++◌, Option, Some, None, Ok, Err, if◌then◌else◌, codes, decimal}
-use Rattle.wasm_core.specs.declared.fault.WFault.{WFault}
-use Rattle.wasm_core.specs.declared.fault.WFault.TheVariants as faults
-use Rattle.wasm_core.specs.declared.module.WModule.{WModule}
-use Rattle.wasm_core.specs.Format.{Fails}
-use Rattle.wasm_core.specs.Binary.{Spells, module_at}
-use Rattle.wasm_core.specs.Machine.{Config, run}
-use Rattle.wasm_core.specs.Linking.{link, link_name}
-use Rattle.wasm_run.specs.declared.engine.End.{End}
-use Rattle.wasm_run.specs.declared.engine.End.TheVariants.{Done, Trap, StillRunning}
-use Rattle.wasm_run.specs.declared.engine.RunFault.{RunFault}
-use Rattle.wasm_run.specs.declared.engine.RunFault.TheVariants.{NoMemory, Write, Ended}
-use Rattle.wasm_run.specs.Instances.{IsEnd}
-use Rattle.wasm_run.specs.Told.{with_bytes}
+use Rattle.wasm_tree.specs.declared.fault.WFault.{WFault}
+use Rattle.wasm_tree.specs.declared.fault.WFault.TheVariants as faults
+use Rattle.wasm_tree.specs.declared.module.WModule.{WModule}
+use Rattle.wasm_tree.specs.Format.{Fails}
+use Rattle.wasm_binary.specs.Binary.{Spells, module_at}
+use Rattle.wasm_tree.specs.Validity.{IsValid}
+use Rattle.wasm_tree.specs.Machine.{Config, run}
+use Rattle.wasm_tree.specs.Linking.{link, link_name}
+use Rattle.wasm_engine.specs.declared.engine.End.{End}
+use Rattle.wasm_engine.specs.declared.engine.End.TheVariants.{Done, Trap, StillRunning}
+use Rattle.wasm_engine.specs.declared.engine.RunFault.{RunFault}
+use Rattle.wasm_engine.specs.declared.engine.RunFault.TheVariants.{NoMemory, Write, Ended}
+use Rattle.wasm_engine.specs.Instances.{IsEnd}
+use Rattle.wasm_engine.specs.Told.{with_bytes}
 use Rattle.m2_execute.specs.declared.report.Report.{Report}
 use Rattle.m2_execute.specs.declared.report.Report.TheVariants.{Ran, Unread, Refused, Broken}
 use Rattle.m2_execute.specs.Directory.{Files, file_of, module_names, IsModule, AreModules}
@@ -118,11 +119,11 @@ IsOf told failed trees steps (Unread name) before after = ⊥
 
 -- ---- what is missing
 
--- memory was refused for a file, or its bytes spell no module, or one that is told to be invalid
+-- memory was refused for a file, or its bytes spell no module, or one that is not valid
 pub data IsRefused (gives : Files) (file : List ℕ) : WFault → Type 0 where
   Memory : IsRefused gives file faults.NoMemory
   Unspelled : (fault : WFault) (bytes : List ℕ) → gives file (Some bytes) → module_at bytes ≡ Err fault → IsRefused gives file fault
-  NotValid : (bytes : List ℕ) (tree : WModule) → gives file (Some bytes) → Spells bytes tree → IsRefused gives file faults.Invalid
+  NotValid : (bytes : List ℕ) (tree : WModule) → gives file (Some bytes) → Spells bytes tree → (IsValid tree → ⊥) → IsRefused gives file faults.Invalid
 
 -- the module of this name is not there, and the report tells of it
 abbrev pub IsMissing : (gives : Files) (name : List ℕ) → Report → Type 0

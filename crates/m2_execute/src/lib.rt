@@ -11,7 +11,7 @@ mod say;
 pub use dir::InDir;
 pub use report::Report;
 pub use runner::execute;
-pub use wasm_run::Sink;
+pub use wasm_engine::Sink;
 
 #[cfg(test)]
 mod tests;

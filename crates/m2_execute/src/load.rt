@@ -2,14 +2,16 @@
 
 ghost use Rattle.std.specs.Prelude.{◌≡◌, ◌∷◌, [], ◌++◌, List, Some, map, IfOk, IfErr};
 ghost use Rattle.std.specs.String.{string_bytes};
-ghost use Rattle.wasm_core.specs.declared.module.WModule.{WModule};
+ghost use Rattle.wasm_tree.specs.declared.module.WModule.{WModule};
 ghost use Rattle.m2_execute.specs.Directory.{file_of, IsModule, AreModules, Stays};
 ghost use Rattle.m2_execute.specs.Told.{IsMissing, FirstMissing};
 
 use crate::dir::InDir;
 use crate::report::Report;
 use std::alloc::{AllocError, Global};
-use wasm_core::{ValidModule, WFault, read_module, validate};
+use wasm_binary::read_module;
+use wasm_tree::WFault;
+use wasm_valid::{ValidModule, validate};
 
 /// The bytes of a module's file.
 fn bytes_of<'n, D: InDir>(alloc: Global, dir: &mut D, name: &'n str) -> Result<Vec<u8>, Report<'n>>

@@ -9,7 +9,7 @@ ghost use Rattle.std.specs.String.{string_bytes};
 ghost use Rattle.m2_execute.specs.Directory.{begins_with_letter, is_module_name, module_named, module_names, bytes_of};
 
 use std::alloc::{AllocError, Global};
-use wasm_core::Export;
+use wasm_tree::Export;
 
 fn begins_with_letter(name: &[u8]) -> bool
     ensures { result ≡ begins_with_letter name.now }

@@ -1,7 +1,7 @@
 //! What comes of a directory.
 
-use wasm_core::WFault;
-use wasm_run::{End, RunFault};
+use wasm_engine::{End, RunFault};
+use wasm_tree::WFault;
 
 /// What comes of the modules of a directory.
 #[derive(Clone, Copy, Debug)]

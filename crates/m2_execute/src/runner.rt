@@ -10,8 +10,9 @@ use crate::names::module_names;
 use crate::report::Report;
 use crate::say::tell;
 use std::alloc::Global;
-use wasm_core::{ValidModule, WFault};
-use wasm_run::{Instances, Sink};
+use wasm_engine::{Instances, Sink};
+use wasm_tree::WFault;
+use wasm_valid::ValidModule;
 
 /// Links the modules, and executes them for so many reductions.
 fn run_all<S: Sink>(

@@ -6,8 +6,8 @@ ghost use Rattle.m2_execute.specs.Told.{status, end_word, number_of, number_of_r
 
 use crate::report::Report;
 use itoa::Buffer;
-use wasm_core::WFault;
-use wasm_run::{End, RunFault, Sink};
+use wasm_engine::{End, RunFault, Sink};
+use wasm_tree::WFault;
 
 /// Hands bytes to a stream, up to its first failure.
 fn say<E: Sink>(err: &mut E, bytes: &[u8]) -> bool

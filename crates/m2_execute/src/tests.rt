@@ -3,8 +3,9 @@ ghost use Rattle.std.specs.Prelude.{◌≡◌, Some};
 use crate::{InDir, Sink, execute};
 use std::alloc::{AllocError, Global};
 use std::test::Fail;
-use wasm_core::{read_module, validate};
-use wasm_run::{End, Instances};
+use wasm_binary::read_module;
+use wasm_engine::{End, Instances};
+use wasm_valid::validate;
 
 /// The module link of the program `MODULE M; FROM Console IMPORT Put; BEGIN Put("A") END M.` with 16 pages, encoded by
 /// hand from Core 1.0, section 5.

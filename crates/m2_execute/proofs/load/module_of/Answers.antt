@@ -7,4 +7,4 @@ returns-in-Err-clause-err g c =
 
 pub returns-clause-err : goal.returns-clause-err
 returns-clause-err g c =
-    not_valid (g.D.InDir.gives c.args.dir.now) c.args.name c.in_ok-bytes.bytes.items c.deref.result.now c.in_ok-bytes.ensures.ok c.deref.ensures.value c.in-Ok.tree c.in-Err-validate.fault c.in-Ok.ensures.decided c.in-Err-validate.ensures.refusals
+    not_valid (g.D.InDir.gives c.args.dir.now) c.args.name c.in_ok-bytes.bytes.items c.deref.result.now c.in_ok-bytes.ensures.ok c.deref.ensures.value c.in-Ok.tree c.in-Err-validate.fault c.in-Ok.ensures.decided c.in-Err-validate.ensures

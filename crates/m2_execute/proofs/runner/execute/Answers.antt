@@ -1,7 +1,7 @@
 use Rattle.std.proofs.Common.{◌∙◌, ap, map, inr, refl}
 use Rattle.std.specs.String.{string_bytes}
-use Rattle.wasm_core.specs.Linking.{link_name}
-use Rattle.wasm_core.specs.declared.fault.WFault.TheVariants.{NoMemory}
+use Rattle.wasm_tree.specs.Linking.{link_name}
+use Rattle.wasm_tree.specs.declared.fault.WFault.TheVariants.{NoMemory}
 use Rattle.m2_execute.specs.declared.report.Report.TheVariants.{Refused}
 use Rattle.m2_execute.specs.Told.{Memory}
 use Rattle.m2_execute.specs.Directory.{module_names}

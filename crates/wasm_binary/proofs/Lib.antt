@@ -1,0 +1,12 @@
+pub mod Groups
+pub mod Spelled
+pub mod Loop
+pub mod Utf8
+pub mod Laws
+pub mod LawsNumber
+pub mod LawsParts
+pub mod LawsKinds
+pub mod Fitting
+pub mod LawsCode
+pub mod LawsBinary
+pub mod LawsModule

@@ -1,0 +1,19 @@
+use Rattle.std.proofs.Common.{◌≡◌, ◌+◌, ◌-◌, ◌*◌, length}
+use Rattle.wasm_binary.specs.Binary.{opened, sequence}
+use Rattle.wasm_binary.proofs.Loop.{with_instrs}
+use Rattle.wasm_binary.proofs.binary.code.+code.Given as goal
+
+abbrev pub decreases-code_in : goal.decreases-code_in
+decreases-code_in l = l.levels * 4 + 2
+
+abbrev pub decreases-code_within : goal.decreases-code_within
+decreases-code_within l = l.levels * 4 + 3
+
+abbrev pub decreases-instr_of : goal.decreases-instr_of
+decreases-instr_of l = l.levels * 4 + 1
+
+abbrev pub decreases-opened : goal.decreases-opened
+decreases-opened l = l.levels * 4
+
+abbrev pub invariant-code_in-loop : goal.invariant-code_in-loop
+invariant-code_in-loop l = with_instrs l.instrs (sequence (opened l.levels) (l.end - l.counter) l.rest) ≡ sequence (opened l.levels) (length l.bytes) l.bytes

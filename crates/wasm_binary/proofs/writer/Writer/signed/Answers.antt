@@ -1,0 +1,26 @@
+use Rattle.std.proofs.Common.{◌≡◌, ℕ, ◌+◌, ◌-◌, [], ◌∷◌, ap, ◌∙◌, arith}
+use Rattle.wasm_binary.proofs.Groups.{signed_small, signed_great, signed_more, signed_none, shifted_within, ends, goes_on, is_whole}
+use Rattle.wasm_binary.proofs.writer.Writer.signed.Goals as goal
+
+pub returns-then-rest-lt64 : goal.returns-then-rest-lt64
+returns-then-rest-lt64 c =
+    ends c.byte.result c.byte.new.self c.loop.self c.args.self.now _ _ _ c.byte.ensures (signed_small c.args.most c.loop.counter c.args.top c.loop.rest c.loop-test.true c.if-rest-lt64.true) c.loop.invariant.0
+
+pub returns-then-top-rest : goal.returns-then-top-rest
+returns-then-top-rest c =
+    let byte : c.loop.rest + 127 - c.args.top ≡ 127 - (c.args.top - c.loop.rest) = omega (arith, c.loop.invariant.1) in
+    ends c.byte-then-top-rest.result c.byte-then-top-rest.new.self c.loop.self c.args.self.now _ _ _ c.byte-then-top-rest.ensures
+    (signed_great c.args.most c.loop.counter c.args.top c.loop.rest c.loop-test.true c.if-rest-lt64.false c.if-top-rest.true ∙ ap (λ (b : ℕ). b ∷ []) byte)
+    c.loop.invariant.0
+
+pub loop-preserved : goal.loop-preserved
+loop-preserved c =
+    rw c.shifted-rest.ensures (
+      goes_on c.byte-in-loop.new.self c.loop.self c.args.self.now _ _ _ _ c.in_ok-byte.ensures
+          (signed_more c.args.most c.loop.counter c.args.top c.loop.rest c.loop-test.true c.if-rest-lt64.false c.if-top-rest.false)
+          c.loop.invariant.0,
+      shifted_within c.args.top c.loop.rest c.loop.invariant.1,
+    )
+
+pub returns : goal.returns
+returns c = is_whole c.loop.self c.args.self.now _ _ (signed_none c.args.most c.loop.counter c.args.top c.loop.rest c.loop-test.false) c.loop.invariant.0

@@ -1,0 +1,4 @@
+pub mod Number
+pub mod Parts
+pub mod Opcode
+pub mod Binary

@@ -1,0 +1,119 @@
+//! Values with a binary format, and lists of them.
+
+ghost use Rattle.std.specs.Prelude.{◌≡◌, ◌++◌, List, ℕ, OnOk};
+ghost use Rattle.wasm_tree.specs.Format.{Format, Gives};
+ghost use Rattle.wasm_binary.specs.Number.{unsigned};
+ghost use Rattle.wasm_binary.specs.Parts.{many, vector, entries, section};
+
+mod body;
+mod code;
+mod kinds;
+mod name;
+mod opcode;
+mod sections;
+
+use crate::number::unsigned_at;
+use crate::parts::{closed, front};
+use crate::writer::Writer;
+use sqlite_items::Items;
+use std::alloc::{AllocError, Global};
+use wasm_tree::WFault;
+
+/// A value that is read from the front of bytes, and written.
+pub trait Binary: Drop {
+    ghost format: { Format Self };
+
+    fn read(alloc: Global, bytes: &[u8]) -> Result<(Self, &[u8]), WFault>
+        ensures { Gives (λ x. (x.0, x.1.now)) result (format.reading bytes.now) };
+
+    fn write(&self, out: &mut Writer) -> Result<(), AllocError>
+        ensures { OnOk result (out.new ≡ out.old ++ format.spelling self.now) };
+}
+
+impl Binary for u32 {
+    ghost format = { unsigned };
+
+    fn read(_alloc: Global, bytes: &[u8]) -> Result<(u32, &[u8]), WFault> {
+        unsigned_at(bytes)
+    }
+
+    fn write(&self, out: &mut Writer) -> Result<(), AllocError> {
+        out.unsigned(u64::from(*self))
+    }
+}
+
+/// So many values, one after another.
+pub fn many<T: Binary>(alloc: Global, count: u32, bytes: &[u8]) -> Result<(Items<T>, &[u8]), WFault>
+    ensures { Gives (λ x. (x.0, x.1.now)) result (many T.format count bytes.now) }
+{
+    let mut items = Items::new(alloc);
+    let mut rest = bytes;
+    for _ in 0..count {
+        let (item, after) = T::read(alloc, rest)?;
+        items.push(item)?;
+        rest = after;
+    }
+    Ok((items, rest))
+}
+
+/// How many there are, and then each.
+pub fn vector<T: Binary>(alloc: Global, bytes: &[u8]) -> Result<(Items<T>, &[u8]), WFault>
+    ensures { Gives (λ x. (x.0, x.1.now)) result ((vector T.format).reading bytes.now) }
+{
+    let (count, rest) = unsigned_at(bytes)?;
+    many(alloc, count, rest)
+}
+
+/// The same, of at least one.
+fn entries<T: Binary>(alloc: Global, bytes: &[u8]) -> Result<(Items<T>, &[u8]), WFault>
+    ensures { Gives (λ x. (x.0, x.1.now)) result ((entries T.format).reading bytes.now) }
+{
+    let (count, rest) = unsigned_at(bytes)?;
+    if count == 0 {
+        return Err(WFault::Malformed);
+    }
+    many(alloc, count, rest)
+}
+
+/// The section of this number, or nothing where another one or the end stands.
+pub fn section<T: Binary>(
+    alloc: Global,
+    number: u8,
+    bytes: &[u8],
+) -> Result<(Items<T>, &[u8]), WFault>
+    ensures { Gives (λ x. (x.0, x.1.now)) result ((section number T.format).reading bytes.now) }
+{
+    match bytes {
+        [first, rest @ ..] if *first == number => {
+            let (size, rest) = unsigned_at(rest)?;
+            let (items, left) = entries(alloc, front(rest, size))?;
+            let rest = closed(size, rest, left)?;
+            Ok((items, rest))
+        }
+        _ => Ok((Items::new(alloc), bytes)),
+    }
+}
+
+/// Appends how many there are, and then each.
+pub fn write_vector<T: Binary>(out: &mut Writer, items: &[T]) -> Result<(), AllocError>
+    ensures { OnOk result (out.new ≡ out.old ++ (vector T.format).spelling items.now) }
+{
+    out.unsigned(items.len() as u64)?;
+    for item in items {
+        item.write(out)?;
+    }
+    Ok(())
+}
+
+/// Appends the section of this number, or nothing where it has no entry.
+pub fn write_section<T: Binary>(out: &mut Writer, number: u8, items: &[T]) -> Result<(), AllocError>
+    ensures { OnOk result (out.new ≡ out.old ++ (section number T.format).spelling items.now) }
+{
+    if items.is_empty() {
+        return Ok(());
+    }
+    let mut content = out.nested();
+    write_vector(&mut content, items)?;
+    out.byte(number)?;
+    out.sized(content.as_slice())
+}

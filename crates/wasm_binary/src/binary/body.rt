@@ -1,0 +1,77 @@
+//! Function bodies in bytes (Core 1.0, section 5.5.13).
+
+ghost use Rattle.std.specs.Prelude.{◌≡◌, ◌++◌, ◌+◌, OnOk};
+ghost use Rattle.wasm_tree.specs.Format.{Format, Gives};
+ghost use Rattle.wasm_binary.specs.Binary.{locals, locals_at, locals_spelling, body};
+
+use crate::binary::Binary;
+use crate::binary::code::{code_at, write_code};
+use crate::number::unsigned_at;
+use crate::parts::{closed, front};
+use crate::writer::Writer;
+use sqlite_items::Items;
+use std::alloc::{AllocError, Global};
+use wasm_tree::{Body, Locals, ValueType, WFault};
+
+/// So many groups of locals, where there are so many locals before them.
+fn groups_at(alloc: Global, count: u32, bytes: &[u8]) -> Result<(Items<Locals>, &[u8]), WFault>
+    ensures { Gives (λ x. (x.0, x.1.now)) result (locals_at count 0 bytes.now) }
+{
+    let mut groups = Items::new(alloc);
+    let mut before = 0u32;
+    let mut rest = bytes;
+    for _ in 0..count {
+        let (number, after) = unsigned_at(rest)?;
+        let Some(total) = before.checked_add(number) else {
+            return Err(WFault::Malformed);
+        };
+        let (value_type, after) = ValueType::read(alloc, after)?;
+        groups.push(Locals {
+            count: number,
+            value_type,
+        })?;
+        before = total;
+        rest = after;
+    }
+    Ok((groups, rest))
+}
+
+#[tactic(auto, unfolding(crate::specs::Binary::locals))]
+fn locals_at(alloc: Global, bytes: &[u8]) -> Result<(Items<Locals>, &[u8]), WFault>
+    ensures { Gives (λ x. (x.0, x.1.now)) result (locals.reading bytes.now) }
+{
+    let (count, rest) = unsigned_at(bytes)?;
+    groups_at(alloc, count, rest)
+}
+
+#[tactic(auto, unfolding(crate::specs::Binary::locals))]
+fn write_locals(out: &mut Writer, groups: &[Locals]) -> Result<(), AllocError>
+    ensures { OnOk result (out.new ≡ out.old ++ locals.spelling groups.now) }
+{
+    out.unsigned(groups.len() as u64)?;
+    for group in groups {
+        out.unsigned(u64::from(group.count))?;
+        group.value_type.write(out)?;
+    }
+    Ok(())
+}
+
+#[tactic(auto, unfolding(crate::specs::Binary::body))]
+impl Binary for Body {
+    ghost format = { body };
+
+    fn read(alloc: Global, bytes: &[u8]) -> Result<(Body, &[u8]), WFault> {
+        let (size, after) = unsigned_at(bytes)?;
+        let (locals, rest) = locals_at(alloc, front(after, size))?;
+        let (code, left) = code_at(alloc, rest)?;
+        let rest = closed(size, after, left)?;
+        Ok((Body { locals, code }, rest))
+    }
+
+    fn write(&self, out: &mut Writer) -> Result<(), AllocError> {
+        let mut content = out.nested();
+        write_locals(&mut content, self.locals.as_slice())?;
+        write_code(&mut content, self.code.as_slice())?;
+        out.sized(content.as_slice())
+    }
+}

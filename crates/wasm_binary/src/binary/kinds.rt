@@ -1,0 +1,116 @@
+//! Types in bytes (Core 1.0, section 5.3).
+
+ghost use Rattle.std.specs.Prelude.{◌≡◌, ◌++◌, OnOk};
+ghost use Rattle.wasm_tree.specs.Format.{Format, Gives};
+ghost use Rattle.wasm_binary.specs.Binary.{value_type, func_type, limits, table_type, memory_type};
+
+use crate::binary::{Binary, vector, write_vector};
+use crate::number::unsigned_at;
+use crate::parts::{byte_at, skip};
+use crate::writer::Writer;
+use std::alloc::{AllocError, Global};
+use wasm_tree::{FuncType, Limits, MemoryType, TableType, ValueType, WFault};
+
+#[tactic(auto, unfolding(crate::specs::Binary::value_type))]
+impl Binary for ValueType {
+    ghost format = { value_type };
+
+    fn read(_alloc: Global, bytes: &[u8]) -> Result<(ValueType, &[u8]), WFault> {
+        match byte_at(bytes)? {
+            (0x7F, rest) => Ok((ValueType::I32, rest)),
+            (0x7E, rest) => Ok((ValueType::I64, rest)),
+            _ => Err(WFault::OutsideProfile),
+        }
+    }
+
+    fn write(&self, out: &mut Writer) -> Result<(), AllocError> {
+        match self {
+            ValueType::I32 => out.byte(0x7F),
+            ValueType::I64 => out.byte(0x7E),
+        }
+    }
+}
+
+#[tactic(auto, unfolding(crate::specs::Binary::func_type))]
+impl Binary for FuncType {
+    ghost format = { func_type };
+
+    fn read(alloc: Global, bytes: &[u8]) -> Result<(FuncType, &[u8]), WFault> {
+        let rest = skip(0x60, bytes)?;
+        let (params, rest) = vector(alloc, rest)?;
+        let (results, rest) = vector(alloc, rest)?;
+        Ok((FuncType { params, results }, rest))
+    }
+
+    fn write(&self, out: &mut Writer) -> Result<(), AllocError> {
+        out.byte(0x60)?;
+        write_vector(out, self.params.as_slice())?;
+        write_vector(out, self.results.as_slice())
+    }
+}
+
+#[tactic(auto, unfolding(crate::specs::Binary::limits))]
+impl Binary for Limits {
+    ghost format = { limits };
+
+    fn read(_alloc: Global, bytes: &[u8]) -> Result<(Limits, &[u8]), WFault> {
+        let (flag, rest) = byte_at(bytes)?;
+        match flag {
+            0x00 => {
+                let (min, rest) = unsigned_at(rest)?;
+                Ok((Limits { min, max: None }, rest))
+            }
+            0x01 => {
+                let (min, rest) = unsigned_at(rest)?;
+                let (max, rest) = unsigned_at(rest)?;
+                let max = Some(max);
+                Ok((Limits { min, max }, rest))
+            }
+            _ => Err(WFault::Malformed),
+        }
+    }
+
+    fn write(&self, out: &mut Writer) -> Result<(), AllocError> {
+        match self.max {
+            None => {
+                out.byte(0x00)?;
+                out.unsigned(u64::from(self.min))
+            }
+            Some(max) => {
+                out.byte(0x01)?;
+                out.unsigned(u64::from(self.min))?;
+                out.unsigned(u64::from(max))
+            }
+        }
+    }
+}
+
+#[tactic(auto, unfolding(crate::specs::Binary::table_type))]
+impl Binary for TableType {
+    ghost format = { table_type };
+
+    fn read(alloc: Global, bytes: &[u8]) -> Result<(TableType, &[u8]), WFault> {
+        let rest = skip(0x70, bytes)?;
+        let (limits, rest) = Limits::read(alloc, rest)?;
+        Ok((TableType { limits }, rest))
+    }
+
+    fn write(&self, out: &mut Writer) -> Result<(), AllocError> {
+        out.byte(0x70)?;
+        self.limits.write(out)
+    }
+}
+
+#[tactic(auto, unfolding(crate::specs::Binary::memory_type))]
+impl Binary for MemoryType {
+    ghost format = { memory_type };
+
+    fn read(alloc: Global, bytes: &[u8]) -> Result<(MemoryType, &[u8]), WFault> {
+        let (limits, rest) = Limits::read(alloc, bytes)?;
+        Ok((MemoryType { limits }, rest))
+    }
+
+    fn write(&self, out: &mut Writer) -> Result<(), AllocError> {
+        self.limits.write(out)
+    }
+}

@@ -1,0 +1,41 @@
+//! Names in bytes (Core 1.0, section 5.2.4).
+
+ghost use Rattle.std.specs.Prelude.{◌≡◌, ◌++◌, OnOk};
+ghost use Rattle.std.specs.Str.{is_utf8};
+ghost use Rattle.wasm_tree.specs.Format.{Gives};
+ghost use Rattle.wasm_binary.specs.Binary.{name};
+
+use crate::number::unsigned_at;
+use crate::parts::{closed, front};
+use crate::writer::Writer;
+use sqlite_items::Items;
+use std::alloc::{AllocError, Global};
+use wasm_tree::WFault;
+
+fn is_utf8(text: &[u8]) -> bool
+    ensures { result ≡ is_utf8 text.now }
+{
+    std::str::from_utf8(text).is_ok()
+}
+
+/// A name in UTF-8.
+#[tactic(auto, unfolding(crate::specs::Binary::name))]
+pub fn name_at(alloc: Global, bytes: &[u8]) -> Result<(Items<u8>, &[u8]), WFault>
+    ensures { Gives (λ x. (x.0, x.1.now)) result (name.reading bytes.now) }
+{
+    let (size, rest) = unsigned_at(bytes)?;
+    let text = front(rest, size);
+    let rest = closed(size, rest, &[])?;
+    if !is_utf8(text) {
+        return Err(WFault::Malformed);
+    }
+    Ok((Items::from_slice(alloc, text)?, rest))
+}
+
+/// Appends a name.
+#[tactic(auto, unfolding(crate::specs::Binary::name))]
+pub fn write_name(out: &mut Writer, text: &[u8]) -> Result<(), AllocError>
+    ensures { OnOk result (out.new ≡ out.old ++ name.spelling text.now) }
+{
+    out.sized(text)
+}

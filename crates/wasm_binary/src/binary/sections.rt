@@ -1,0 +1,230 @@
+//! The entries of the sections in bytes (Core 1.0, section 5.5).
+
+ghost use Rattle.std.specs.Prelude.{◌≡◌, ◌++◌, OnOk};
+ghost use Rattle.wasm_tree.specs.Format.{Format, Gives};
+ghost use Rattle.wasm_binary.specs.Binary.{import_kind, import, global, export_kind, export, element, data_segment};
+
+use crate::binary::code::{code_at, write_code};
+use crate::binary::name::{name_at, write_name};
+use crate::binary::{Binary, vector, write_vector};
+use crate::number::unsigned_at;
+use crate::parts::{byte_at, closed, front, skip};
+use crate::writer::Writer;
+use sqlite_items::Items;
+use std::alloc::{AllocError, Global};
+use wasm_tree::{
+    Data, Element, Export, ExportKind, Global as Constant, Import, ImportKind, MemoryType,
+    TableType, ValueType, WFault,
+};
+
+#[tactic(auto, unfolding(crate::specs::Binary::import_kind))]
+impl Binary for ImportKind {
+    ghost format = { import_kind };
+
+    fn read(alloc: Global, bytes: &[u8]) -> Result<(ImportKind, &[u8]), WFault> {
+        let (kind, rest) = byte_at(bytes)?;
+        match kind {
+            0x00 => {
+                let (type_index, rest) = unsigned_at(rest)?;
+                Ok((ImportKind::Function(type_index), rest))
+            }
+            0x01 => {
+                let (table, rest) = TableType::read(alloc, rest)?;
+                Ok((ImportKind::Table(table), rest))
+            }
+            0x02 => {
+                let (memory, rest) = MemoryType::read(alloc, rest)?;
+                Ok((ImportKind::Memory(memory), rest))
+            }
+            0x03 => {
+                let (value_type, rest) = ValueType::read(alloc, rest)?;
+                let rest = skip(0x00, rest)?;
+                Ok((ImportKind::Global(value_type), rest))
+            }
+            _ => Err(WFault::Malformed),
+        }
+    }
+
+    fn write(&self, out: &mut Writer) -> Result<(), AllocError> {
+        match self {
+            ImportKind::Function(type_index) => {
+                out.byte(0x00)?;
+                type_index.write(out)
+            }
+            ImportKind::Table(table) => {
+                out.byte(0x01)?;
+                table.write(out)
+            }
+            ImportKind::Memory(memory) => {
+                out.byte(0x02)?;
+                memory.write(out)
+            }
+            ImportKind::Global(value_type) => {
+                out.byte(0x03)?;
+                value_type.write(out)?;
+                out.byte(0x00)
+            }
+        }
+    }
+}
+
+#[tactic(auto, unfolding(crate::specs::Binary::import))]
+impl Binary for Import {
+    ghost format = { import };
+
+    fn read(alloc: Global, bytes: &[u8]) -> Result<(Import, &[u8]), WFault> {
+        let (module_name, rest) = name_at(alloc, bytes)?;
+        let (name, rest) = name_at(alloc, rest)?;
+        let (kind, rest) = ImportKind::read(alloc, rest)?;
+        Ok((
+            Import {
+                module_name,
+                name,
+                kind,
+            },
+            rest,
+        ))
+    }
+
+    fn write(&self, out: &mut Writer) -> Result<(), AllocError> {
+        write_name(out, self.module_name.as_slice())?;
+        write_name(out, self.name.as_slice())?;
+        self.kind.write(out)
+    }
+}
+
+#[tactic(auto, unfolding(crate::specs::Binary::global))]
+impl Binary for Constant {
+    ghost format = { global };
+
+    fn read(alloc: Global, bytes: &[u8]) -> Result<(Constant, &[u8]), WFault> {
+        let (value_type, rest) = ValueType::read(alloc, bytes)?;
+        let rest = skip(0x00, rest)?;
+        let (value, rest) = code_at(alloc, rest)?;
+        Ok((Constant { value_type, value }, rest))
+    }
+
+    fn write(&self, out: &mut Writer) -> Result<(), AllocError> {
+        self.value_type.write(out)?;
+        out.byte(0x00)?;
+        write_code(out, self.value.as_slice())
+    }
+}
+
+#[tactic(auto, unfolding(crate::specs::Binary::export_kind))]
+impl Binary for ExportKind {
+    ghost format = { export_kind };
+
+    fn read(_alloc: Global, bytes: &[u8]) -> Result<(ExportKind, &[u8]), WFault> {
+        let (kind, rest) = byte_at(bytes)?;
+        match kind {
+            0x00 => {
+                let (index, rest) = unsigned_at(rest)?;
+                Ok((ExportKind::Function(index), rest))
+            }
+            0x01 => {
+                let (index, rest) = unsigned_at(rest)?;
+                Ok((ExportKind::Table(index), rest))
+            }
+            0x02 => {
+                let (index, rest) = unsigned_at(rest)?;
+                Ok((ExportKind::Memory(index), rest))
+            }
+            0x03 => {
+                let (index, rest) = unsigned_at(rest)?;
+                Ok((ExportKind::Global(index), rest))
+            }
+            _ => Err(WFault::Malformed),
+        }
+    }
+
+    fn write(&self, out: &mut Writer) -> Result<(), AllocError> {
+        match self {
+            ExportKind::Function(index) => {
+                out.byte(0x00)?;
+                index.write(out)
+            }
+            ExportKind::Table(index) => {
+                out.byte(0x01)?;
+                index.write(out)
+            }
+            ExportKind::Memory(index) => {
+                out.byte(0x02)?;
+                index.write(out)
+            }
+            ExportKind::Global(index) => {
+                out.byte(0x03)?;
+                index.write(out)
+            }
+        }
+    }
+}
+
+#[tactic(auto, unfolding(crate::specs::Binary::export))]
+impl Binary for Export {
+    ghost format = { export };
+
+    fn read(alloc: Global, bytes: &[u8]) -> Result<(Export, &[u8]), WFault> {
+        let (name, rest) = name_at(alloc, bytes)?;
+        let (kind, rest) = ExportKind::read(alloc, rest)?;
+        Ok((Export { name, kind }, rest))
+    }
+
+    fn write(&self, out: &mut Writer) -> Result<(), AllocError> {
+        write_name(out, self.name.as_slice())?;
+        self.kind.write(out)
+    }
+}
+
+#[tactic(auto, unfolding(crate::specs::Binary::element))]
+impl Binary for Element {
+    ghost format = { element };
+
+    fn read(alloc: Global, bytes: &[u8]) -> Result<(Element, &[u8]), WFault> {
+        let (table, rest) = unsigned_at(bytes)?;
+        let (offset, rest) = code_at(alloc, rest)?;
+        let (functions, rest) = vector(alloc, rest)?;
+        Ok((
+            Element {
+                table,
+                offset,
+                functions,
+            },
+            rest,
+        ))
+    }
+
+    fn write(&self, out: &mut Writer) -> Result<(), AllocError> {
+        self.table.write(out)?;
+        write_code(out, self.offset.as_slice())?;
+        write_vector(out, self.functions.as_slice())
+    }
+}
+
+#[tactic(auto, unfolding(crate::specs::Binary::data_segment))]
+impl Binary for Data {
+    ghost format = { data_segment };
+
+    fn read(alloc: Global, bytes: &[u8]) -> Result<(Data, &[u8]), WFault> {
+        let (memory, rest) = unsigned_at(bytes)?;
+        let (offset, rest) = code_at(alloc, rest)?;
+        let (size, rest) = unsigned_at(rest)?;
+        let content = front(rest, size);
+        let rest = closed(size, rest, &[])?;
+        let bytes = Items::from_slice(alloc, content)?;
+        Ok((
+            Data {
+                memory,
+                offset,
+                bytes,
+            },
+            rest,
+        ))
+    }
+
+    fn write(&self, out: &mut Writer) -> Result<(), AllocError> {
+        self.memory.write(out)?;
+        write_code(out, self.offset.as_slice())?;
+        out.sized(self.bytes.as_slice())
+    }
+}

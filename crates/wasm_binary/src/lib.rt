@@ -1,0 +1,14 @@
+//! WebAssembly modules as bytes (Core 1.0, section 5), in this project's profile.
+#![tactic(auto)]
+
+mod binary;
+mod module_bytes;
+mod number;
+mod parts;
+mod writer;
+
+pub use module_bytes::{read_module, write_module};
+pub use writer::Writer;
+
+#[cfg(test)]
+mod tests;

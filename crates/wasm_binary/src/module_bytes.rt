@@ -1,0 +1,236 @@
+//! Whole modules in bytes (Core 1.0, section 5.5.15).
+
+ghost use Rattle.std.specs.Prelude.{◌≡◌, ◌++◌, List, ℕ, true, [], map, OnOk, IfOk, Ok, MatchResult, ◌⊎◌};
+ghost use Rattle.wasm_tree.specs.Format.{Format, Gives};
+ghost use Rattle.wasm_binary.specs.Binary.{header, skip_all, bodies, code_entries, code_content, code_section, at_end, module_at, types_of, bodies_spelling, code_spelling, first_sections, middle_sections, last_sections, module_spelling, module_fits, Spells, IsOnlySpelling};
+ghost use Rattle.wasm_tree.specs.declared.fault.WFault.TheVariants.{NoMemory};
+ghost use Rattle.wasm_tree.specs.declared.module.WModule.{WModule};
+
+use crate::binary::{Binary, section, write_section};
+use crate::number::unsigned_at;
+use crate::parts::{closed, front, skip};
+use crate::writer::Writer;
+use sqlite_items::Items;
+use std::alloc::{AllocError, Global};
+use wasm_tree::{Body, Function, WFault, WModule};
+
+/// The magic number and the version.
+const HEADER: [u8; 8] = [0x00, 0x61, 0x73, 0x6D, 0x01, 0x00, 0x00, 0x00];
+
+/// The bytes behind all of these.
+fn skip_all_at<'a>(expected: &[u8], bytes: &'a [u8]) -> Result<&'a [u8], WFault>
+    ensures { Gives (λ x. x.now) result (skip_all expected.now bytes.now) }
+{
+    let mut rest = bytes;
+    for byte in expected {
+        rest = skip(*byte, rest)?;
+    }
+    Ok(rest)
+}
+
+/// The bodies of functions of these types.
+fn bodies_at<'a>(
+    alloc: Global,
+    types: &[u32],
+    bytes: &'a [u8],
+) -> Result<(Items<Function>, &'a [u8]), WFault>
+    ensures { Gives (λ x. (x.0, x.1.now)) result (bodies types.now bytes.now) }
+{
+    let mut functions = Items::new(alloc);
+    let mut rest = bytes;
+    for type_index in types {
+        let (body, after) = Body::read(alloc, rest)?;
+        functions.push(Function {
+            type_index: *type_index,
+            body,
+        })?;
+        rest = after;
+    }
+    Ok((functions, rest))
+}
+
+/// The content of the code section: as many bodies as there are types.
+#[tactic(auto, unfolding(crate::specs::Binary::code_entries))]
+fn code_entries_at<'a>(
+    alloc: Global,
+    types: &[u32],
+    bytes: &'a [u8],
+) -> Result<(Items<Function>, &'a [u8]), WFault>
+    ensures { Gives (λ x. (x.0, x.1.now)) result (code_entries types.now bytes.now) }
+{
+    let (count, rest) = unsigned_at(bytes)?;
+    if count as usize != types.len() {
+        return Err(WFault::Malformed);
+    }
+    bodies_at(alloc, types, rest)
+}
+
+#[tactic(auto, unfolding(crate::specs::Binary::code_content))]
+fn code_content_at<'a>(
+    alloc: Global,
+    types: &[u32],
+    bytes: &'a [u8],
+) -> Result<(Items<Function>, &'a [u8]), WFault>
+    ensures { Gives (λ x. (x.0, x.1.now)) result (code_content types.now bytes.now) }
+{
+    let (size, after) = unsigned_at(bytes)?;
+    let (functions, left) = code_entries_at(alloc, types, front(after, size))?;
+    let rest = closed(size, after, left)?;
+    Ok((functions, rest))
+}
+
+/// The code section, which has to come where functions have types, and may not where none has.
+fn code_section_at<'a>(
+    alloc: Global,
+    types: &[u32],
+    bytes: &'a [u8],
+) -> Result<(Items<Function>, &'a [u8]), WFault>
+    ensures { Gives (λ x. (x.0, x.1.now)) result (code_section types.now bytes.now) }
+{
+    if types.is_empty() {
+        return Ok((Items::new(alloc), bytes));
+    }
+    match bytes {
+        [] => Err(WFault::Malformed),
+        [10, rest @ ..] => code_content_at(alloc, types, rest),
+        [_, ..] => Err(WFault::OutsideProfile),
+    }
+}
+
+/// Nothing may follow the last section.
+fn at_end(bytes: &[u8]) -> Result<(), WFault>
+    ensures { Gives (λ _. tt) result (at_end bytes.now) }
+{
+    if bytes.is_empty() {
+        Ok(())
+    } else {
+        Err(WFault::OutsideProfile)
+    }
+}
+
+#[tactic(auto, unfolding(crate::specs::Binary::module_at))]
+fn module_at(alloc: Global, bytes: &[u8]) -> Result<WModule, WFault>
+    ensures { Gives (λ m. (m, [])) result (module_at bytes.now) }
+{
+    let rest = skip_all_at(&HEADER, bytes)?;
+    let (types, rest) = section(alloc, 1, rest)?;
+    let (imports, rest) = section(alloc, 2, rest)?;
+    let (uses, rest) = section::<u32>(alloc, 3, rest)?;
+    let (tables, rest) = section(alloc, 4, rest)?;
+    let (memories, rest) = section(alloc, 5, rest)?;
+    let (globals, rest) = section(alloc, 6, rest)?;
+    let (exports, rest) = section(alloc, 7, rest)?;
+    let (elements, rest) = section(alloc, 9, rest)?;
+    let (functions, rest) = code_section_at(alloc, uses.as_slice(), rest)?;
+    let (data, rest) = section(alloc, 11, rest)?;
+    at_end(rest)?;
+    Ok(WModule {
+        types,
+        imports,
+        functions,
+        tables,
+        memories,
+        globals,
+        exports,
+        elements,
+        data,
+    })
+}
+
+/// The module that the bytes spell. `Malformed` or `OutsideProfile` where they spell none: which of the two, the first
+/// byte decides that cannot continue a spelling or that breaks a stated size.
+pub fn read_module(alloc: Global, bytes: &[u8]) -> Result<WModule, WFault>
+    // A module exactly where the bytes spell it.
+    ensures decided { MatchResult result (λ m. Spells bytes.now m) (λ e. (e ≡ NoMemory) ⊎ ((m : WModule) → ¬ (Spells bytes.now m))) }
+    // Which fault it is.
+    ensures exact { Gives (λ m. (m, [])) result (module_at bytes.now) }
+{
+    module_at(alloc, bytes)
+}
+
+/// Appends the code section, or nothing where there is no function.
+fn write_code_section(out: &mut Writer, functions: &[Function]) -> Result<(), AllocError>
+    ensures { OnOk result (out.new ≡ out.old ++ code_spelling functions.now) }
+{
+    if functions.is_empty() {
+        return Ok(());
+    }
+    let mut content = out.nested();
+    write_bodies(&mut content, functions)?;
+    out.byte(10)?;
+    out.sized(content.as_slice())
+}
+
+fn write_bodies(out: &mut Writer, functions: &[Function]) -> Result<(), AllocError>
+    ensures { OnOk result (out.new ≡ out.old ++ bodies_spelling functions.now) }
+{
+    out.unsigned(functions.len() as u64)?;
+    for function in functions {
+        function.body.write(out)?;
+    }
+    Ok(())
+}
+
+fn types_of(alloc: Global, functions: &[Function]) -> Result<Vec<u32>, AllocError>
+    ensures { IfOk result (λ v. v.items ≡ types_of functions.now) }
+{
+    let mut uses = Vec::new(alloc);
+    for function in functions {
+        uses.push(function.type_index)?;
+    }
+    Ok(uses)
+}
+
+/// The header, and the sections of types, imports and functions.
+#[tactic(auto, unfolding(crate::specs::Binary::first_sections))]
+fn write_first(out: &mut Writer, uses: &[u32], tree: &WModule) -> Result<(), AllocError>
+    requires { uses.now ≡ types_of tree.now.functions }
+    ensures { OnOk result (out.new ≡ out.old ++ first_sections tree.now) }
+{
+    out.bytes(&HEADER)?;
+    write_section(out, 1, tree.types.as_slice())?;
+    write_section(out, 2, tree.imports.as_slice())?;
+    write_section(out, 3, uses)
+}
+
+/// The sections of tables, memories, globals and exports.
+#[tactic(auto, unfolding(crate::specs::Binary::middle_sections))]
+fn write_middle(out: &mut Writer, tree: &WModule) -> Result<(), AllocError>
+    ensures { OnOk result (out.new ≡ out.old ++ middle_sections tree.now) }
+{
+    write_section(out, 4, tree.tables.as_slice())?;
+    write_section(out, 5, tree.memories.as_slice())?;
+    write_section(out, 6, tree.globals.as_slice())?;
+    write_section(out, 7, tree.exports.as_slice())
+}
+
+/// The sections of elements, code and data.
+#[tactic(auto, unfolding(crate::specs::Binary::last_sections))]
+fn write_last(out: &mut Writer, tree: &WModule) -> Result<(), AllocError>
+    ensures { OnOk result (out.new ≡ out.old ++ last_sections tree.now) }
+{
+    write_section(out, 9, tree.elements.as_slice())?;
+    write_code_section(out, tree.functions.as_slice())?;
+    write_section(out, 11, tree.data.as_slice())
+}
+
+#[tactic(auto, unfolding(crate::specs::Binary::module_spelling))]
+fn written(alloc: Global, tree: &WModule) -> Result<Vec<u8>, AllocError>
+    ensures { IfOk result (λ v. v.items ≡ module_spelling tree.now) }
+{
+    let uses = types_of(alloc, tree.functions.as_slice())?;
+    let mut out = Writer::new(alloc);
+    write_first(&mut out, &uses, tree)?;
+    write_middle(&mut out, tree)?;
+    write_last(&mut out, tree)?;
+    Ok(out.into_bytes())
+}
+
+/// The bytes that spell the module: no others do. A module that has no spelling (a vector or a part too long, a name
+/// that is not UTF-8) gets bytes that no module has.
+pub fn write_module(alloc: Global, tree: &WModule) -> Result<Vec<u8>, AllocError>
+    ensures written { IfOk result (λ v. v.items ≡ module_spelling tree.now) }
+    ensures only { IfOk result (λ v. module_fits tree.now ≡ true → IsOnlySpelling v.items tree.now) }
+{
+    written(alloc, tree)
+}

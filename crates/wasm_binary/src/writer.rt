@@ -1,0 +1,157 @@
+//! A buffer that bytes are appended to.
+
+ghost use Rattle.std.specs.Prelude.{◌≡◌, ◌++◌, ◌∷◌, [], ◌+◌, ◌-◌, ◌*◌, ◌/◌, ◌%◌, ◌^◌, ◌<◌, ◌≤◌, length, OnOk, IsTrue, ◌↔◌};
+ghost use Rattle.wasm_tree.specs.Format.{Format};
+ghost use Rattle.wasm_binary.specs.Number.{unsigned, groups, signed32, signed64, signed_groups, shifted};
+
+use std::alloc::{AllocError, Global};
+use std::marker::Model;
+
+/// Bytes of the binary format, in the order in which they are written. Contracts see the list of them.
+#[derive(Debug, Drop)]
+pub struct Writer {
+    bytes: Vec<u8>,
+}
+
+impl Model for Writer {
+    ghost use Rattle.std.specs.Prelude.{List, ℕ};
+
+    ghost Value = { List ℕ };
+
+    ghost view = { λ w. w.bytes.items };
+}
+
+impl Writer {
+    /// Nothing written.
+    pub fn new(alloc: Global) -> Writer
+        ensures { result ≡ [] }
+    {
+        Writer {
+            bytes: Vec::new(alloc),
+        }
+    }
+
+    /// Another one, with nothing written, for a part whose length comes before it.
+    pub fn nested(&self) -> Writer
+        ensures { result ≡ [] }
+    {
+        Writer::new(*self.bytes.allocator())
+    }
+
+    /// How many bytes were written.
+    pub fn len(&self) -> usize
+        ensures { result ≡ length self.now }
+    {
+        self.bytes.len()
+    }
+
+    /// Whether nothing was written.
+    pub fn is_empty(&self) -> bool
+        ensures { IsTrue result ↔ (self.now ≡ []) }
+    {
+        self.bytes.is_empty()
+    }
+
+    /// Appends one byte.
+    pub fn byte(&mut self, byte: u8) -> Result<(), AllocError>
+        ensures { OnOk result (self.new ≡ self.old ++ byte ∷ []) }
+    {
+        self.bytes.push(byte)?;
+        Ok(())
+    }
+
+    /// Appends these bytes.
+    pub fn bytes(&mut self, bytes: &[u8]) -> Result<(), AllocError>
+        ensures { OnOk result (self.new ≡ self.old ++ bytes.now) }
+    {
+        self.bytes.extend_from_slice(bytes)
+    }
+
+    /// Appends an index, a count or a size (Core 1.0, section 5.2.2).
+    pub fn unsigned(&mut self, number: u64) -> Result<(), AllocError>
+        ensures { OnOk result (self.new ≡ self.old ++ unsigned.spelling number) }
+    {
+        self.groups(10, number)
+    }
+
+    fn groups(&mut self, most: u8, number: u64) -> Result<(), AllocError>
+        ensures { OnOk result (self.new ≡ self.old ++ groups most number) }
+    {
+        let mut rest = number;
+        for _ in 0..most {
+            if rest < 128 {
+                return self.byte(rest as u8);
+            }
+            self.byte((128 + rest % 128) as u8)?;
+            rest /= 128;
+        }
+        Ok(())
+    }
+
+    fn signed(&mut self, most: u8, top: u64, bits: u64) -> Result<(), AllocError>
+        requires wide { top % 256 ≡ 255 }
+        requires within { bits ≤ top }
+        ensures { OnOk result (self.new ≡ self.old ++ signed_groups most top bits) }
+    {
+        let mut rest = bits;
+        for _ in 0..most {
+            if rest < 64 {
+                return self.byte(rest as u8);
+            }
+            if top - 64 < rest {
+                return self.byte((127 - (top - rest)) as u8);
+            }
+            self.byte((128 + rest % 128) as u8)?;
+            rest = shifted(top, rest);
+        }
+        Ok(())
+    }
+
+    /// Appends a constant of 32 bits, given by its bits, as the signed number that they stand for.
+    pub fn signed32(&mut self, bits: u32) -> Result<(), AllocError>
+        ensures { OnOk result (self.new ≡ self.old ++ signed32.spelling bits) }
+    {
+        self.signed(5, u64::from(u32::MAX), u64::from(bits))
+    }
+
+    /// Appends a constant of 64 bits, given by its bits, as the signed number that they stand for.
+    pub fn signed64(&mut self, bits: u64) -> Result<(), AllocError>
+        ensures { OnOk result (self.new ≡ self.old ++ signed64.spelling bits) }
+    {
+        self.signed(10, u64::MAX, bits)
+    }
+
+    /// Appends a part behind the number of its bytes: a section's content, a body or a name.
+    pub fn sized(&mut self, part: &[u8]) -> Result<(), AllocError>
+        ensures { OnOk result (self.new ≡ self.old ++ (unsigned.spelling (length part.now) ++ part.now)) }
+    {
+        self.unsigned(part.len() as u64)?;
+        self.bytes(part)
+    }
+
+    /// What was written.
+    pub fn as_slice(&self) -> &[u8]
+        ensures { result.now ≡ self.now }
+    {
+        self.bytes.as_slice()
+    }
+
+    /// What was written.
+    pub fn into_bytes(self) -> Vec<u8>
+        ensures { result.items ≡ self }
+    {
+        let Writer { bytes } = self;
+        bytes
+    }
+}
+
+fn shifted(top: u64, bits: u64) -> u64
+    requires { bits ≤ top }
+    ensures { result ≡ shifted top bits }
+{
+    if bits <= top / 2 {
+        bits / 128
+    } else {
+        bits / 128 + (top - top / 128)
+    }
+}

@@ -1,0 +1,78 @@
+-- A run that goes on, as the loop makes it.
+use Rattle.std.proofs.Common.{◌≡◌, ℕ, suc, ◌+◌, ◌-◌, ◌<◌, ◌≤◌, Bool, List, ◌++◌, Option, refl, sym, ap, subst, ◌∙◌, add-one, arith}
+use Rattle.wasm_tree.specs.declared.module.WModule.{WModule}
+use Rattle.wasm_tree.specs.Machine.{Config, reduce, run}
+use Rattle.wasm_engine.specs.Told.{with_bytes}
+use Rattle.wasm_engine.specs.declared.engine.Instances.{Instances}
+use Rattle.wasm_engine.specs.declared.frame.Machine.{Machine}
+use Rattle.wasm_engine.specs.declared.engine.End.{End}
+use Rattle.wasm_engine.specs.declared.engine.End.TheVariants.{Done, Trap, StillRunning}
+use Rattle.wasm_engine.specs.Going.{going}
+use Rattle.wasm_engine.specs.Instances.{config_at, config_of, modules_of, has_failed, Steps, Runs, IsEnd}
+use Rattle.wasm_engine.proofs.Runs.{IsOver, run_over, behind, run-suc, run-zero, with_bytes-append, with_bytes-nil}
+
+-- the answer is that of where the run is
+is_end : (e : End) (m : Machine) → IsEnd e (config_at e (going m))
+is_end (Done k) m = refl
+is_end Trap m = refl
+is_end StillRunning m = tt
+
+is_over : (e : End) (m : Machine) → (e ≡ StillRunning → ⊥) → IsOver (config_at e (going m))
+is_over (Done k) m h = tt
+is_over Trap m h = tt
+is_over StillRunning m h = absurd (h refl)
+
+-- so many reductions were made
+pub record SoFar {S : Type 0} (told : S → Option (List ℕ)) (failed : S → ℕ) (k : ℕ) (old now : Instances) (before after : S) : Type 0 where
+  pub config : config_of now ≡ (run (modules_of old) k (config_of old)).0
+  pub bytes : told after ≡ with_bytes (told before) (run (modules_of old) k (config_of old)).1
+  pub failures : failed after ≡ failed before
+  pub modules : modules_of now ≡ modules_of old
+  pub broken : has_failed now ≡ has_failed old
+
+module _ {S : Type 0} (told : S → Option (List ℕ)) (failed : S → ℕ) (old : Instances) (before : S) where
+  pub at_first : SoFar told failed 0 old old before before
+  at_first = record {
+    config = rw (run-zero (modules_of old) (config_of old)) refl;
+    bytes = rw (run-zero (modules_of old) (config_of old)) (sym (with_bytes-nil (told before)));
+    failures = refl;
+    modules = refl;
+    broken = refl;
+  }
+
+  pub one_more : (k : ℕ) (now next : Instances) (after later : S) → SoFar told failed k old now before after → Steps told failed now next after later → modules_of next ≡ modules_of now → has_failed next ≡ has_failed now
+      → SoFar told failed (k + 1) old next before later
+  one_more k now next after later so_far one same kept =
+      let reduced : reduce (modules_of now) (config_of now) ≡ reduce (modules_of old) (run (modules_of old) k (config_of old)).0 = rw (so_far.modules, so_far.config) refl in
+      record {
+        config =
+            let step : config_of next ≡ (reduce (modules_of old) (run (modules_of old) k (config_of old)).0).0 = one.config ∙ ap (λ p. p.0) reduced in
+            step ∙ rw (add-one, run-suc (modules_of old) k (config_of old)) refl;
+        bytes =
+            let first = (run (modules_of old) k (config_of old)).1 in
+            let second = (reduce (modules_of old) (run (modules_of old) k (config_of old)).0).1 in
+            let step : told later ≡ with_bytes (told after) second = one.bytes ∙ ap (λ p. with_bytes (told after) p.1) reduced in
+            let joined : with_bytes (told after) second ≡ with_bytes (told before) (first ++ second) = ap (λ t. with_bytes t second) so_far.bytes ∙ with_bytes-append (told before) first second in
+            step ∙ joined ∙ rw (add-one, run-suc (modules_of old) k (config_of old)) refl;
+        failures = one.failures ∙ so_far.failures;
+        modules = same ∙ so_far.modules;
+        broken = kept ∙ so_far.broken;
+      }
+
+  -- the run was over before all reductions were made
+  pub over_early : (k n : ℕ) (now : Instances) (after : S) → k ≤ n → (now.end ≡ StillRunning → ⊥) → SoFar told failed k old now before after → Runs told failed n now.end old now before after
+  over_early k n now after le stopped so_far =
+      let over : IsOver (run (modules_of old) k (config_of old)).0 = subst IsOver so_far.config (is_over now.end now.machine stopped) in
+      let split : n ≡ (n - k) + k = omega arith in
+      let same : run (modules_of old) n (config_of old) ≡ run (modules_of old) k (config_of old) = ap (λ m. run (modules_of old) m (config_of old)) split ∙ run_over (modules_of old) k (n - k) (config_of old) over in
+      record {
+        config = so_far.config ∙ sym (ap (λ p. p.0) same);
+        answer = is_end now.end now.machine;
+        bytes = so_far.bytes ∙ sym (ap (λ p. with_bytes (told before) p.1) same);
+        failures = so_far.failures;
+      }
+
+  -- all reductions were made
+  pub all_made : (k n : ℕ) (now : Instances) (after : S) → k ≡ n → SoFar told failed k old now before after → Runs told failed n now.end old now before after
+  all_made k n now after same so_far =
+      subst (λ m. Runs told failed m now.end old now before after) same (record { config = so_far.config; answer = is_end now.end now.machine; bytes = so_far.bytes; failures = so_far.failures })

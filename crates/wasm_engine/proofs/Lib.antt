@@ -1,0 +1,4 @@
+pub mod Runs
+pub mod GoesOn
+pub mod Last
+pub mod Pasted

@@ -1,0 +1,53 @@
+-- What the executor's machine stands for.
+use Rattle.std.specs.Prelude.{◌≡◌, ℕ, List, [], ◌∷◌, map, Option, Some, None}
+use Rattle.std.specs.Borrow.{Bor}
+use Rattle.wasm_tree.specs.declared.store.Memory.{Memory}
+use Rattle.wasm_tree.specs.declared.store.Store.{Store}
+use Rattle.wasm_tree.specs.Machine as machine
+use Rattle.wasm_tree.specs.Machine.{Activation, Config, Going, Over, Trapped, Progress, trapped}
+use Rattle.wasm_engine.specs.declared.frame.Label.{Label}
+use Rattle.wasm_engine.specs.declared.frame.Frame.{Frame}
+use Rattle.wasm_engine.specs.declared.frame.Machine.{Machine}
+use Rattle.wasm_engine.specs.declared.frame.Reduced.{Reduced}
+use Rattle.wasm_engine.specs.declared.frame.Reduced.TheVariants as reduced
+
+abbrev pub label_of : Label → machine.Label
+label_of l = record { arity = l.arity; height = l.height; again = l.again.now; rest = l.rest.now }
+
+abbrev pub activation : Frame → Activation
+activation f = record { instance = f.instance; arity = f.arity; locals = f.locals.items; labels = map label_of f.labels.items; rest = f.rest.now; stack = f.stack.items }
+
+-- the store, with its memories in their place
+abbrev pub store_of : Machine → Store
+store_of m = record m.store { memories = m.memories.items }
+
+abbrev pub callers_of : Machine → List Activation
+callers_of m = map activation m.callers.items
+
+abbrev pub going : Machine → Config
+going m = Going (store_of m) (activation m.now) (callers_of m)
+
+-- where a reduction led, and what it printed
+abbrev pub progress : Reduced → Machine → Progress
+progress reduced.On m = (going m, [])
+progress (reduced.Printed b) m = (going m, b ∷ [])
+progress (reduced.Over k) m = (Over k, [])
+progress reduced.Trapped m = trapped
+
+-- the last of several, above the others
+abbrev pub waiting : List Frame → Option Frame → Option (List Activation × Activation)
+waiting others None = None
+waiting others (Some f) = Some (map activation others, activation f)
+
+abbrev pub innermost : List Label → Option Label → Option (List machine.Label × machine.Label)
+innermost others None = None
+innermost others (Some l) = Some (map label_of others, label_of l)
+
+-- a memory, behind its place in the store
+abbrev pub memory_seen : Option (ℕ × Bor Memory) → Option (ℕ × Memory)
+memory_seen None = None
+memory_seen (Some p) = Some (p.0, p.1.now)
+
+abbrev pub bytes_seen : Option (Bor (List ℕ)) → Option (List ℕ)
+bytes_seen None = None
+bytes_seen (Some b) = Some b.now

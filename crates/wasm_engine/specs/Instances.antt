@@ -1,0 +1,63 @@
+-- What linked modules are, and what a call of run makes of them.
+use Rattle.std.specs.Prelude.{◌≡◌, ℕ, ◌≤◌, ◌+◌, ◌⊎◌, Option, Bool, List, [], ◌∷◌, ◌++◌}
+use Rattle.wasm_tree.specs.declared.module.WModule.{WModule}
+use Rattle.wasm_tree.specs.Machine.{Config, Going, Over, Trapped, reduce, run}
+use Rattle.wasm_engine.specs.Going.{going}
+use Rattle.wasm_engine.specs.Told.{with_bytes}
+use Rattle.wasm_engine.specs.declared.engine.RunFault.{RunFault}
+use Rattle.wasm_engine.specs.declared.engine.RunFault.TheVariants.{NoMemory, Write}
+use Rattle.wasm_engine.specs.declared.engine.Instances.{Instances}
+use Rattle.wasm_engine.specs.declared.engine.End.{End}
+use Rattle.wasm_engine.specs.declared.engine.End.TheVariants.{Done, Trap, StillRunning}
+
+abbrev pub modules_of : Instances → List WModule
+modules_of i = i.modules.now
+
+-- where the run is
+abbrev pub config_at : End → Config → Config
+config_at (Done k) c = Over k
+config_at Trap c = Trapped
+config_at StillRunning c = c
+
+abbrev pub config_of : Instances → Config
+config_of i = config_at i.end (going i.machine)
+
+-- a call broke the run off
+abbrev pub has_failed : Instances → Bool
+has_failed i = i.is_broken
+
+-- the answer that stands for a configuration
+abbrev pub IsEnd : End → Config → Type 0
+IsEnd (Done k) c = c ≡ Over k
+IsEnd Trap c = c ≡ Trapped
+IsEnd StillRunning (Going st now callers) = Unit {0}
+IsEnd StillRunning (Over k) = ⊥
+IsEnd StillRunning Trapped = ⊥
+
+-- one reduction was made, and what it printed was taken
+pub record Steps {S : Type 0} (told : S → Option (List ℕ)) (failed : S → ℕ) (old new : Instances) (before after : S) : Type 0 where
+  pub config : config_of new ≡ (reduce (modules_of old) (config_of old)).0
+  pub bytes : told after ≡ with_bytes (told before) (reduce (modules_of old) (config_of old)).1
+  pub failures : failed after ≡ failed before
+
+-- which fault, and whether there is one failure more
+pub record Breaks {S : Type 0} (failed : S → ℕ) (e : RunFault) (before after : S) : Type 0 where
+  pub write : e ≡ Write → failed after ≡ failed before + 1
+  pub memory : e ≡ NoMemory → failed after ≡ failed before
+  pub which : (e ≡ Write) ⊎ (e ≡ NoMemory)
+
+-- nothing was taken: a byte was refused, or memory
+pub record Stops {S : Type 0} (told : S → Option (List ℕ)) (failed : S → ℕ) (e : RunFault) (before after : S) : Type 0 where
+  pub bytes : told after ≡ told before
+  pub breaks : Breaks failed e before after
+
+-- so many reductions were made, and what they printed was taken
+pub record Runs {S : Type 0} (told : S → Option (List ℕ)) (failed : S → ℕ) (steps : ℕ) (e : End) (old new : Instances) (before after : S) : Type 0 where
+  pub config : config_of new ≡ (run (modules_of old) steps (config_of old)).0
+  pub answer : IsEnd e (config_of new)
+  pub bytes : told after ≡ with_bytes (told before) (run (modules_of old) steps (config_of old)).1
+  pub failures : failed after ≡ failed before
+
+-- what no more reductions printed was taken, and nothing more
+abbrev pub RunsPart : {S : Type 0} → (S → Option (List ℕ)) → (steps : ℕ) → Instances → (before after : S) → Type 0
+RunsPart told steps old before after = (n : ℕ) × (n ≤ steps) × (told after ≡ with_bytes (told before) (run (modules_of old) n (config_of old)).1)

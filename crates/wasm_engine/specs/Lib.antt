@@ -1,0 +1,4 @@
+pub mod Run
+pub mod Told
+pub mod Going
+pub mod Instances

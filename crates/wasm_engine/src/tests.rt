@@ -1,0 +1,136 @@
+ghost use Rattle.std.specs.Prelude.{◌≡◌, Some};
+
+use super::*;
+use std::alloc::Global;
+use std::process::Abort;
+use std::test::*;
+use wasm_binary::read_module;
+use wasm_tree::WFault;
+use wasm_valid::{ValidModule, validate};
+
+/// A sink over memory that refuses bytes from some place on.
+#[derive(Drop)]
+struct Screen {
+    bytes: Vec<u8>,
+    room: usize,
+    failures: u64,
+}
+
+impl Sink for Screen {
+    ghost failed = { λ s. s.failures };
+
+    ghost told = { λ s. Some s.bytes.items };
+
+    fn take(&mut self, byte: u8) -> bool {
+        if self.bytes.len() >= self.room || self.bytes.push(byte).is_err() {
+            self.failures += 1;
+            return false;
+        }
+        true
+    }
+
+    fn failures(&self) -> u64 {
+        self.failures
+    }
+}
+
+fn make_screen(alloc: Global, room: usize) -> Screen
+    ensures { result.failures ≡ 0 }
+{
+    Screen {
+        bytes: Vec::new(alloc),
+        room,
+        failures: 0,
+    }
+}
+
+fn module(rt: &impl Abort, alloc: Global, bytes: &[u8]) -> ValidModule {
+    let tree = read_module(alloc, bytes).expect(rt, "a module");
+    validate(alloc, tree).expect(rt, "a valid module")
+}
+
+/// A module that exports as `run` a function of type 0, without parameters and results, that calls the host's functions:
+/// `put` is function 0, `stop` function 1.
+fn calling(rt: &impl Abort, alloc: Global, code: &[u8]) -> ValidModule {
+    let head =
+        b"\x00asm\x01\x00\x00\x00\x01\x08\x02\x60\x00\x00\x60\x01\x7E\x00\x02\x18\x02\x04host\x03put\x00\x01\x04host\x04stop\x00\x01\x03\x02\x01\x00\x07\x07\x01\x03run\x00\x02\x0A";
+    let mut bytes = Vec::from_slice(alloc, head).expect(rt, "memory");
+    let size = (code.len() % 100) as u8;
+    bytes.push(size + 4).expect(rt, "memory");
+    bytes.push(1).expect(rt, "memory");
+    bytes.push(size + 2).expect(rt, "memory");
+    bytes.push(0).expect(rt, "memory");
+    bytes.extend_from_slice(code).expect(rt, "memory");
+    bytes.push(0x0B).expect(rt, "memory");
+    module(rt, alloc, &bytes)
+}
+
+fn run_of(rt: &impl Abort, alloc: Global, code: &[u8], steps: u64) -> (End, Vec<u8>) {
+    let modules = vec![in alloc; calling(rt, alloc, code)].expect(rt, "memory");
+    let mut instances = Instances::link(alloc, &modules).expect(rt, "linked");
+    let mut out = make_screen(alloc, 100);
+    let end = instances.run(steps, &mut out).expect(rt, "a run");
+    (end, out.bytes)
+}
+
+#[test]
+fn put_prints_and_stop_ends(rt: HostRuntime) {
+    let alloc = rt.alloc();
+    // i64.const 65, call 0; i64.const 322 (its low byte is 66), call 0; i64.const 3, call 1
+    let code = b"\x42\xC1\x00\x10\x00\x42\xC2\x02\x10\x00\x42\x03\x10\x01";
+    let (end, printed) = run_of(&rt, alloc, code, 100);
+    assert_eq!(rt; end, End::Done(3));
+    assert_eq!(rt; printed.as_slice(), b"AB".as_slice());
+    let (end, printed) = run_of(&rt, alloc, code, 3);
+    assert_eq!(rt; end, End::StillRunning);
+    assert_eq!(rt; printed.as_slice(), b"A".as_slice());
+}
+
+#[test]
+fn stop_takes_1_to_255(rt: HostRuntime) {
+    let alloc = rt.alloc();
+    assert_eq!(rt;
+        run_of(&rt, alloc, b"\x42\xFF\x01\x10\x01", 9).0,
+        End::Done(255)
+    );
+    assert_eq!(rt; run_of(&rt, alloc, b"\x42\x80\x02\x10\x01", 9).0, End::Trap);
+    assert_eq!(rt; run_of(&rt, alloc, b"\x42\x00\x10\x01", 9).0, End::Trap);
+    assert_eq!(rt; run_of(&rt, alloc, b"", 9).0, End::Done(0));
+}
+
+#[test]
+fn a_refused_byte_breaks_the_run_off(rt: HostRuntime) -> Result<(), Fail> {
+    let alloc = rt.alloc();
+    let code = b"\x42\x01\x10\x00\x42\x02\x10\x00\x42\x03\x10\x00";
+    let modules = vec![in alloc; calling(&rt, alloc, code)]?;
+    let mut instances = Instances::link(alloc, &modules)?;
+    let mut out = make_screen(alloc, 2);
+    assert_eq!(rt; instances.run(50, &mut out), Err(RunFault::Write));
+    assert_eq!(rt; out.bytes.as_slice(), [1, 2].as_slice());
+    assert_eq!(rt; out.failures, 1);
+    let mut other = make_screen(alloc, 9);
+    assert_eq!(rt; instances.run(50, &mut other), Err(RunFault::Ended));
+    assert_eq!(rt; other.bytes.len(), 0);
+    Ok(())
+}
+
+#[test]
+fn what_cannot_be_linked(rt: HostRuntime) -> Result<(), Fail> {
+    let alloc = rt.alloc();
+    let none: Vec<ValidModule> = Vec::new(alloc);
+    assert!(rt; matches!(Instances::link(alloc, &none), Err(WFault::Unlinked)));
+    // no export at all
+    let modules = vec![in alloc; module(&rt, alloc, b"\x00asm\x01\x00\x00\x00")]?;
+    assert!(rt; matches!(Instances::link(alloc, &modules), Err(WFault::Unlinked)));
+    // `run` beside a data segment of one byte behind the end of a memory of no page
+    let past =
+        b"\x00asm\x01\x00\x00\x00\x01\x04\x01\x60\x00\x00\x03\x02\x01\x00\x05\x03\x01\x00\x00\x07\x07\x01\x03run\x00\x00\x0A\x04\x01\x02\x00\x0B\x0B\x07\x01\x00\x41\x00\x0B\x01x";
+    let modules = vec![in alloc; module(&rt, alloc, past)]?;
+    assert!(rt;
+        matches!(
+            Instances::link(alloc, &modules),
+            Err(WFault::SegmentOutside)
+        )
+    );
+    Ok(())
+}

@@ -1,0 +1,28 @@
+-- What the values of the linker stand for.
+use Rattle.std.specs.Prelude.{ℕ, List, Option, Some, None}
+use Rattle.std.specs.Borrow.{Bor}
+use Rattle.std.specs.Global.{Vec}
+use Rattle.wasm_tree.specs.declared.kinds.FuncType.{FuncType}
+use Rattle.wasm_tree.specs.declared.store.Store.{Store}
+use Rattle.wasm_tree.specs.declared.store.Instance.{Instance}
+use Rattle.wasm_tree.specs.Machine.{Typed}
+use Rattle.wasm_tree.specs.Linking.{Linked}
+use Rattle.wasm_link.specs.declared.types.TypedFunction.{TypedFunction}
+
+abbrev pub typed : TypedFunction → Typed
+typed t = record { type = t.func_type.now; function = t.function.now }
+
+abbrev pub typed_of : Option TypedFunction → Option Typed
+typed_of None = None
+typed_of (Some t) = Some (typed t)
+
+abbrev pub type_of_ref : Option (Bor FuncType) → Option FuncType
+type_of_ref None = None
+type_of_ref (Some t) = Some t.now
+
+abbrev pub linked : Store → Instance → Linked
+linked st i = record { store = st; instance = i }
+
+abbrev pub items_of : {A : Type 0} → Option (Vec A) → Option (List A)
+items_of None = None
+items_of (Some v) = Some v.items

@@ -1,0 +1,175 @@
+//! What a module adds to the store (Core 1.0, section 4.5.3).
+
+ghost use Rattle.std.specs.Prelude.{◌≡◌, ◌*◌, Ok, OnOk, IfOk, replicate, None};
+ghost use Rattle.wasm_tree.specs.Format.{Gives};
+ghost use Rattle.wasm_tree.specs.Linking.{with_function, with_functions, fresh_table, with_table, fresh_memory, with_memory, constant, value_of, with_value, with_global, each};
+ghost use Rattle.wasm_link.specs.Placed.{linked};
+
+use sqlite_items::{Items, at};
+use std::alloc::{AllocError, Global};
+use wasm_tree::{
+    Callee, Function, Global as Constant, Instance, Instr, Memory, MemoryType, Store, Table,
+    TableType, Value, WFault,
+};
+
+fn with_function(
+    store: &mut Store,
+    instance: &mut Instance,
+    callee: Callee,
+) -> Result<(), AllocError>
+    ensures { OnOk result (linked store.new instance.new ≡ with_function callee (linked store.old instance.old)) }
+{
+    let address = store.functions.len();
+    store.functions.push(callee)?;
+    instance.functions.push(address)?;
+    Ok(())
+}
+
+/// Adds the functions that the module of this number declares.
+pub fn with_functions(
+    store: &mut Store,
+    instance: &mut Instance,
+    number: usize,
+    functions: &[Function],
+) -> Result<(), AllocError>
+    ensures { OnOk result (linked store.new instance.new ≡ with_functions number 0 functions.now (linked store.old instance.old)) }
+{
+    for function in 0..functions.len() {
+        let callee = Callee::Own {
+            module: number,
+            function,
+        };
+        with_function(store, instance, callee)?;
+    }
+    Ok(())
+}
+
+fn fresh_table(alloc: Global, table: TableType) -> Result<Table, AllocError>
+    ensures { IfOk result (λ t. t ≡ fresh_table table) }
+{
+    let slots = vec![in alloc; None; table.limits.min as usize]?;
+    Ok(Table {
+        slots: Items::from_vec(slots),
+        max: table.limits.max,
+    })
+}
+
+fn with_table(
+    alloc: Global,
+    store: &mut Store,
+    instance: &mut Instance,
+    table: TableType,
+) -> Result<(), AllocError>
+    ensures { OnOk result (with_table table (linked store.old instance.old) ≡ Ok (linked store.new instance.new)) }
+{
+    let address = store.tables.len();
+    let fresh = fresh_table(alloc, table)?;
+    store.tables.push(fresh)?;
+    instance.tables.push(address)?;
+    Ok(())
+}
+
+/// Adds empty tables.
+pub fn with_tables(
+    alloc: Global,
+    store: &mut Store,
+    instance: &mut Instance,
+    tables: &[TableType],
+) -> Result<(), AllocError>
+    ensures { OnOk result (each with_table tables.now (linked store.old instance.old) ≡ Ok (linked store.new instance.new)) }
+{
+    for table in tables {
+        with_table(alloc, store, instance, *table)?;
+    }
+    Ok(())
+}
+
+fn fresh_memory(alloc: Global, memory: MemoryType) -> Result<Memory, AllocError>
+    ensures { IfOk result (λ m. m ≡ fresh_memory memory) }
+{
+    let bytes = vec![in alloc; 0u8; 65536 * memory.limits.min as usize]?;
+    Ok(Memory {
+        bytes: Items::from_vec(bytes),
+        max: memory.limits.max,
+    })
+}
+
+fn with_memory(
+    alloc: Global,
+    store: &mut Store,
+    instance: &mut Instance,
+    memory: MemoryType,
+) -> Result<(), AllocError>
+    ensures { OnOk result (with_memory memory (linked store.old instance.old) ≡ Ok (linked store.new instance.new)) }
+{
+    let address = store.memories.len();
+    let fresh = fresh_memory(alloc, memory)?;
+    store.memories.push(fresh)?;
+    instance.memories.push(address)?;
+    Ok(())
+}
+
+/// Adds memories of zero bytes.
+pub fn with_memories(
+    alloc: Global,
+    store: &mut Store,
+    instance: &mut Instance,
+    memories: &[MemoryType],
+) -> Result<(), AllocError>
+    ensures { OnOk result (each with_memory memories.now (linked store.old instance.old) ≡ Ok (linked store.new instance.new)) }
+{
+    for memory in memories {
+        with_memory(alloc, store, instance, *memory)?;
+    }
+    Ok(())
+}
+
+fn constant(store: &Store, instance: &Instance, instr: &Instr) -> Option<Value>
+    ensures { result ≡ constant (linked store.now instance.now) instr.now }
+{
+    match instr {
+        Instr::I32Const(number) => Some(Value::I32(*number)),
+        Instr::I64Const(number) => Some(Value::I64(*number)),
+        Instr::GlobalGet(global) => {
+            let address = at(instance.globals.as_slice(), *global as usize)?;
+            Some(*at(store.globals.as_slice(), *address)?)
+        }
+        _ => None,
+    }
+}
+
+/// The value of a constant expression.
+pub fn value_of(store: &Store, instance: &Instance, code: &[Instr]) -> Option<Value>
+    ensures { result ≡ value_of (linked store.now instance.now) code.now }
+{
+    match code {
+        [instr] => constant(store, instance, instr),
+        _ => None,
+    }
+}
+
+fn with_global(store: &mut Store, instance: &mut Instance, global: &Constant) -> Result<(), WFault>
+    ensures { Gives (λ _. linked store.new instance.new) result (with_global global.now (linked store.old instance.old)) }
+{
+    let Some(value) = value_of(store, instance, global.value.as_slice()) else {
+        return Err(WFault::Unlinked);
+    };
+    let address = store.globals.len();
+    store.globals.push(value)?;
+    instance.globals.push(address)?;
+    Ok(())
+}
+
+/// Adds the module's globals, each with its value.
+pub fn with_globals(
+    store: &mut Store,
+    instance: &mut Instance,
+    globals: &[Constant],
+) -> Result<(), WFault>
+    ensures { Gives (λ _. linked store.new instance.new) result (each with_global globals.now (linked store.old instance.old)) }
+{
+    for global in globals {
+        with_global(store, instance, global)?;
+    }
+    Ok(())
+}

@@ -1,0 +1,5 @@
+pub mod Format
+pub mod Validity
+pub mod Numbers
+pub mod Machine
+pub mod Linking

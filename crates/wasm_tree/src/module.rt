@@ -1,0 +1,98 @@
+//! Modules as trees (Core 1.0, section 2.5).
+
+use crate::instr::Instr;
+use crate::kinds::{FuncType, Limits, MemoryType, TableType, ValueType};
+use sqlite_items::Items;
+
+/// What an import asks for.
+#[derive(Clone, Copy, Debug, PartialEq, Eq)]
+pub enum ImportKind {
+    /// A function of the type of this index.
+    Function(u32),
+    Table(TableType),
+    Memory(MemoryType),
+    /// A constant global of this type.
+    Global(ValueType),
+}
+
+/// An import, by the name of a module and a name in it, both in UTF-8.
+#[derive(Debug, Drop)]
+pub struct Import {
+    pub module_name: Items<u8>,
+    pub name: Items<u8>,
+    pub kind: ImportKind,
+}
+
+/// A constant global and the code of its value.
+#[derive(Debug, Drop)]
+pub struct Global {
+    pub value_type: ValueType,
+    pub value: Items<Instr>,
+}
+
+/// What is exported, by its index among the module's things of that kind, imported ones first.
+#[derive(Clone, Copy, Debug, PartialEq, Eq)]
+pub enum ExportKind {
+    Function(u32),
+    Table(u32),
+    Memory(u32),
+    Global(u32),
+}
+
+/// An export under a name in UTF-8.
+#[derive(Debug, Drop)]
+pub struct Export {
+    pub name: Items<u8>,
+    pub kind: ExportKind,
+}
+
+/// Functions, by their indices, for the slots of a table from an offset on.
+#[derive(Debug, Drop)]
+pub struct Element {
+    pub table: u32,
+    pub offset: Items<Instr>,
+    pub functions: Items<u32>,
+}
+
+/// So many locals of one type, one after another.
+#[derive(Clone, Copy, Debug, PartialEq, Eq)]
+pub struct Locals {
+    pub count: u32,
+    pub value_type: ValueType,
+}
+
+/// The locals that a function declares, in groups, and its code.
+#[derive(Debug, Drop)]
+pub struct Body {
+    pub locals: Items<Locals>,
+    pub code: Items<Instr>,
+}
+
+/// A function, its type by its index.
+#[derive(Debug, Drop)]
+pub struct Function {
+    pub type_index: u32,
+    pub body: Body,
+}
+
+/// Bytes for a memory from an offset on.
+#[derive(Debug, Drop)]
+pub struct Data {
+    pub memory: u32,
+    pub offset: Items<Instr>,
+    pub bytes: Items<u8>,
+}
+
+/// A module, its parts in the order of their sections.
+#[derive(Debug, Drop)]
+pub struct WModule {
+    pub types: Items<FuncType>,
+    pub imports: Items<Import>,
+    pub functions: Items<Function>,
+    pub tables: Items<TableType>,
+    pub memories: Items<MemoryType>,
+    pub globals: Items<Global>,
+    pub exports: Items<Export>,
+    pub elements: Items<Element>,
+    pub data: Items<Data>,
+}

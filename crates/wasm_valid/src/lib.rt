@@ -1,0 +1,12 @@
+//! Valid WebAssembly modules (Core 1.0, section 3), in this project's profile.
+#![tactic(auto)]
+
+mod frame;
+mod operands;
+mod scope;
+#[cfg(test)]
+mod tests;
+mod typing;
+mod valid;
+
+pub use valid::{ValidModule, validate};

@@ -1,0 +1,346 @@
+//! Valid modules (Core 1.0, section 3.4).
+
+ghost use Rattle.std.specs.Prelude.{[], ◌≡◌, ◌≢◌, ◌<◌, ◌≤◌, ◌^◌, ◌↔◌, ◌⊎◌, All, IsTrue, OnOk, IfOk, MatchResult, map, length, drop};
+ghost use Rattle.wasm_tree.specs.Validity.{context, initial_context, AreLimits, IsFuncType, IsImport, function_context, result_types, Leads, IsFunction, IsGlobal, IsExport, IsElement, IsData, AreDistinct, AreKinds, AreBodies, IsValid};
+ghost use Rattle.wasm_valid.specs.Scope.{scope_of};
+ghost use Rattle.wasm_valid.specs.Typing.{Decides, AreSingle};
+
+use crate::frame::Frame;
+use crate::scope::{Scope, functions_of, initial_scope, names_of, whole_scope};
+use crate::typing::{check_code, check_constant};
+use sqlite_items::{Items, at};
+use std::alloc::{AllocError, Global};
+use std::marker::Model;
+use wasm_tree::{
+    Body, Data, Element, Export, ExportKind, FuncType, Function, Global as Constant, Import,
+    ImportKind, Limits, MemoryType, TableType, ValueType, WFault, WModule,
+};
+
+fn are_limits(limits: Limits, most: u64) -> bool
+    ensures { IsTrue result ↔ AreLimits most limits }
+{
+    let min = u64::from(limits.min);
+    match limits.max {
+        None => min <= most,
+        Some(max) => min <= most && u64::from(max) <= most && limits.min <= max,
+    }
+}
+
+fn is_func_type(func_type: &FuncType) -> bool
+    ensures { IsTrue result ↔ IsFuncType func_type.now }
+{
+    func_type.results.len() <= 1
+}
+
+fn is_import(scope: Scope<'_>, import: &Import) -> bool
+    ensures { IsTrue result ↔ IsImport (scope_of scope.entry) import.now }
+{
+    match import.kind {
+        ImportKind::Function(type_index) => (type_index as usize) < scope.types.len(),
+        ImportKind::Table(table) => are_limits(table.limits, 1 << 32),
+        ImportKind::Memory(memory) => are_limits(memory.limits, 65536),
+        ImportKind::Global(_) => true,
+    }
+}
+
+/// What the function gives.
+fn result_of(results: &[ValueType]) -> Option<ValueType>
+    requires { length results.now ≤ 1 }
+    ensures { result_types result ≡ results.now }
+{
+    if results.is_empty() {
+        None
+    } else {
+        Some(results[0])
+    }
+}
+
+/// A function of this type.
+fn check_body(
+    alloc: Global,
+    scope: Scope<'_>,
+    func_type: &FuncType,
+    body: &Body,
+) -> Result<(), WFault>
+    requires { IsFuncType func_type.now }
+    ensures { Decides result (Leads (function_context (scope_of scope.entry) func_type.now body.now.locals) body.now.code [] func_type.now.results) }
+{
+    let returns = result_of(func_type.results.as_slice());
+    let frame = Frame {
+        scope,
+        params: func_type.params.as_slice(),
+        groups: body.locals.as_slice(),
+        returns,
+    };
+    let mut blocks = Items::new(alloc);
+    blocks.push(returns)?;
+    check_code(alloc, frame, &mut blocks, body.code.as_slice(), returns)
+}
+
+fn check_function(alloc: Global, scope: Scope<'_>, function: &Function) -> Result<(), WFault>
+    requires { All IsFuncType scope.types.now }
+    ensures { Decides result (IsFunction (scope_of scope.entry) function.now) }
+{
+    match at(scope.types, function.type_index as usize) {
+        Some(func_type) => check_body(alloc, scope, func_type, &function.body),
+        None => Err(WFault::Invalid),
+    }
+}
+
+fn check_global(alloc: Global, scope: Scope<'_>, global: &Constant) -> Result<(), WFault>
+    ensures { Decides result (IsGlobal (scope_of scope.entry) global.now) }
+{
+    check_constant(alloc, scope, global.value.as_slice(), global.value_type)
+}
+
+fn is_export(scope: Scope<'_>, export: &Export) -> bool
+    ensures { IsTrue result ↔ IsExport (scope_of scope.entry) export.now }
+{
+    match export.kind {
+        ExportKind::Function(index) => (index as usize) < scope.functions.len(),
+        ExportKind::Table(index) => (index as usize) < scope.tables.len(),
+        ExportKind::Memory(index) => (index as usize) < scope.memories.len(),
+        ExportKind::Global(index) => (index as usize) < scope.globals.len(),
+    }
+}
+
+fn are_functions(scope: Scope<'_>, functions: &[u32]) -> bool
+    ensures { IsTrue result ↔ All (λ f. f < length (scope_of scope.entry).functions) functions.now }
+{
+    functions
+        .iter()
+        .all(|f| (*f as usize) < scope.functions.len())
+}
+
+fn check_element(alloc: Global, scope: Scope<'_>, element: &Element) -> Result<(), WFault>
+    ensures { Decides result (IsElement (scope_of scope.entry) element.now) }
+{
+    if scope.tables.len() <= element.table as usize {
+        return Err(WFault::Invalid);
+    }
+    if !are_functions(scope, element.functions.as_slice()) {
+        return Err(WFault::Invalid);
+    }
+    check_constant(alloc, scope, element.offset.as_slice(), ValueType::I32)
+}
+
+fn check_data(alloc: Global, scope: Scope<'_>, data: &Data) -> Result<(), WFault>
+    ensures { Decides result (IsData (scope_of scope.entry) «data».now) }
+{
+    if scope.memories.len() <= data.memory as usize {
+        return Err(WFault::Invalid);
+    }
+    check_constant(alloc, scope, data.offset.as_slice(), ValueType::I32)
+}
+
+fn check_functions(alloc: Global, scope: Scope<'_>, functions: &[Function]) -> Result<(), WFault>
+    requires { All IsFuncType scope.types.now }
+    ensures { Decides result (All (IsFunction (scope_of scope.entry)) functions.now) }
+{
+    for function in functions {
+        check_function(alloc, scope, function)?;
+    }
+    Ok(())
+}
+
+fn check_globals(alloc: Global, scope: Scope<'_>, globals: &[Constant]) -> Result<(), WFault>
+    ensures { Decides result (All (IsGlobal (scope_of scope.entry)) globals.now) }
+{
+    for global in globals {
+        check_global(alloc, scope, global)?;
+    }
+    Ok(())
+}
+
+fn check_elements(alloc: Global, scope: Scope<'_>, elements: &[Element]) -> Result<(), WFault>
+    ensures { Decides result (All (IsElement (scope_of scope.entry)) elements.now) }
+{
+    for element in elements {
+        check_element(alloc, scope, element)?;
+    }
+    Ok(())
+}
+
+fn check_segments(alloc: Global, scope: Scope<'_>, segments: &[Data]) -> Result<(), WFault>
+    ensures { Decides result (All (IsData (scope_of scope.entry)) segments.now) }
+{
+    for segment in segments {
+        check_data(alloc, scope, segment)?;
+    }
+    Ok(())
+}
+
+fn is_same(name: &[u8], other: &[u8]) -> bool
+    ensures { IsTrue result ↔ (name.now ≡ other.now) }
+{
+    name == other
+}
+
+/// Whether none of the exports has this name.
+fn is_new(name: &[u8], exports: &[Export]) -> bool
+    ensures { IsTrue result ↔ All (λ e. name.now ≢ e.name) exports.now }
+{
+    for export in exports {
+        if is_same(name, export.name.as_slice()) {
+            return false;
+        }
+    }
+    true
+}
+
+/// Whether no two exports have one name.
+fn are_distinct(exports: &[Export]) -> bool
+    ensures { IsTrue result ↔ AreDistinct (map (λ e. e.name) exports.now) }
+{
+    for k in 0..exports.len() {
+        let (_, others) = exports.split_at(k + 1);
+        if !is_new(exports[k].name.as_slice(), others) {
+            return false;
+        }
+    }
+    true
+}
+
+fn are_func_types(types: &[FuncType]) -> bool
+    ensures { IsTrue result ↔ All IsFuncType types.now }
+{
+    types.iter().all(|t| is_func_type(t))
+}
+
+fn are_imports(scope: Scope<'_>, imports: &[Import]) -> bool
+    ensures { IsTrue result ↔ All (IsImport (scope_of scope.entry)) imports.now }
+{
+    imports.iter().all(|i| is_import(scope, i))
+}
+
+fn are_tables(tables: &[TableType]) -> bool
+    ensures { IsTrue result ↔ All (λ t. AreLimits (2 ^ 32) t.limits) tables.now }
+{
+    tables.iter().all(|t| are_limits(t.limits, 1 << 32))
+}
+
+fn are_memories(memories: &[MemoryType]) -> bool
+    ensures { IsTrue result ↔ All (λ m. AreLimits 65536 m.limits) memories.now }
+{
+    memories.iter().all(|m| are_limits(m.limits, 65536))
+}
+
+fn are_exports(scope: Scope<'_>, exports: &[Export]) -> bool
+    ensures { IsTrue result ↔ All (IsExport (scope_of scope.entry)) exports.now }
+{
+    exports.iter().all(|e| is_export(scope, e))
+}
+
+fn check_kinds(scope: Scope<'_>, tree: &WModule) -> Result<(), WFault>
+    ensures { Decides result (AreKinds (scope_of scope.entry) tree.now) }
+{
+    if !are_func_types(tree.types.as_slice()) {
+        return Err(WFault::Invalid);
+    }
+    if !are_imports(scope, tree.imports.as_slice()) {
+        return Err(WFault::Invalid);
+    }
+    if !are_tables(tree.tables.as_slice()) {
+        return Err(WFault::Invalid);
+    }
+    if !are_memories(tree.memories.as_slice()) {
+        return Err(WFault::Invalid);
+    }
+    if !are_exports(scope, tree.exports.as_slice()) {
+        return Err(WFault::Invalid);
+    }
+    Ok(())
+}
+
+fn check_bodies(alloc: Global, scope: Scope<'_>, tree: &WModule) -> Result<(), WFault>
+    requires { All IsFuncType scope.types.now }
+    ensures { Decides result (AreBodies (scope_of scope.entry) tree.now) }
+{
+    check_functions(alloc, scope, tree.functions.as_slice())?;
+    check_elements(alloc, scope, tree.elements.as_slice())?;
+    check_segments(alloc, scope, tree.data.as_slice())?;
+    Ok(())
+}
+
+/// Whether there is at most one table and one memory, and no two exports have one name.
+fn check_single(scope: Scope<'_>, tree: &WModule) -> Result<(), WFault>
+    ensures { Decides result (AreSingle (scope_of scope.entry) tree.now) }
+{
+    if scope.tables.len() > 1 {
+        return Err(WFault::Invalid);
+    }
+    if scope.memories.len() > 1 {
+        return Err(WFault::Invalid);
+    }
+    if !are_distinct(tree.exports.as_slice()) {
+        return Err(WFault::Invalid);
+    }
+    Ok(())
+}
+
+fn check_whole(alloc: Global, tree: &WModule) -> Result<(), WFault>
+    ensures { Decides result (IsValid tree.now) }
+{
+    let names = names_of(alloc, tree)?;
+    let scope = whole_scope(tree, &names);
+    check_single(scope, tree)?;
+    check_kinds(scope, tree)?;
+    check_bodies(alloc, scope, tree)?;
+    check_globals(alloc, initial_scope(tree, &names), tree.globals.as_slice())?;
+    Ok(())
+}
+
+/// A module that is valid.
+#[derive(Debug, Drop)]
+pub struct ValidModule {
+    tree: WModule,
+}
+
+impl Model for ValidModule {
+    ghost use Rattle.wasm_tree.specs.declared.module.WModule.{WModule};
+    ghost use Rattle.wasm_tree.specs.Validity.{IsValid};
+    ghost use Rattle.wasm_tree.specs.contracts.instr.Instr as e;
+    ghost use Rattle.std.specs.Coded.{codes};
+
+    ghost Value = { WModule };
+
+    ghost coded = { Prim.hlevel (codes, e.the_row.coded) };
+
+    ghost view = { λ v. v.tree };
+
+    ghost invariant = { λ v. IsValid v.tree };
+}
+
+impl ValidModule {
+    /// The module.
+    pub fn module(&self) -> &WModule
+        ensures value { result.now ≡ self.now }
+        ensures valid { IsValid self.now }
+    {
+        &self.tree
+    }
+
+    /// The index of each of its functions' types, those of imported functions first.
+    pub fn function_types(&self, alloc: Global) -> Result<Vec<u32>, AllocError>
+        ensures { IfOk result (λ v. v.items ≡ (context self.now).functions) }
+    {
+        functions_of(alloc, &self.tree)
+    }
+
+    /// Its exports, in order.
+    pub fn exports(&self) -> &[Export]
+        ensures { result.now ≡ self.now.exports }
+    {
+        self.tree.exports.as_slice()
+    }
+}
+
+/// The module, if it is valid. `Invalid` where it is not; the module is then dropped.
+pub fn validate(alloc: Global, tree: WModule) -> Result<ValidModule, WFault>
+    ensures { MatchResult result (λ v. (v ≡ tree) × IsValid tree) (λ e. ((e ≡ WFault.Invalid) × (¬ IsValid tree)) ⊎ (e ≡ WFault.NoMemory)) }
+{
+    match check_whole(alloc, &tree) {
+        Ok(()) => Ok(ValidModule { tree }),
+        Err(e) => Err(e),
+    }
+}
