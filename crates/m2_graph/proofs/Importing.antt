@@ -1,5 +1,5 @@
 -- Lists of what modules import, element by element.
-use Rattle.std.proofs.Common.{◌≡◌, ◌<◌, ◌≤◌, ℕ, zero, suc, ◌+◌, Bool, true, false, cond, ◌==◌, List, [], ◌∷◌, ◌++◌, length, take, get_or, map, refl, sym, ap, subst, ◌∙◌, arith, add-one, append_assoc, Option, Some, None, All}
+use Rattle.std.proofs.Common.{◌≡◌, ◌<◌, ◌≤◌, ℕ, zero, suc, ◌+◌, Bool, true, false, cond, List, [], ◌∷◌, ◌++◌, length, take, get_or, map, refl, sym, ap, subst, ◌∙◌, arith, add-one, append_assoc, Option, Some, None, All}
 use Rattle.std.specs.List.{filter_map, flat_map, cons_option}
 use Rattle.std.specs.Option.{option_map, option_to_list}
 use Rattle.std.proofs.lemmas.List.{take_more, get_or-map, flat_map_more, take_all, length-map}
@@ -7,8 +7,7 @@ use Rattle.std.proofs.lemmas.List.Elements.{filter_map-append, All-nil, All-cons
 use Rattle.std.specs.Borrow.{Bor}
 use Rattle.m2_tree.specs.declared.decl.Module.{Module}
 use Rattle.m2_tree.specs.declared.name.Ident.{Ident}
-use Rattle.m2_graph.specs.Links.{AreNodes}
-use Rattle.m2_graph.specs.Jobs.{number_of, numbers_of}
+use Rattle.graph_walk.specs.Links.{AreNodes}
 use Rattle.m2_graph.specs.Imports.{first_that, defines, implements, is_definition, definition_of, imported, links_of, links, links_at, body_links, walk_of, walks}
 
 more_case : (b : Bool) (r r' : Option ℕ) → (r ≡ None → r' ≡ None) → cond b (Some 0) (option_map suc r) ≡ None → cond b (Some 0) (option_map suc r') ≡ None
@@ -73,7 +72,7 @@ pub first_within : {X : Type 0} (t : X → Bool) (xs : List X) (i : ℕ) → fir
 first_within t [] i e = cc
 first_within t (x ∷ xs) i e = let w = within_case (t x) (first_that t xs) (length xs) i (first_within t xs) e in omega (arith, w)
 
-all_filtered : {X Y : Type 0} (h : X → Option Y) (P : Y → Type 0) → ((x : X) (y : Y) → h x ≡ Some y → P y) → (xs : List X) → All P (filter_map h xs)
+pub all_filtered : {X Y : Type 0} (h : X → Option Y) (P : Y → Type 0) → ((x : X) (y : Y) → h x ≡ Some y → P y) → (xs : List X) → All P (filter_map h xs)
 all_filtered h P k [] = All-nil P
 all_filtered {Y = Y} h P k (x ∷ xs) = step (h x) (k x) (all_filtered h P k xs)
   where
@@ -94,9 +93,6 @@ first_here_at t xs i d l n h = sym (found t xs i d l n h)
 pub filtered_more_at : {X Y : Type 0} (h : X → Option Y) (xs : List X) (i : ℕ) (d : X) (out out' : List Y) → i < length xs → out ≡ filter_map h (take i xs) → out' ≡ out ++ option_to_list (h (get_or xs i d)) → out' ≡ filter_map h (take (i + 1) xs)
 filtered_more_at h xs i d out out' l is is' = is' ∙ ap (λ ys. ys ++ option_to_list (h (get_or xs i d))) is
     ∙ ap (λ ys. filter_map h (take i xs) ++ ys) (sym (one_filtered h (get_or xs i d))) ∙ sym (filter_map-append h (take i xs) (get_or xs i d ∷ [])) ∙ ap (filter_map h) (sym (take_more xs i d l))
-
-pub numbers_within : (order nodes : List ℕ) → All (λ n. n < length order) (numbers_of order nodes)
-numbers_within order nodes = all_filtered (number_of order) (λ n. n < length order) (λ node n e. first_within (λ one. one == node) order n e) nodes
 
 pub module_at : (xs : List (Bor Module)) (i : ℕ) (b : Bor Module) (d : Module) → i < length xs → b ≡ get_or xs i b → get_or (map (λ (m : Bor Module). m.now) xs) i d ≡ b.now
 module_at xs i b d l e = get_or-map (λ (m : Bor Module). m.now) xs i b d l ∙ ap (λ (m : Bor Module). m.now) (sym e)

@@ -1,7 +1,6 @@
 -- Files of which nothing is told have a program module.
-use Rattle.std.proofs.Common.{◌≡◌, ◌<◌, arith, ℕ, Bool, true, false, not, cond, ◌&&◌, ◌==◌, List, [], ◌∷◌, ◌++◌, length, take, map, fold, refl, sym, ap, subst, ◌∙◌, inl, inr, append_assoc, Option, Some, None}
+use Rattle.std.proofs.Common.{◌≡◌, ◌<◌, arith, ℕ, not, cond, ◌==◌, List, [], ◌∷◌, ◌++◌, length, map, fold, refl, sym, ap, subst, ◌∙◌, append_assoc, Option, Some, None}
 use Rattle.std.specs.Option.{is_some}
-use Rattle.std.proofs.lemmas.Bool.{cases_Bool}
 use Rattle.std.proofs.lemmas.List.Sums.{fold-append}
 use Rattle.m2_tree.specs.declared.decl.Module.{Module}
 use Rattle.m2_tree.specs.declared.pos.Pos.{Pos}
@@ -28,10 +27,10 @@ some_with : (o : Option Fault) (f : Fault) (fs : List Fault) → fold lesser o (
 some_with None f fs e = stays_some f fs e
 some_with (Some g) f fs e = stays_some (cond (is_less f g) f g) fs e
 
-never_none : (xs : List Fault) (f : Fault) (ys : List Fault) → least_of (xs ++ f ∷ ys) ≡ None → ⊥
+pub never_none : (xs : List Fault) (f : Fault) (ys : List Fault) → least_of (xs ++ f ∷ ys) ≡ None → ⊥
 never_none xs f ys e = some_with (fold lesser None xs) f ys (sym (fold-append lesser None xs (f ∷ ys)) ∙ e)
 
-nothing_told : (name : List ℕ) (o : Option Fault) (rest : List Told) → told_at name o ++ rest ≡ [] → o ≡ None
+pub nothing_told : (name : List ℕ) (o : Option Fault) (rest : List Told) → told_at name o ++ rest ≡ [] → o ≡ None
 nothing_told name None rest e = refl
 nothing_told name (Some f) rest e = cc
 

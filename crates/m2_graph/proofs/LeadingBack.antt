@@ -1,8 +1,8 @@
 -- Imports that lead back.
-use Rattle.std.proofs.Common.{◌≡◌, ◌<◌, ◌≤◌, ◌↔◌, ℕ, ◌+◌, Bool, true, false, List, [], ◌∷◌, ◌++◌, length, take, drop, get_or, map, refl, sym, ap, subst, ◌∙◌, inl, inr, arith, append_assoc, Option, Some, None, All, ◌⊎◌, IsTrue}
+use Rattle.std.proofs.Common.{◌≡◌, ◌<◌, ◌≤◌, ◌↔◌, ℕ, ◌+◌, Bool, false, List, [], ◌∷◌, ◌++◌, length, take, drop, get_or, map, refl, sym, ap, subst, ◌∙◌, inl, inr, arith, append_assoc, Option, Some, None, All, ◌||◌, ◌==◌, eq-eqb, IsTrue}
 use Rattle.std.specs.List.{flat_map}
 use Rattle.std.specs.Borrow.{Bor}
-use Rattle.std.proofs.lemmas.Bool.{cases_lt, false≢true}
+use Rattle.std.proofs.lemmas.Bool.{cases_lt, or_left, or_right, eqb-true, false≢true}
 use Rattle.std.proofs.lemmas.Grind.{flat_map-append}
 use Rattle.std.proofs.lemmas.List.{take-append-drop, drop_more, take_more, take_all, flat_map_more}
 use Rattle.std.proofs.lemmas.List.Elements.{All-push, All-append}
@@ -10,13 +10,15 @@ use Rattle.m2_tree.specs.declared.decl.Module.{Module}
 use Rattle.m2_tree.specs.declared.name.Ident.{Ident}
 use Rattle.m2_tree.specs.declared.decl.Import.{Import}
 use Rattle.m2_tree.specs.declared.pos.Pos.{Pos}
-use Rattle.std.specs.Prelude.{Result, IfOk, MatchOption}
-use Rattle.std.specs.declared.alloc.AllocError.{AllocError}
-use Rattle.m2_graph.specs.Links.{Leads, AreNodes, has}
+use Rattle.std.specs.Prelude.{MatchOption}
+use Rattle.graph_walk.specs.Links.{Leads, AreNodes, has, flag}
 use Rattle.m2_graph.specs.Imports.{definition_of, defines, imported, links, named_by}
-use Rattle.m2_graph.specs.Told.{LeadsBack, IsBack, IsFirstBack, IsToldCircle}
+use Rattle.m2_graph.specs.Told.{LeadsBack, AreLeading, IsBack, IsFirstBack, IsToldCircle}
 use Rattle.m2_graph.proofs.Importing.{first_within, links_are_nodes, module_at}
-use Rattle.m2_graph.proofs.Circles.{first_step, none_back}
+use Rattle.graph_walk.specs.Turned.{IsTurned}
+use Rattle.graph_walk.proofs.Chains.{or_true, first_step}
+use Rattle.graph_walk.proofs.Turning.{turned_leads}
+use Rattle.m2_graph.proofs.Circles.{none_back}
 use Rattle.std.proofs.lemmas.Option.{slice_get-get_or}
 use Rattle.std.proofs.lemmas.List.{length-map, get_or_past}
 
@@ -32,10 +34,15 @@ pairs_many ms pairs e = ap length e ∙ length-links ms
 pub pairs_within : (ms : List Module) (pairs : List (List ℕ)) (name : List ℕ) (to : ℕ) → pairs ≡ links ms → Some to ≡ definition_of ms name → to < length pairs
 pairs_within ms pairs name to e h = omega (arith, pairs_many ms pairs e, first_within (defines name) ms to (sym h))
 
-pub back_some : (ms : List Module) (pairs : List (List ℕ)) (node to : ℕ) (x : Ident) (leads : Bool) → pairs ≡ links ms → Some to ≡ definition_of ms x.name → (IsTrue leads ↔ ((to ≡ node) ⊎ Leads pairs to node)) → IsTrue leads ↔ LeadsBack ms node x
-back_some ms pairs node to x leads e d h = (
-  (λ t. (to, sym d, subst (λ (ps : List (List ℕ)). (to ≡ node) ⊎ Leads ps to node) e (h.0 t))),
-  (λ b. h.1 (subst (λ (ps : List (List ℕ)). (to ≡ node) ⊎ Leads ps to node) (sym e) (subst (λ (k : ℕ). (k ≡ node) ⊎ Leads (links ms) k node) (let s : Some b.0 ≡ Some to = sym b.1 ∙ sym d in let r : b.0 ≡ to = cc in r) b.2))),
+-- the marks of those that lead to a node, as a walk against the pairs has set them
+pub leading_so : (ms : List Module) (pairs back : List (List ℕ)) (node : ℕ) (flags now : List Bool) → pairs ≡ links ms → IsTurned pairs back → node < length ms → ((k : ℕ) → IsTrue (flag flags k) ↔ Leads back node k) → now ≡ flags → AreLeading ms node now
+leading_so ms pairs back node flags now e t l h e2 k = subst (λ (fs : List Bool). IsTrue (flag fs k) ↔ Leads (links ms) k node) (sym e2) (subst (λ (ps : List (List ℕ)). IsTrue (flag flags k) ↔ Leads ps k node) e
+    (let q = turned_leads pairs back (pairs_nodes ms pairs e) t k node (omega (arith, pairs_many ms pairs e)) in ((λ f. q.0 ((h k).0 f)), (λ g. (h k).1 (q.1 g)))))
+
+pub back_some : (ms : List Module) (node to : ℕ) (x : Ident) (flags : List Bool) → Some to ≡ definition_of ms x.name → AreLeading ms node flags → IsTrue ((to == node) || flag flags to) ↔ LeadsBack ms node x
+back_some ms node to x flags d h = (
+  (λ t. elim (or_true (to == node) (flag flags to) t) [ inl s ↦ (to, sym d, inl (eqb-true to node s)) | inr f ↦ (to, sym d, inr ((h to).0 f)) ]),
+  (λ b. let s : Some b.0 ≡ Some to = sym b.1 ∙ sym d in let r : b.0 ≡ to = cc in elim b.2 [ inl same ↦ or_left (to == node) (flag flags to) (eq-eqb to node (sym r ∙ same)) | inr l ↦ or_right (to == node) (flag flags to) ((h to).1 (subst (λ (k : ℕ). Leads (links ms) k node) r l)) ]),
 )
 
 pub back_none : (ms : List Module) (node : ℕ) (x : Ident) → None ≡ definition_of ms x.name → IsTrue false ↔ LeadsBack ms node x
@@ -87,8 +94,8 @@ back_never_in g ms node xs i h none = subst (λ ys. All (λ y. LeadsBack ms node
 
 -- ---- the imports of a module
 
-pub back_of_names : (ms : List Module) (node : ℕ) (from : Option Ident) (names lent : List Ident) (r : Result (Option Pos) AllocError) → from ≡ None → lent ≡ names → IfOk r (λ found. IsFirstBack ms node lent found) → IfOk r (λ found. IsFirstBack ms node (named_by from names) found)
-back_of_names ms node from names lent r e1 e2 h = subst (λ (xs : List Ident). IfOk r (λ found. IsFirstBack ms node xs found)) (e2 ∙ ap (λ (o : Option Ident). named_by o names) (sym e1)) h
+pub back_of_names : (ms : List Module) (node : ℕ) (from : Option Ident) (names lent : List Ident) (found : Option Pos) → from ≡ None → lent ≡ names → IsFirstBack ms node lent found → IsFirstBack ms node (named_by from names) found
+back_of_names ms node from names lent found e1 e2 h = subst (λ (xs : List Ident). IsFirstBack ms node xs found) (e2 ∙ ap (λ (o : Option Ident). named_by o names) (sym e1)) h
 
 abbrev named_in : Import → List Ident
 named_in i = named_by i.from i.names
@@ -107,6 +114,9 @@ never_in ms node tree xs i e g none = subst (λ (ys : List Import). All (λ y. L
 
 abbrev trees_in : List (Bor Module) → List Module
 trees_in xs = map (λ (m : Bor Module). m.now) xs
+
+pub within : (xs : List (Bor Module)) (node : ℕ) → node < length xs → node < length (trees_in xs)
+within xs node l = rw length-map l
 
 pub circle_told : (xs : List (Bor Module)) (pairs : List (List ℕ)) (node : ℕ) (b : Bor Module) (place : Option Pos) (pos : Pos) → pairs ≡ links (trees_in xs) → node < length xs → b ≡ get_or xs node b → Leads pairs node node → ((other : ℕ) → other < node → Leads pairs other other → ⊥) → IsFirstBack (trees_in xs) node (imported b.now) place → place ≡ Some pos → IsToldCircle (trees_in xs) node pos
 circle_told xs pairs node b place pos e l is on first found so = record {

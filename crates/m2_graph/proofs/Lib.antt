@@ -1,7 +1,3 @@
-pub mod Marking
-pub mod Reaching
-pub mod Numbers
-pub mod Walking
 pub mod Importing
 pub mod Faulty
 pub mod Tables
@@ -12,5 +8,5 @@ pub mod Smaller
 pub mod Places
 pub mod Telling
 pub mod LeadingBack
-pub mod Settled
 pub mod Judging
+pub mod Whole

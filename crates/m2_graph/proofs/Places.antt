@@ -5,11 +5,10 @@ use Rattle.std.specs.Option.{is_none}
 use Rattle.std.proofs.lemmas.Bool.{cases_eq, cases_lt, ne_eqb, false≢true}
 use Rattle.std.proofs.lemmas.List.{get_or-set_same, get_or-set_other, get_or-replicate, get_or_past, length-replicate, take_all, drop_all, append-nil}
 use Rattle.std.proofs.Common.{eq-eqb, ◌≤◌}
-use Rattle.m2_graph.specs.Imports.{first_that}
-use Rattle.m2_graph.specs.Jobs.{number_of, numbers_of, place_of, ArePlaces}
-use Rattle.m2_graph.specs.Links.{AreEachOnce}
+use Rattle.m2_graph.specs.Jobs.{number_of, numbers_of, place_of, ArePlaces, ArePlacesBelow}
+use Rattle.graph_walk.specs.Links.{AreEachOnce}
 use Rattle.m2_graph.specs.Parts.{or_first}
-use Rattle.m2_graph.proofs.Importing.{numbers_within}
+use Rattle.m2_graph.proofs.Importing.{all_filtered, first_within}
 use Rattle.m2_graph.proofs.Tables.{first_more}
 
 or_none : (o : Option ℕ) → o ≡ or_first o None
@@ -69,11 +68,11 @@ same_numbers : (f g : ℕ → Option ℕ) → ((k : ℕ) → f k ≡ g k) → (x
 same_numbers f g e [] = refl
 same_numbers f g e (x ∷ xs) = ap (λ o. cons_option o (filter_map f xs)) (e x) ∙ ap (cons_option (g x)) (same_numbers f g e xs)
 
-pub numbers_by_places : (order : List ℕ) (places : List (Option ℕ)) (nodes numbers : List ℕ) → ArePlaces order places → numbers ≡ filter_map (place_of places) nodes → numbers ≡ numbers_of order nodes
-numbers_by_places order places nodes numbers h e = e ∙ same_numbers (place_of places) (number_of order) h nodes
+pub job_by_places : (order : List ℕ) (places : List (Option ℕ)) (nodes job : List ℕ) → ArePlaces order places → AreEachOnce job (filter_map (place_of places) nodes) → AreEachOnce job (numbers_of order nodes)
+job_by_places order places nodes job h each = subst (λ (xs : List ℕ). AreEachOnce job xs) (same_numbers (place_of places) (number_of order) h nodes) each
 
-pub small_numbers : (order : List ℕ) (places : List (Option ℕ)) (nodes numbers lent : List ℕ) → ArePlaces order places → numbers ≡ filter_map (place_of places) nodes → lent ≡ numbers → All (λ n. n < length order) lent
-small_numbers order places nodes numbers lent h e e2 = subst (All (λ n. n < length order)) (sym (e2 ∙ numbers_by_places order places nodes numbers h e)) (numbers_within order nodes)
+pub places_below : (order : List ℕ) (places lent : List (Option ℕ)) (n : ℕ) → ArePlaces order places → lent ≡ places → length order ≤ n → ArePlacesBelow n lent
+places_below order places lent n h e l node k s = let w = first_within (λ one. one == node) order k (sym (h node) ∙ ap (λ (ps : List (Option ℕ)). place_of ps node) (sym e) ∙ s) in omega (arith, w)
 
-pub once_by_places : (order : List ℕ) (places : List (Option ℕ)) (nodes numbers lent once copied jobs : List ℕ) → ArePlaces order places → numbers ≡ filter_map (place_of places) nodes → lent ≡ numbers → AreEachOnce once lent → copied ≡ once → jobs ≡ copied → AreEachOnce jobs (numbers_of order nodes)
-once_by_places order places nodes numbers lent once copied jobs h e e2 each c j = subst (λ (xs : List ℕ). AreEachOnce xs (numbers_of order nodes)) (sym (j ∙ c)) (subst (λ (xs : List ℕ). AreEachOnce once xs) (e2 ∙ numbers_by_places order places nodes numbers h e) each)
+pub numbers_below : (places : List (Option ℕ)) (nodes numbers lent : List ℕ) (n : ℕ) → ArePlacesBelow n places → numbers ≡ filter_map (place_of places) nodes → lent ≡ numbers → All (λ k. k < n) lent
+numbers_below places nodes numbers lent n h e e2 = subst (All (λ k. k < n)) (sym (e2 ∙ e)) (all_filtered (place_of places) (λ k. k < n) (λ node k s. h node k s) nodes)

@@ -1,5 +1,5 @@
 -- The prerequisites of a job have smaller numbers.
-use Rattle.std.proofs.Common.{◌≡◌, ◌<◌, ◌≤◌, ℕ, zero, suc, ◌+◌, ◌-◌, Bool, true, false, not, cond, ◌&&◌, ◌||◌, ◌==◌, List, [], ◌∷◌, ◌++◌, length, take, get_or, map, refl, sym, ap, subst, ◌∙◌, inl, inr, arith, Option, Some, None, All, slice_index, ◌⊎◌, eq-eqb}
+use Rattle.std.proofs.Common.{◌≡◌, ◌<◌, ◌≤◌, ℕ, zero, suc, ◌+◌, Bool, true, false, not, cond, ◌&&◌, ◌||◌, ◌==◌, List, [], ◌∷◌, ◌++◌, length, take, get_or, map, refl, sym, ap, subst, ◌∙◌, inl, inr, arith, Option, Some, None, All, slice_index, eq-eqb}
 use Rattle.std.specs.List.{filter_map, cons_option, AllZip, list_all}
 use Rattle.std.specs.Option.{option_map, option_to_list}
 use Rattle.std.proofs.lemmas.Bool.{cases_Bool, cases_lt, and_parts, false≢true, eqb-true}
@@ -8,20 +8,17 @@ use Rattle.std.proofs.lemmas.List.Elements.{All-nil, All-cons}
 use Rattle.std.specs.Borrow.{Bor}
 use Rattle.m2_tree.specs.declared.decl.Module.{Module}
 use Rattle.m2_tree.specs.declared.name.Ident.{Ident}
-use Rattle.m2_graph.specs.Links.{has, times, AreEachOnce, flag, targets}
+use Rattle.graph_walk.specs.Links.{has, times, AreEachOnce, flag, targets}
 use Rattle.m2_graph.specs.Imports.{is_definition, first_that, defines, definition_of, imported, links_of, links, needs_of, own_definition}
 use Rattle.m2_graph.specs.Jobs.{number_of, numbers_of, AreJobs}
-use Rattle.m2_graph.specs.Numbering.{is_ready, IsNext, IsNumbering}
-use Rattle.m2_graph.specs.Order.{body_numbers, IsJobOrder, IsJob, needs}
+use Rattle.graph_walk.specs.Numbering.{IsNumbering}
+use Rattle.m2_graph.specs.Order.{body_numbers, IsJob, needs}
 use Rattle.m2_graph.proofs.Importing.{first_within}
-use Rattle.m2_graph.proofs.Marking.{has-append, marked_within}
-use Rattle.m2_graph.proofs.Circles.{or_true, has_at, done_before, passes}
+use Rattle.graph_walk.proofs.Marking.{has-append, marked_within}
+use Rattle.graph_walk.proofs.Chains.{or_true, times_has, has_at, done_before}
+use Rattle.m2_graph.proofs.Circles.{passes}
 
 -- ---- lists of numbers
-
-pub times_has : (xs : List ℕ) (k : ℕ) → has xs k ≡ true → 1 ≤ times xs k
-times_has [] k e = absurd (false≢true e)
-times_has (x ∷ xs) k e = elim (cases_Bool (x == k)) [ inl s ↦ subst (λ (b : Bool). 1 ≤ cond b 1 0 + times xs k) (sym s) (omega arith) | inr n ↦ (let h = times_has xs k (ap (λ b. b || has xs k) (sym n) ∙ e) in omega (arith, h)) ]
 
 pub times_once : (once all : List ℕ) (k : ℕ) → AreEachOnce once all → times once k ≤ 1
 times_once once all k h = subst (λ (n : ℕ). n ≤ 1) (sym (h k)) (small (has all k))
@@ -87,7 +84,7 @@ needed ms m t e = elim (or_true (has (own_definition ms m) t) (has (links_of ms 
 
 -- ---- the numbers of bodies
 
-at_least : (n : ℕ) (ms : List Module) (k : ℕ) → has (body_numbers n ms) k ≡ true → (n ≤ k) × (k < n + length ms)
+pub at_least : (n : ℕ) (ms : List Module) (k : ℕ) → has (body_numbers n ms) k ≡ true → (n ≤ k) × (k < n + length ms)
 at_least n [] k e = absurd (false≢true e)
 at_least n (m ∷ ms) k e = step (at_least (n + 1) ms k) (is_definition m) e
   where

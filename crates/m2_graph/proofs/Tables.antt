@@ -1,18 +1,18 @@
 -- Tables of names, and the first that passes a test.
-use Rattle.std.proofs.Common.{◌≡◌, ◌<◌, ◌≤◌, ℕ, zero, suc, ◌+◌, Bool, true, false, cond, not, ◌&&◌, ◌==◌, nat_lt, List, [], ◌∷◌, ◌++◌, length, take, get_or, map, refl, sym, ap, subst, ◌∙◌, inl, inr, arith, add-one, Option, Some, None, All}
+use Rattle.std.proofs.Common.{◌≡◌, ◌<◌, ℕ, zero, suc, ◌+◌, Bool, true, false, cond, not, ◌&&◌, nat_lt, List, [], ◌∷◌, ◌++◌, length, take, get_or, map, refl, sym, ap, subst, ◌∙◌, inl, inr, arith, Option, Some, None}
 use Rattle.std.specs.Option.{option_map, is_some, IfSome}
 use Rattle.std.specs.Borrow.{Bor}
-use Rattle.std.specs.HashMap.{HashMap, Updates, get_by}
+use Rattle.std.specs.HashMap.{HashMap}
 use Rattle.std.specs.Cmp.Lexicographic.{bytes_decides}
 use Rattle.std.proofs.lemmas.Bool.{cases_Bool, false≢true, le-ltb}
 use Rattle.std.proofs.lemmas.Bool.Decides.{Decides-ltb, same_from_decides}
-use Rattle.std.proofs.lemmas.List.{take_more, length-take-le, length-map, take_all}
+use Rattle.std.proofs.lemmas.List.{take_more, length-take-le, length-map}
 use Rattle.m2_tree.specs.declared.decl.Module.{Module}
 use Rattle.m2_graph.specs.declared.program.Part.{Part}
 use Rattle.m2_graph.specs.declared.program.Part.TheVariants.{Definition, Body}
 use Rattle.m2_graph.specs.Imports.{same_name, first_that, is_definition}
 use Rattle.m2_graph.specs.Parts.{bears, number_at, or_first, is_earlier}
-use Rattle.m2_graph.specs.Refused.{are_one_part, any_that}
+use Rattle.m2_graph.specs.Refused.{are_one_part}
 use Rattle.m2_graph.proofs.Importing.{module_at, first_within}
 
 shifted : (r : Option ℕ) (b : Bool) (n : ℕ) → option_map suc (or_first r (cond b (Some n) None)) ≡ or_first (option_map suc r) (cond b (Some (suc n)) None)
@@ -81,7 +81,7 @@ put old new name number h is other = put_case (same_name name other) (same_name 
 
 -- ---- earlier than a number
 
-lt_suc : (j n : ℕ) → nat_lt j n ≡ nat_lt (suc j) (suc n)
+pub lt_suc : (j n : ℕ) → nat_lt j n ≡ nat_lt (suc j) (suc n)
 lt_suc j n = same_from_decides {P = j < n} (nat_lt j n) (nat_lt (suc j) (suc n)) (Decides-ltb j n) ((λ e. let h : suc j < suc n = (Decides-ltb (suc j) (suc n)).0 e in omega (arith, h)), (λ l. (Decides-ltb (suc j) (suc n)).1 (omega (arith, l))))
 
 earlier_case : (b : Bool) (r r' : Option ℕ) (n : ℕ) → is_some r' ≡ is_earlier r n → is_some (cond b (Some 0) (option_map suc r')) ≡ is_earlier (cond b (Some 0) (option_map suc r)) (suc n)

@@ -1,14 +1,14 @@
 -- The graph of a program: its jobs, and the order in which its bodies start.
-use Rattle.std.specs.Prelude.{◌≡◌, ℕ, cond, List, [], Option, Some, None, length, map, slice_get}
+use Rattle.std.specs.Prelude.{◌≡◌, ℕ, cond, List, [], Option, Some, None, map, slice_get}
 use Rattle.std.specs.List.{AllZip, filter_map}
+use Rattle.std.specs.List.Sorted.{IsPermutation}
 use Rattle.m2_tree.specs.declared.decl.Module.{Module}
-use Rattle.m2_tree.specs.declared.refusal.Refusal.{Refusal}
 use Rattle.m2_graph.specs.declared.error.GraphError.{GraphError}
 use Rattle.m2_graph.specs.declared.error.GraphError.TheVariants.{Refused, NoMemory}
 use Rattle.m2_graph.specs.Imports.{is_definition, is_program, implements, first_that, links, walks}
 use Rattle.m2_graph.specs.Order.{IsJobOrder, IsJob}
-use Rattle.m2_graph.specs.Starts.{IsStartOrder}
-use Rattle.m2_graph.specs.Files.{File, AreInOrder, numbered, trees, given_of}
+use Rattle.graph_walk.specs.Starts.{IsStartOrder}
+use Rattle.m2_graph.specs.Files.{File, AreInOrder, trees, given_of}
 use Rattle.m2_graph.specs.Told.{told, IsTold}
 
 -- the body that starts where a walk comes to a module: for a definition its implementation
@@ -27,6 +27,10 @@ pub record IsJobs (ordered : List File) (files : List ℕ) (jobs : List (List �
   pub is_order : IsJobOrder (links (trees ordered)) (trees ordered) order
   pub compiled : files ≡ map (given_of ordered) order
   pub needs : AllZip (IsJob (trees ordered) order) order jobs
+
+-- The jobs compile each of the files once.
+abbrev pub CompileEach : List File → List ℕ → Type 0
+CompileEach files compiled = IsPermutation (map (λ f. f.given) files) compiled
 
 -- The order in which the bodies start: a walk from the program module comes to these modules.
 pub record IsStarts (ordered : List File) (starts : List ℕ) : Type 0 where

@@ -1,8 +1,8 @@
 -- The numbers of jobs.
-use Rattle.std.specs.Prelude.{◌≡◌, ◌<◌, ◌≤◌, ℕ, ◌==◌, true, List, Option, None, slice_index_or}
+use Rattle.std.specs.Prelude.{◌≡◌, ◌<◌, ◌≤◌, ℕ, ◌==◌, true, List, Option, Some, None, slice_index_or}
 use Rattle.std.specs.List.{filter_map}
 use Rattle.m2_graph.specs.Imports.{first_that}
-use Rattle.m2_graph.specs.Links.{has, times, targets}
+use Rattle.graph_walk.specs.Links.{has, times, targets}
 
 -- the place of a node in the order of the jobs
 abbrev pub number_of : List ℕ → ℕ → Option ℕ
@@ -18,6 +18,10 @@ place_of places node = slice_index_or places node None
 -- the table has the place of each node
 abbrev pub ArePlaces : List ℕ → List (Option ℕ) → Type 0
 ArePlaces order places = (node : ℕ) → place_of places node ≡ number_of order node
+
+-- each place in the table is below this number
+abbrev pub ArePlacesBelow : ℕ → List (Option ℕ) → Type 0
+ArePlacesBelow n places = (node k : ℕ) → place_of places node ≡ Some k → k < n
 
 -- the prerequisites of each job have smaller numbers, and stand once
 abbrev pub AreJobs : List (List ℕ) → Type 0

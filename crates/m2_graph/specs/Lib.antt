@@ -1,8 +1,3 @@
-pub mod Frames
-pub mod Marks
-pub mod Links
-pub mod Starts
-pub mod Numbering
 pub mod Order
 pub mod Imports
 pub mod Jobs

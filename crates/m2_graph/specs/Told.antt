@@ -1,5 +1,5 @@
 -- What is told of files in order.
-use Rattle.std.specs.Prelude.{◌≡◌, ◌<◌, ℕ, ◌==◌, List, [], ◌∷◌, ◌++◌, Option, Some, None, length, slice_get, ◌⊎◌}
+use Rattle.std.specs.Prelude.{◌≡◌, ◌<◌, ℕ, ◌==◌, List, [], ◌∷◌, ◌++◌, Option, Some, None, length, slice_get, ◌⊎◌, ◌↔◌, Bool, IsTrue}
 use Rattle.std.specs.List.{All}
 use Rattle.std.specs.String.{string_bytes}
 use Rattle.m2_tree.specs.declared.pos.Pos.{Pos}
@@ -7,7 +7,7 @@ use Rattle.m2_tree.specs.declared.name.Ident.{Ident}
 use Rattle.m2_tree.specs.declared.decl.Module.{Module}
 use Rattle.m2_tree.specs.declared.refusal.Refusal.{Refusal}
 use Rattle.m2_graph.specs.declared.faults.Fault.{Fault}
-use Rattle.m2_graph.specs.Links.{Leads}
+use Rattle.graph_walk.specs.Links.{Leads, flag}
 use Rattle.m2_graph.specs.Imports.{imported, definition_of, links}
 use Rattle.m2_graph.specs.Refused.{fault, first_place, fault_where, faults_of, least_of}
 use Rattle.m2_graph.specs.Files.{File, trees}
@@ -17,6 +17,10 @@ use Rattle.m2_graph.specs.Files.{File, trees}
 -- the definition that this import names is the node, or a chain of pairs leads from it to the node
 abbrev pub LeadsBack : List Module → ℕ → Ident → Type 0
 LeadsBack modules node x = (to : ℕ) × (definition_of modules x.name ≡ Some to) × ((to ≡ node) ⊎ Leads (links modules) to node)
+
+-- marked are the modules from which a chain of pairs leads to the node
+abbrev pub AreLeading : List Module → ℕ → List Bool → Type 0
+AreLeading modules node flags = (k : ℕ) → IsTrue (flag flags k) ↔ Leads (links modules) k node
 
 -- This is the place of the first of these imports that leads back to the node.
 pub record IsBack (modules : List Module) (node : ℕ) (imports : List Ident) (pos : Pos) : Type 0 where

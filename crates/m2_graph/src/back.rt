@@ -1,117 +1,80 @@
 //! Imports that lead back to a definition on a circle.
 
-ghost use Rattle.std.specs.Prelude.{◌≡◌, ◌<◌, ◌↔◌, ◌⊎◌, ℕ, false, length, map, IfOk, IsTrue};
-ghost use Rattle.m2_graph.specs.Imports.{imported, is_definition, links, named_by};
-ghost use Rattle.m2_graph.specs.Links.{AreNodes, Leads, flag, has};
+ghost use Rattle.std.specs.Prelude.{◌≡◌, ◌<◌, ◌↔◌, ℕ, length, IfOk, OnOk, IsTrue};
+ghost use Rattle.graph_walk.specs.Circles.{HasCircleOrder};
+ghost use Rattle.graph_walk.specs.Links.{Leads};
+ghost use Rattle.graph_walk.specs.Turned.{IsTurned};
+ghost use Rattle.m2_graph.specs.Imports.{imported, links, named_by};
 ghost use Rattle.m2_graph.specs.Program.{modules_of, IsIndexed};
-ghost use Rattle.m2_graph.specs.Told.{LeadsBack, IsFirstBack, AreCircles};
-ghost use Rattle.m2_graph.specs.Numbering.{is_open, IsNumbering};
-ghost use Rattle.std.specs.List.{All};
+ghost use Rattle.m2_graph.specs.Told.{LeadsBack, AreLeading, IsFirstBack, AreCircles};
 
-use crate::circle::{first_on_circle, led_to};
-use crate::flags::{is_marked, mark_all, unmarked};
-use crate::order::definition_flags;
 use crate::program::{Program, definition_of};
+use graph_walk::{first_on_circle, is_marked, led_to};
 use m2_tree::{Ident, Import, Module, Pos};
 use sqlite_items::Items;
 use std::alloc::{AllocError, Global};
 
-/// Whether a chain of pairs leads from one node to another, or they are the same.
-fn leads_to(
-    alloc: Global,
-    pairs: &[Items<usize>],
-    from: usize,
-    node: usize,
-) -> Result<bool, AllocError>
-    requires nodes { AreNodes pairs.now }
-    requires within { from < length pairs.now }
-    ensures { IfOk result (λ yes. IsTrue yes ↔ ((from ≡ node) ⊎ Leads pairs.now from node)) }
-{
-    if from == node {
-        return Ok(true);
-    }
-    let flags = led_to(alloc, pairs, from)?;
-    Ok(is_marked(&flags, node))
-}
-
-/// Whether an import leads back to a node.
-fn leads_back(
-    alloc: Global,
-    program: &Program<'_>,
-    pairs: &[Items<usize>],
-    node: usize,
-    ident: &Ident,
-) -> Result<bool, AllocError>
+/// Whether an import leads back to a node. `leading` marks the nodes that lead to it.
+fn leads_back(program: &Program<'_>, leading: &[bool], node: usize, ident: &Ident) -> bool
     requires indexed { IsIndexed program.now }
-    requires links { pairs.now ≡ links (modules_of program.now) }
-    ensures { IfOk result (λ yes. IsTrue yes ↔ LeadsBack (modules_of program.now) node ident.now) }
+    requires leading { AreLeading (modules_of program.now) node leading.now }
+    ensures { IsTrue result ↔ LeadsBack (modules_of program.now) node ident.now }
 {
     match definition_of(program, &ident.name) {
-        None => Ok(false),
-        Some(to) => {
-            let yes = leads_to(alloc, pairs, to, node)?;
-            Ok(yes)
-        }
+        None => false,
+        Some(to) => to == node || is_marked(leading, to),
     }
 }
 
 /// The place of the first of these imports that leads back to a node.
 fn back_in_names(
-    alloc: Global,
     program: &Program<'_>,
-    pairs: &[Items<usize>],
+    leading: &[bool],
     node: usize,
     names: &[Ident],
-) -> Result<Option<Pos>, AllocError>
+) -> Option<Pos>
     requires indexed { IsIndexed program.now }
-    requires links { pairs.now ≡ links (modules_of program.now) }
-    ensures { IfOk result (λ found. IsFirstBack (modules_of program.now) node names.now found) }
+    requires leading { AreLeading (modules_of program.now) node leading.now }
+    ensures { IsFirstBack (modules_of program.now) node names.now result }
 {
     for ident in names {
-        if leads_back(alloc, program, pairs, node, ident)? {
-            return Ok(Some(ident.pos));
+        if leads_back(program, leading, node, ident) {
+            return Some(ident.pos);
         }
     }
-    Ok(None)
+    None
 }
 
 fn back_in_import(
-    alloc: Global,
     program: &Program<'_>,
-    pairs: &[Items<usize>],
+    leading: &[bool],
     node: usize,
     import: &Import,
-) -> Result<Option<Pos>, AllocError>
+) -> Option<Pos>
     requires indexed { IsIndexed program.now }
-    requires links { pairs.now ≡ links (modules_of program.now) }
-    ensures { IfOk result (λ found. IsFirstBack (modules_of program.now) node (named_by import.now.from import.now.names) found) }
+    requires leading { AreLeading (modules_of program.now) node leading.now }
+    ensures { IsFirstBack (modules_of program.now) node (named_by import.now.from import.now.names) result }
 {
     match &import.from {
-        Some(from) => back_in_names(alloc, program, pairs, node, [*from].as_slice()),
-        None => back_in_names(alloc, program, pairs, node, import.names.as_slice()),
+        Some(from) => back_in_names(program, leading, node, [*from].as_slice()),
+        None => back_in_names(program, leading, node, import.names.as_slice()),
     }
 }
 
-/// The place of a module's first import that leads back to a node.
-pub fn back_in(
-    alloc: Global,
-    program: &Program<'_>,
-    pairs: &[Items<usize>],
-    node: usize,
-    tree: &Module,
-) -> Result<Option<Pos>, AllocError>
+/// The place of a module's first import that leads back to a node. `leading` marks the nodes that lead to it.
+pub fn back_in(program: &Program<'_>, leading: &[bool], node: usize, tree: &Module) -> Option<Pos>
     requires indexed { IsIndexed program.now }
-    requires links { pairs.now ≡ links (modules_of program.now) }
-    ensures { IfOk result (λ found. IsFirstBack (modules_of program.now) node (imported tree.now) found) }
+    requires leading { AreLeading (modules_of program.now) node leading.now }
+    ensures { IsFirstBack (modules_of program.now) node (imported tree.now) result }
 {
     let imports = tree.imports.as_slice();
     for import in imports {
-        match back_in_import(alloc, program, pairs, node, import)? {
+        match back_in_import(program, leading, node, import) {
             None => {}
-            Some(pos) => return Ok(Some(pos)),
+            Some(pos) => return Some(pos),
         }
     }
-    Ok(None)
+    None
 }
 
 /// What is told of the first definition on a circle.
@@ -119,71 +82,45 @@ fn told_circle(
     alloc: Global,
     program: &Program<'_>,
     pairs: &[Items<usize>],
+    back: &[Items<usize>],
     node: usize,
 ) -> Result<Option<(usize, Pos)>, AllocError>
     requires indexed { IsIndexed program.now }
     requires links { pairs.now ≡ links (modules_of program.now) }
+    requires turned { IsTurned pairs.now back.now }
     requires within { node < length program.now.modules.now }
     requires on_circle { Leads pairs.now node node }
     requires first { (other : ℕ) → other < node → ¬ Leads pairs.now other other }
     ensures { IfOk result (λ circle. AreCircles (modules_of program.now) circle) }
 {
+    let leading = led_to(alloc, back, node)?;
     let tree = program.modules[node];
-    let place = back_in(alloc, program, pairs, node, tree)?;
-    match place {
+    match back_in(program, &leading, node, tree) {
         None => Ok(None),
         Some(pos) => Ok(Some((node, pos))),
     }
 }
 
-/// What is told of circles. `definitions` says which modules are definitions, and `done` which of these have numbers.
-fn circle_of(
+/// What is told of circles. `pairs` has for each module the definitions that it imports, and `back` the same the other way
+/// round.
+pub fn circle_of(
     alloc: Global,
     program: &Program<'_>,
     pairs: &[Items<usize>],
-    definitions: &[bool],
-    done: &[bool],
+    back: &[Items<usize>],
 ) -> Result<Option<(usize, Pos)>, AllocError>
     requires indexed { IsIndexed program.now }
     requires links { pairs.now ≡ links (modules_of program.now) }
-    requires settled { (k : ℕ) → is_open definitions.now done.now k ≡ false → ¬ Leads pairs.now k k }
-    ensures { IfOk result (λ circle. AreCircles (modules_of program.now) circle) }
+    requires turned { IsTurned pairs.now back.now }
+    ensures circles { IfOk result (λ circle. AreCircles (modules_of program.now) circle) }
+    ensures order { OnOk result (HasCircleOrder pairs.now) }
 {
-    let first = first_on_circle(alloc, pairs, definitions, done)?;
+    let first = first_on_circle(alloc, pairs, back)?;
     match first {
         None => Ok(None),
         Some(node) => {
-            let circle = told_circle(alloc, program, pairs, node)?;
+            let circle = told_circle(alloc, program, pairs, back, node)?;
             Ok(circle)
         }
     }
-}
-
-/// Marks on these nodes, each of which is below `count`.
-fn marked(alloc: Global, count: usize, nodes: &[usize]) -> Result<Vec<bool>, AllocError>
-    requires { All (λ node. node < count) nodes.now }
-    ensures { IfOk result (λ flags. (k : ℕ) → flag flags.items k ≡ has nodes.now k) }
-{
-    let mut flags = unmarked(alloc, count)?;
-    let mut todo = Items::new(alloc);
-    mark_all(nodes, &mut flags, &mut todo)?;
-    Ok(flags)
-}
-
-/// What is told of circles, where these definitions have numbers.
-pub fn circle_beside(
-    alloc: Global,
-    program: &Program<'_>,
-    pairs: &[Items<usize>],
-    numbered: &[usize],
-) -> Result<Option<(usize, Pos)>, AllocError>
-    requires indexed { IsIndexed program.now }
-    requires links { pairs.now ≡ links (modules_of program.now) }
-    requires numbering { IsNumbering pairs.now (map is_definition (modules_of program.now)) numbered.now }
-    ensures { IfOk result (λ circle. AreCircles (modules_of program.now) circle) }
-{
-    let definitions = definition_flags(alloc, program.modules)?;
-    let done = marked(alloc, program.modules.len(), numbered)?;
-    let circle = circle_of(alloc, program, pairs, &definitions, &done)?;
-    Ok(circle)
 }

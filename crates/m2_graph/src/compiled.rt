@@ -5,7 +5,7 @@ ghost use Rattle.m2_graph.specs.Files.{trees};
 ghost use Rattle.m2_graph.specs.Graph.{IsJobs};
 ghost use Rattle.m2_graph.specs.Imports.{is_definition, links};
 ghost use Rattle.m2_graph.specs.Jobs.{AreJobs};
-ghost use Rattle.m2_graph.specs.Numbering.{IsNumbering};
+ghost use Rattle.graph_walk.specs.Numbering.{IsNumbering};
 ghost use Rattle.m2_graph.specs.Program.{modules_of, IsIndexed};
 ghost use Rattle.m2_graph.specs.Sources.{file_of};
 

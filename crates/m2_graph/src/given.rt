@@ -12,7 +12,7 @@ use crate::imports::is_definition;
 use crate::needs::walks;
 use crate::program::{Program, implementation_of};
 use crate::sources::Source;
-use crate::starts::start_order;
+use graph_walk::start_order;
 use sqlite_items::Items;
 use std::alloc::{AllocError, Global};
 

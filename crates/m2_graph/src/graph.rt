@@ -2,10 +2,10 @@
 
 ghost use Rattle.std.specs.Prelude.{◌≡◌, map, Some, IfOk, IfErr};
 ghost use Rattle.m2_graph.specs.Files.{trees};
-ghost use Rattle.m2_graph.specs.Graph.{IsJobs, IsStarts, IsGraphOf, IsRefusalOf};
+ghost use Rattle.m2_graph.specs.Graph.{IsJobs, IsStarts, IsGraphOf, CompileEach, IsRefusalOf};
 ghost use Rattle.m2_graph.specs.Imports.{is_definition, is_program, first_that, links};
 ghost use Rattle.m2_graph.specs.Jobs.{AreJobs};
-ghost use Rattle.m2_graph.specs.Numbering.{IsNumbering};
+ghost use Rattle.graph_walk.specs.Numbering.{IsNumbering};
 ghost use Rattle.m2_graph.specs.Program.{modules_of, IsIndexed};
 ghost use Rattle.m2_graph.specs.Sources.{file_of};
 
@@ -64,6 +64,7 @@ fn graph_of(
     requires indexed { IsIndexed program.now }
     requires same { modules_of program.now ≡ trees (map file_of sources.now) }
     ensures graph { IfOk result (λ g. IsGraphOf (map file_of sources.now) g.files.items (map (λ job. job.items) g.jobs.items) g.starts.items) }
+    ensures each { IfOk result (λ g. CompileEach (map file_of sources.now) g.files.items) }
     ensures refused { IfErr result (IsRefusalOf (map file_of sources.now)) }
 {
     let Judged { refusals, numbered } = judge(alloc, program, sources)?;
@@ -102,6 +103,7 @@ impl Graph {
     /// `NoMemory` where a request for memory was refused.
     pub fn of(alloc: Global, files: &[(&str, &Module)]) -> Result<Graph, GraphError>
         ensures graph { IfOk result (λ g. IsGraph (files_of files.now) g.files.items (map (λ job. job.items) g.jobs.items) g.starts.items) }
+        ensures each { IfOk result (λ g. CompileEach (files_of files.now) g.files.items) }
         ensures refused { IfErr result (IsRefusal (files_of files.now)) }
     {
         let sources = in_order(alloc, files)?;
@@ -110,7 +112,7 @@ impl Graph {
         graph_of(alloc, &program, &sources)
     }
 
-    /// For each job the file that it compiles.
+    /// For each job the file that it compiles. Each file that was given has one job.
     pub fn files(&self) -> &[usize]
         ensures { result.now ≡ self.now.files.items }
     {

@@ -3,7 +3,7 @@
 ghost use Rattle.std.specs.Prelude.{◌≡◌, ◌<◌, ◌++◌, length, map, IfOk, OnOk, IfSome, Some, None};
 ghost use Rattle.std.specs.List.{All, filter_map};
 ghost use Rattle.std.specs.Option.{option_to_list};
-ghost use Rattle.m2_graph.specs.Links.{AreNodes};
+ghost use Rattle.graph_walk.specs.Links.{AreNodes};
 ghost use Rattle.m2_graph.specs.Imports.{named_by, imported, is_definition, is_program, is_implementation, first_that, definition_of, links_of, links};
 ghost use Rattle.m2_graph.specs.Program.{modules_of, IsIndexed};
 

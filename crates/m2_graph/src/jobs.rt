@@ -3,24 +3,14 @@
 ghost use Rattle.std.specs.Prelude.{◌≡◌, ◌<◌, ◌++◌, ℕ, ◌==◌, Some, None, length, replicate, cond, IfOk, OnOk};
 ghost use Rattle.std.specs.List.{All, filter_map};
 ghost use Rattle.std.specs.Option.{option_to_list};
-ghost use Rattle.m2_graph.specs.Links.{AreEachOnce};
-ghost use Rattle.m2_graph.specs.Jobs.{number_of, numbers_of, place_of, ArePlaces};
+ghost use Rattle.graph_walk.specs.Links.{AreEachOnce};
+ghost use Rattle.graph_walk.specs.Marks.{AreUnmarked};
+ghost use Rattle.m2_graph.specs.Jobs.{number_of, place_of, ArePlaces, ArePlacesBelow};
 ghost use Rattle.m2_graph.specs.Parts.{or_first};
 
-use crate::flags::{mark_all, unmarked};
+use graph_walk::each_once;
 use sqlite_items::Items;
 use std::alloc::{AllocError, Global};
-
-/// The numbers of the list, each once. `count` is greater than each of them.
-fn each_once(alloc: Global, count: usize, numbers: &[usize]) -> Result<Items<usize>, AllocError>
-    requires { All (λ n. n < count) numbers.now }
-    ensures { IfOk result (λ once. AreEachOnce once numbers.now) }
-{
-    let mut flags = unmarked(alloc, count)?;
-    let mut once = Items::new(alloc);
-    mark_all(numbers, &mut flags, &mut once)?;
-    Ok(once)
-}
 
 /// The place of a node.
 fn place_of(places: &[Option<usize>], node: usize) -> Option<usize>
@@ -96,18 +86,21 @@ fn numbers_of(
     Ok(numbers)
 }
 
-/// The prerequisites of a job that needs these nodes: the numbers of their jobs, each once. `order` has the nodes in the
-/// order of their jobs, and `places` the place there of each.
+/// The prerequisites of a job that needs these nodes: the numbers of their jobs, each once. `places` has for each node the
+/// number of its job. No number is marked before, and none after.
 pub fn prerequisites(
     alloc: Global,
-    order: &[usize],
     places: &[Option<usize>],
     nodes: &[usize],
+    flags: &mut [bool],
 ) -> Result<Vec<usize>, AllocError>
-    requires { ArePlaces order.now places.now }
-    ensures { IfOk result (λ jobs. AreEachOnce jobs.items (numbers_of order.now nodes.now)) }
+    requires below { ArePlacesBelow (length flags.old) places.now }
+    requires unmarked { AreUnmarked flags.old }
+    ensures jobs { IfOk result (λ jobs. AreEachOnce jobs.items (filter_map (place_of places.now) nodes.now)) }
+    ensures same { OnOk result (length flags.new ≡ length flags.old) }
+    ensures unmarked { OnOk result (AreUnmarked flags.new) }
 {
     let numbers = numbers_of(alloc, places, nodes)?;
-    let once = each_once(alloc, order.len(), numbers.as_slice())?;
+    let once = each_once(alloc, numbers.as_slice(), flags)?;
     Vec::from_slice(alloc, once.as_slice())
 }

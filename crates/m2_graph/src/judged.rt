@@ -1,19 +1,21 @@
 //! What is told of a program, and the numbers of its definitions.
 
-ghost use Rattle.std.specs.Prelude.{◌≡◌, map, IfOk};
+ghost use Rattle.std.specs.Prelude.{◌≡◌, map, IfOk, OnOk};
+ghost use Rattle.graph_walk.specs.Circles.{HasCircleOrder};
 ghost use Rattle.m2_graph.specs.Files.{trees};
 ghost use Rattle.m2_graph.specs.Imports.{is_definition, links};
-ghost use Rattle.m2_graph.specs.Numbering.{IsNumbering};
+ghost use Rattle.graph_walk.specs.Numbering.{IsNumbering};
 ghost use Rattle.m2_graph.specs.Program.{modules_of, IsIndexed};
 ghost use Rattle.m2_graph.specs.Sources.{file_of};
 ghost use Rattle.m2_graph.specs.Told.{told, IsTold};
 
-use crate::back::circle_beside;
+use crate::back::circle_of;
 use crate::imports::links;
 use crate::numbering::numbering_of;
 use crate::program::Program;
 use crate::sources::Source;
 use crate::told::refused_of;
+use graph_walk::turned;
 use m2_tree::Refusal;
 use sqlite_items::Items;
 use std::alloc::{AllocError, Global};
@@ -35,10 +37,12 @@ pub fn judge(
     requires same { modules_of program.now ≡ trees (map file_of sources.now) }
     ensures told { IfOk result (λ j. IsTold (map file_of sources.now) (map told j.refusals.items)) }
     ensures numbering { IfOk result (λ j. IsNumbering (links (modules_of program.now)) (map is_definition (modules_of program.now)) j.numbered) }
+    ensures order { OnOk result (HasCircleOrder (links (modules_of program.now))) }
 {
     let pairs = links(alloc, program)?;
-    let numbered = numbering_of(alloc, program, &pairs)?;
-    let circle = circle_beside(alloc, program, &pairs, numbered.as_slice())?;
+    let back = turned(alloc, &pairs)?;
+    let numbered = numbering_of(alloc, program, &pairs, &back)?;
+    let circle = circle_of(alloc, program, &pairs, &back)?;
     let refusals = refused_of(alloc, program, circle, sources)?;
     Ok(Judged { refusals, numbered })
 }

@@ -3,11 +3,9 @@
 #![tactic(auto)]
 
 mod back;
-mod circle;
 mod compiled;
 mod error;
 mod faults;
-mod flags;
 mod given;
 mod graph;
 mod imports;
@@ -18,7 +16,6 @@ mod numbering;
 mod order;
 mod program;
 mod sources;
-mod starts;
 #[cfg(test)]
 mod tests;
 mod told;

@@ -2,7 +2,7 @@
 
 ghost use Rattle.std.specs.Prelude.{◌≡◌, ◌++◌, map, IfOk, OnOk};
 ghost use Rattle.m2_graph.specs.Imports.{own_definition, needs_of, body_links, walk_of, walks};
-ghost use Rattle.m2_graph.specs.Links.{AreNodes};
+ghost use Rattle.graph_walk.specs.Links.{AreNodes};
 ghost use Rattle.m2_graph.specs.Program.{modules_of, IsIndexed};
 
 use crate::imports::{add_imports, add_link, is_definition};

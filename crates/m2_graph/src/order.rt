@@ -1,9 +1,10 @@
 //! The order of the jobs.
 
 ghost use Rattle.std.specs.Prelude.{◌≡◌, ◌<◌, ◌++◌, length, [], ◌∷◌, map, IfOk, OnOk};
+ghost use Rattle.graph_walk.specs.Marks.{AreUnmarked};
 ghost use Rattle.m2_graph.specs.Imports.{is_definition};
-ghost use Rattle.m2_graph.specs.Jobs.{ArePlaces};
-ghost use Rattle.m2_graph.specs.Order.{body_numbers, IsJob};
+ghost use Rattle.m2_graph.specs.Jobs.{ArePlacesBelow};
+ghost use Rattle.m2_graph.specs.Order.{body_numbers, IsJob, IsJobBy};
 ghost use Rattle.m2_graph.specs.Program.{modules_of, IsIndexed};
 ghost use Rattle.std.specs.List.{All, AllZip};
 
@@ -11,6 +12,7 @@ use crate::imports::is_definition;
 use crate::jobs::{places_of, prerequisites};
 use crate::needs::needs_of;
 use crate::program::Program;
+use graph_walk::unmarked;
 use m2_tree::Module;
 use sqlite_items::Items;
 use std::alloc::{AllocError, Global};
@@ -48,17 +50,20 @@ pub fn add_bodies(modules: &[&Module], order: &mut Items<usize>) -> Result<(), A
 fn job_of(
     alloc: Global,
     program: &Program<'_>,
-    order: &[usize],
     places: &[Option<usize>],
     node: usize,
+    flags: &mut [bool],
 ) -> Result<Vec<usize>, AllocError>
     requires indexed { IsIndexed program.now }
-    requires places { ArePlaces order.now places.now }
     requires within { node < length program.now.modules.now }
-    ensures { IfOk result (λ job. IsJob (modules_of program.now) order.now node job.items) }
+    requires below { ArePlacesBelow (length flags.old) places.now }
+    requires unmarked { AreUnmarked flags.old }
+    ensures job { IfOk result (λ job. IsJobBy (modules_of program.now) places.now node job.items) }
+    ensures same { OnOk result (length flags.new ≡ length flags.old) }
+    ensures unmarked { OnOk result (AreUnmarked flags.new) }
 {
     let needs = needs_of(alloc, program, program.modules[node])?;
-    let job = prerequisites(alloc, order, places, needs.as_slice())?;
+    let job = prerequisites(alloc, places, needs.as_slice(), flags)?;
     Ok(job)
 }
 
@@ -74,9 +79,10 @@ pub fn jobs_of(
     ensures { IfOk result (λ jobs. AllZip (IsJob (modules_of program.now) order.now) order.now (map (λ job. job.items) jobs.items)) }
 {
     let places = places_of(alloc, program.modules.len(), order)?;
+    let mut flags = unmarked(alloc, order.len())?;
     let mut jobs = Vec::new(alloc);
     for node in order {
-        jobs.push(job_of(alloc, program, order, &places, *node)?)?;
+        jobs.push(job_of(alloc, program, &places, *node, &mut flags)?)?;
     }
     Ok(jobs)
 }

@@ -1,15 +1,20 @@
 -- A place for each job, as they are filled.
 use Rattle.std.proofs.Common.{◌≡◌, ℕ, eqb, ◌<◌, ◌≢◌, List, [], ◌∷◌, ◌++◌, length, map, get_or, set, sym, ap, ◌∙◌, subst, ⊎_elim, arith, Option, Some, None, get_or-set_other, get_or-set_same}
-use Rattle.std.specs.Prelude.{MatchOption}
+use Rattle.std.specs.Prelude.{MatchOption, IfSome}
 use mathlib.Core.List.{map-append}
 use Rattle.m2_board.specs.Lists.{times}
 use Rattle.m2_board.proofs.Weights.{weigh-push}
 use Rattle.m2_board.proofs.Consistent.{bit, one_if}
 
 -- another fact of a place with nothing in it
-pub match_none : {R : Type 0} (o : Option R) (P P' : Type 0) (Q : R → Type 0) → (P → P') → MatchOption o P Q → MatchOption o P' Q
+match_none : {R : Type 0} (o : Option R) (P P' : Type 0) (Q : R → Type 0) → (P → P') → MatchOption o P Q → MatchOption o P' Q
 match_none None P P' Q f m = f m
 match_none (Some r) P P' Q f m = m
+
+-- no fact of a place with nothing in it
+pub match_some : {R : Type 0} (o : Option R) (P : Type 0) (Q : R → Type 0) → MatchOption o P Q → IfSome o Q
+match_some None P Q m = tt
+match_some (Some r) P Q m = m
 
 module _ {R : Type 0} (job_of : R → ℕ) (Right : ℕ → R → Type 0) where
   -- each of these is at the place of its job, and nothing else is

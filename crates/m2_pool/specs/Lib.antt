@@ -1,2 +1,3 @@
 pub mod Halving
 pub mod Results
+pub mod Settled

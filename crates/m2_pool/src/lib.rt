@@ -1,9 +1,11 @@
 //! Jobs with prerequisites, run by workers on threads of their own.
 //!
-//! [`run_jobs`] answers the results that the work's own definition gives for its key, in job order, and who had which
-//! job. The results are the same for every number of workers, every gate and every schedule. The board on which the
-//! workers claim the jobs is that of `m2_board`, and what one worker does is that of `m2_worker`: their public items that
-//! callers need are passed on. Here the jobs are dealt, the workers run on threads, and what is left is gathered.
+//! [`run_jobs`] answers a result for each job, in job order, and who had which job. Each result is one that the work's own
+//! definition gives for its job from results of its prerequisites, for every number of workers, every gate and every
+//! schedule. The board on which the workers claim the jobs is that of `m2_board`, and what one worker does is that of
+//! `m2_worker`: their public items that callers need are passed on. Here the jobs are dealt, the workers run on threads,
+//! and the results are gathered: those that the workers handed back are shown by their notes to stand on one another, and
+//! what is left is run.
 #![tactic(auto)]
 
 mod gather;

@@ -1,31 +1,32 @@
 // The whole: workers on threads of their own, and the gatherer.
-ghost use Rattle.std.specs.Prelude.{◌≡◌, ◌≢◌, ◌++◌, [], ℕ, ◌<◌, ◌≤◌, ◌↔◌, length, map, All, IfOk, Err};
-ghost use Rattle.std.specs.List.{HoldsAt};
+ghost use Rattle.std.specs.Prelude.{◌≡◌, ◌≢◌, ◌++◌, [], ℕ, ◌<◌, ◌≤◌, ◌↔◌, length, map, All, IfOk, IfSome, Err};
 ghost use Rattle.once_cell.specs.Once.{cell_name};
 ghost use Rattle.m2_board.specs.Lists.{times, listed};
 ghost use Rattle.m2_board.specs.Seats.{IsAllSeats, all_had};
-ghost use Rattle.m2_worker.specs.Results.{results};
+ghost use Rattle.m2_worker.specs.Results.{all_jobs, AreResults, IsRan};
 
 use crate::gather::{gathered, placed};
 use crossbeam_deque::{Stealer, Worker};
 use m2_board::{Board, BoardSeat, JobGraph, PoolRefusal, Tally};
-use m2_worker::{Gate, Member, Published, Ran, Shop, Work, empty_cells, work_on};
+use m2_worker::{Gate, Member, Ran, Shop, Work, empty_cells, work_on};
 use once_cell::race::OnceBox;
 use std::alloc::{AllocError, Global};
 use std::thread;
 use std::thread::Threads;
 
-/// The results of the work's own graph, in job order, and who had which job.
+/// Results of the work's own graph, in job order, and who had which job.
 ///
-/// The results are those that the work's definition gives for its key by recursion on prerequisites, and the tally has
+/// Each result is one that the work's definition gives for its job, from results of its prerequisites, and the tally has
 /// each job exactly once, for every number of workers, every gate and every schedule. The refusal is `Workers` exactly
 /// where there are not 1 to 64 workers, and else `NoMemory`.
 ///
 /// The j-th job without prerequisites is dealt to worker j modulo the number of workers. A worker takes jobs from its
 /// own deque, first in first out, and else steals; where it sees the results of a job's prerequisites, the gate lets it
 /// in and it gets the job, it runs it, publishes the result, and keeps the jobs whose last prerequisite this was. It ends
-/// when it finds no job in its own deque nor in 1000 rounds over the others, or took as many jobs as there are. When all
-/// have ended, the jobs that none had are run here, in job order and without the gate.
+/// when it finds no job in its own deque nor in 1000 rounds over the others, or took as many jobs as there are.
+///
+/// When all have ended, the jobs that none had are run here, in job order and without the gate. So are such as stand on a
+/// result that cannot be shown to be of this run; as far as we know there are none.
 pub fn run_jobs<R: Threads + Sync, W: Work, G: Gate>(
     rt: &R,
     alloc: Global,
@@ -34,10 +35,10 @@ pub fn run_jobs<R: Threads + Sync, W: Work, G: Gate>(
     gate: &G,
     work: &W,
 ) -> Result<(Vec<W::Out>, Tally), PoolRefusal>
-    requires { graph.now ≡ W.graph (W.key_of work.now) }
+    requires { graph.now ≡ W.graph work.now }
     ensures workers { (result ≡ Err PoolRefusal.Workers) ↔ ¬ ((1 ≤ workers) × (workers ≤ 64)) }
     ensures graph { result ≢ Err PoolRefusal.Prerequisite }
-    ensures results { IfOk result (λ r. r.0.items ≡ results (W.graph (W.key_of work.now)) (W.defined (W.key_of work.now))) }
+    ensures results { IfOk result (λ r. AreResults (W.graph work.now) (W.defines work.now) (all_jobs (length (W.graph work.now))) r.0.items) }
     ensures seats { IfOk result (λ r. length r.1.seats.items ≡ workers) }
     ensures tally { IfOk result (λ r. (job : ℕ) → job < length graph.now → times job (listed (map (λ l. l.items) r.1.seats.items) ++ r.1.gatherer.items) ≡ 1) }
 {
@@ -53,15 +54,15 @@ pub fn run_on<R: Threads + Sync, W: Work, G: Gate>(
     board: Board,
     seats: Vec<BoardSeat>,
     graph: &JobGraph,
-    cells: &[OnceBox<Published<W>>],
+    cells: &[OnceBox<W::Out>],
     gate: &G,
     work: &W,
 ) -> Result<(Vec<W::Out>, Tally), AllocError>
-    requires graph { (graph.now ≡ W.graph (W.key_of work.now)) × (graph.now ≡ board.graph) }
+    requires graph { (graph.now ≡ W.graph work.now) × (graph.now ≡ board.graph) }
     requires cells { length cells.now ≡ length graph.now }
     requires seats { IsAllSeats board seats.items × (0 < board.workers) }
     requires new { All (λ s. s.had ≡ []) seats.items }
-    ensures results { IfOk result (λ r. r.0.items ≡ results (W.graph (W.key_of work.now)) (W.defined (W.key_of work.now))) }
+    ensures results { IfOk result (λ r. AreResults (W.graph work.now) (W.defines work.now) (all_jobs (length (W.graph work.now))) r.0.items) }
     ensures seats { IfOk result (λ r. length r.1.seats.items ≡ board.workers) }
     ensures tally { IfOk result (λ r. (job : ℕ) → job < length graph.now → times job (listed (map (λ l. l.items) r.1.seats.items) ++ r.1.gatherer.items) ≡ 1) }
 {
@@ -78,9 +79,9 @@ pub fn run_on<R: Threads + Sync, W: Work, G: Gate>(
     let members = members_of(alloc, seats, owns)?;
     let ended = all_work(rt, alloc, &shop, members)?;
     let (seats, all) = returned(alloc, &shop, ended)?;
-    let places = placed(alloc, cells, work, graph.jobs(), all)?;
+    let places = placed(alloc, &shop, all)?;
+    let outs = gathered(alloc, &shop, places)?;
     let tally = board.close(seats);
-    let outs = gathered(alloc, graph, cells, work, tally.gatherer.as_slice(), places)?;
     Ok((outs, tally))
 }
 
@@ -159,14 +160,14 @@ fn all_work<R: Threads + Sync, W: Work, G: Gate>(
 ) -> Result<Vec<Result<Member<W>, AllocError>>, AllocError>
     requires seats { All (λ m. (m.seat.board ≡ shop.now.board.now.id) × (m.seat.had ≡ []) × (m.ran.items ≡ [])) members.items }
     ensures count { IfOk result (λ v. length v.items ≡ length members.items) }
-    ensures each { IfOk result (λ v. All (λ e. IfOk e (λ m. (m.seat.board ≡ shop.now.board.now.id) × (map (λ r. r.job) m.ran.items ≡ m.seat.had) × All (λ r. (W.key_of r.work ≡ W.key_of shop.now.work.now) × HoldsAt (λ c. r.note.cell ≡ cell_name c) shop.now.cells.now r.job) m.ran.items)) v.items) }
+    ensures each { IfOk result (λ v. All (λ e. IfOk e (λ m. (m.seat.board ≡ shop.now.board.now.id) × (map (λ r. r.job) m.ran.items ≡ m.seat.had) × All (λ r. IfSome r.note (λ n. IsRan (map cell_name shop.now.cells.now) shop.now.graph.now (W.defines shop.now.work.now) r.job n.cell n.known (map (λ u. u.cell) r.used.items) (map (λ u. u.known) r.used.items))) m.ran.items)) v.items) }
 {
     thread::map_vec(
         rt,
         members,
         &|member: Member<W>| -> Result<Member<W>, AllocError>
             requires { (member.seat.board ≡ shop.now.board.now.id) × (member.seat.had ≡ []) × (member.ran.items ≡ []) }
-            ensures { IfOk result (λ m. (m.seat.board ≡ shop.entry.now.board.now.id) × (map (λ r. r.job) m.ran.items ≡ m.seat.had) × All (λ r. (W.key_of r.work ≡ W.key_of shop.entry.now.work.now) × HoldsAt (λ c. r.note.cell ≡ cell_name c) shop.entry.now.cells.now r.job) m.ran.items) }
+            ensures { IfOk result (λ m. (m.seat.board ≡ shop.entry.now.board.now.id) × (map (λ r. r.job) m.ran.items ≡ m.seat.had) × All (λ r. IfSome r.note (λ n. IsRan (map cell_name shop.entry.now.cells.now) shop.entry.now.graph.now (W.defines shop.entry.now.work.now) r.job n.cell n.known (map (λ u. u.cell) r.used.items) (map (λ u. u.known) r.used.items))) m.ran.items) }
         { work_on(alloc, shop, member) },
     )
 }
@@ -177,11 +178,11 @@ fn returned<W: Work, G: Gate>(
     shop: &Shop<'_, W, G>,
     ended: Vec<Result<Member<W>, AllocError>>,
 ) -> Result<(Vec<BoardSeat>, Vec<Ran<W>>), AllocError>
-    requires { All (λ e. IfOk e (λ m. (m.seat.board ≡ shop.now.board.now.id) × (map (λ r. r.job) m.ran.items ≡ m.seat.had) × All (λ r. (W.key_of r.work ≡ W.key_of shop.now.work.now) × HoldsAt (λ c. r.note.cell ≡ cell_name c) shop.now.cells.now r.job) m.ran.items)) ended.items }
+    requires { All (λ e. IfOk e (λ m. (m.seat.board ≡ shop.now.board.now.id) × (map (λ r. r.job) m.ran.items ≡ m.seat.had) × All (λ r. IfSome r.note (λ n. IsRan (map cell_name shop.now.cells.now) shop.now.graph.now (W.defines shop.now.work.now) r.job n.cell n.known (map (λ u. u.cell) r.used.items) (map (λ u. u.known) r.used.items))) m.ran.items)) ended.items }
     ensures count { IfOk result (λ r. length r.0.items ≡ length ended.items) }
     ensures seats { IfOk result (λ r. All (λ s. s.board ≡ shop.now.board.now.id) r.0.items) }
     ensures ran { IfOk result (λ r. map (λ a. a.job) r.1.items ≡ all_had r.0.items) }
-    ensures notes { IfOk result (λ r. All (λ a. (W.key_of a.work ≡ W.key_of shop.now.work.now) × HoldsAt (λ c. a.note.cell ≡ cell_name c) shop.now.cells.now a.job) r.1.items) }
+    ensures stands { IfOk result (λ o. All (λ r. IfSome r.note (λ n. IsRan (map cell_name shop.now.cells.now) shop.now.graph.now (W.defines shop.now.work.now) r.job n.cell n.known (map (λ u. u.cell) r.used.items) (map (λ u. u.known) r.used.items))) o.1.items) }
 {
     let mut seats = Vec::with_capacity(alloc, ended.len())?;
     let mut all = Vec::new(alloc);

@@ -2,7 +2,7 @@ ghost use Rattle.std.specs.Prelude.{◌≡◌, map, length, IfOk};
 
 use crate::run::run_on;
 use crate::{Board, BoardSeat, Gate, JobGraph, PoolRefusal, Work, run_jobs};
-use m2_worker::{Published, empty_cells};
+use m2_worker::empty_cells;
 use std::alloc::{AllocError, Global};
 use std::sync::atomic::AtomicUsize;
 use std::sync::atomic::Ordering::SeqCst;
@@ -16,23 +16,13 @@ struct Halving {
 }
 
 impl Work for Halving {
-    ghost use Rattle.m2_pool.specs.Halving.{graph_of, halved, same_halves};
-
-    type Key = u64;
+    ghost use Rattle.m2_pool.specs.Halving.{graph_of, Halves};
 
     type Out = u64;
 
-    ghost key_of = { λ w. w.key };
+    ghost graph = { λ w. graph_of w.key };
 
-    ghost graph = { graph_of };
-
-    ghost defined = { halved };
-
-    ghost same_key = { same_halves };
-
-    fn key(&self) -> &u64 {
-        &self.key
-    }
+    ghost defines = { λ w. Halves w.key };
 
     fn run(&self, _job: usize, prerequisites: &[&u64]) -> Result<u64, AllocError> {
         if prerequisites.is_empty() {
@@ -44,6 +34,32 @@ impl Work for Halving {
 
     fn copy(&self, out: &u64) -> Result<u64, AllocError> {
         Ok(*out)
+    }
+}
+
+// Halves, and counts how many jobs are run.
+#[derive(Clone, Copy)]
+struct Counting<'a> {
+    halving: Halving,
+    runs: &'a AtomicUsize,
+}
+
+impl Work for Counting<'_> {
+    ghost use Rattle.m2_pool.specs.Halving.{graph_of, Halves};
+
+    type Out = u64;
+
+    ghost graph = { λ w. graph_of w.halving.key };
+
+    ghost defines = { λ w. Halves w.halving.key };
+
+    fn run(&self, job: usize, prerequisites: &[&u64]) -> Result<u64, AllocError> {
+        self.runs.fetch_add(1, SeqCst);
+        self.halving.run(job, prerequisites)
+    }
+
+    fn copy(&self, out: &u64) -> Result<u64, AllocError> {
+        self.halving.copy(out)
     }
 }
 
@@ -119,6 +135,22 @@ fn an_open_gate_leaves_nothing_to_the_gatherer(rt: HostRuntime) -> Result<(), Fa
 }
 
 #[test]
+fn each_job_runs_once(rt: HostRuntime) -> Result<(), Fail> {
+    let graph = graph_of(rt.alloc(), &[&[], &[0], &[0], &[1, 2]])?;
+    for workers in [1, 8] {
+        let runs = AtomicUsize::new(0);
+        let work = Counting {
+            halving: Halving { key: 800 },
+            runs: &runs,
+        };
+        let (outs, _) = run_jobs(&rt, rt.alloc(), &graph, workers, &Always(true), &work)?;
+        assert!(rt; outs.as_slice() == [800, 400, 400, 200].as_slice());
+        assert!(rt; runs.load(SeqCst) == 4);
+    }
+    Ok(())
+}
+
+#[test]
 fn a_shut_gate_leaves_all_to_the_gatherer(rt: HostRuntime) -> Result<(), Fail> {
     let graph = graph_of(rt.alloc(), &[&[], &[0], &[0], &[1, 2]])?;
     for workers in [1, 2] {
@@ -175,42 +207,32 @@ fn two_jobs_run_at_the_same_time(rt: HostRuntime) -> Result<(), Fail> {
 }
 
 #[test]
-fn a_result_of_another_key_is_not_taken(rt: HostRuntime) -> Result<(), Fail> {
+fn what_stands_on_a_strange_result_is_run_again(rt: HostRuntime) -> Result<(), Fail> {
     let graph = graph_of(rt.alloc(), &[&[], &[0], &[0], &[1, 2]])?;
     let (board, seats) = Board::open(rt.alloc(), &graph, 2)?;
     let cells = empty_cells(rt.alloc(), 4)?;
-    let strange = Published {
-        job: 0,
-        work: Halving { key: 640 },
-        out: 640,
-    };
-    assert!(rt; cells[0].set(Box::new(rt.alloc(), strange)?).is_ok());
+    assert!(rt; cells[0].set(Box::new(rt.alloc(), 640)?).is_ok());
     let work = Halving { key: 800 };
     let gate = Always(true);
     let cells = cells.as_slice();
     let (outs, tally) = run_on(&rt, rt.alloc(), board, seats, &graph, cells, &gate, &work)?;
     assert!(rt; outs.as_slice() == [800, 400, 400, 200].as_slice());
-    assert!(rt; tally.gatherer.as_slice() == [1, 2, 3].as_slice());
+    assert!(rt; tally.gatherer.is_empty());
     Ok(())
 }
 
 #[test]
-fn a_result_of_another_job_is_not_taken(rt: HostRuntime) -> Result<(), Fail> {
+fn a_strange_result_of_a_later_job_is_not_taken(rt: HostRuntime) -> Result<(), Fail> {
     let graph = graph_of(rt.alloc(), &[&[], &[0], &[0], &[1, 2]])?;
     let (board, seats) = Board::open(rt.alloc(), &graph, 2)?;
     let cells = empty_cells(rt.alloc(), 4)?;
+    assert!(rt; cells[2].set(Box::new(rt.alloc(), 7)?).is_ok());
     let work = Halving { key: 800 };
-    let strange = Published {
-        job: 1,
-        work,
-        out: 400,
-    };
-    assert!(rt; cells[0].set(Box::new(rt.alloc(), strange)?).is_ok());
     let gate = Always(true);
     let cells = cells.as_slice();
     let (outs, tally) = run_on(&rt, rt.alloc(), board, seats, &graph, cells, &gate, &work)?;
     assert!(rt; outs.as_slice() == [800, 400, 400, 200].as_slice());
-    assert!(rt; tally.gatherer.as_slice() == [1, 2, 3].as_slice());
+    assert!(rt; tally.gatherer.is_empty());
     Ok(())
 }
 

@@ -1,13 +1,15 @@
 -- Results picked one by one, and edges counted one by one.
-use Rattle.std.proofs.Common.{◌≡◌, ℕ, eqb, ◌&&◌, zero, suc, ◌+◌, ◌<◌, ◌≤◌, List, [], ◌∷◌, ◌++◌, length, get_or, take, refl, ap, ◌∙◌, ⊎_elim, arith, Some, None, Option}
+use Rattle.std.proofs.Common.{◌≡◌, ℕ, eqb, ◌&&◌, zero, suc, ◌+◌, ◌<◌, ◌≤◌, List, [], ◌∷◌, ◌++◌, length, get_or, take, map, refl, sym, ap, ◌∙◌, subst, ⊎_elim, arith, Some, None, Option}
 use Rattle.std.proofs.lemmas.List.{take_more}
-use Rattle.std.specs.Prelude.{slice_get}
+use Rattle.std.specs.Prelude.{slice_get, IfSome}
+use mathlib.Core.List.{map-append}
+use Rattle.m2_board.specs.Graph.{prerequisites_of}
 use Rattle.m2_board.specs.declared.rule.Counted.{Counted}
 use Rattle.m2_board.specs.Rule.{counted}
 use Rattle.m2_board.specs.Steps.{count_of}
 use Rattle.m2_board.proofs.Weights.{weigh-push}
 use Rattle.m2_board.proofs.Consistent.{bit, one_if_both}
-use Rattle.m2_worker.specs.Results.{with_item, picked}
+use Rattle.m2_worker.specs.Results.{with_item, picked, IsRan}
 
 pub picked_push : {X : Type 0} (xs : List X) (ps : List ℕ) (p : ℕ) (x : X) → slice_get xs p ≡ Some x → picked xs (ps ++ p ∷ []) ≡ picked xs ps ++ x ∷ []
 picked_push xs [] p x is = ap (λ o. with_item o []) is
@@ -44,3 +46,43 @@ picked_push_none xs (q ∷ qs) p is = ap (with_item (slice_get xs q)) (picked_pu
 
 pub picked_past : {X : Type 0} (xs : List X) (ps : List ℕ) (i : ℕ) → i < length ps → length xs ≤ get_or ps i 0 → picked xs (take (i + 1) ps) ≡ picked xs (take i ps)
 picked_past xs ps i l past = ap (picked xs) (take_more ps i 0 l) ∙ picked_push_none xs (take i ps) (get_or ps i 0) (get_past xs (get_or ps i 0) past)
+
+-- an item, seen by f
+pub seen_at : {A B : Type 0} (f : A → B) (xs : List A) (i : ℕ) (x : A) → i < length xs → x ≡ get_or xs i x → slice_get (map f xs) i ≡ Some (f x)
+seen_at f [] i x l is = absurd (omega arith)
+seen_at f (y ∷ ys) zero x l is = ap (λ v. Some (f v)) (sym is)
+seen_at f (y ∷ ys) (suc i) x l is = seen_at f ys i x (omega arith) is
+
+-- one more item in each of two lists
+pub both_more : {A B C : Type 0} (f : A → C) (g : B → C) (xs xs' : List A) (ys ys' : List B) (x : A) (y : B) → xs' ≡ xs ++ x ∷ [] → ys' ≡ ys ++ y ∷ [] → map f xs ≡ map g ys → f x ≡ g y → map f xs' ≡ map g ys'
+both_more f g xs xs' ys ys' x y is is' same here =
+    ap (map f) is
+    ∙ (map-append f xs (x ∷ [])
+    ∙ (ap (λ l. l ++ f x ∷ []) same
+    ∙ (ap (λ v. map g ys ++ v ∷ []) here
+    ∙ (sym (map-append g ys (y ∷ [])) ∙ sym (ap (map g) is')))))
+
+-- the cells of one more job
+pub cells_more : {N : Type 0} (cell_of : N → ℕ) (names jobs : List ℕ) (notes notes' : List N) (i : ℕ) (note : N) → i < length jobs → notes' ≡ notes ++ note ∷ [] → map cell_of notes ≡ picked names (take i jobs)
+    → slice_get names (get_or jobs i 0) ≡ Some (cell_of note) → map cell_of notes' ≡ picked names (take (i + 1) jobs)
+cells_more cell_of names jobs notes notes' i note l is before here =
+    ap (map cell_of) is
+    ∙ (map-append cell_of notes (note ∷ [])
+    ∙ (ap (λ l. l ++ cell_of note ∷ []) before ∙ sym (picked_more names jobs i (cell_of note) l here)))
+
+pub in_some : {A B : Type 0} (f : A → B) (xs : List A) → map (λ x. Some (f x)) xs ≡ map Some (map f xs)
+in_some f [] = refl
+in_some f (x ∷ xs) = ap (λ l. Some (f x) ∷ l) (in_some f xs)
+
+pub if_some : {A : Type 0} (o : Option A) (P Q : A → Type 0) → ((x : A) → P x → Q x) → IfSome o P → IfSome o Q
+if_some None P Q f p = tt
+if_some (Some x) P Q f p = f x p
+
+-- what was published of a job that was run
+pub ran_is : {X : Type 0} (names : List ℕ) (graph : List (List ℕ)) (defines : ℕ → List X → X → Type 0) (job job' cell : ℕ) (known : Option X) (used : List ℕ) (used_known : List (Option X)) (outs : List X) (x : X) → job' ≡ job
+    → slice_get names job ≡ Some cell → used ≡ picked names (prerequisites_of graph job) → used_known ≡ map Some outs → known ≡ Some x → defines job outs x
+    → IsRan names graph defines job' cell known used used_known
+ran_is names graph defines job job' cell known used used_known outs x same cell_is used_are outs_are x_is defined =
+    let here : IsRan names graph defines job cell known used used_known = record { cell_is = cell_is; used_are = used_are; outs = outs; x = x; outs_are = outs_are; x_is = x_is; defined = defined } in
+    let P : ℕ → Type 0 = λ j. IsRan names graph defines j cell known used used_known in
+    subst P (sym same) here

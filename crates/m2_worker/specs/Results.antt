@@ -1,5 +1,6 @@
--- The results of a graph's jobs, by recursion on prerequisites.
-use Rattle.std.specs.Prelude.{◌≡◌, ℕ, zero, suc, List, [], ◌∷◌, ◌++◌, length, slice_get, Option, Some, None}
+-- The results of a graph's jobs: what may come of each, and the case where one definition gives them.
+use Rattle.std.specs.Prelude.{◌≡◌, ℕ, zero, suc, List, [], ◌∷◌, ◌++◌, length, map, slice_get, Option, Some, None}
+use Rattle.std.specs.List.{range_with_len}
 use Rattle.m2_board.specs.Graph.{prerequisites_of}
 
 -- an item, put before others if it is there
@@ -20,6 +21,29 @@ results_below graph defined (suc n) = let before = results_below graph defined n
 abbrev pub results : {X : Type 0} → List (List ℕ) → (ℕ → List X → X) → List X
 results graph defined = results_below graph defined (length graph)
 
--- x is the job's result
-abbrev pub IsResult : {X : Type 0} → List (List ℕ) → (ℕ → List X → X) → ℕ → X → Type 0
-IsResult graph defined job x = slice_get (results graph defined) job ≡ Some x
+-- the numbers below n, in order
+abbrev pub all_jobs : ℕ → List ℕ
+all_jobs n = range_with_len 0 n
+
+-- The results of jobs, one for each of a list of jobs, where `defines job outs x` says that x may come of a job from
+-- these results of its prerequisites.
+pub data AreResults {X : Type 0} (graph : List (List ℕ)) (defines : ℕ → List X → X → Type 0) : List ℕ → List X → Type 0 where
+  NoJobs : AreResults graph defines [] []
+  OneMore : (job : ℕ) (outs : List X) (x : X) (jobs : List ℕ) (xs : List X) → AreResults graph defines (prerequisites_of graph job) outs → defines job outs x → AreResults graph defines jobs xs → AreResults graph defines (job ∷ jobs) (x ∷ xs)
+
+-- x is a result of the job
+pub record IsResult {X : Type 0} (graph : List (List ℕ)) (defines : ℕ → List X → X → Type 0) (job : ℕ) (x : X) : Type 0 where
+  pub outs : List X
+  pub are : AreResults graph defines (prerequisites_of graph job) outs
+  pub defined : defines job outs x
+
+-- The cell of this name is that of the job, and what is known of it may come of the job from what is known of the
+-- prerequisites' cells. The names are those of the cells of all jobs.
+pub record IsRan {X : Type 0} (names : List ℕ) (graph : List (List ℕ)) (defines : ℕ → List X → X → Type 0) (job cell : ℕ) (known : Option X) (used : List ℕ) (used_known : List (Option X)) : Type 0 where
+  pub cell_is : slice_get names job ≡ Some cell
+  pub used_are : used ≡ picked names (prerequisites_of graph job)
+  pub outs : List X
+  pub x : X
+  pub outs_are : used_known ≡ map Some outs
+  pub x_is : known ≡ Some x
+  pub defined : defines job outs x

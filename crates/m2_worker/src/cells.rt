@@ -1,10 +1,9 @@
 // The cells of the jobs, in which a worker finds the results of others.
-ghost use Rattle.std.specs.Prelude.{◌≡◌, length, map, IfOk, IfSome};
-ghost use Rattle.m2_worker.specs.Results.{IsResult, picked, results};
+ghost use Rattle.std.specs.Prelude.{◌≡◌, length, map, slice_get, Some, IfOk, IfSome};
+ghost use Rattle.once_cell.specs.Once.{cell_name};
+ghost use Rattle.m2_worker.specs.Results.{picked};
 
-use crate::published::Published;
-use crate::work::Work;
-use once_cell::race::OnceBox;
+use once_cell::race::{Note, OnceBox};
 use std::alloc::{AllocError, Global};
 
 /// A cell for each job, none of them set.
@@ -18,32 +17,45 @@ pub fn empty_cells<T: Drop>(alloc: Global, jobs: usize) -> Result<Vec<OnceBox<T>
     Ok(cells)
 }
 
-/// The results of the jobs, if the cells of all are set and hold results of these jobs for the key.
-pub(crate) fn all_finished<'c, W: Work>(
-    alloc: Global,
-    cells: &'c [OnceBox<Published<W>>],
-    jobs: &[usize],
-    key: &W::Key,
-) -> Result<Option<Vec<&'c W::Out>>, AllocError>
-    ensures { IfOk result (λ r. IfSome r (λ v. map (λ x. x.now) v.items ≡ picked (results (W.graph key.now) (W.defined key.now)) jobs.now)) }
-{
-    let mut outs = Vec::with_capacity(alloc, jobs.len())?;
-    for job in jobs {
-        match finished(cells, *job, key) {
-            Some(out) => outs.push(out)?,
-            None => return Ok(None),
-        }
-    }
-    Ok(Some(outs))
+// What the cells of some jobs hold, and a note of each that knows it.
+#[derive(Drop)]
+pub(crate) struct Found<'c, T> {
+    pub outs: Vec<&'c T>,
+    pub notes: Vec<Note<T>>,
 }
 
-// The result of a job, if its cell is set and holds one of this job for the key.
-fn finished<'c, W: Work>(
-    cells: &'c [OnceBox<Published<W>>],
-    job: usize,
-    key: &W::Key,
-) -> Option<&'c W::Out>
-    ensures { IfSome result (λ x. IsResult (W.graph key.now) (W.defined key.now) job x.now) }
+/// What the cells of the jobs hold, if all are set, with a note of each that knows it.
+pub(crate) fn all_finished<'c, T: Drop>(
+    alloc: Global,
+    cells: &'c [OnceBox<T>],
+    jobs: &[usize],
+) -> Result<Option<Found<'c, T>>, AllocError>
+    ensures count { IfOk result (λ r. IfSome r (λ f. length f.outs.items ≡ length jobs.now)) }
+    ensures cells { IfOk result (λ r. IfSome r (λ f. map (λ n. n.cell) f.notes.items ≡ picked (map cell_name cells.now) jobs.now)) }
+    ensures known { IfOk result (λ r. IfSome r (λ f. map (λ n. n.known) f.notes.items ≡ map (λ x. Some x.now) f.outs.items)) }
 {
-    cells.get(job)?.get()?.get(job, key)
+    let mut outs = Vec::with_capacity(alloc, jobs.len())?;
+    let mut notes = Vec::with_capacity(alloc, jobs.len())?;
+    for job in jobs {
+        let Some((out, note)) = finished(cells, *job) else {
+            return Ok(None);
+        };
+        outs.push(out)?;
+        notes.push(note)?;
+    }
+    Ok(Some(Found { outs, notes }))
+}
+
+// What the cell of a job holds, if it is set, with a note that knows it.
+fn finished<'c, T: Drop>(cells: &'c [OnceBox<T>], job: usize) -> Option<(&'c T, Note<T>)>
+    ensures cell { IfSome result (λ r. slice_get (map cell_name cells.now) job ≡ Some r.1.cell) }
+    ensures known { IfSome result (λ r. r.1.known ≡ Some r.0.now) }
+{
+    if job >= cells.len() {
+        return None;
+    }
+    let cell = &cells[job];
+    let mut note = cell.note();
+    let out = cell.get_as(&mut note)?;
+    Some((out, note))
 }

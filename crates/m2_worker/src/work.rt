@@ -1,45 +1,32 @@
 // What the jobs of a graph do, and who lets a worker in to one.
-ghost use Rattle.std.specs.Prelude.{◌≡◌, ℕ, List, true, ◌<◌, length, map, IfOk};
+ghost use Rattle.std.specs.Prelude.{◌≡◌, ℕ, List, ◌<◌, length, map, IfOk};
 ghost use Rattle.m2_board.specs.Graph.{prerequisites_of};
-ghost use Rattle.m2_worker.specs.Results.{results, picked};
 
 use std::alloc::AllocError;
 
 /// What the jobs of a graph do.
 ///
-/// A work is a handle, as a struct of references, that can be copied. Its graph and the definition of its results are
-/// functions of the value of its key. Contracts compare results as values: an `Out` that holds a `Vec` or a `String` is
-/// a struct with a `Model`, whose value is what callers see of it.
+/// A work is a handle, as a struct of references, that can be copied. What may come of a job is a relation, so that
+/// results need not be equal as values to be results of one job: an `Out` may hold a `Vec` or a `String`, whatever its
+/// capacity.
 pub trait Work: Copy + Send + Sync {
-    /// What the results depend on.
-    type Key: PartialEq + Sync;
-
     /// The result of a job.
     type Out: Send + Sync + Drop;
 
-    // The key that a work has.
-    ghost key_of: { Self → Self.Key };
-    // The graph of a key's jobs: for each job its prerequisites.
-    ghost graph: { Self.Key → List (List ℕ) };
-    // A job's result, from those of its prerequisites.
-    ghost defined: { Self.Key → ℕ → List Self.Out → Self.Out };
-
-    /// Lends the key.
-    fn key(&self) -> &Self::Key
-        ensures { result.now ≡ key_of self.now };
+    // The graph of the jobs: for each job its prerequisites.
+    ghost graph: { Self → List (List ℕ) };
+    // What may come of a job, from the results of its prerequisites.
+    ghost defines: { Self → ℕ → List Self.Out → Self.Out → Type 0 };
 
     /// Runs a job of the graph, given the results of its prerequisites in their order. It fails only for want of memory.
     fn run(&self, job: usize, prerequisites: &[&Self::Out]) -> Result<Self::Out, AllocError>
-        requires job { job < length (graph (key_of self.now)) }
-        requires prerequisites { map (λ x. x.now) prerequisites.now ≡ picked (results (graph (key_of self.now)) (defined (key_of self.now))) (prerequisites_of (graph (key_of self.now)) job) }
-        ensures { IfOk result (λ x. x ≡ defined (key_of self.now) job (map (λ x. x.now) prerequisites.now)) };
+        requires job { job < length (graph self.now) }
+        requires prerequisites { length prerequisites.now ≡ length (prerequisites_of (graph self.now) job) }
+        ensures { IfOk result (λ x. defines self.now job (map (λ p. p.now) prerequisites.now) x) };
 
     /// The same result once more. It fails only for want of memory.
     fn copy(&self, out: &Self::Out) -> Result<Self::Out, AllocError>
-        ensures { IfOk result (λ x. x ≡ out.now) };
-
-    // Keys that `==` finds equal have one graph and one definition. They need not be one value, since a `Vec` has a capacity too.
-    ghost same_key: { (a b : Self.Key) → Self.Key.eq a b ≡ true → (graph a ≡ graph b) × (defined a ≡ defined b) };
+        ensures { IfOk result (λ x. (job : ℕ) (outs : List Self.Out) → defines self.now job outs out.now → defines self.now job outs x) };
 }
 
 /// Lets a worker in to a job, or leaves the job to the gatherer.

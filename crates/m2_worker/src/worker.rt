@@ -1,20 +1,18 @@
 // One worker: it takes jobs from deques, runs those that it gets, and publishes their results.
-ghost use Rattle.std.specs.Prelude.{◌≡◌, ◌++◌, ◌∷◌, [], ℕ, ◌<◌, length, map, All, IfOk, OnOk};
-ghost use Rattle.std.specs.List.{HoldsAt};
+ghost use Rattle.std.specs.Prelude.{◌≡◌, ◌++◌, ◌∷◌, [], ℕ, ◌<◌, length, map, All, Some, IfOk, IfSome, OnOk};
 ghost use Rattle.once_cell.specs.Once.{cell_name};
 ghost use Rattle.m2_board.specs.Lists.{times};
 ghost use Rattle.m2_board.specs.Graph.{prerequisites_of, targets_of, IsJobGraph};
 ghost use Rattle.m2_board.specs.Rule.{counted};
 ghost use Rattle.m2_board.specs.Seats.{SeatState};
-ghost use Rattle.m2_worker.specs.Results.{picked, results};
+ghost use Rattle.m2_worker.specs.Results.{picked, IsRan};
 
-use crate::cells::all_finished;
-use crate::published::Published;
+use crate::cells::{Found, all_finished};
 use crate::ran::Ran;
 use crate::work::{Gate, Work};
 use crossbeam_deque::{Steal, Stealer, Worker};
 use m2_board::{Board, BoardSeat, JobGraph};
-use once_cell::race::OnceBox;
+use once_cell::race::{Note, OnceBox};
 use std::alloc::{AllocError, Global};
 
 // How often a worker whose own deque is empty goes round those of the others before it ends.
@@ -34,18 +32,18 @@ pub struct Member<W: Work> {
 pub struct Shop<'a, W: Work, G: Gate> {
     pub board: &'a Board,
     pub graph: &'a JobGraph,
-    pub cells: &'a [OnceBox<Published<W>>],
+    pub cells: &'a [OnceBox<W::Out>],
     pub stealers: &'a [Stealer<usize>],
     pub gate: &'a G,
     pub work: &'a W,
     pub ghost of_board: { graph.now ≡ board.now.graph },
-    pub ghost of_work: { graph.now ≡ W.graph (W.key_of work.now) },
+    pub ghost of_work: { graph.now ≡ W.graph work.now },
     pub ghost cell_each: { length cells.now ≡ length graph.now },
 }
 
 /// Works, as a worker that ran nothing yet, until nothing is found, or as many jobs were taken as the graph has.
 ///
-/// What the worker ran is what its seat had. It fails only for want of memory.
+/// What the worker ran is what its seat had, each with what it stands on. It fails only for want of memory.
 pub fn work_on<W: Work, G: Gate>(
     alloc: Global,
     shop: &Shop<'_, W, G>,
@@ -55,7 +53,7 @@ pub fn work_on<W: Work, G: Gate>(
     requires new { (member.seat.had ≡ []) × (member.ran.items ≡ []) }
     ensures seat { IfOk result (λ m. m.seat.board ≡ shop.now.board.now.id) }
     ensures ran { IfOk result (λ m. map (λ r. r.job) m.ran.items ≡ m.seat.had) }
-    ensures notes { IfOk result (λ m. All (λ r. (W.key_of r.work ≡ W.key_of shop.now.work.now) × HoldsAt (λ c. r.note.cell ≡ cell_name c) shop.now.cells.now r.job) m.ran.items) }
+    ensures stands { IfOk result (λ m. All (λ r. IfSome r.note (λ n. IsRan (map cell_name shop.now.cells.now) shop.now.graph.now (W.defines shop.now.work.now) r.job n.cell n.known (map (λ u. u.cell) r.used.items) (map (λ u. u.known) r.used.items))) m.ran.items) }
 {
     for _ in 0..shop.graph.jobs() {
         let Some(job) = next_job(&mut member.own, shop.stealers, member.number) else {
@@ -100,16 +98,16 @@ fn attempt<W: Work, G: Gate>(
 ) -> Result<(), AllocError>
     requires seat { member.old.seat.board ≡ shop.now.board.now.id }
     requires ran { map (λ r. r.job) member.old.ran.items ≡ member.old.seat.had }
-    requires notes { All (λ r. (W.key_of r.work ≡ W.key_of shop.now.work.now) × HoldsAt (λ c. r.note.cell ≡ cell_name c) shop.now.cells.now r.job) member.old.ran.items }
+    requires stands { All (λ r. IfSome r.note (λ n. IsRan (map cell_name shop.now.cells.now) shop.now.graph.now (W.defines shop.now.work.now) r.job n.cell n.known (map (λ u. u.cell) r.used.items) (map (λ u. u.known) r.used.items))) member.old.ran.items }
     ensures seat { member.new.seat.board ≡ shop.now.board.now.id }
     ensures ran { OnOk result (map (λ r. r.job) member.new.ran.items ≡ member.new.seat.had) }
-    ensures notes { All (λ r. (W.key_of r.work ≡ W.key_of shop.now.work.now) × HoldsAt (λ c. r.note.cell ≡ cell_name c) shop.now.cells.now r.job) member.new.ran.items }
+    ensures stands { All (λ r. IfSome r.note (λ n. IsRan (map cell_name shop.now.cells.now) shop.now.graph.now (W.defines shop.now.work.now) r.job n.cell n.known (map (λ u. u.cell) r.used.items) (map (λ u. u.known) r.used.items))) member.new.ran.items }
 {
     if job >= shop.graph.jobs() {
         return Ok(());
     }
     let prerequisites = shop.graph.prerequisites(job);
-    let Some(outs) = all_finished(alloc, shop.cells, prerequisites, shop.work.key())? else {
+    let Some(found) = all_finished(alloc, shop.cells, prerequisites)? else {
         return Ok(());
     };
     if !shop.gate.enter(job) {
@@ -118,7 +116,8 @@ fn attempt<W: Work, G: Gate>(
     if !shop.board.claim(&mut member.seat, job) {
         return Ok(());
     }
-    let ran = run(alloc, shop, job, outs.as_slice())?;
+    let Found { outs, notes } = found;
+    let ran = run(alloc, shop, job, outs.as_slice(), notes)?;
     member.ran.push(ran)?;
     count_all(
         shop.board,
@@ -136,19 +135,18 @@ fn run<W: Work, G: Gate>(
     shop: &Shop<'_, W, G>,
     job: usize,
     prerequisites: &[&W::Out],
+    used: Vec<Note<W::Out>>,
 ) -> Result<Ran<W>, AllocError>
     requires job { job < length shop.now.graph.now }
-    requires prerequisites { map (λ x. x.now) prerequisites.now ≡ picked (results (W.graph (W.key_of shop.now.work.now)) (W.defined (W.key_of shop.now.work.now))) (prerequisites_of shop.now.graph.now job) }
+    requires prerequisites { length prerequisites.now ≡ length (prerequisites_of shop.now.graph.now job) }
+    requires cells { map (λ u. u.cell) used.items ≡ picked (map cell_name shop.now.cells.now) (prerequisites_of shop.now.graph.now job) }
+    requires known { map (λ u. u.known) used.items ≡ map (λ p. Some p.now) prerequisites.now }
     ensures job { IfOk result (λ r. r.job ≡ job) }
-    ensures work { IfOk result (λ r. W.key_of r.work ≡ W.key_of shop.now.work.now) }
-    ensures note { IfOk result (λ r. HoldsAt (λ c. r.note.cell ≡ cell_name c) shop.now.cells.now job) }
+    ensures ran { IfOk result (λ r. IfSome r.note (λ n. IsRan (map cell_name shop.now.cells.now) shop.now.graph.now (W.defines shop.now.work.now) r.job n.cell n.known (map (λ u. u.cell) r.used.items) (map (λ u. u.known) r.used.items))) }
 {
-    // This tells the proof that the graph is sound, here and in the gatherer.
-    let _jobs = shop.graph.jobs();
     let out = shop.work.run(job, prerequisites)?;
-    let work = *shop.work;
-    let published = Box::new(alloc, Published { job, work, out })?;
-    Ok(Ran::publish(&shop.cells[job], published))
+    let out = Box::new(alloc, out)?;
+    Ok(Ran::publish(&shop.cells[job], job, out, used))
 }
 
 // Counts each edge of a job down, and keeps the jobs whose wait it ended.

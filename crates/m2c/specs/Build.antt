@@ -1,21 +1,28 @@
 -- What the build of files answers.
-use Rattle.std.specs.Prelude.{◌≡◌, ℕ, List, [], ◌∷◌, ◌++◌, map, Option, Some, None, if◌then◌else◌}
-use Rattle.std.specs.List.{flat_map, list_any}
-use Rattle.std.specs.Str.{bytes_eq}
+use Rattle.std.specs.Prelude.{◌≡◌, ◌≢◌, ◌⊎◌, ℕ, List, [], ◌∷◌, ◌++◌, map, Option, Some, None, String, slice_get}
 use Rattle.std.specs.String.{string_bytes}
+use Rattle.std.specs.Arc.{arc_value}
+use Rattle.std.specs.Global.{Global, Vec}
 use Rattle.m2_tree.specs.declared.refusal.Refusal.{Refusal}
-use Rattle.wasm_core.specs.Binary.{module_spelling}
-use Rattle.m2c.specs.declared.files.SourceFile.{SourceFile}
+use Rattle.m2_tree.specs.declared.decl.Module.{Module}
+use Rattle.wasm_binary.specs.Binary.{module_spelling}
+use Rattle.m2_graph.specs.declared.error.GraphError.TheVariants as graph_error
+use Rattle.m2_graph.specs.Files.{numbered}
+use Rattle.m2_graph.specs.Graph.{CompileEach, IsGraph, IsRefusal}
+use Rattle.m2_emit.specs.Program.{Program, Body}
+use Rattle.m2_emit.specs.Scheme.{link_module, body_module}
+use Rattle.m2_emit.specs.Headline.{Keeps}
+use Rattle.m2_read.specs.declared.file.SourceFile.{SourceFile}
 use Rattle.m2c.specs.declared.files.Outcome.{Outcome}
 use Rattle.m2c.specs.declared.files.Outcome.TheVariants as outcome
-use Rattle.m2c.specs.declared.reading.Read.{Read}
-use Rattle.m2c.specs.declared.reading.Read.TheVariants as read
+use Rattle.m2_read.specs.declared.reading.Read.{Read}
+use Rattle.m2_read.specs.declared.reading.Read.TheVariants as read
+use Rattle.m2_check.specs.declared.jobs.Done.{Done}
+use Rattle.m2_check.specs.declared.jobs.Done.TheVariants as jobs
 use Rattle.m2c.specs.Order.{AreInOrder}
-use Rattle.m2c.specs.Reading.{ReadFile, AreRead}
-use Rattle.m2c.specs.Program.{Program}
-use Rattle.m2c.specs.Fragment.{program_of}
-use Rattle.m2c.specs.Scheme.{link_module, body_module}
-use Rattle.m2c.specs.Headline.{Keeps}
+use Rattle.m2_read.specs.Reading.{AreRead}
+use Rattle.m2_check.specs.Jobs.{done_all}
+use Rattle.m2c.specs.Modules.{program_at}
 
 -- ---- what is told
 
@@ -32,96 +39,127 @@ told r = record { file = string_bytes r.file; line = r.pos.line; column = r.pos.
 abbrev pub told_at : (file : List ℕ) (line column number : ℕ) → Told
 told_at file line column number = record { file = file; line = line; column = column; number = number }
 
+-- the refusals are these, in order of the names of their files, and as they are found where these are equal
+abbrev pub AreTold : List Told → List Refusal → Type 0
+AreTold all refusals = (found : List Refusal) × (map told found ≡ all) × AreInOrder found refusals
+
+-- ---- texts
+
 -- the rule that a text breaks
 abbrev pub refused_in : (file : List ℕ) → Read → List Told
 refused_in file (read.Refused pos number) = told_at file pos.line pos.col number ∷ []
 refused_in file (read.Parsed tree) = []
 
--- 99 at its begin for a tree that is no program so far
-abbrev pub unknown_tree : (file : List ℕ) → Option Program → List Told
-unknown_tree file None = told_at file 1 1 99 ∷ []
-unknown_tree file (Some p) = []
+-- what each element of one list and that in the same place of another give
+abbrev pub each_two : {A B C : Type 0} → (A → B → List C) → List A → List B → List C
+each_two f [] ys = []
+each_two f (x ∷ xs) [] = []
+each_two f (x ∷ xs) (y ∷ ys) = f x y ++ each_two f xs ys
 
-abbrev pub unknown_in : (file : List ℕ) → Read → List Told
-unknown_in file (read.Refused pos number) = []
-unknown_in file (read.Parsed tree) = unknown_tree file (program_of tree)
+abbrev pub refused_of : List SourceFile → List Read → List Told
+refused_of files reads = each_two (λ f r. refused_in (string_bytes f.name) r) files reads
 
--- a program in a file of this name
-pub record Found : Type 0 where
-  pub file : List ℕ
-  pub program : Program
+-- the tree of a text, with the file's name
+abbrev pub tree_in : (file : List ℕ) → Read → List (List ℕ × Module)
+tree_in file (read.Refused pos number) = []
+tree_in file (read.Parsed tree) = (file, arc_value tree) ∷ []
 
-abbrev pub found_tree : (file : List ℕ) → Option Program → List Found
-found_tree file None = []
-found_tree file (Some p) = record { file = file; program = p } ∷ []
+abbrev pub trees_of : List SourceFile → List Read → List (List ℕ × Module)
+trees_of files reads = each_two (λ f r. tree_in (string_bytes f.name) r) files reads
 
-abbrev pub found_in : (file : List ℕ) → Read → List Found
-found_in file (read.Refused pos number) = []
-found_in file (read.Parsed tree) = found_tree file (program_of tree)
+-- each text has a tree, and these are the trees
+pub record AreTrees (files : List SourceFile) (trees : List (List ℕ × Module)) : Type 0 where
+  pub reads : List Read
+  pub are_read : AreRead files reads
+  pub fine : refused_of files reads ≡ []
+  pub all : trees ≡ trees_of files reads
 
-abbrev pub refused_of : List ReadFile → List Told
-refused_of reads = flat_map (λ r. refused_in r.file r.read) reads
+abbrev pub modules : List (List ℕ × Module) → List Module
+modules trees = map (λ f. f.1) trees
 
-abbrev pub unknown_of : List ReadFile → List Told
-unknown_of reads = flat_map (λ r. unknown_in r.file r.read) reads
+-- ---- jobs
 
-abbrev pub found_of : List ReadFile → List Found
-found_of reads = flat_map (λ r. found_in r.file r.read) reads
+abbrev pub name_in : Option (List ℕ × Module) → List ℕ
+name_in None = []
+name_in (Some f) = f.0
 
--- 21 where a module of that name stands before, and else 23, since a program has one module
-abbrev pub extra : (before : List (List ℕ)) → Found → Told
-extra before f = told_at f.file f.program.line f.program.column (if list_any (bytes_eq f.program.name) before then 21 else 23)
+-- 99 at the begin of a file with a module that is not compiled so far
+abbrev pub unknown_in : (file : List ℕ) → Done → List Told
+unknown_in file jobs.Known = []
+unknown_in file jobs.Unknown = told_at file 1 1 99 ∷ []
+unknown_in file jobs.Blocked = []
 
--- what is told of each program behind modules of these names
-abbrev pub extras : (before : List (List ℕ)) → List Found → List Told
-extras before [] = []
-extras before (f ∷ fs) = extra before f ∷ extras (before ++ f.program.name ∷ []) fs
+abbrev pub unknown_of : List (List ℕ × Module) → (files : List ℕ) → List Done → List Told
+unknown_of trees files dones = each_two (λ f d. unknown_in (name_in (slice_get trees f)) d) files dones
+
+-- these are told of the jobs of a graph
+abbrev pub unknown : List (List ℕ × Module) → (files : List ℕ) → (jobs : List (List ℕ)) → List Told
+unknown trees files all_jobs = unknown_of trees files (done_all (modules trees) files all_jobs)
+
+-- ---- modules
+
+-- a body's name, and the bytes of its module
+abbrev pub built_of : Body → List ℕ × List ℕ
+built_of b = (b.name, module_spelling (body_module b))
+
+-- the same of what a build hands out
+abbrev pub named : String Global × Vec ℕ → List ℕ × List ℕ
+named m = (string_bytes m.0, m.1.items)
+
+-- the bytes of link, and in start order the name and the bytes of each module that is reached
+pub record IsCode (p : Program) (pages : ℕ) (link : List ℕ) (built : List (List ℕ × List ℕ)) : Type 0 where
+  pub link_bytes : link ≡ module_spelling (link_module p pages)
+  pub body_bytes : built ≡ map built_of p
 
 -- ---- the answer
 
--- refusals, or the program that is compiled
-pub data Answer : Type 0 where
-  Refused : List Told → Answer
-  Compiled : Program → Answer
+-- texts break rules of tokens or of the grammar, and are told
+pub record AreUnread (files : List SourceFile) (refusals : List Refusal) : Type 0 where
+  pub reads : List Read
+  pub are_read : AreRead files reads
+  pub some : refused_of files reads ≢ []
+  pub told : AreTold (refused_of files reads) refusals
 
-abbrev pub of_found : List Found → Answer
-of_found [] = Refused (told_at [] 1 1 23 ∷ [])
-of_found (f ∷ []) = Compiled f.program
-of_found (f ∷ g ∷ fs) = Refused (extras (f.program.name ∷ []) (g ∷ fs))
+-- each text has a tree, and imports break rules
+abbrev pub AreUngraphed : List SourceFile → Vec Refusal → Type 0
+AreUngraphed files refusals = (trees : List (List ℕ × Module)) × AreTrees files trees × IsRefusal (numbered 0 trees) (graph_error.Refused refusals)
 
--- what is told, or if that is nothing, the other answer
-abbrev pub or_else : List Told → Answer → Answer
-or_else [] answer = answer
-or_else (t ∷ ts) answer = Refused (t ∷ ts)
+-- the files have this graph: the file of each job, what each job needs, and the files of the bodies in start order
+pub record HaveGraph (files : List SourceFile) (trees : List (List ℕ × Module)) (numbers : List ℕ) (all_jobs : List (List ℕ)) (starts : List ℕ) : Type 0 where
+  pub are_trees : AreTrees files trees
+  pub is_graph : IsGraph (numbered 0 trees) numbers all_jobs starts
+  pub each : CompileEach (numbered 0 trees) numbers
 
--- broken rules of texts come before trees that are not compiled so far, and these before what is wrong with the programs
-abbrev pub answer_of : List ReadFile → Answer
-answer_of reads = or_else (refused_of reads) (or_else (unknown_of reads) (of_found (found_of reads)))
+-- modules are not compiled so far
+pub record AreUncompiled (files : List SourceFile) (refusals : List Refusal) : Type 0 where
+  pub trees : List (List ℕ × Module)
+  pub numbers : List ℕ
+  pub all_jobs : List (List ℕ)
+  pub starts : List ℕ
+  pub graph : HaveGraph files trees numbers all_jobs starts
+  pub some : unknown trees numbers all_jobs ≢ []
+  pub told : AreTold (unknown trees numbers all_jobs) refusals
 
--- the code of the program: the bytes of link, and the module of its body under its name
-pub record IsCode (p : Program) (pages : ℕ) (link : List ℕ) (modules : List (List ℕ × List ℕ)) : Type 0 where
-  pub link_bytes : link ≡ module_spelling (link_module p pages)
-  pub body_bytes : modules ≡ (p.name, module_spelling (body_module p)) ∷ []
+-- all modules are compiled, and those that are reached do what the program does
+pub record IsProgram (files : List SourceFile) (pages : ℕ) (link : List ℕ) (built : List (List ℕ × List ℕ)) : Type 0 where
+  pub trees : List (List ℕ × Module)
+  pub numbers : List ℕ
+  pub all_jobs : List (List ℕ)
+  pub starts : List ℕ
+  pub graph : HaveGraph files trees numbers all_jobs starts
+  pub none : unknown trees numbers all_jobs ≡ []
+  pub code : IsCode (program_at (modules trees) starts) pages link built
+  pub keeps : Keeps (program_at (modules trees) starts) link (map (λ m. m.1) built)
 
--- the outcome is that answer
-abbrev pub IsOutcome : (pages : ℕ) → Answer → Outcome → Type 0
-IsOutcome pages (Refused told_all) (outcome.Refused refusals) = map told refusals.items ≡ told_all
-IsOutcome pages (Refused told_all) (outcome.Built link modules) = ⊥
-IsOutcome pages (Compiled p) (outcome.Refused refusals) = ⊥
-IsOutcome pages (Compiled p) (outcome.Built link modules) = IsCode p pages link.items (map (λ m. (string_bytes m.0, m.1.items)) modules.items)
+-- The outcome of a build of these files. Rules of tokens and of the grammar come first, then those of imports, and then
+-- what is not compiled so far.
+abbrev pub IsBuilt : List SourceFile → (pages : ℕ) → Outcome → Type 0
+IsBuilt files pages (outcome.Refused refusals) = AreUnread files refusals.items ⊎ (AreUngraphed files refusals ⊎ AreUncompiled files refusals.items)
+IsBuilt files pages (outcome.Built link built) = IsProgram files pages link.items (map named built.items)
 
--- what is built does what the program does
-abbrev pub IsKept : Answer → Outcome → Type 0
-IsKept answer (outcome.Refused refusals) = Unit {0}
-IsKept answer (outcome.Built link modules) = (p : Program) × (answer ≡ Compiled p) × Keeps p link.items (map (λ m. m.1.items) modules.items)
-
--- The outcome of a build of these files: in order, read, and answered.
-pub record IsBuilt (files : List SourceFile) (pages : ℕ) (outcome : Outcome) : Type 0 where
-  pub ordered : List SourceFile
-  pub in_order : AreInOrder files ordered
-  pub reads : List ReadFile
-  pub are_read : AreRead ordered reads
-  -- the outcome that they have
-  pub is_outcome : IsOutcome pages (answer_of reads) outcome
-  -- the modules do what the program does
-  pub is_kept : IsKept (answer_of reads) outcome
+-- the same is told, or the same modules are built
+abbrev pub AreAlike : Outcome → Outcome → Type 0
+AreAlike (outcome.Refused rs) (outcome.Refused qs) = map told rs.items ≡ map told qs.items
+AreAlike (outcome.Refused rs) (outcome.Built link built) = ⊥
+AreAlike (outcome.Built link built) (outcome.Refused qs) = ⊥
+AreAlike (outcome.Built link built) (outcome.Built other others) = (link.items ≡ other.items) × (map named built.items ≡ map named others.items)

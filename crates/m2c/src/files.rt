@@ -1,19 +1,16 @@
 //! Files to modules.
 
 ghost use Rattle.std.specs.Prelude.{◌≡◌, ◌<◌, ◌≤◌, ◌⊎◌, ◌↔◌, IfOk, IsErrOf};
-ghost use Rattle.m2c.specs.Build.{IsBuilt};
+ghost use Rattle.m2c.specs.Build.{AreAlike, IsBuilt};
 
+use crate::crew::Crew;
 use crate::outcome::outcome_of;
+use m2_read::SourceFile;
 use m2_tree::Refusal;
+use m2_worker::Gate;
 use std::alloc::{AllocError, Global};
+use std::thread::Threads;
 use thiserror::Error;
-
-/// A file and its name as it was given.
-#[derive(Debug, Drop)]
-pub struct SourceFile {
-    pub name: String,
-    pub bytes: Vec<u8>,
-}
 
 /// What a build is asked for.
 #[derive(Clone, Copy, Debug)]
@@ -61,19 +58,36 @@ impl From<AllocError> for BuildFault {
 }
 
 /// Compiles files. What is refused is told in order of the files' names by their bytes, files of equal names as they
-/// are given: the rule of tokens (1 to 7) or of the grammar (10 to 13) that a text breaks first, with its place. If no
-/// text breaks one, each tree that is not compiled so far is 99 at its begin. If there is none of these, each program
-/// but the first is 21 at its name where an earlier one has the same name, and else 23; no file at all is 23 at the begin
-/// of a file with no name. A program by itself is compiled to the module link and the module of its body, which do what
-/// the program does.
+/// are given:
+///
+/// - the rule of tokens (1 to 7) or of the grammar (10 to 13) that a text breaks first, with its place;
+/// - if no text breaks one, the rules of imports (20 to 25) that files break, one for each such file (see
+///   `m2_graph::Graph::of`);
+/// - if there is none of these either, 99 at the begin of each file with a module that is not compiled so far, but for
+///   those that need a definition that is not.
+///
+/// A program of which nothing is told is compiled to the module link and, in start order, the modules that are reached
+/// from the program module. They do what the program does.
+///
+/// The work goes in two rounds of jobs over so many threads: a job for each file, in the order in which they are given,
+/// and then the jobs of the graph. The gate lets workers in to the jobs of both. What is answered does not depend on how
+/// many workers there are, on whom the gate lets in, or on who comes first.
 ///
 /// `Workers` (70) where the number of workers is not from 1 to 64, else `Pages` (73) where the number of pages is not
 /// from 1 to 1024; both come before memory is asked for.
-pub fn build(alloc: Global, files: &[SourceFile], options: Options) -> Result<Outcome, BuildFault>
+pub fn build<R: Threads + Sync, G: Gate>(
+    rt: &R,
+    alloc: Global,
+    files: &[SourceFile],
+    options: Options,
+    gate: &G,
+) -> Result<Outcome, BuildFault>
     ensures workers { IsErrOf result BuildFault.Workers ↔ ((options.workers < 1) ⊎ (64 < options.workers)) }
     ensures pages { (1 ≤ options.workers) × (options.workers ≤ 64) → IsErrOf result BuildFault.Pages ↔ ((options.pages < 1) ⊎ (1024 < options.pages)) }
     // The outcome that the files have; the modules do what the program does.
     ensures built { IfOk result (IsBuilt files.now options.pages) }
+    // The files have one outcome, so workers, gates and schedules have no part in it.
+    ensures one { IfOk result (λ o. (other : Outcome) → IsBuilt files.now options.pages other → AreAlike o other) }
 {
     if options.workers < 1 || options.workers > 64 {
         return Err(BuildFault::Workers);
@@ -81,6 +95,12 @@ pub fn build(alloc: Global, files: &[SourceFile], options: Options) -> Result<Ou
     if options.pages < 1 || options.pages > 1024 {
         return Err(BuildFault::Pages);
     }
-    let outcome = outcome_of(alloc, files, options.pages)?;
+    let crew = Crew {
+        rt,
+        alloc,
+        workers: options.workers,
+        gate,
+    };
+    let outcome = outcome_of(&crew, files, options.pages)?;
     Ok(outcome)
 }

@@ -1,14 +1,14 @@
 //! The compiler: program texts to modules.
 #![tactic(auto)]
 
+mod crew;
 mod files;
-mod fragment;
+mod modules;
 mod order;
 mod outcome;
-mod reading;
-mod scheme;
-mod source;
-#[cfg(test)]
-mod tests;
+mod refusals;
+mod texts;
 
-pub use files::{BuildFault, Options, Outcome, SourceFile, build};
+pub use files::{BuildFault, Options, Outcome, build};
+pub use m2_read::SourceFile;
+pub use m2_worker::Gate;

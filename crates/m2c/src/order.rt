@@ -1,26 +1,16 @@
-//! The order in which files are told.
+//! The order in which refusals are told.
 
-ghost use Rattle.std.specs.Prelude.{◌≡◌, map, IfOk};
+ghost use Rattle.std.specs.Prelude.{◌≡◌, IfOk};
 ghost use Rattle.m2c.specs.Order.{AreInOrder};
 
-use crate::files::SourceFile;
-use std::alloc::{AllocError, Global};
+use m2_tree::Refusal;
+use std::alloc::AllocError;
 
-fn lent(alloc: Global, files: &[SourceFile]) -> Result<Vec<&SourceFile>, AllocError>
-    ensures { IfOk result (λ v. map (λ f. f.now) v.items ≡ files.now) }
+/// Refusals in order of the names of their files by their bytes, and as they are found where these are equal.
+pub fn in_order(found: Vec<Refusal>) -> Result<Vec<Refusal>, AllocError>
+    ensures { IfOk result (λ told. AreInOrder found.items told.items) }
 {
-    let mut all = Vec::new(alloc);
-    for file in files {
-        all.push(file)?;
-    }
-    Ok(all)
-}
-
-/// The files in order of their names by their bytes, and as given where these are equal.
-pub fn in_order(alloc: Global, files: &[SourceFile]) -> Result<Vec<&SourceFile>, AllocError>
-    ensures { IfOk result (λ ordered. AreInOrder files.now (map (λ f. f.now) ordered.items)) }
-{
-    let mut ordered = lent(alloc, files)?;
-    ordered.sort_by(|f, g| f.name.as_bytes().cmp(&g.name.as_bytes()))?;
-    Ok(ordered)
+    let mut told = found;
+    told.sort_by(|r, s| r.file.as_bytes().cmp(&s.file.as_bytes()))?;
+    Ok(told)
 }

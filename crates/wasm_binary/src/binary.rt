@@ -15,6 +15,7 @@ mod sections;
 use crate::number::unsigned_at;
 use crate::parts::{closed, front};
 use crate::writer::Writer;
+pub use body::body_over;
 use sqlite_items::Items;
 use std::alloc::{AllocError, Global};
 use wasm_tree::WFault;

@@ -6,13 +6,13 @@ ghost use Rattle.wasm_binary.specs.Binary.{header, skip_all, bodies, code_entrie
 ghost use Rattle.wasm_tree.specs.declared.fault.WFault.TheVariants.{NoMemory};
 ghost use Rattle.wasm_tree.specs.declared.module.WModule.{WModule};
 
-use crate::binary::{Binary, section, write_section};
+use crate::binary::{Binary, body_over, section, write_section};
 use crate::number::unsigned_at;
 use crate::parts::{closed, front, skip};
 use crate::writer::Writer;
 use sqlite_items::Items;
 use std::alloc::{AllocError, Global};
-use wasm_tree::{Body, Function, WFault, WModule};
+use wasm_tree::{Function, WFault, WModule};
 
 /// The magic number and the version.
 const HEADER: [u8; 8] = [0x00, 0x61, 0x73, 0x6D, 0x01, 0x00, 0x00, 0x00];
@@ -36,10 +36,11 @@ fn bodies_at<'a>(
 ) -> Result<(Items<Function>, &'a [u8]), WFault>
     ensures { Gives (λ x. (x.0, x.1.now)) result (bodies types.now bytes.now) }
 {
-    let mut functions = Items::new(alloc);
+    let mut functions = Items::from_vec(Vec::with_capacity(alloc, types.len())?);
+    let mut pile = Vec::new(alloc);
     let mut rest = bytes;
     for type_index in types {
-        let (body, after) = Body::read(alloc, rest)?;
+        let (body, after) = body_over(alloc, &mut pile, rest)?;
         functions.push(Function {
             type_index: *type_index,
             body,

@@ -37,10 +37,15 @@ fn groups_at(most: u8, bytes: &[u8]) -> Result<(u32, &[u8]), WFault>
 }
 
 /// The number below 2^32 at the front, and the bytes behind it. `Malformed` where there is none, or in a longer spelling.
+#[inline(always)]
+#[tactic(auto, unfolding(crate::specs::Number::groups_at))]
 pub fn unsigned_at(bytes: &[u8]) -> Result<(u32, &[u8]), WFault>
     ensures { Gives (λ x. (x.0, x.1.now)) result (unsigned.reading bytes.now) }
 {
-    groups_at(5, bytes)
+    match bytes {
+        [byte, rest @ ..] if *byte < 128 => Ok((u32::from(*byte), rest)),
+        _ => groups_at(5, bytes),
+    }
 }
 
 fn signed_joined(top: u64, low: u8, high: u64, rest: &[u8]) -> Result<(u64, &[u8]), WFault>
@@ -88,7 +93,18 @@ fn signed_at(most: u8, top: u64, bytes: &[u8]) -> Result<(u64, &[u8]), WFault>
 }
 
 /// The signed number of 32 bits at the front, as its bits, and the bytes behind it. `Malformed` where there is none.
+#[inline(always)]
+#[tactic(auto, unfolding(crate::specs::Number::signed_groups_at))]
 pub fn signed32_at(bytes: &[u8]) -> Result<(u32, &[u8]), WFault>
+    ensures { Gives (λ x. (x.0, x.1.now)) result (signed32.reading bytes.now) }
+{
+    match bytes {
+        [byte, rest @ ..] if *byte < 64 => Ok((u32::from(*byte), rest)),
+        _ => long_signed32_at(bytes),
+    }
+}
+
+fn long_signed32_at(bytes: &[u8]) -> Result<(u32, &[u8]), WFault>
     ensures { Gives (λ x. (x.0, x.1.now)) result (signed32.reading bytes.now) }
 {
     let (bits, rest) = signed_at(5, u64::from(u32::MAX), bytes)?;
@@ -96,8 +112,13 @@ pub fn signed32_at(bytes: &[u8]) -> Result<(u32, &[u8]), WFault>
 }
 
 /// The signed number of 64 bits at the front, as its bits, and the bytes behind it. `Malformed` where there is none.
+#[inline(always)]
+#[tactic(auto, unfolding(crate::specs::Number::signed_groups_at))]
 pub fn signed64_at(bytes: &[u8]) -> Result<(u64, &[u8]), WFault>
     ensures { Gives (λ x. (x.0, x.1.now)) result (signed64.reading bytes.now) }
 {
-    signed_at(10, u64::MAX, bytes)
+    match bytes {
+        [byte, rest @ ..] if *byte < 64 => Ok((u64::from(*byte), rest)),
+        _ => signed_at(10, u64::MAX, bytes),
+    }
 }

@@ -1,15 +1,15 @@
 -- A run that goes on, as the loop makes it.
-use Rattle.std.proofs.Common.{◌≡◌, ℕ, suc, ◌+◌, ◌-◌, ◌<◌, ◌≤◌, Bool, List, ◌++◌, Option, refl, sym, ap, subst, ◌∙◌, add-one, arith}
-use Rattle.wasm_tree.specs.declared.module.WModule.{WModule}
-use Rattle.wasm_tree.specs.Machine.{Config, reduce, run}
+use Rattle.std.proofs.Common.{◌≡◌, ℕ, ◌+◌, ◌-◌, ◌≤◌, List, ◌++◌, Option, refl, sym, ap, subst, ◌∙◌, arith}
+use Rattle.wasm_tree.specs.Machine.{Progress, run}
 use Rattle.wasm_engine.specs.Told.{with_bytes}
 use Rattle.wasm_engine.specs.declared.engine.Instances.{Instances}
 use Rattle.wasm_engine.specs.declared.frame.Machine.{Machine}
 use Rattle.wasm_engine.specs.declared.engine.End.{End}
 use Rattle.wasm_engine.specs.declared.engine.End.TheVariants.{Done, Trap, StillRunning}
 use Rattle.wasm_engine.specs.Going.{going}
-use Rattle.wasm_engine.specs.Instances.{config_at, config_of, modules_of, has_failed, Steps, Runs, IsEnd}
-use Rattle.wasm_engine.proofs.Runs.{IsOver, run_over, behind, run-suc, run-zero, with_bytes-append, with_bytes-nil}
+use Rattle.wasm_engine.specs.Ends.{config_at}
+use Rattle.wasm_engine.specs.Instances.{config_of, modules_of, has_failed, Made, Runs, IsEnd}
+use Rattle.wasm_engine.proofs.Runs.{IsOver, run_over, followed, run-plus, run-zero, with_bytes-append, with_bytes-nil}
 
 -- the answer is that of where the run is
 is_end : (e : End) (m : Machine) → IsEnd e (config_at e (going m))
@@ -40,21 +40,20 @@ module _ {S : Type 0} (told : S → Option (List ℕ)) (failed : S → ℕ) (old
     broken = refl;
   }
 
-  pub one_more : (k : ℕ) (now next : Instances) (after later : S) → SoFar told failed k old now before after → Steps told failed now next after later → modules_of next ≡ modules_of now → has_failed next ≡ has_failed now
-      → SoFar told failed (k + 1) old next before later
-  one_more k now next after later so_far one same kept =
-      let reduced : reduce (modules_of now) (config_of now) ≡ reduce (modules_of old) (run (modules_of old) k (config_of old)).0 = rw (so_far.modules, so_far.config) refl in
+  pub some_more : (k n : ℕ) (now next : Instances) (after later : S) → SoFar told failed k old now before after → Made told failed n now next after later → modules_of next ≡ modules_of now → has_failed next ≡ has_failed now
+      → SoFar told failed (k + n) old next before later
+  some_more k n now next after later so_far made same kept =
+      let first = run (modules_of old) k (config_of old) in
+      let more : run (modules_of now) n (config_of now) ≡ run (modules_of old) n first.0 = rw (so_far.modules, so_far.config) refl in
+      let whole : run (modules_of old) (k + n) (config_of old) ≡ followed (modules_of old) n first = run-plus (modules_of old) k n (config_of old) in
       record {
-        config =
-            let step : config_of next ≡ (reduce (modules_of old) (run (modules_of old) k (config_of old)).0).0 = one.config ∙ ap (λ p. p.0) reduced in
-            step ∙ rw (add-one, run-suc (modules_of old) k (config_of old)) refl;
+        config = made.config ∙ (ap (λ (p : Progress). p.0) more ∙ sym (ap (λ (p : Progress). p.0) whole));
         bytes =
-            let first = (run (modules_of old) k (config_of old)).1 in
-            let second = (reduce (modules_of old) (run (modules_of old) k (config_of old)).0).1 in
-            let step : told later ≡ with_bytes (told after) second = one.bytes ∙ ap (λ p. with_bytes (told after) p.1) reduced in
-            let joined : with_bytes (told after) second ≡ with_bytes (told before) (first ++ second) = ap (λ t. with_bytes t second) so_far.bytes ∙ with_bytes-append (told before) first second in
-            step ∙ joined ∙ rw (add-one, run-suc (modules_of old) k (config_of old)) refl;
-        failures = one.failures ∙ so_far.failures;
+            let step : told later ≡ with_bytes (told after) (run (modules_of old) n first.0).1 = made.bytes ∙ ap (λ (p : Progress). with_bytes (told after) p.1) more in
+            let joined : with_bytes (told after) (run (modules_of old) n first.0).1 ≡ with_bytes (told before) (first.1 ++ (run (modules_of old) n first.0).1) =
+            ap (λ t. with_bytes t (run (modules_of old) n first.0).1) so_far.bytes ∙ with_bytes-append (told before) first.1 (run (modules_of old) n first.0).1 in
+            step ∙ (joined ∙ sym (ap (λ (p : Progress). with_bytes (told before) p.1) whole));
+        failures = made.failures ∙ so_far.failures;
         modules = same ∙ so_far.modules;
         broken = kept ∙ so_far.broken;
       }

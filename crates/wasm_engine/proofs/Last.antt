@@ -3,7 +3,6 @@ use Rattle.std.proofs.Common.{◌≡◌, ℕ, zero, suc, ◌-◌, List, length, 
 use Rattle.std.specs.Prelude.{option_to_list, MatchOption}
 use Rattle.std.proofs.lemmas.List.{nil_from_length, length-map}
 use Rattle.wasm_tree.specs.Machine.{split_last}
-use Rattle.wasm_engine.specs.Run.{taken}
 use Rattle.wasm_engine.specs.declared.frame.Frame.{Frame}
 use Rattle.wasm_engine.specs.declared.frame.Label.{Label}
 use Rattle.wasm_engine.specs.Going.{activation, waiting, label_of, innermost}
@@ -11,10 +10,6 @@ use Rattle.wasm_engine.specs.Going.{activation, waiting, label_of, innermost}
 pub split_last-push : {A : Type 0} (xs : List A) (x : A) → split_last (xs ++ x ∷ []) ≡ Some (xs, x)
 split_last-push [] x = refl
 split_last-push (y ∷ xs) x = rw (split_last-push xs x) refl
-
-pub taken_last : {A : Type 0} (old new : List A) (r : Option A) → old ≡ new ++ option_to_list r → MatchOption r (length old ≡ 0) (λ x. Unit {0}) → taken new r ≡ split_last old
-taken_last old new None e h = rw (nil_from_length old h) refl
-taken_last old new (Some x) e h = rw e (sym (split_last-push new x))
 
 pub no_more : {A : Type 0} (old : List A) (r : Option A) (b : Type 0) (q : A → Type 0) (m : ℕ) → m ≡ length old → MatchOption r ((m ≡ 0) × b) q → MatchOption r (length old ≡ 0) (λ x. Unit {0})
 no_more old None b q m e h = sym e ∙ h.0

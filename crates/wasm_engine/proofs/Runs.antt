@@ -1,5 +1,5 @@
 -- Runs of several reductions.
-use Rattle.std.proofs.Common.{◌≡◌, ℕ, zero, suc, ◌+◌, ◌-◌, ◌≤◌, ◌<◌, List, [], ◌∷◌, ◌++◌, Option, Some, None, refl, sym, ap, subst, ◌∙◌, append_assoc, add-one, arith}
+use Rattle.std.proofs.Common.{◌≡◌, ℕ, zero, suc, ◌+◌, List, [], ◌++◌, Option, Some, None, refl, sym, ap, ◌∙◌, append_assoc, add-one, arith}
 use Rattle.std.proofs.lemmas.List.{append-nil}
 use Rattle.wasm_tree.specs.declared.module.WModule.{WModule}
 use Rattle.wasm_tree.specs.Machine.{Config, Going, Over, Trapped, Progress, reduce, run}
@@ -19,6 +19,37 @@ run-suc modules (suc n) c =
 pub run-zero : (modules : List WModule) (c : Config) → run modules 0 c ≡ (c, [])
 unfolding run
 run-zero modules c = refl
+
+-- one reduction more where nothing was printed before
+pub after_silent : (modules : List WModule) (k : ℕ) (c next : Config) → run modules k c ≡ (next, []) → run modules (k + 1) c ≡ reduce modules next
+after_silent modules k c next e = rw (add-one, run-suc modules k c, e) refl
+
+-- so many reductions behind others
+abbrev pub printed_after : List ℕ → Progress → Progress
+printed_after bytes p = (p.0, bytes ++ p.1)
+
+abbrev pub followed : List WModule → ℕ → Progress → Progress
+followed modules n p = printed_after p.1 (run modules n p.0)
+
+no_others : (k : ℕ) → k + 0 ≡ k
+no_others k = omega arith
+
+another : (k n : ℕ) → k + suc n ≡ suc (k + n)
+another k n = omega arith
+
+followed_none : (modules : List WModule) (p : Progress) → followed modules 0 p ≡ p
+followed_none modules p = ap (printed_after p.1) (run-zero modules p.0) ∙ ap (λ (bytes : List ℕ). (p.0, bytes)) (append-nil p.1)
+
+followed_more : (modules : List WModule) (n : ℕ) (p : Progress) → behind modules (followed modules n p) ≡ followed modules (suc n) p
+followed_more modules n p =
+    let first = run modules n p.0 in
+    let one = reduce modules first.0 in
+    ap (λ (bytes : List ℕ). (one.0, bytes)) (append_assoc p.1 first.1 one.1) ∙ sym (ap (printed_after p.1) (run-suc modules n p.0))
+
+pub run-plus : (modules : List WModule) (k n : ℕ) (c : Config) → run modules (k + n) c ≡ followed modules n (run modules k c)
+run-plus modules k zero c = ap (λ m. run modules m c) (no_others k) ∙ sym (followed_none modules (run modules k c))
+run-plus modules k (suc n) c =
+    ap (λ m. run modules m c) (another k n) ∙ (run-suc modules (k + n) c ∙ (ap (behind modules) (run-plus modules k n c) ∙ followed_more modules n (run modules k c)))
 
 -- what is over stays over
 abbrev pub IsOver : Config → Type 0

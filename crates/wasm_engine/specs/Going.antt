@@ -1,12 +1,13 @@
 -- What the executor's machine stands for.
-use Rattle.std.specs.Prelude.{◌≡◌, ℕ, List, [], ◌∷◌, map, Option, Some, None}
+use Rattle.std.specs.Prelude.{ℕ, List, [], ◌∷◌, ◌++◌, map, length, Option, Some, None}
 use Rattle.std.specs.Borrow.{Bor}
 use Rattle.wasm_tree.specs.declared.store.Memory.{Memory}
 use Rattle.wasm_tree.specs.declared.store.Store.{Store}
 use Rattle.wasm_tree.specs.Machine as machine
-use Rattle.wasm_tree.specs.Machine.{Activation, Config, Going, Over, Trapped, Progress, trapped}
+use Rattle.wasm_tree.specs.Machine.{Activation, Config, Going, Over, Trapped, Progress, Typed, trapped, or_trap, split_end, entered}
 use Rattle.wasm_engine.specs.declared.frame.Label.{Label}
 use Rattle.wasm_engine.specs.declared.frame.Frame.{Frame}
+use Rattle.wasm_engine.specs.declared.frame.Pages.{Pages}
 use Rattle.wasm_engine.specs.declared.frame.Machine.{Machine}
 use Rattle.wasm_engine.specs.declared.frame.Reduced.{Reduced}
 use Rattle.wasm_engine.specs.declared.frame.Reduced.TheVariants as reduced
@@ -15,11 +16,14 @@ abbrev pub label_of : Label → machine.Label
 label_of l = record { arity = l.arity; height = l.height; again = l.again.now; rest = l.rest.now }
 
 abbrev pub activation : Frame → Activation
-activation f = record { instance = f.instance; arity = f.arity; locals = f.locals.items; labels = map label_of f.labels.items; rest = f.rest.now; stack = f.stack.items }
+activation f = record { instance = f.instance; arity = f.arity; locals = f.locals.known.values; labels = map label_of f.labels.items; rest = f.rest.now; stack = f.stack.known.values }
+
+abbrev pub memory_from : Pages → Memory
+memory_from p = record { bytes = p.bytes.items; max = p.max }
 
 -- the store, with its memories in their place
 abbrev pub store_of : Machine → Store
-store_of m = record m.store { memories = m.memories.items }
+store_of m = record m.store { memories = map memory_from m.memories.items }
 
 abbrev pub callers_of : Machine → List Activation
 callers_of m = map activation m.callers.items
@@ -43,10 +47,10 @@ abbrev pub innermost : List Label → Option Label → Option (List machine.Labe
 innermost others None = None
 innermost others (Some l) = Some (map label_of others, label_of l)
 
--- a memory, behind its place in the store
-abbrev pub memory_seen : Option (ℕ × Bor Memory) → Option (ℕ × Memory)
-memory_seen None = None
-memory_seen (Some p) = Some (p.0, p.1.now)
+-- a call of this function of a module
+abbrev pub called_typed : Store → Activation → List Activation → (m : ℕ) → Typed → Progress
+called_typed st now callers m t =
+    or_trap (split_end (length t.type.params) now.stack) (λ p. (Going st (entered m t p.1) (callers ++ record now { stack = p.0 } ∷ []), []))
 
 abbrev pub bytes_seen : Option (Bor (List ℕ)) → Option (List ℕ)
 bytes_seen None = None

@@ -1,8 +1,10 @@
 -- What linked modules are, and what a call of run makes of them.
-use Rattle.std.specs.Prelude.{◌≡◌, ℕ, ◌≤◌, ◌+◌, ◌⊎◌, Option, Bool, List, [], ◌∷◌, ◌++◌}
+use Rattle.std.specs.Prelude.{◌≡◌, ℕ, ◌≤◌, ◌+◌, ◌⊎◌, Option, Bool, List}
 use Rattle.wasm_tree.specs.declared.module.WModule.{WModule}
-use Rattle.wasm_tree.specs.Machine.{Config, Going, Over, Trapped, reduce, run}
-use Rattle.wasm_engine.specs.Going.{going}
+use Rattle.wasm_tree.specs.Machine.{Config, Going, Over, Trapped, run}
+use Rattle.wasm_engine.specs.Going.{going, progress}
+use Rattle.wasm_engine.specs.declared.frame.Reduced.{Reduced}
+use Rattle.wasm_engine.specs.Ends.{config_at}
 use Rattle.wasm_engine.specs.Told.{with_bytes}
 use Rattle.wasm_engine.specs.declared.engine.RunFault.{RunFault}
 use Rattle.wasm_engine.specs.declared.engine.RunFault.TheVariants.{NoMemory, Write}
@@ -14,11 +16,6 @@ abbrev pub modules_of : Instances → List WModule
 modules_of i = i.modules.now
 
 -- where the run is
-abbrev pub config_at : End → Config → Config
-config_at (Done k) c = Over k
-config_at Trap c = Trapped
-config_at StillRunning c = c
-
 abbrev pub config_of : Instances → Config
 config_of i = config_at i.end (going i.machine)
 
@@ -34,10 +31,16 @@ IsEnd StillRunning (Going st now callers) = Unit {0}
 IsEnd StillRunning (Over k) = ⊥
 IsEnd StillRunning Trapped = ⊥
 
--- one reduction was made, and what it printed was taken
-pub record Steps {S : Type 0} (told : S → Option (List ℕ)) (failed : S → ℕ) (old new : Instances) (before after : S) : Type 0 where
-  pub config : config_of new ≡ (reduce (modules_of old) (config_of old)).0
-  pub bytes : told after ≡ with_bytes (told before) (reduce (modules_of old) (config_of old)).1
+-- so many reductions were made, and what they printed was taken
+pub record Made {S : Type 0} (told : S → Option (List ℕ)) (failed : S → ℕ) (n : ℕ) (old new : Instances) (before after : S) : Type 0 where
+  pub config : config_of new ≡ (run (modules_of old) n (config_of old)).0
+  pub bytes : told after ≡ with_bytes (told before) (run (modules_of old) n (config_of old)).1
+  pub failures : failed after ≡ failed before
+
+-- what a reduction led to is kept, and what it printed was taken
+pub record Settles {S : Type 0} (told : S → Option (List ℕ)) (failed : S → ℕ) (r : Reduced) (old new : Instances) (before after : S) : Type 0 where
+  pub config : config_of new ≡ (progress r old.machine).0
+  pub bytes : told after ≡ with_bytes (told before) (progress r old.machine).1
   pub failures : failed after ≡ failed before
 
 -- which fault, and whether there is one failure more

@@ -2,3 +2,6 @@ pub mod Run
 pub mod Told
 pub mod Going
 pub mod Instances
+pub mod Ends
+pub mod Well
+pub mod There

@@ -1,89 +1,147 @@
 //! Instructions that take numbers off the operand stack and push one (Core 1.0, section 4.4.1).
 
-ghost use Rattle.std.specs.Prelude.{◌≡◌, IfOk, Option, Some, None, List};
-ghost use Rattle.wasm_tree.specs.Machine.{calculated, begun, or_trap};
+ghost use Rattle.std.specs.Prelude.{◌≡◌, ◌<◌, ◌-◌, Some, None, List, take, length};
+ghost use Rattle.wasm_tree.specs.Machine.{calculated, begun, top_i32, top_i64};
 ghost use Rattle.wasm_tree.specs.declared.module.WModule.{WModule};
 ghost use Rattle.wasm_tree.specs.declared.instr.Instr.TheVariants as instr;
-ghost use Rattle.wasm_engine.specs.Run.{taken};
+ghost use Rattle.wasm_sound.specs.Ready.{IsI32, IsI64, AreI32, AreI64, AreNumbers};
+ghost use Rattle.wasm_engine.specs.Run.{if_kept};
+ghost use Rattle.wasm_engine.specs.There.{replaced};
 ghost use Rattle.wasm_engine.specs.Going.{activation, store_of, callers_of, progress};
 
 use crate::frame::{Machine, Reduced};
-use crate::numbers::{compares_32, compares_64, extended, operated, truth};
-use crate::operands::{pop_i32, pop_i64, push};
-use std::alloc::AllocError;
-use wasm_tree::{Numeric, Operation, Relation, Value};
+use wasm_operands::{Operands, compares_32, compares_64, extended, operated, truth};
+use wasm_tree::{Numeric, Operation, Relation};
 
-fn equals_zero_32(stack: &mut Vec<Value>) -> Option<Value>
-    ensures { taken stack.new.items result ≡ calculated Numeric.I32Eqz stack.old.items }
+/// Two numbers of 32 bits, of which the topmost one is taken off.
+#[inline(always)]
+fn two_32(stack: &mut Operands) -> (u32, u32)
+    requires { ∥ AreI32 stack.old.known.values ∥₁ }
+    ensures top { top_i32 stack.old.known.values ≡ Some (stack.new.known.values, result.1) }
+    ensures next { top_i32 stack.new.known.values ≡ Some (take (length stack.new.known.values - 1) stack.new.known.values, result.0) }
+    ensures some { 0 < length stack.new.known.values }
 {
-    let n = pop_i32(stack)?;
-    Some(Value::I32(truth(n == 0)))
+    let m = stack.pop_i32();
+    (stack.top_i32(), m)
 }
 
-fn equals_zero_64(stack: &mut Vec<Value>) -> Option<Value>
-    ensures { taken stack.new.items result ≡ calculated Numeric.I64Eqz stack.old.items }
+/// Two numbers of 64 bits, of which the topmost one is taken off.
+#[inline(always)]
+fn two_64(stack: &mut Operands) -> (u64, u64)
+    requires { ∥ AreI64 stack.old.known.values ∥₁ }
+    ensures top { top_i64 stack.old.known.values ≡ Some (stack.new.known.values, result.1) }
+    ensures next { top_i64 stack.new.known.values ≡ Some (take (length stack.new.known.values - 1) stack.new.known.values, result.0) }
+    ensures some { 0 < length stack.new.known.values }
 {
-    let n = pop_i64(stack)?;
-    Some(Value::I32(truth(n == 0)))
+    let m = stack.pop_i64();
+    (stack.top_i64(), m)
 }
 
-fn relation_32(stack: &mut Vec<Value>, relation: Relation) -> Option<Value>
-    ensures { taken stack.new.items result ≡ calculated (Numeric.I32Relation relation) stack.old.items }
+#[tactic(auto, using(wasm_operands::proofs::Cells::some_32))]
+#[inline(always)]
+fn equals_zero_32(stack: &mut Operands) -> bool
+    requires { ∥ IsI32 stack.old.known.values ∥₁ }
+    ensures { if_kept stack.new.known.values result ≡ replaced (calculated Numeric.I32Eqz stack.old.known.values) }
 {
-    let m = pop_i32(stack)?;
-    let n = pop_i32(stack)?;
-    Some(Value::I32(truth(compares_32(relation, n, m))))
+    let n = stack.top_i32();
+    stack.set_i32(truth(n == 0));
+    true
 }
 
-fn relation_64(stack: &mut Vec<Value>, relation: Relation) -> Option<Value>
-    ensures { taken stack.new.items result ≡ calculated (Numeric.I64Relation relation) stack.old.items }
+#[tactic(auto, using(wasm_operands::proofs::Cells::some_64))]
+#[inline(always)]
+fn equals_zero_64(stack: &mut Operands) -> bool
+    requires { ∥ IsI64 stack.old.known.values ∥₁ }
+    ensures { if_kept stack.new.known.values result ≡ replaced (calculated Numeric.I64Eqz stack.old.known.values) }
 {
-    let m = pop_i64(stack)?;
-    let n = pop_i64(stack)?;
-    Some(Value::I32(truth(compares_64(relation, n, m))))
+    let n = stack.top_i64();
+    stack.set_i32(truth(n == 0));
+    true
 }
 
-fn sum_32(stack: &mut Vec<Value>) -> Option<Value>
-    ensures { taken stack.new.items result ≡ calculated Numeric.I32Add stack.old.items }
+#[inline(always)]
+fn relation_32(stack: &mut Operands, relation: Relation) -> bool
+    requires { ∥ AreI32 stack.old.known.values ∥₁ }
+    ensures { if_kept stack.new.known.values result ≡ replaced (calculated (Numeric.I32Relation relation) stack.old.known.values) }
 {
-    let m = pop_i32(stack)?;
-    let n = pop_i32(stack)?;
-    Some(Value::I32(n.wrapping_add(m)))
+    let (n, m) = two_32(stack);
+    stack.set_i32(truth(compares_32(relation, n, m)));
+    true
 }
 
-fn operation_64(stack: &mut Vec<Value>, operation: Operation) -> Option<Value>
-    ensures { taken stack.new.items result ≡ calculated (Numeric.I64Operation operation) stack.old.items }
+#[inline(always)]
+fn relation_64(stack: &mut Operands, relation: Relation) -> bool
+    requires { ∥ AreI64 stack.old.known.values ∥₁ }
+    ensures { if_kept stack.new.known.values result ≡ replaced (calculated (Numeric.I64Relation relation) stack.old.known.values) }
 {
-    let m = pop_i64(stack)?;
-    let n = pop_i64(stack)?;
-    let number = operated(operation, n, m)?;
-    Some(Value::I64(number))
+    let (n, m) = two_64(stack);
+    stack.set_i32(truth(compares_64(relation, n, m)));
+    true
 }
 
-fn wrapped(stack: &mut Vec<Value>) -> Option<Value>
-    ensures { taken stack.new.items result ≡ calculated Numeric.I32WrapI64 stack.old.items }
+#[inline(always)]
+fn sum_32(stack: &mut Operands) -> bool
+    requires { ∥ AreI32 stack.old.known.values ∥₁ }
+    ensures { if_kept stack.new.known.values result ≡ replaced (calculated Numeric.I32Add stack.old.known.values) }
 {
-    let n = pop_i64(stack)?;
-    Some(Value::I32((n % 4_294_967_296) as u32))
+    let (n, m) = two_32(stack);
+    stack.set_i32(n.wrapping_add(m));
+    true
 }
 
-fn extended_by_sign(stack: &mut Vec<Value>) -> Option<Value>
-    ensures { taken stack.new.items result ≡ calculated Numeric.I64ExtendI32S stack.old.items }
+#[inline(always)]
+fn operation_64(stack: &mut Operands, operation: Operation) -> bool
+    requires { ∥ AreI64 stack.old.known.values ∥₁ }
+    ensures { if_kept stack.new.known.values result ≡ replaced (calculated (Numeric.I64Operation operation) stack.old.known.values) }
 {
-    let n = pop_i32(stack)?;
-    Some(Value::I64(extended(n)))
+    let (n, m) = two_64(stack);
+    match operated(operation, n, m) {
+        None => false,
+        Some(number) => {
+            stack.set_i64(number);
+            true
+        }
+    }
 }
 
-fn extended_by_zeros(stack: &mut Vec<Value>) -> Option<Value>
-    ensures { taken stack.new.items result ≡ calculated Numeric.I64ExtendI32U stack.old.items }
+#[tactic(auto, using(wasm_operands::proofs::Cells::some_64))]
+#[inline(always)]
+fn wrapped(stack: &mut Operands) -> bool
+    requires { ∥ IsI64 stack.old.known.values ∥₁ }
+    ensures { if_kept stack.new.known.values result ≡ replaced (calculated Numeric.I32WrapI64 stack.old.known.values) }
 {
-    let n = pop_i32(stack)?;
-    Some(Value::I64(u64::from(n)))
+    let n = stack.top_i64();
+    stack.set_i32((n % 4_294_967_296) as u32);
+    true
 }
 
-/// Takes the operands of this instruction and answers what it makes of them, or nothing where they do not suit.
-fn calculated(stack: &mut Vec<Value>, numeric: Numeric) -> Option<Value>
-    ensures { taken stack.new.items result ≡ calculated numeric stack.old.items }
+#[tactic(auto, using(wasm_operands::proofs::Cells::some_32))]
+#[inline(always)]
+fn extended_by_sign(stack: &mut Operands) -> bool
+    requires { ∥ IsI32 stack.old.known.values ∥₁ }
+    ensures { if_kept stack.new.known.values result ≡ replaced (calculated Numeric.I64ExtendI32S stack.old.known.values) }
+{
+    let n = stack.top_i32();
+    stack.set_i64(extended(n));
+    true
+}
+
+#[tactic(auto, using(wasm_operands::proofs::Cells::some_32))]
+#[inline(always)]
+fn extended_by_zeros(stack: &mut Operands) -> bool
+    requires { ∥ IsI32 stack.old.known.values ∥₁ }
+    ensures { if_kept stack.new.known.values result ≡ replaced (calculated Numeric.I64ExtendI32U stack.old.known.values) }
+{
+    let n = stack.top_i32();
+    stack.set_i64(u64::from(n));
+    true
+}
+
+/// Puts what this instruction makes of the topmost operands in their place. False where that is not defined.
+#[inline(always)]
+fn calculated(stack: &mut Operands, numeric: Numeric) -> bool
+    requires { ∥ AreNumbers numeric stack.old.known.values ∥₁ }
+    ensures { if_kept stack.new.known.values result ≡ replaced (calculated numeric stack.old.known.values) }
 {
     match numeric {
         Numeric::I32Eqz => equals_zero_32(stack),
@@ -98,12 +156,15 @@ fn calculated(stack: &mut Vec<Value>, numeric: Numeric) -> Option<Value>
     }
 }
 
-/// Takes the operands of this instruction and pushes what it makes of them.
-pub fn calculate(machine: &mut Machine<'_>, numeric: Numeric) -> Result<Reduced, AllocError>
-    ensures { IfOk result (λ r. (modules : List WModule) → progress r machine.new ≡ begun modules (store_of machine.old) (activation machine.old.now) (callers_of machine.old) (instr.Numeric numeric)) }
+/// Puts what this instruction makes of the topmost operands in their place.
+#[inline(always)]
+pub fn calculate(machine: &mut Machine<'_>, numeric: Numeric) -> Reduced
+    requires { ∥ AreNumbers numeric machine.old.now.stack.known.values ∥₁ }
+    ensures { (modules : List WModule) → progress result machine.new ≡ begun modules (store_of machine.old) (activation machine.old.now) (callers_of machine.old) (instr.Numeric numeric) }
 {
-    match calculated(&mut machine.now.stack, numeric) {
-        None => Ok(Reduced::Trapped),
-        Some(value) => push(machine, value),
+    if calculated(&mut machine.now.stack, numeric) {
+        Reduced::On
+    } else {
+        Reduced::Trapped
     }
 }

@@ -1,92 +1,82 @@
 //! Calls and returns (Core 1.0, section 4.4.7).
 
-ghost use Rattle.std.specs.Prelude.{◌≡◌, ◌∷◌, [], ◌++◌, IfOk, OnOk, Some, None, List, ℕ, map};
-ghost use Rattle.std.specs.Option.{option_copied};
+ghost use Rattle.std.specs.Prelude.{◌≡◌, ◌≤◌, ◌-◌, [], ◌++◌, IfOk, OnOk, Some, None, List, map, drop, length};
 ghost use Rattle.std.specs.List.{flat_map};
-ghost use Rattle.wasm_tree.specs.Machine.{Progress, Typed, stopped, callee_at, callee_in, entered, called, called_as, begun, found, zeros, zero_of, or_trap, own_function, split_end, split_last};
+ghost use Rattle.wasm_tree.specs.Machine.{stopped, entered, called, begun, found, zeros, split_last};
 ghost use Rattle.wasm_link.specs.Placed.{typed};
 ghost use Rattle.wasm_tree.specs.declared.store.Callee.TheVariants.{Put, Stop, Own};
 ghost use Rattle.wasm_tree.specs.declared.instr.Instr.TheVariants.{Call, CallIndirect};
-ghost use Rattle.wasm_engine.specs.Going.{activation, store_of, callers_of, progress, waiting};
 ghost use Rattle.wasm_tree.specs.declared.module.WModule.{WModule};
+ghost use Rattle.wasm_sound.specs.Ready.{IsI64, CanCall, CanCallIndex, CanCallTop};
+ghost use Rattle.wasm_engine.specs.Going.{activation, store_of, callers_of, progress, waiting, called_typed};
 ghost use Rattle.wasm_engine.specs.declared.frame.Machine.{Machine};
 
 use crate::frame::{Frame, Machine, Reduced};
-use crate::operands::{pop_end, pop_i32, pop_i64};
-use sqlite_items::at;
+use crate::places::{callee_at, callee_in, function_at, type_at};
 use std::alloc::{AllocError, Global};
 use std::mem;
-use wasm_link::{TypedFunction, agrees, own_function, type_at};
-use wasm_tree::{Callee, Locals, Store, Value, ValueType};
+use wasm_link::{TypedFunction, agrees};
+use wasm_operands::Operands;
+use wasm_tree::{Callee, Locals};
 use wasm_valid::ValidModule;
 
-/// The function in this place of the module's index space.
-pub fn callee_at(store: &Store, instance: usize, index: u32) -> Option<Callee>
-    ensures { result ≡ callee_at store.now instance index }
-{
-    let instance = at(store.instances.as_slice(), instance)?;
-    let address = at(instance.functions.as_slice(), index as usize)?;
-    Some(*at(store.functions.as_slice(), *address)?)
-}
-
-/// The function in this slot of the module's table.
-fn callee_in(store: &Store, instance: usize, slot: u32) -> Option<Callee>
-    ensures { result ≡ callee_in store.now instance slot }
-{
-    let instance = at(store.instances.as_slice(), instance)?;
-    let table = at(instance.tables.as_slice(), 0)?;
-    let table = at(store.tables.as_slice(), *table)?;
-    let address = (*at(table.slots.as_slice(), slot as usize)?)?;
-    Some(*at(store.functions.as_slice(), address)?)
-}
-
-fn zero_of(value_type: ValueType) -> Value
-    ensures { result ≡ zero_of value_type }
-{
-    match value_type {
-        ValueType::I32 => Value::I32(0),
-        ValueType::I64 => Value::I64(0),
-    }
-}
-
-fn push_zeros(locals: &mut Vec<Value>, group: Locals) -> Result<(), AllocError>
-    ensures { OnOk result (locals.new.items ≡ locals.old.items ++ zeros group) }
-{
-    for _ in 0..group.count {
-        locals.push(zero_of(group.value_type))?;
-    }
-    Ok(())
-}
-
-fn push_locals(locals: &mut Vec<Value>, groups: &[Locals]) -> Result<(), AllocError>
-    ensures { OnOk result (locals.new.items ≡ locals.old.items ++ flat_map zeros groups.now) }
+#[inline(always)]
+fn push_locals(locals: &mut Operands, groups: &[Locals]) -> Result<(), AllocError>
+    ensures { OnOk result (locals.new.known.values ≡ locals.old.known.values ++ flat_map zeros groups.now) }
 {
     for group in groups {
-        push_zeros(locals, *group)?;
+        locals.push_zeros(*group)?;
     }
     Ok(())
 }
 
-/// A function that begins, with these arguments.
+/// A function of which nothing is known yet.
+fn no_frame<'a>(alloc: Global) -> Frame<'a> {
+    Frame {
+        instance: 0,
+        arity: 0,
+        locals: Operands::new(alloc),
+        labels: Vec::new(alloc),
+        rest: &[],
+        stack: Operands::new(alloc),
+    }
+}
+
+/// Makes a frame, whatever it was, that of a function that begins with the topmost operands, so many.
+#[inline(always)]
+fn enter<'a>(
+    frame: &mut Frame<'a>,
+    instance: usize,
+    function: TypedFunction<'a>,
+    stack: &Operands,
+    count: usize,
+) -> Result<(), AllocError>
+    requires { count ≤ length stack.now.known.values }
+    ensures { OnOk result (activation frame.new ≡ entered instance (typed function.entry) (drop (length stack.now.known.values - count) stack.now.known.values)) }
+{
+    let body = &function.function.body;
+    frame.instance = instance;
+    frame.arity = function.func_type.results.len();
+    frame.locals.truncate(0);
+    frame.locals.push_end(stack, count)?;
+    push_locals(&mut frame.locals, body.locals.as_slice())?;
+    frame.labels.clear();
+    frame.rest = body.code.as_slice();
+    frame.stack.truncate(0);
+    Ok(())
+}
+
+/// A function that begins without arguments.
 pub fn entered<'a>(
     alloc: Global,
     instance: usize,
     function: TypedFunction<'a>,
-    args: Vec<Value>,
 ) -> Result<Frame<'a>, AllocError>
-    ensures { IfOk result (λ f. activation f ≡ entered instance (typed function.entry) args.items) }
+    ensures { IfOk result (λ f. activation f ≡ entered instance (typed function.entry) []) }
 {
-    let body = &function.function.body;
-    let mut locals = args;
-    push_locals(&mut locals, body.locals.as_slice())?;
-    Ok(Frame {
-        instance,
-        arity: function.func_type.results.len(),
-        locals,
-        labels: Vec::new(alloc),
-        rest: body.code.as_slice(),
-        stack: Vec::new(alloc),
-    })
+    let mut frame = no_frame(alloc);
+    enter(&mut frame, instance, function, &Operands::new(alloc), 0)?;
+    Ok(frame)
 }
 
 fn stopped(number: u64) -> Reduced
@@ -98,24 +88,53 @@ fn stopped(number: u64) -> Reduced
     }
 }
 
+#[inline(always)]
 fn call_put(machine: &mut Machine<'_>) -> Reduced
+    requires { ∥ IsI64 machine.old.now.stack.known.values ∥₁ }
     ensures { (modules : List WModule) → progress result machine.new ≡ called modules (store_of machine.old) (activation machine.old.now) (callers_of machine.old) Put }
 {
-    match pop_i64(&mut machine.now.stack) {
-        None => Reduced::Trapped,
-        Some(number) => Reduced::Printed((number % 256) as u8),
-    }
+    Reduced::Printed((machine.now.stack.pop_i64() % 256) as u8)
 }
 
+#[inline(always)]
 fn call_stop(machine: &mut Machine<'_>) -> Reduced
+    requires { ∥ IsI64 machine.old.now.stack.known.values ∥₁ }
     ensures { (modules : List WModule) → progress result machine.new ≡ called modules (store_of machine.old) (activation machine.old.now) (callers_of machine.old) Stop }
 {
-    match pop_i64(&mut machine.now.stack) {
-        None => Reduced::Trapped,
-        Some(number) => stopped(number),
+    stopped(machine.now.stack.pop_i64())
+}
+
+/// A frame that was left, or a new one.
+#[inline(always)]
+fn spare_frame<'a>(alloc: Global, spare: &mut Vec<Frame<'a>>) -> Frame<'a> {
+    match spare.pop() {
+        Some(frame) => frame,
+        None => no_frame(alloc),
     }
 }
 
+/// The function begins, and the one that ran waits for it.
+#[inline(always)]
+fn call_typed<'a>(
+    alloc: Global,
+    machine: &mut Machine<'a>,
+    number: usize,
+    function: TypedFunction<'a>,
+) -> Result<Reduced, AllocError>
+    requires { length (typed function).type.params ≤ length machine.old.now.stack.known.values }
+    ensures { IfOk result (λ r. progress r machine.new ≡ called_typed (store_of machine.old) (activation machine.old.now) (callers_of machine.old) number (typed function.entry)) }
+{
+    let count = function.func_type.params.len();
+    let next = spare_frame(alloc, &mut machine.spare);
+    let mut caller = mem::replace(&mut machine.now, next);
+    enter(&mut machine.now, number, function, &caller.stack, count)?;
+    let height = caller.stack.len() - count;
+    caller.stack.truncate(height);
+    machine.callers.push(caller)?;
+    Ok(Reduced::On)
+}
+
+#[inline(always)]
 fn call_own<'a>(
     alloc: Global,
     modules: &'a [ValidModule],
@@ -123,27 +142,21 @@ fn call_own<'a>(
     number: usize,
     function: usize,
 ) -> Result<Reduced, AllocError>
+    requires { ∥ CanCall modules.now machine.old.now.stack.known.values (Own number function) ∥₁ }
     ensures { IfOk result (λ r. progress r machine.new ≡ called modules.now (store_of machine.old) (activation machine.old.now) (callers_of machine.old) (Own number function)) }
 {
-    let Some(callee) = own_function(modules, number, function) else {
-        return Ok(Reduced::Trapped);
-    };
-    let count = callee.func_type.params.len();
-    let Some(args) = pop_end(&mut machine.now.stack, count)? else {
-        return Ok(Reduced::Trapped);
-    };
-    let next = entered(alloc, number, callee, args)?;
-    let caller = mem::replace(&mut machine.now, next);
-    machine.callers.push(caller)?;
-    Ok(Reduced::On)
+    let callee = function_at(modules, number, function);
+    call_typed(alloc, machine, number, callee)
 }
 
+#[inline(always)]
 fn call<'a>(
     alloc: Global,
     modules: &'a [ValidModule],
     machine: &mut Machine<'a>,
     callee: Callee,
 ) -> Result<Reduced, AllocError>
+    requires { ∥ CanCall modules.now machine.old.now.stack.known.values callee ∥₁ }
     ensures { IfOk result (λ r. progress r machine.new ≡ called modules.now (store_of machine.old) (activation machine.old.now) (callers_of machine.old) callee) }
 {
     match callee {
@@ -154,37 +167,37 @@ fn call<'a>(
 }
 
 /// The call of the function of this index.
+#[inline(always)]
 pub fn call_index<'a>(
     alloc: Global,
     modules: &'a [ValidModule],
     machine: &mut Machine<'a>,
     function: u32,
 ) -> Result<Reduced, AllocError>
+    requires { ∥ CanCallIndex modules.now (store_of machine.old) machine.old.now.instance machine.old.now.stack.known.values function ∥₁ }
     ensures { IfOk result (λ r. progress r machine.new ≡ begun modules.now (store_of machine.old) (activation machine.old.now) (callers_of machine.old) (Call function)) }
 {
-    match callee_at(&machine.store, machine.now.instance, function) {
-        None => Ok(Reduced::Trapped),
-        Some(callee) => call(alloc, modules, machine, callee),
-    }
+    let callee = callee_at(&machine.store, machine.now.instance, function);
+    call(alloc, modules, machine, callee)
 }
 
 /// The call of the function in the slot that the topmost operand names.
+#[inline(always)]
 pub fn call_indirect<'a>(
     alloc: Global,
     modules: &'a [ValidModule],
     machine: &mut Machine<'a>,
     type_index: u32,
 ) -> Result<Reduced, AllocError>
+    requires { ∥ CanCallTop modules.now (store_of machine.old) machine.old.now.instance machine.old.now.stack.known.values type_index ∥₁ }
     ensures { IfOk result (λ r. progress r machine.new ≡ begun modules.now (store_of machine.old) (activation machine.old.now) (callers_of machine.old) (CallIndirect type_index)) }
 {
-    let Some(slot) = pop_i32(&mut machine.now.stack) else {
-        return Ok(Reduced::Trapped);
-    };
+    let slot = machine.now.stack.pop_i32();
     let Some(callee) = callee_in(&machine.store, machine.now.instance, slot) else {
         return Ok(Reduced::Trapped);
     };
     let asked = type_at(modules, machine.now.instance, type_index);
-    if !agrees(modules, asked, callee) {
+    if !agrees(modules, Some(asked), callee) {
         return Ok(Reduced::Trapped);
     }
     call(alloc, modules, machine, callee)
@@ -198,17 +211,16 @@ fn pop_caller<'a>(callers: &mut Vec<Frame<'a>>) -> Option<Frame<'a>>
 }
 
 /// The function that runs gives its results to the one that called it.
+#[inline(always)]
 pub fn leave(machine: &mut Machine<'_>) -> Result<Reduced, AllocError>
+    requires { machine.old.now.arity ≤ length machine.old.now.stack.known.values }
     ensures { IfOk result (λ r. progress r machine.new ≡ found (store_of machine.old) (activation machine.old.now) (callers_of machine.old) None) }
 {
-    let arity = machine.now.arity;
-    let Some(results) = pop_end(&mut machine.now.stack, arity)? else {
-        return Ok(Reduced::Trapped);
-    };
-    let Some(mut caller) = pop_caller(&mut machine.callers) else {
+    let Some(caller) = pop_caller(&mut machine.callers) else {
         return Ok(Reduced::Over(0));
     };
-    caller.stack.extend_from_slice(&results)?;
-    machine.now = caller;
+    let left = mem::replace(&mut machine.now, caller);
+    machine.now.stack.push_end(&left.stack, left.arity)?;
+    machine.spare.push(left)?;
     Ok(Reduced::On)
 }

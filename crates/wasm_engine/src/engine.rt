@@ -1,19 +1,21 @@
 //! Linked modules and their run (Core 1.0, sections 4.5.4 and 4.5.5).
 
-ghost use Rattle.std.specs.Prelude.{◌≡◌, ◌≢◌, ◌↔◌, ◌+◌, ◌<◌, ◌^◌, ◌++◌, ◌∷◌, [], ℕ, List, true, false, IfOk, IfErr, OnErr, MatchResult, Err, Ok, slice_get, IsTrue};
+ghost use Rattle.std.specs.Prelude.{◌≡◌, ◌≢◌, ◌↔◌, ◌+◌, ◌<◌, ◌≤◌, ◌^◌, ◌++◌, ◌∷◌, [], ℕ, List, true, false, IfOk, IfErr, OnErr, MatchResult, Err, Ok, slice_get, IsTrue, map, All};
 ghost use Rattle.wasm_tree.specs.Format.{Gives};
 ghost use Rattle.wasm_tree.specs.Machine.{Config, Typed, own_function, callee_at, run, entered};
 ghost use Rattle.wasm_tree.specs.Linking.{link, start, started};
 ghost use Rattle.wasm_tree.specs.declared.store.Callee.{Callee};
-ghost use Rattle.wasm_engine.specs.Going.{activation, going};
+ghost use Rattle.wasm_tree.specs.Validity.{IsValid};
+ghost use Rattle.wasm_engine.specs.Going.{activation, going, progress, memory_from};
+ghost use Rattle.wasm_engine.specs.Ends.{config_at};
+ghost use Rattle.wasm_engine.specs.Well.{IsWell};
 ghost use Rattle.wasm_engine.specs.Told.{with_bytes};
-ghost use Rattle.wasm_engine.specs.Instances.{config_of, modules_of, has_failed, Steps, Stops, Breaks, Runs, RunsPart};
 
-use crate::call::{callee_at, entered};
-use crate::frame::{Machine, Reduced};
+use crate::call::entered;
+use crate::frame::{Machine, Pages, Reduced};
 use crate::machine::reduce;
 use crate::sink::Sink;
-use sqlite_items::at;
+use sqlite_items::{Items, at};
 use std::alloc::{AllocError, Global};
 use thiserror::Error;
 use wasm_link::{linked_all, own_function, run_of};
@@ -64,17 +66,30 @@ pub struct Instances<'a> {
     machine: Machine<'a>,
     end: End,
     is_broken: bool,
+    // What an instruction needs is there, as long as the run was not broken off.
+    ghost sound: { ∥ (is_broken ≡ false → IsWell modules.now (config_at end (going machine))) ∥₁ },
+}
+
+/// The memories, as the run has them.
+fn pages_of(alloc: Global, memories: &[Memory]) -> Result<Vec<Pages>, AllocError>
+    ensures { IfOk result (λ v. map memory_from v.items ≡ memories.now) }
+{
+    let mut all = Vec::new(alloc);
+    for memory in memories {
+        all.push(Pages {
+            bytes: Vec::from_slice(alloc, memory.bytes.as_slice())?,
+            max: memory.max,
+        })?;
+    }
+    Ok(all)
 }
 
 /// Takes the memories out of the store.
-fn take_memories(alloc: Global, store: &mut Store) -> Result<Vec<Memory>, AllocError>
-    ensures { IfOk result (λ v. (v.items ≡ store.old.memories) × (store.new ≡ record store.old { memories = [] })) }
+fn take_memories(alloc: Global, store: &mut Store) -> Result<Vec<Pages>, AllocError>
+    ensures { IfOk result (λ v. (map memory_from v.items ≡ store.old.memories) × (store.new ≡ record store.old { memories = [] })) }
 {
-    let mut memories = Vec::new(alloc);
-    while let Some(memory) = store.memories.pop() {
-        memories.push(memory)?;
-    }
-    memories.reverse();
+    let memories = pages_of(alloc, store.memories.as_slice())?;
+    store.memories = Items::new(alloc);
     Ok(memories)
 }
 
@@ -91,7 +106,7 @@ fn machine_at<'a>(
     let Some(first) = own_function(modules, number, function) else {
         return Err(WFault::Unlinked);
     };
-    let now = entered(alloc, number, first, Vec::new(alloc))?;
+    let now = entered(alloc, number, first)?;
     let mut store = store;
     let memories = take_memories(alloc, &mut store)?;
     Ok(Machine {
@@ -99,7 +114,17 @@ fn machine_at<'a>(
         memories,
         now,
         callers: Vec::new(alloc),
+        spare: Vec::new(alloc),
     })
+}
+
+/// The function of an index, if it is there.
+fn callee_found(store: &Store, instance: usize, index: u32) -> Option<Callee>
+    ensures { result ≡ callee_at store.now instance index }
+{
+    let instance = at(store.instances.as_slice(), instance)?;
+    let address = at(instance.functions.as_slice(), index as usize)?;
+    Some(*at(store.functions.as_slice(), *address)?)
 }
 
 /// The machine at the beginning of what link's run names.
@@ -111,7 +136,7 @@ fn started<'a>(
 ) -> Result<Machine<'a>, WFault>
     ensures { Gives (λ m. going m) result (start modules.now store (callee_at store 0 function)) }
 {
-    match callee_at(&store, 0, function) {
+    match callee_found(&store, 0, function) {
         Some(Callee::Own { module, function }) => {
             machine_at(alloc, modules, store, module, function)
         }
@@ -120,6 +145,8 @@ fn started<'a>(
 }
 
 impl<'a> Instances<'a> {
+    ghost use Rattle.wasm_engine.specs.Instances.{config_of, modules_of, has_failed, Made, Settles, Stops, Breaks, Runs, RunsPart};
+
     /// Links the modules, the first of which is `link`: it answers the others' imports from `link`, and the host answers
     /// `put` and `stop` from `host`. Its `run` is then about to be executed. `Unlinked` (83) where there is no module, no
     /// function without parameters and results exported as `run` by the first, or an import that is missing or of another
@@ -157,35 +184,53 @@ impl<'a> Instances<'a> {
         if self.is_broken {
             return Err(RunFault::Ended);
         }
+        self.is_broken = true;
         let answer = self.go_on(steps, out);
         self.is_broken = answer.is_err();
         answer
     }
 
-    /// The same, of a run that was not broken off.
+    /// The same, of a run that was not broken off; it counts as one until this is done.
     fn go_on<S: Sink>(&mut self, steps: u64, out: &mut S) -> Result<End, RunFault>
-        requires { S.failed out.old + 1 < 2 ^ 64 }
+        requires room { S.failed out.old + 1 < 2 ^ 64 }
+        requires broken { has_failed self.old ≡ true }
+        requires sound { ∥ IsWell (modules_of self.old) (config_of self.old) ∥₁ }
         ensures ok { IfOk result (λ e. Runs S.told S.failed steps e self.old self.new out.old out.new) }
         ensures err { IfErr result (λ e. RunsPart S.told steps self.old out.old out.new × Breaks S.failed e out.old out.new) }
         ensures keeps { (modules_of self.new ≡ modules_of self.old) × (has_failed self.new ≡ has_failed self.old) }
     {
-        for _ in 0..steps {
-            if self.end != End::StillRunning {
-                return Ok(self.end);
-            }
-            self.step(out)?;
+        let mut left = steps;
+        while left > 0 && self.end == End::StillRunning {
+            left -= self.some(left, out)?;
         }
         Ok(self.end)
     }
 
-    /// One reduction of a run that goes on.
-    fn step<S: Sink>(&mut self, out: &mut S) -> Result<(), RunFault>
+    /// One or more reductions of a run that goes on, up to this many.
+    fn some<S: Sink>(&mut self, most: u64, out: &mut S) -> Result<u64, RunFault>
         requires room { S.failed out.old + 1 < 2 ^ 64 }
         requires going { self.old.end ≡ End.StillRunning }
-        ensures steps { MatchResult result (λ _. Steps S.told S.failed self.old self.new out.old out.new) (λ e. Stops S.told S.failed e out.old out.new) }
+        requires most { 0 < most }
+        requires broken { has_failed self.old ≡ true }
+        requires sound { ∥ IsWell (modules_of self.old) (config_of self.old) ∥₁ }
+        ensures ok { IfOk result (λ n. (0 < n) × (n ≤ most) × Made S.told S.failed n self.old self.new out.old out.new) }
+        ensures err { IfErr result (λ e. Stops S.told S.failed e out.old out.new) }
         ensures keeps { (modules_of self.new ≡ modules_of self.old) × (has_failed self.new ≡ has_failed self.old) }
     {
-        match reduce(self.alloc, self.modules, &mut self.machine)? {
+        let (made, reduced) = go(self.alloc, self.modules, &mut self.machine, most)?;
+        self.settle(reduced, out)?;
+        Ok(made)
+    }
+
+    /// Hands on what was printed, and keeps how the run ended.
+    fn settle<S: Sink>(&mut self, reduced: Reduced, out: &mut S) -> Result<(), RunFault>
+        requires room { S.failed out.old + 1 < 2 ^ 64 }
+        requires going { self.old.end ≡ End.StillRunning }
+        requires broken { has_failed self.old ≡ true }
+        ensures settles { MatchResult result (λ _. Settles S.told S.failed reduced self.old self.new out.old out.new) (λ e. Stops S.told S.failed e out.old out.new) }
+        ensures keeps { (modules_of self.new ≡ modules_of self.old) × (has_failed self.new ≡ has_failed self.old) }
+    {
+        match reduced {
             Reduced::On => Ok(()),
             Reduced::Printed(byte) => {
                 if out.take(byte) {
@@ -206,10 +251,44 @@ impl<'a> Instances<'a> {
     }
 }
 
+/// Makes reductions up to this many, or up to the first one that prints, ends the run or traps.
+fn go<'a>(
+    alloc: Global,
+    modules: &'a [ValidModule],
+    machine: &mut Machine<'a>,
+    most: u64,
+) -> Result<(u64, Reduced), AllocError>
+    requires most { 0 < most }
+    requires sound { ∥ IsWell modules.now (going machine.old) ∥₁ }
+    ensures within { IfOk result (λ p. (0 < p.0) × (p.0 ≤ most)) }
+    ensures made { IfOk result (λ p. progress p.1 machine.new ≡ run modules.now p.0 (going machine.old)) }
+{
+    let mut made = 0;
+    while made < most {
+        let reduced = reduce(alloc, modules, machine)?;
+        made += 1;
+        if reduced != Reduced::On {
+            return Ok((made, reduced));
+        }
+    }
+    Ok((made, Reduced::On))
+}
+
+/// Each module is valid.
+fn see_valid(modules: &[ValidModule])
+    ensures { All IsValid modules.now }
+{
+    for module in modules {
+        module.module();
+    }
+}
+
 #[tactic(auto, unfolding(wasm_tree::specs::Linking::link))]
 fn linked<'a>(alloc: Global, modules: &'a [ValidModule]) -> Result<Machine<'a>, WFault>
-    ensures { Gives (λ m. going m) result (link modules.now) }
+    ensures gives { Gives (λ m. going m) result (link modules.now) }
+    ensures valid { All IsValid modules.now }
 {
+    see_valid(modules);
     let function = run_of(alloc, modules)?;
     let store = linked_all(alloc, modules)?;
     started(alloc, modules, store, function)

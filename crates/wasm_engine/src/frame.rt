@@ -1,7 +1,7 @@
 //! Where a run is (Core 1.0, section 4.2): functions that run or wait, with their labels and operands.
 
-use std::alloc::Global;
-use wasm_tree::{Instr, Memory, Store, Value};
+use wasm_operands::Operands;
+use wasm_tree::{Instr, Store};
 
 /// A block that was begun. A branch to it keeps `arity` operands above the lowest `height` ones and goes on with `again`;
 /// behind its end stands `rest`.
@@ -18,19 +18,28 @@ pub struct Label<'a> {
 pub struct Frame<'a> {
     pub instance: usize,
     pub arity: usize,
-    pub locals: Vec<Value>,
+    pub locals: Operands,
     pub labels: Vec<Label<'a>>,
     pub rest: &'a [Instr],
-    pub stack: Vec<Value>,
+    pub stack: Operands,
 }
 
-/// Linked modules while their run goes on. The memories stand apart from the store.
+/// A memory while the run goes on: its bytes, and the most pages that it may have.
+#[derive(Drop)]
+pub struct Pages {
+    pub bytes: Vec<u8>,
+    pub max: Option<u32>,
+}
+
+/// Linked modules while their run goes on. The memories stand apart from the store. The spare frames are those that were
+/// left: what they hold means nothing, and the room that they have is used by later calls.
 #[derive(Drop)]
 pub struct Machine<'a> {
     pub store: Store,
-    pub memories: Vec<Memory>,
+    pub memories: Vec<Pages>,
     pub now: Frame<'a>,
     pub callers: Vec<Frame<'a>>,
+    pub spare: Vec<Frame<'a>>,
 }
 
 /// What a reduction led to.

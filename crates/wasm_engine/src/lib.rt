@@ -8,8 +8,7 @@ mod engine;
 mod frame;
 mod machine;
 mod memory;
-mod numbers;
-mod operands;
+mod places;
 mod sink;
 mod variables;
 

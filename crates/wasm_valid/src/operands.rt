@@ -31,12 +31,51 @@ pub enum Effect<'a> {
     Drops,
 }
 
+/// Lists of operands that were used, and where new ones come from: code in blocks then asks for no memory each time.
+#[derive(Drop)]
+pub struct Spares {
+    alloc: Global,
+    lists: Vec<Items<ValueType>>,
+}
+
+impl Spares {
+    pub fn new(alloc: Global) -> Spares {
+        Spares {
+            alloc,
+            lists: Vec::new(alloc),
+        }
+    }
+
+    /// Keeps the list of these operands, where there is memory to do so.
+    pub fn keep(&mut self, operands: Operands) {
+        let Operands { known, .. } = operands;
+        match self.lists.push(known) {
+            Ok(()) => {}
+            Err(_) => {}
+        }
+    }
+}
+
+/// Takes all operands off the list.
+fn empty(known: &mut Items<ValueType>)
+    ensures { known.new ≡ [] }
+{
+    while known.len() > 0 {
+        known.pop();
+    }
+}
+
 /// No operands.
-pub fn no_operands(alloc: Global) -> Operands
+pub fn no_operands(spares: &mut Spares) -> Operands
     ensures { (result.known ≡ []) × (result.any_below ≡ false) }
 {
+    let mut known = match spares.lists.pop() {
+        Some(known) => known,
+        None => Items::new(spares.alloc),
+    };
+    empty(&mut known);
     Operands {
-        known: Items::new(alloc),
+        known,
         any_below: false,
     }
 }
@@ -110,22 +149,65 @@ fn exchange(
     put_all(operands, given)
 }
 
-/// Takes the second list and then the first. Any operands may stand behind it.
-fn leave(
-    alloc: Global,
-    operands: &mut Operands,
-    first: &[ValueType],
-    second: &[ValueType],
-) -> Result<(), WFault>
-    ensures { Steps result (Rule (Leaves (first.now ++ second.now))) operands.old operands.new }
+/// Takes an operand of this type, where there is one.
+#[inline(always)]
+fn take_given(operands: &mut Operands, wanted: Option<ValueType>) -> bool
+    ensures { TakesIf result operands.old operands.new (result_types wanted) }
 {
-    if !take_all(operands, second) {
+    match wanted {
+        Some(value_type) => take(operands, value_type),
+        None => true,
+    }
+}
+
+/// Puts an operand of this type on top, where there is one.
+#[inline(always)]
+fn put_given(operands: &mut Operands, given: Option<ValueType>) -> Result<(), WFault>
+    ensures { Judges result (Puts operands.old operands.new (result_types given)) ⊥ }
+{
+    match given {
+        Some(value_type) => {
+            operands.known.push(value_type)?;
+            Ok(())
+        }
+        None => Ok(()),
+    }
+}
+
+/// Takes the second and then the first, and puts the third on top, each where there is one.
+#[inline(always)]
+fn exchange_few(
+    operands: &mut Operands,
+    first: Option<ValueType>,
+    second: Option<ValueType>,
+    given: Option<ValueType>,
+) -> Result<(), WFault>
+    ensures { Steps result (Are (result_types first ++ result_types second) (result_types given)) operands.old operands.new }
+{
+    if !take_given(operands, second) {
         return Err(WFault::Invalid);
     }
-    if !take_all(operands, first) {
+    if !take_given(operands, first) {
         return Err(WFault::Invalid);
     }
-    operands.known = Items::new(alloc);
+    put_given(operands, given)
+}
+
+/// Takes the second and then the first, each where there is one. Any operands may stand behind it.
+fn leave(
+    operands: &mut Operands,
+    first: Option<ValueType>,
+    second: Option<ValueType>,
+) -> Result<(), WFault>
+    ensures { Steps result (Rule (Leaves (result_types first ++ result_types second))) operands.old operands.new }
+{
+    if !take_given(operands, second) {
+        return Err(WFault::Invalid);
+    }
+    if !take_given(operands, first) {
+        return Err(WFault::Invalid);
+    }
+    empty(&mut operands.known);
     operands.any_below = true;
     Ok(())
 }
@@ -137,18 +219,11 @@ pub fn types_of(value_type: &Option<ValueType>) -> &[ValueType]
 }
 
 /// What the effect does to the operands. `Invalid` where they are other ones.
-pub fn affect(alloc: Global, operands: &mut Operands, effect: Effect<'_>) -> Result<(), WFault>
+pub fn affect(operands: &mut Operands, effect: Effect<'_>) -> Result<(), WFault>
     ensures { Steps result (Rule (seen effect.entry)) operands.old operands.new }
 {
     match effect {
-        Effect::Takes(first, second, given) => {
-            exchange(
-                operands,
-                types_of(&first),
-                types_of(&second),
-                types_of(&given),
-            )
-        }
+        Effect::Takes(first, second, given) => exchange_few(operands, first, second, given),
         Effect::Calls(t) => exchange(operands, &[], t.params.as_slice(), t.results.as_slice()),
         Effect::CallsSlot(t) => {
             exchange(
@@ -158,9 +233,7 @@ pub fn affect(alloc: Global, operands: &mut Operands, effect: Effect<'_>) -> Res
                 t.results.as_slice(),
             )
         }
-        Effect::Leaves(first, second) => {
-            leave(alloc, operands, types_of(&first), types_of(&second))
-        }
+        Effect::Leaves(first, second) => leave(operands, first, second),
         Effect::Drops => drop_one(operands),
     }
 }

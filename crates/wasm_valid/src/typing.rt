@@ -8,7 +8,7 @@ ghost use Rattle.wasm_valid.specs.Framed.{frame_context, labels_of};
 ghost use Rattle.wasm_valid.specs.Typing.{Decides, Steps, Stands, MayRule, CodeFits, change};
 
 use crate::frame::{Frame, are_same_labels, effect_of};
-use crate::operands::{Operands, affect, may_be, no_operands, types_of};
+use crate::operands::{Operands, Spares, affect, may_be, no_operands, types_of};
 use crate::scope::Scope;
 use sqlite_items::Items;
 use std::alloc::Global;
@@ -16,7 +16,6 @@ use wasm_tree::{Instr, ValueType, WFault};
 
 /// What the instruction does to the operands, whatever code stands inside it.
 fn step(
-    alloc: Global,
     frame: Frame<'_>,
     blocks: &[Option<ValueType>],
     instr: &Instr,
@@ -25,7 +24,7 @@ fn step(
     ensures { Steps result (MayRule (change (frame_context frame.entry blocks.now) (out-Instr instr.now))) operands.old operands.new }
 {
     match effect_of(frame, blocks, instr) {
-        Some(effect) => affect(alloc, operands, effect),
+        Some(effect) => affect(operands, effect),
         None => Err(WFault::Invalid),
     }
 }
@@ -54,7 +53,7 @@ fn check_last(operands: &mut Operands, wanted: Option<ValueType>) -> Result<(), 
 /// Whether the code inside an instruction fits.
 #[cycle(code)]
 fn check_inside(
-    alloc: Global,
+    spares: &mut Spares,
     frame: Frame<'_>,
     blocks: &mut Items<Option<ValueType>>,
     instr: &Instr,
@@ -63,13 +62,13 @@ fn check_inside(
     ensures blocks { OnOk result (blocks.new ≡ blocks.old) }
 {
     match instr {
-        Instr::Block(t, body) => check_block(alloc, frame, blocks, body.as_slice(), *t, *t),
-        Instr::Loop(t, body) => check_block(alloc, frame, blocks, body.as_slice(), None, *t),
+        Instr::Block(t, body) => check_block(spares, frame, blocks, body.as_slice(), *t, *t),
+        Instr::Loop(t, body) => check_block(spares, frame, blocks, body.as_slice(), None, *t),
         Instr::If(t, body, otherwise) => {
-            check_block(alloc, frame, blocks, body.as_slice(), *t, *t)?;
+            check_block(spares, frame, blocks, body.as_slice(), *t, *t)?;
             match otherwise {
-                Some(side) => check_block(alloc, frame, blocks, side.as_slice(), *t, *t),
-                None => check_block(alloc, frame, blocks, &[], *t, *t),
+                Some(side) => check_block(spares, frame, blocks, side.as_slice(), *t, *t),
+                None => check_block(spares, frame, blocks, &[], *t, *t),
             }
         }
         Instr::BrTable(indices, last) => check_labels(blocks.as_slice(), indices.as_slice(), *last),
@@ -95,7 +94,7 @@ fn check_inside(
 /// Whether the code of a block fits, to which a branch takes `taken`.
 #[cycle(code)]
 fn check_block(
-    alloc: Global,
+    spares: &mut Spares,
     frame: Frame<'_>,
     blocks: &mut Items<Option<ValueType>>,
     code: &[Instr],
@@ -106,7 +105,7 @@ fn check_block(
     ensures blocks { OnOk result (blocks.new ≡ blocks.old) }
 {
     blocks.push(taken)?;
-    check_code(alloc, frame, blocks, code, given)?;
+    check_code(spares, frame, blocks, code, given)?;
     blocks.pop();
     Ok(())
 }
@@ -114,7 +113,7 @@ fn check_block(
 /// Whether the code goes from no operands to what it is to give. `Invalid` where it does not.
 #[cycle(code)]
 pub fn check_code(
-    alloc: Global,
+    spares: &mut Spares,
     frame: Frame<'_>,
     blocks: &mut Items<Option<ValueType>>,
     code: &[Instr],
@@ -123,12 +122,14 @@ pub fn check_code(
     ensures fits { Decides result (Leads (frame_context frame.entry blocks.old) code.now [] (result_types given)) }
     ensures blocks { OnOk result (blocks.new ≡ blocks.old) }
 {
-    let mut operands = no_operands(alloc);
+    let mut operands = no_operands(spares);
     for instr in code {
-        check_inside(alloc, frame, blocks, instr)?;
-        step(alloc, frame, blocks.as_slice(), instr, &mut operands)?;
+        check_inside(spares, frame, blocks, instr)?;
+        step(frame, blocks.as_slice(), instr, &mut operands)?;
     }
-    check_last(&mut operands, given)
+    let decided = check_last(&mut operands, given);
+    spares.keep(operands);
+    decided
 }
 
 fn is_constant(instr: &Instr) -> bool
@@ -180,6 +181,7 @@ pub fn check_constant(
         groups: &[],
         returns: None,
     };
+    let mut spares = Spares::new(alloc);
     let mut blocks = Items::new(alloc);
-    check_code(alloc, frame, &mut blocks, code, Some(value_type))
+    check_code(&mut spares, frame, &mut blocks, code, Some(value_type))
 }

@@ -6,6 +6,7 @@ ghost use Rattle.wasm_valid.specs.Scope.{scope_of};
 ghost use Rattle.wasm_valid.specs.Typing.{Decides, AreSingle};
 
 use crate::frame::Frame;
+use crate::operands::Spares;
 use crate::scope::{Scope, functions_of, initial_scope, names_of, whole_scope};
 use crate::typing::{check_code, check_constant};
 use sqlite_items::{Items, at};
@@ -58,6 +59,7 @@ fn result_of(results: &[ValueType]) -> Option<ValueType>
 /// A function of this type.
 fn check_body(
     alloc: Global,
+    spares: &mut Spares,
     scope: Scope<'_>,
     func_type: &FuncType,
     body: &Body,
@@ -74,15 +76,20 @@ fn check_body(
     };
     let mut blocks = Items::new(alloc);
     blocks.push(returns)?;
-    check_code(alloc, frame, &mut blocks, body.code.as_slice(), returns)
+    check_code(spares, frame, &mut blocks, body.code.as_slice(), returns)
 }
 
-fn check_function(alloc: Global, scope: Scope<'_>, function: &Function) -> Result<(), WFault>
+fn check_function(
+    alloc: Global,
+    spares: &mut Spares,
+    scope: Scope<'_>,
+    function: &Function,
+) -> Result<(), WFault>
     requires { All IsFuncType scope.types.now }
     ensures { Decides result (IsFunction (scope_of scope.entry) function.now) }
 {
     match at(scope.types, function.type_index as usize) {
-        Some(func_type) => check_body(alloc, scope, func_type, &function.body),
+        Some(func_type) => check_body(alloc, spares, scope, func_type, &function.body),
         None => Err(WFault::Invalid),
     }
 }
@@ -137,8 +144,9 @@ fn check_functions(alloc: Global, scope: Scope<'_>, functions: &[Function]) -> R
     requires { All IsFuncType scope.types.now }
     ensures { Decides result (All (IsFunction (scope_of scope.entry)) functions.now) }
 {
+    let mut spares = Spares::new(alloc);
     for function in functions {
-        check_function(alloc, scope, function)?;
+        check_function(alloc, &mut spares, scope, function)?;
     }
     Ok(())
 }

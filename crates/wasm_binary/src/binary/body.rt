@@ -5,13 +5,13 @@ ghost use Rattle.wasm_tree.specs.Format.{Format, Gives};
 ghost use Rattle.wasm_binary.specs.Binary.{locals, locals_at, locals_spelling, body};
 
 use crate::binary::Binary;
-use crate::binary::code::{code_at, write_code};
+use crate::binary::code::{code_over, write_code};
 use crate::number::unsigned_at;
 use crate::parts::{closed, front};
 use crate::writer::Writer;
 use sqlite_items::Items;
 use std::alloc::{AllocError, Global};
-use wasm_tree::{Body, Locals, ValueType, WFault};
+use wasm_tree::{Body, Instr, Locals, ValueType, WFault};
 
 /// So many groups of locals, where there are so many locals before them.
 fn groups_at(alloc: Global, count: u32, bytes: &[u8]) -> Result<(Items<Locals>, &[u8]), WFault>
@@ -56,16 +56,29 @@ fn write_locals(out: &mut Writer, groups: &[Locals]) -> Result<(), AllocError>
     Ok(())
 }
 
+/// A body, read over a pile that may be used again.
+#[tactic(auto, unfolding(crate::specs::Binary::body))]
+pub fn body_over<'a>(
+    alloc: Global,
+    pile: &mut Vec<Instr>,
+    bytes: &'a [u8],
+) -> Result<(Body, &'a [u8]), WFault>
+    ensures { Gives (λ x. (x.0, x.1.now)) result (body.reading bytes.now) }
+{
+    let (size, after) = unsigned_at(bytes)?;
+    let (locals, rest) = locals_at(alloc, front(after, size))?;
+    let (code, left) = code_over(alloc, pile, rest)?;
+    let rest = closed(size, after, left)?;
+    Ok((Body { locals, code }, rest))
+}
+
 #[tactic(auto, unfolding(crate::specs::Binary::body))]
 impl Binary for Body {
     ghost format = { body };
 
     fn read(alloc: Global, bytes: &[u8]) -> Result<(Body, &[u8]), WFault> {
-        let (size, after) = unsigned_at(bytes)?;
-        let (locals, rest) = locals_at(alloc, front(after, size))?;
-        let (code, left) = code_at(alloc, rest)?;
-        let rest = closed(size, after, left)?;
-        Ok((Body { locals, code }, rest))
+        let mut pile = Vec::new(alloc);
+        body_over(alloc, &mut pile, bytes)
     }
 
     fn write(&self, out: &mut Writer) -> Result<(), AllocError> {

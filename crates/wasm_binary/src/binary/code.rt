@@ -1,11 +1,11 @@
 //! Instructions in bytes (Core 1.0, section 5.4).
 
-ghost use Rattle.std.specs.Prelude.{◌≡◌, [], ◌∷◌, ◌++◌, OnOk, length};
+ghost use Rattle.std.specs.Prelude.{◌≡◌, ◌≤◌, Ok, [], ◌∷◌, ◌++◌, OnOk, IfOk, length, take, drop};
 ghost use Rattle.std.specs.List.{flat_map};
 ghost use Rattle.wasm_tree.specs.Format.{Format, Gives};
 ghost use Rattle.wasm_binary.specs.Number.{unsigned, signed32, signed64};
 ghost use Rattle.wasm_binary.specs.Parts.{vector};
-ghost use Rattle.wasm_binary.specs.Binary.{block_type, no_offset, memory_of, variable_of, plain_of, opens, one_sided, ending_of, instr_of, code_in, ended, opened, sequence, code_within, instr_spelling, code};
+ghost use Rattle.wasm_binary.specs.Binary.{block_type, no_offset, memory_of, variable_of, plain_of, opens, one_sided, ending_of, onto, instr_of, code_in, ended, opened, sequence, code_within, instr_spelling, code};
 
 use crate::binary::opcode::{
     load_of, load_opcode, numeric_of, numeric_opcode, store_of, store_opcode,
@@ -54,91 +54,109 @@ fn no_offset(bytes: &[u8]) -> Result<&[u8], WFault>
     skip(0x00, rest)
 }
 
-/// The instruction of memory or the numeric one that this opcode begins.
+/// Puts an instruction on the pile. The bytes behind it are those.
+#[inline(always)]
+fn put<'a>(pile: &mut Vec<Instr>, instr: Instr, rest: &'a [u8]) -> Result<&'a [u8], WFault>
+    ensures { Gives (λ x. (pile.new.items, x.now)) result (onto pile.old.items (Ok (instr, rest.now))) }
+{
+    pile.reserve(1)?;
+    pile.push_reserved(instr);
+    Ok(rest)
+}
+
+/// Reads the instruction of memory or the numeric one that this opcode begins.
+#[inline(always)]
 #[tactic(auto, unfolding(crate::specs::Binary::memory_of))]
-fn memory_of(opcode: u8, bytes: &[u8]) -> Result<(Instr, &[u8]), WFault>
-    ensures { Gives (λ x. (x.0, x.1.now)) result (memory_of opcode bytes.now) }
+fn memory_onto<'a>(pile: &mut Vec<Instr>, opcode: u8, bytes: &'a [u8]) -> Result<&'a [u8], WFault>
+    ensures { Gives (λ x. (pile.new.items, x.now)) result (onto pile.old.items (memory_of opcode bytes.now)) }
 {
     if let Some(load) = load_of(opcode) {
         let rest = no_offset(bytes)?;
-        return Ok((Instr::Load(load), rest));
+        return put(pile, Instr::Load(load), rest);
     }
     if let Some(width) = store_of(opcode) {
         let rest = no_offset(bytes)?;
-        return Ok((Instr::Store(width), rest));
+        return put(pile, Instr::Store(width), rest);
     }
     match numeric_of(opcode) {
-        Some(numeric) => Ok((Instr::Numeric(numeric), bytes)),
+        Some(numeric) => put(pile, Instr::Numeric(numeric), bytes),
         None => Err(WFault::OutsideProfile),
     }
 }
 
 /// The same of those that drop an operand, name a variable or push a constant, too.
+#[inline(always)]
 #[tactic(auto, unfolding(crate::specs::Binary::variable_of))]
-fn variable_of(opcode: u8, bytes: &[u8]) -> Result<(Instr, &[u8]), WFault>
-    ensures { Gives (λ x. (x.0, x.1.now)) result (variable_of opcode bytes.now) }
+fn variable_onto<'a>(pile: &mut Vec<Instr>, opcode: u8, bytes: &'a [u8]) -> Result<&'a [u8], WFault>
+    ensures { Gives (λ x. (pile.new.items, x.now)) result (onto pile.old.items (variable_of opcode bytes.now)) }
 {
     match opcode {
-        0x1A => Ok((Instr::Drop, bytes)),
+        0x1A => put(pile, Instr::Drop, bytes),
         0x20 => {
             let (local, rest) = unsigned_at(bytes)?;
-            Ok((Instr::LocalGet(local), rest))
+            put(pile, Instr::LocalGet(local), rest)
         }
         0x21 => {
             let (local, rest) = unsigned_at(bytes)?;
-            Ok((Instr::LocalSet(local), rest))
+            put(pile, Instr::LocalSet(local), rest)
         }
         0x22 => {
             let (local, rest) = unsigned_at(bytes)?;
-            Ok((Instr::LocalTee(local), rest))
+            put(pile, Instr::LocalTee(local), rest)
         }
         0x23 => {
             let (global, rest) = unsigned_at(bytes)?;
-            Ok((Instr::GlobalGet(global), rest))
+            put(pile, Instr::GlobalGet(global), rest)
         }
         0x41 => {
             let (number, rest) = signed32_at(bytes)?;
-            Ok((Instr::I32Const(number), rest))
+            put(pile, Instr::I32Const(number), rest)
         }
         0x42 => {
             let (number, rest) = signed64_at(bytes)?;
-            Ok((Instr::I64Const(number), rest))
+            put(pile, Instr::I64Const(number), rest)
         }
-        _ => memory_of(opcode, bytes),
+        _ => memory_onto(pile, opcode, bytes),
     }
 }
 
-/// The instruction without others inside that this opcode begins.
+/// Reads the instruction without others inside that this opcode begins.
+#[inline(always)]
 #[tactic(auto, unfolding(crate::specs::Binary::plain_of))]
-fn plain_of(alloc: Global, opcode: u8, bytes: &[u8]) -> Result<(Instr, &[u8]), WFault>
-    ensures { Gives (λ x. (x.0, x.1.now)) result (plain_of opcode bytes.now) }
+fn plain_onto<'a>(
+    alloc: Global,
+    pile: &mut Vec<Instr>,
+    opcode: u8,
+    bytes: &'a [u8],
+) -> Result<&'a [u8], WFault>
+    ensures { Gives (λ x. (pile.new.items, x.now)) result (onto pile.old.items (plain_of opcode bytes.now)) }
 {
     match opcode {
-        0x00 => Ok((Instr::Unreachable, bytes)),
+        0x00 => put(pile, Instr::Unreachable, bytes),
         0x0C => {
             let (label, rest) = unsigned_at(bytes)?;
-            Ok((Instr::Br(label), rest))
+            put(pile, Instr::Br(label), rest)
         }
         0x0D => {
             let (label, rest) = unsigned_at(bytes)?;
-            Ok((Instr::BrIf(label), rest))
+            put(pile, Instr::BrIf(label), rest)
         }
         0x0E => {
             let (labels, rest) = vector(alloc, bytes)?;
             let (last, rest) = unsigned_at(rest)?;
-            Ok((Instr::BrTable(labels, last), rest))
+            put(pile, Instr::BrTable(labels, last), rest)
         }
-        0x0F => Ok((Instr::Return, bytes)),
+        0x0F => put(pile, Instr::Return, bytes),
         0x10 => {
             let (function, rest) = unsigned_at(bytes)?;
-            Ok((Instr::Call(function), rest))
+            put(pile, Instr::Call(function), rest)
         }
         0x11 => {
             let (type_index, rest) = unsigned_at(bytes)?;
             let rest = skip(0x00, rest)?;
-            Ok((Instr::CallIndirect(type_index), rest))
+            put(pile, Instr::CallIndirect(type_index), rest)
         }
-        _ => variable_of(opcode, bytes),
+        _ => variable_onto(pile, opcode, bytes),
     }
 }
 
@@ -169,77 +187,120 @@ fn one_sided(opcode: u8, kind: Option<ValueType>, instrs: Items<Instr>) -> Instr
 /// The instruction that this opcode begins and that holds others, where so many levels of nesting are left.
 #[cycle(code)]
 #[tactic(auto, unfolding(crate::specs::Binary::opened))]
-fn opened(alloc: Global, levels: u16, opcode: u8, bytes: &[u8]) -> Result<(Instr, &[u8]), WFault>
-    ensures { Gives (λ x. (x.0, x.1.now)) result (opened levels opcode bytes.now) }
+fn opened<'a>(
+    alloc: Global,
+    levels: u16,
+    pile: &mut Vec<Instr>,
+    opcode: u8,
+    bytes: &'a [u8],
+) -> Result<(Instr, &'a [u8]), WFault>
+    ensures gives { Gives (λ x. (x.0, x.1.now)) result (opened levels opcode bytes.now) }
+    ensures pile { OnOk result (pile.new.items ≡ pile.old.items) }
 {
     if levels == 0 {
         return Err(WFault::OutsideProfile);
     }
     let (kind, rest) = block_type_at(bytes)?;
-    match code_in(alloc, levels - 1, rest)? {
+    match code_in(alloc, levels - 1, pile, rest)? {
         (instrs, Ending::End, rest) => Ok((one_sided(opcode, kind, instrs), rest)),
         (instrs, Ending::Else, rest) => {
             if opcode != 0x04 {
                 return Err(WFault::OutsideProfile);
             }
-            let (others, rest) = code_within(alloc, levels - 1, rest)?;
+            let (others, rest) = code_within(alloc, levels - 1, pile, rest)?;
             Ok((Instr::If(kind, instrs, Some(others)), rest))
         }
     }
 }
 
-/// The instruction that this opcode begins.
+/// Reads the instruction that this opcode begins, and puts it on the pile.
 #[cycle(code)]
-fn instr_of(alloc: Global, levels: u16, opcode: u8, bytes: &[u8]) -> Result<(Instr, &[u8]), WFault>
-    ensures { Gives (λ x. (x.0, x.1.now)) result (instr_of (opened levels) opcode bytes.now) }
+fn instr_onto<'a>(
+    alloc: Global,
+    levels: u16,
+    pile: &mut Vec<Instr>,
+    opcode: u8,
+    bytes: &'a [u8],
+) -> Result<&'a [u8], WFault>
+    ensures { Gives (λ x. (pile.new.items, x.now)) result (onto pile.old.items (instr_of (opened levels) opcode bytes.now)) }
 {
     if opens(opcode) {
-        opened(alloc, levels, opcode, bytes)
+        let (instr, rest) = opened(alloc, levels, pile, opcode, bytes)?;
+        put(pile, instr, rest)
     } else {
-        plain_of(alloc, opcode, bytes)
+        plain_onto(alloc, pile, opcode, bytes)
     }
 }
 
-/// Instructions and what ends them, where so many levels of nesting are left.
+/// Takes off the pile what stands on so many others.
+fn taken_off(pile: &mut Vec<Instr>, below: usize) -> Result<Items<Instr>, AllocError>
+    requires { below ≤ length pile.old.items }
+    ensures taken { IfOk result (λ is. is ≡ drop below pile.old.items) }
+    ensures pile { OnOk result (pile.new.items ≡ take below pile.old.items) }
+{
+    Ok(Items::from_vec(pile.split_off(below)?))
+}
+
+/// Instructions and what ends them, where so many levels of nesting are left. The pile holds instructions until the end
+/// of their sequence is read, so that each list asks for memory once.
 #[cycle(code)]
-fn code_in(
+fn code_in<'a>(
     alloc: Global,
     levels: u16,
-    bytes: &[u8],
-) -> Result<(Items<Instr>, Ending, &[u8]), WFault>
-    ensures { Gives (λ x. ((x.0, x.1), x.2.now)) result (code_in levels bytes.now) }
+    pile: &mut Vec<Instr>,
+    bytes: &'a [u8],
+) -> Result<(Items<Instr>, Ending, &'a [u8]), WFault>
+    ensures gives { Gives (λ x. ((x.0, x.1), x.2.now)) result (code_in levels bytes.now) }
+    ensures pile { OnOk result (pile.new.items ≡ pile.old.items) }
 {
-    let mut instrs = Items::new(alloc);
+    let below = pile.len();
     let mut rest = bytes;
     for _ in 0..bytes.len() {
         let (opcode, after) = byte_at(rest)?;
         if let Some(ending) = ending_of(opcode) {
+            let instrs = taken_off(pile, below)?;
             return Ok((instrs, ending, after));
         }
-        let (instr, after) = instr_of(alloc, levels, opcode, after)?;
-        instrs.push(instr)?;
-        rest = after;
+        rest = instr_onto(alloc, levels, pile, opcode, after)?;
     }
     Err(WFault::Malformed)
 }
 
 /// The instructions up to their end, where so many levels of nesting are left.
 #[cycle(code)]
-fn code_within(alloc: Global, levels: u16, bytes: &[u8]) -> Result<(Items<Instr>, &[u8]), WFault>
-    ensures { Gives (λ x. (x.0, x.1.now)) result ((code_within levels).reading bytes.now) }
+fn code_within<'a>(
+    alloc: Global,
+    levels: u16,
+    pile: &mut Vec<Instr>,
+    bytes: &'a [u8],
+) -> Result<(Items<Instr>, &'a [u8]), WFault>
+    ensures gives { Gives (λ x. (x.0, x.1.now)) result ((code_within levels).reading bytes.now) }
+    ensures pile { OnOk result (pile.new.items ≡ pile.old.items) }
 {
-    match code_in(alloc, levels, bytes)? {
+    match code_in(alloc, levels, pile, bytes)? {
         (instrs, Ending::End, rest) => Ok((instrs, rest)),
         (_, Ending::Else, _) => Err(WFault::OutsideProfile),
     }
 }
 
-/// The instructions up to the end of their sequence.
+/// The instructions up to the end of their sequence, read over a pile that may be used again.
 #[tactic(auto, unfolding(crate::specs::Binary::code))]
+pub fn code_over<'a>(
+    alloc: Global,
+    pile: &mut Vec<Instr>,
+    bytes: &'a [u8],
+) -> Result<(Items<Instr>, &'a [u8]), WFault>
+    ensures { Gives (λ x. (x.0, x.1.now)) result (code.reading bytes.now) }
+{
+    code_within(alloc, DEEPEST, pile, bytes)
+}
+
+/// The instructions up to the end of their sequence.
 pub fn code_at(alloc: Global, bytes: &[u8]) -> Result<(Items<Instr>, &[u8]), WFault>
     ensures { Gives (λ x. (x.0, x.1.now)) result (code.reading bytes.now) }
 {
-    code_within(alloc, DEEPEST, bytes)
+    let mut pile = Vec::new(alloc);
+    code_over(alloc, &mut pile, bytes)
 }
 
 /// Appends an opcode and the index behind it.

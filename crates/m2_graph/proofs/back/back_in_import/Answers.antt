@@ -1,4 +1,3 @@
-use Rattle.std.proofs.Common.{sym, subst, ap, ◌∙◌}
 use Rattle.m2_graph.specs.Program.{modules_of}
 use Rattle.m2_graph.proofs.LeadingBack.{back_of_names}
 use Rattle.m2_graph.proofs.back.back_in_import.Goals as goal

@@ -1,14 +1,21 @@
 use Rattle.std.proofs.Common.{sym, subst}
 use Rattle.std.specs.Borrow.{Bor}
 use Rattle.m2_tree.specs.declared.decl.Module.{Module}
+use Rattle.graph_walk.proofs.Turning.{back_nodes}
 use Rattle.m2_graph.specs.Imports.{imported}
 use Rattle.m2_graph.specs.Program.{modules_of}
 use Rattle.m2_graph.specs.Told.{IsFirstBack}
-use Rattle.m2_graph.proofs.LeadingBack.{circle_none, circle_told}
+use Rattle.m2_graph.proofs.LeadingBack.{circle_none, circle_told, leading_so, within}
 use Rattle.m2_graph.proofs.back.told_circle.Goals as goal
 
-pub returns-in-None : goal.returns-in-None
-returns-in-None c = absurd (circle_none c.args.program.now.modules.now c.args.pairs.now c.args.node c.index-program-node.result c.in_ok-place.place c.requires.links c.requires.within c.index-program-node.is c.requires.on_circle (subst (λ (b : Bor Module). IsFirstBack (modules_of c.args.program.now) c.args.node (imported b.now) c.in_ok-place.place) (sym c.index-program-node.is) c.in_ok-place.ensures) c.in-None.is)
+pub led_to-requires-clause-nodes : goal.led_to-requires-clause-nodes
+led_to-requires-clause-nodes c = back_nodes c.args.pairs.now c.args.back.now c.requires.turned
 
-pub returns-in-Some : goal.returns-in-Some
-returns-in-Some c = circle_told c.args.program.now.modules.now c.args.pairs.now c.args.node c.index-program-node.result c.in_ok-place.place c.in-Some.pos c.requires.links c.requires.within c.index-program-node.is c.requires.on_circle c.requires.first (subst (λ (b : Bor Module). IsFirstBack (modules_of c.args.program.now) c.args.node (imported b.now) c.in_ok-place.place) (sym c.index-program-node.is) c.in_ok-place.ensures) c.in-Some.is
+pub back_in-requires-clause-leading : goal.back_in-requires-clause-leading
+back_in-requires-clause-leading c = leading_so (modules_of c.args.program.now) c.args.pairs.now c.args.back.now c.args.node c.in_ok-leading.leading.items c.deref.result.now c.requires.links c.requires.turned (within c.args.program.now.modules.now c.args.node c.requires.within) c.in_ok-leading.ensures c.deref.ensures.value
+
+pub returns-in-None : goal.returns-in-None
+returns-in-None c = absurd (circle_none c.args.program.now.modules.now c.args.pairs.now c.args.node c.index-program-node.result c.back_in.result c.requires.links c.requires.within c.index-program-node.is c.requires.on_circle (subst (λ (b : Bor Module). IsFirstBack (modules_of c.args.program.now) c.args.node (imported b.now) c.back_in.result) (sym c.index-program-node.is) c.back_in.ensures) c.in-None.is)
+
+pub returns : goal.returns
+returns c = circle_told c.args.program.now.modules.now c.args.pairs.now c.args.node c.index-program-node.result c.back_in.result c.in-Some.pos c.requires.links c.requires.within c.index-program-node.is c.requires.on_circle c.requires.first (subst (λ (b : Bor Module). IsFirstBack (modules_of c.args.program.now) c.args.node (imported b.now) c.back_in.result) (sym c.index-program-node.is) c.back_in.ensures) c.in-Some.is

@@ -1,6 +1,3 @@
-use Rattle.std.proofs.Common.{sym, subst, ap, length, map, ◌∙◌}
-use Rattle.std.specs.List.{All, AllZip}
-use Rattle.m2_graph.specs.Program.{modules_of}
 use Rattle.m2_graph.proofs.Smaller.{order_within, order_jobs}
 use Rattle.m2_graph.proofs.compiled.jobs_of_files.Goals as goal
 

@@ -1,6 +1,4 @@
-use Rattle.std.proofs.Common.{◌≡◌, map, take, fold}
-use Rattle.std.specs.Borrow.{Bor}
-use Rattle.m2_tree.specs.declared.decl.Module.{Module}
+use Rattle.std.proofs.Common.{◌≡◌, take, fold}
 use Rattle.m2_graph.specs.Program.{modules_of}
 use Rattle.m2_graph.specs.Refused.{lesser, import_faults}
 use Rattle.m2_graph.proofs.faults.with_names.Given as goal

@@ -1,5 +1,4 @@
 use Rattle.std.proofs.Common.{◌≡◌, take}
-use Rattle.std.specs.Prelude.{slice_get}
 use Rattle.m2_graph.specs.Graph.{bodies_of}
 use Rattle.m2_graph.specs.Program.{modules_of}
 use Rattle.m2_graph.proofs.given.bodies_of.Given as goal

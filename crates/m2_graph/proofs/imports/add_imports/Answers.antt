@@ -1,6 +1,4 @@
-use Rattle.std.proofs.Common.{map, arith}
-use Rattle.std.specs.Borrow.{Bor}
-use Rattle.m2_tree.specs.declared.decl.Module.{Module}
+use Rattle.std.proofs.Common.{arith}
 use Rattle.m2_tree.specs.declared.decl.Import.{Import}
 use Rattle.m2_tree.specs.declared.name.Ident.{Ident}
 use Rattle.m2_graph.specs.Program.{modules_of}

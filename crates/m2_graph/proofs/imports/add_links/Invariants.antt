@@ -1,7 +1,5 @@
-use Rattle.std.proofs.Common.{◌≡◌, ◌++◌, map, take}
+use Rattle.std.proofs.Common.{◌≡◌, ◌++◌, take}
 use Rattle.std.specs.List.{filter_map}
-use Rattle.std.specs.Borrow.{Bor}
-use Rattle.m2_tree.specs.declared.decl.Module.{Module}
 use Rattle.m2_tree.specs.declared.name.Ident.{Ident}
 use Rattle.m2_graph.specs.Program.{modules_of}
 use Rattle.m2_graph.specs.Imports.{definition_of}

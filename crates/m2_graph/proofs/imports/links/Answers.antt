@@ -1,9 +1,9 @@
-use Rattle.std.proofs.Common.{◌≡◌, length, map, sym, ap, subst, ◌∙◌, arith}
+use Rattle.std.proofs.Common.{◌≡◌, length, sym, ap, subst, ◌∙◌, arith}
 use Rattle.std.specs.Borrow.{Bor}
 use Rattle.m2_tree.specs.declared.decl.Module.{Module}
 use Rattle.m2_graph.specs.Program.{modules_of}
 use Rattle.m2_graph.specs.Imports.{links_of, links}
-use Rattle.m2_graph.specs.Links.{AreNodes}
+use Rattle.graph_walk.specs.Links.{AreNodes}
 use Rattle.m2_graph.proofs.Importing.{mapped_whole, links_are_nodes}
 use Rattle.std.proofs.lemmas.List.{length-map}
 use Rattle.m2_graph.proofs.imports.links.Goals as goal

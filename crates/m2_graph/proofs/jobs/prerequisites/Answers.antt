@@ -1,5 +1,5 @@
-use Rattle.m2_graph.proofs.Places.{small_numbers, once_by_places}
+use Rattle.m2_graph.proofs.Places.{numbers_below}
 use Rattle.m2_graph.proofs.jobs.prerequisites.Goals as goal
 
-pub each_once-requires : goal.each_once-requires
-each_once-requires c = small_numbers c.args.order.now c.args.places.now c.args.nodes.now c.in_ok-numbers.numbers _ c.requires c.in_ok-numbers.ensures c.as_slice.ensures
+pub each_once-requires-clause-within : goal.each_once-requires-clause-within
+each_once-requires-clause-within c = numbers_below c.args.places.now c.args.nodes.now c.in_ok-numbers.numbers _ _ c.requires.below c.in_ok-numbers.ensures c.as_slice.ensures

@@ -3,7 +3,7 @@ use Rattle.std.specs.Borrow.{Bor}
 use Rattle.m2_tree.specs.declared.decl.Module.{Module}
 use Rattle.m2_graph.specs.Program.{modules_of}
 use Rattle.m2_graph.specs.Imports.{walk_of, walks}
-use Rattle.m2_graph.specs.Links.{AreNodes}
+use Rattle.graph_walk.specs.Links.{AreNodes}
 use Rattle.m2_graph.proofs.Importing.{mapped_whole, walks_are_nodes}
 use Rattle.m2_graph.proofs.needs.walks.Goals as goal
 

@@ -1,4 +1,4 @@
-use Rattle.std.proofs.Common.{sym, ◌∙◌}
+use Rattle.std.proofs.Common.{◌∙◌}
 use Rattle.m2_graph.specs.Imports.{implements}
 use Rattle.m2_graph.specs.Program.{modules_of}
 use Rattle.m2_graph.proofs.Tables.{found_within}

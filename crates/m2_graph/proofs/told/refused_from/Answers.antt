@@ -1,6 +1,6 @@
 use Rattle.std.proofs.Common.{arith}
 use Rattle.m2_graph.specs.Program.{modules_of}
-use Rattle.m2_graph.proofs.Telling.{refused_next, refused_all, fault_within}
+use Rattle.m2_graph.proofs.Telling.{refused_next, fault_within}
 use Rattle.m2_graph.proofs.told.refused_from.Goals as goal
 
 pub fault_of-fault-requires-clause-within : goal.fault_of-fault-requires-clause-within

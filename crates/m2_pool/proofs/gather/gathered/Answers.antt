@@ -1,51 +1,60 @@
-use Rattle.std.proofs.Common.{◌≡◌, ℕ, suc, List, [], ◌∷◌, ◌++◌, length, None, sym, ap, ◌∙◌, arith, append_assoc, length-append}
+use Rattle.std.proofs.Common.{◌≡◌, suc, [], ◌∷◌, ◌++◌, length, map, None, sym, ap, ◌∙◌, subst, arith, append_assoc, length-append}
 use Rattle.std.proofs.lemmas.Grind.{common_steps}
-use Rattle.m2_board.specs.Graph.{prerequisites_of}
-use Rattle.m2_worker.specs.Results.{picked, results_below}
+use Rattle.once_cell.specs.Once.{cell_name}
+use Rattle.m2_worker.specs.Results.{AreResults, NoJobs}
 use Rattle.m2_pool.proofs.Items.{next_in}
-use Rattle.m2_worker.proofs.Resulting.{results-length}
+use Rattle.m2_pool.proofs.Gathering.{Settles, all_so_far, next_result, places_more, no_places_yet}
 use Rattle.m2_pool.proofs.gather.gathered.Goals as goal
 
-pub one-requires-clause-graph : goal.one-requires-clause-graph
-one-requires-clause-graph g c κs within =
-    let at = next_in c.loop-place.yielded _ _ c.args.places.items c.in-Some.place c.loop-place.invariant.rest_is c.in-Some.ensures.steps.0 in
-    let outs = ap (λ l. length l) c.loop-place.invariant.outs_are in
-    let long = results-length c.args.graph.now (g.W.Work.defined (g.W.Work.key_of c.args.work.now)) (length c.loop-place.yielded) in
-    (c.requires.graph, omega (arith, at.0, c.loop-place.outs.ok.0))
+pub loop-place-init : goal.loop-place-init
+loop-place-init g c =
+    let shop = c.args.shop.now in
+    let defines = g.W.Work.defines shop.work.now in
+    record {
+      rest_is = c.into_iter-place-iterator.ensures.into_iter_gives.0;
+      length_is = grind (arith, common_steps);
+      count_is = ap (λ l. length l) c.in_ok-settled.ensures.items;
+      settled_are = no_places_yet (Settles (λ n. n.cell) (λ n. n.known) (map cell_name shop.cells.now) shop.graph.now defines) c.in_ok-settled.settled.items c.in_ok-settled.ensures.items;
+      outs_are = subst (AreResults shop.graph.now defines []) (sym c.in_ok-outs.ensures.items) NoJobs;
+    }
 
-pub one-requires-clause-place : goal.one-requires-clause-place
-one-requires-clause-place g c κs within =
+pub settle-note-requires-clause-job : goal.settle-note-requires-clause-job
+settle-note-requires-clause-job g c κs within =
     let at = next_in c.loop-place.yielded _ _ c.args.places.items c.in-Some.place c.loop-place.invariant.rest_is c.in-Some.ensures.steps.0 in
-    let outs = ap (λ l. length l) c.loop-place.invariant.outs_are in
-    let long = results-length c.args.graph.now (g.W.Work.defined (g.W.Work.key_of c.args.work.now)) (length c.loop-place.yielded) in
-    let n : c.len-job.result ≡ length c.loop-place.yielded = omega (arith, c.loop-place.outs.ok.0) in
-    rw (n, ← at.1 None) (c.requires.places (length c.loop-place.yielded) (omega (arith, at.0)))
+    let long = all_so_far c.args.shop.now.graph.now (g.W.Work.defines c.args.shop.now.work.now) (length c.loop-place.yielded) c.loop-place.outs.items c.loop-place.invariant.outs_are in
+    omega (arith, at.0, long, c.requires.count, c.loop-place.outs.ok.0)
+
+pub settle-note-requires-clause-place : goal.settle-note-requires-clause-place
+settle-note-requires-clause-place g c κs within =
+    let at = next_in c.loop-place.yielded _ _ c.args.places.items c.in-Some.place c.loop-place.invariant.rest_is c.in-Some.ensures.steps.0 in
+    let long = all_so_far c.args.shop.now.graph.now (g.W.Work.defines c.args.shop.now.work.now) (length c.loop-place.yielded) c.loop-place.outs.items c.loop-place.invariant.outs_are in
+    let n : c.len-job.result ≡ length c.loop-place.yielded = omega (arith, long, c.loop-place.outs.ok.0) in
+    rw (n, ← at.1 None) (c.requires.places (length c.loop-place.yielded) (omega (arith, at.0, c.requires.count)))
+
+pub one-requires-clause-job : goal.one-requires-clause-job
+one-requires-clause-job g c κs within =
+    let at = next_in c.loop-place.yielded _ _ c.args.places.items c.in-Some.place c.loop-place.invariant.rest_is c.in-Some.ensures.steps.0 in
+    let long = all_so_far c.args.shop.now.graph.now (g.W.Work.defines c.args.shop.now.work.now) (length c.loop-place.yielded) c.loop-place.outs.items c.loop-place.invariant.outs_are in
+    omega (arith, at.0, long, c.requires.count, c.loop-place.outs.ok.0)
 
 pub one-requires-clause-before : goal.one-requires-clause-before
 one-requires-clause-before g c κs within =
-    let outs = ap (λ l. length l) c.loop-place.invariant.outs_are in
-    let long = results-length c.args.graph.now (g.W.Work.defined (g.W.Work.key_of c.args.work.now)) (length c.loop-place.yielded) in
-    let n : c.len-job.result ≡ length c.loop-place.yielded = omega (arith, c.loop-place.outs.ok.0) in
-    rw n (c.as_slice.ensures.value ∙ c.loop-place.invariant.outs_are)
+    let long = all_so_far c.args.shop.now.graph.now (g.W.Work.defines c.args.shop.now.work.now) (length c.loop-place.yielded) c.loop-place.outs.items c.loop-place.invariant.outs_are in
+    let n : c.len-job.result ≡ length c.loop-place.yielded = omega (arith, long, c.loop-place.outs.ok.0) in
+    rw (n, c.as_slice.ensures.value) c.loop-place.invariant.outs_are
 
 pub loop-place-preserved : goal.loop-place-preserved
 loop-place-preserved g c =
-    let graph : List (List ℕ) = c.args.graph.now in
-    let defined = g.W.Work.defined (g.W.Work.key_of c.args.work.now) in
-    let k : ℕ = length c.loop-place.yielded in
-    let outs = ap (λ l. length l) c.loop-place.invariant.outs_are in
-    let long = results-length graph defined k in
-    let n : c.len-job.result ≡ k = omega (arith, c.loop-place.outs.ok.0) in
-    let one_more : length (c.loop-place.yielded ++ c.in-Some.place ∷ []) ≡ suc k = omega (arith, length-append c.loop-place.yielded (c.in-Some.place ∷ [])) in
-    let before = c.as_slice.ensures.value ∙ c.loop-place.invariant.outs_are in
-    let out_is = c.in_ok-out.ensures
-    ∙ (ap (λ outs. defined c.len-job.result (picked outs (prerequisites_of graph c.len-job.result))) before
-    ∙ ap (λ (i : ℕ). defined i (picked (results_below graph defined k) (prerequisites_of graph i))) n) in
+    let shop = c.args.shop.now in
+    let defines = g.W.Work.defines shop.work.now in
+    let long = all_so_far shop.graph.now defines (length c.loop-place.yielded) c.loop-place.outs.items c.loop-place.invariant.outs_are in
+    let n : c.len-job.result ≡ length c.loop-place.yielded = omega (arith, long, c.loop-place.outs.ok.0) in
+    let one_more : length (c.loop-place.yielded ++ c.in-Some.place ∷ []) ≡ suc (length c.loop-place.yielded) = omega (arith, length-append c.loop-place.yielded (c.in-Some.place ∷ [])) in
     record {
       rest_is = append_assoc c.loop-place.yielded (c.in-Some.place ∷ []) _ ∙ (ap (λ l. c.loop-place.yielded ++ l) (sym c.in-Some.ensures.steps.0) ∙ c.loop-place.invariant.rest_is);
       length_is = grind (arith, common_steps);
-      outs_are = c.in_ok-push.ensures.items
-          ∙ (ap (λ l. l ++ c.in_ok-out.out ∷ []) c.loop-place.invariant.outs_are
-          ∙ (ap (λ o. results_below graph defined k ++ o ∷ []) out_is
-          ∙ sym (ap (results_below graph defined) one_more)));
+      count_is = omega (arith, ap (λ l. length l) c.in_ok-push-2.ensures.items, length-append c.settle-note.new.settled.items (c.one.new.note ∷ []), ap (λ l. length l) c.settle-note.ensures.same, c.loop-place.invariant.count_is);
+      settled_are = places_more (Settles (λ n. n.cell) (λ n. n.known) (map cell_name shop.cells.now) shop.graph.now defines) c.loop-place.settled.items c.settle-note.new.settled.items _ c.settle-note.result c.one.new.note c.len-job.result
+          c.settle-note.ensures.same c.in_ok-push-2.ensures.items c.one.ensures.same (n ∙ sym c.loop-place.invariant.count_is) c.loop-place.invariant.settled_are c.settle-note.ensures.note;
+      outs_are = next_result shop.graph.now defines (length c.loop-place.yielded) _ c.len-job.result c.loop-place.outs.items _ c.in_ok-out.out one_more n c.in_ok-push.ensures.items c.loop-place.invariant.outs_are c.in_ok-out.ensures.out;
     }

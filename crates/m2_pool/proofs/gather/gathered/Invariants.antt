@@ -1,11 +1,16 @@
-use Rattle.std.proofs.Common.{◌≡◌, ◌++◌, length}
+use Rattle.std.proofs.Common.{◌≡◌, ◌++◌, ℕ, length, map, get_or, None}
+use Rattle.std.specs.Prelude.{IfSome}
 use Rattle.std.specs.Vec.Iter.{into_iter_items, into_iter_len}
-use Rattle.m2_worker.specs.Results.{results_below}
+use Rattle.once_cell.specs.Once.{cell_name}
+use Rattle.m2_worker.specs.Results.{all_jobs, AreResults}
+use Rattle.m2_pool.specs.Settled.{IsSettled}
 use Rattle.m2_pool.proofs.gather.gathered.Given as goal
 
 abbrev pub invariant-loop-place : goal.invariant-loop-place
 invariant-loop-place g l = record {
   rest_is : l.yielded ++ into_iter_items l.place-iterator ≡ l.fn.places.items;
   length_is : into_iter_len l.place-iterator ≡ length (into_iter_items l.place-iterator);
-  outs_are : l.outs.items ≡ results_below l.graph (g.W.Work.defined (g.W.Work.key_of l.work)) (length l.yielded);
+  count_is : length l.settled.items ≡ length l.yielded;
+  settled_are : (p : ℕ) → IfSome (get_or l.settled.items p None) (λ n. IsSettled (map cell_name l.shop.cells.now) l.shop.graph.now (g.W.Work.defines l.shop.work.now) p n.cell n.known);
+  outs_are : AreResults l.shop.graph.now (g.W.Work.defines l.shop.work.now) (all_jobs (length l.yielded)) l.outs.items;
 }

@@ -1,7 +1,8 @@
-use Rattle.std.proofs.Common.{◌≡◌, [], ◌∷◌, ◌++◌, length, Some, refl, sym, ap, ◌∙◌, arith, append_assoc, length-set}
+use Rattle.std.proofs.Common.{◌≡◌, [], ◌∷◌, ◌++◌, length, map, Some, refl, sym, ap, ◌∙◌, arith, append_assoc, length-set}
 use Rattle.std.proofs.lemmas.Grind.{common_steps}
-use Rattle.std.specs.List.{HoldsAt}
+use Rattle.std.specs.Prelude.{IfSome}
 use Rattle.once_cell.specs.Once.{cell_name}
+use Rattle.m2_worker.specs.Results.{IsRan}
 use Rattle.m2_pool.proofs.Items.{next_in}
 use Rattle.m2_pool.proofs.Places.{placed_in}
 use Rattle.m2_pool.proofs.gather.placed.Goals as goal
@@ -10,11 +11,11 @@ pub loop-ran-preserved : goal.loop-ran-preserved
 loop-ran-preserved g c =
     let ran = c.in-Some.ran in
     let at = next_in c.loop-ran.yielded _ _ c.args.all.items ran c.loop-ran.invariant.rest_is c.in-Some.ensures.steps.0 in
-    let right = rw (at.1 ran) at (c.requires.notes (length c.loop-ran.yielded) ran at.0) in
+    let right = rw (at.1 ran) at (c.requires.stands (length c.loop-ran.yielded) ran at.0) in
     record {
       rest_is = append_assoc c.loop-ran.yielded (ran ∷ []) _ ∙ (ap (λ l. c.loop-ran.yielded ++ l) (sym c.in-Some.ensures.steps.0) ∙ c.loop-ran.invariant.rest_is);
       length_is = grind (arith, common_steps);
       count_is = ap (λ l. length l) c.put.ensures ∙ (length-set c.loop-ran.places.items ran.job (Some ran) ∙ c.loop-ran.invariant.count_is);
-      each = rw c.put.ensures (placed_in (λ r. r.job) (λ k r. (r.job ≡ k) × (g.W.Work.key_of r.work ≡ g.W.Work.key_of c.args.work.now) × HoldsAt (λ c'. r.note.cell ≡ cell_name c') c.args.cells.now r.job)
-          c.loop-ran.places.items c.args.jobs c.loop-ran.yielded ran c.loop-ran.invariant.count_is (refl, right.0, right.1) c.loop-ran.invariant.each);
+      each = rw c.put.ensures (placed_in (λ r. r.job) (λ k r. (r.job ≡ k) × IfSome r.note (λ n. IsRan (map cell_name c.args.shop.now.cells.now) c.args.shop.now.graph.now (g.W.Work.defines c.args.shop.now.work.now) r.job n.cell n.known (map (λ u. u.cell) r.used.items) (map (λ u. u.known) r.used.items)))
+          c.loop-ran.places.items (length c.args.shop.now.graph.now) c.loop-ran.yielded ran c.loop-ran.invariant.count_is (refl, right) c.loop-ran.invariant.each);
     }

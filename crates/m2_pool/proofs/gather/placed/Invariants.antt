@@ -1,15 +1,15 @@
 use Rattle.std.proofs.Common.{◌≡◌, ◌++◌, ◌<◌, ℕ, length, map, get_or, None}
-use Rattle.std.specs.Prelude.{MatchOption}
-use Rattle.std.specs.List.{HoldsAt}
+use Rattle.std.specs.Prelude.{MatchOption, IfSome}
 use Rattle.std.specs.Vec.Iter.{into_iter_items, into_iter_len}
 use Rattle.once_cell.specs.Once.{cell_name}
 use Rattle.m2_board.specs.Lists.{times}
+use Rattle.m2_worker.specs.Results.{IsRan}
 use Rattle.m2_pool.proofs.gather.placed.Given as goal
 
 abbrev pub invariant-loop-ran : goal.invariant-loop-ran
 invariant-loop-ran g l = record {
   rest_is : l.yielded ++ into_iter_items l.ran-iterator ≡ l.fn.all.items;
   length_is : into_iter_len l.ran-iterator ≡ length (into_iter_items l.ran-iterator);
-  count_is : length l.places.items ≡ l.jobs;
-  each : (k : ℕ) → k < l.jobs → MatchOption (get_or l.places.items k None) (times k (map (λ r. r.job) l.yielded) ≡ 0) (λ r. (r.job ≡ k) × (g.W.Work.key_of r.work ≡ g.W.Work.key_of l.work) × HoldsAt (λ c. r.note.cell ≡ cell_name c) l.cells r.job);
+  count_is : length l.places.items ≡ length l.shop.graph.now;
+  each : (k : ℕ) → k < length l.shop.graph.now → MatchOption (get_or l.places.items k None) (times k (map (λ r. r.job) l.yielded) ≡ 0) (λ r. (r.job ≡ k) × IfSome r.note (λ n. IsRan (map cell_name l.shop.cells.now) l.shop.graph.now (g.W.Work.defines l.shop.work.now) r.job n.cell n.known (map (λ u. u.cell) r.used.items) (map (λ u. u.known) r.used.items)));
 }

@@ -1,9 +1,7 @@
 use Rattle.std.proofs.Common.{◌≡◌, ℕ, ◌<◌, List, length, map, get_or, zero, suc, [], ◌∷◌, None, refl, sym, ap, ◌∙◌, arith}
 use Rattle.std.proofs.lemmas.List.{length-map}
-use Rattle.m2_board.specs.Lists.{times}
-use Rattle.m2_board.specs.Seats.{SeatState, all_had, without}
-use Rattle.m2_board.proofs.Tallied.{each_job}
-use Rattle.m2_pool.proofs.Places.{match_none}
+use Rattle.m2_board.specs.Seats.{SeatState}
+use Rattle.m2_pool.proofs.Places.{match_some}
 use Rattle.m2_pool.proofs.run.run_on.Goals as goal
 
 -- the items, seen by f
@@ -15,10 +13,6 @@ row_of f (r ∷ rs) (suc k) d = row_of f rs k d
 -- lists that look the same are of one length
 same_length : {A B C : Type 0} (f : A → C) (g : B → C) (xs : List A) (ys : List B) → map f xs ≡ map g ys → length xs ≡ length ys
 same_length f g xs ys same = sym (length-map xs f) ∙ (ap (λ l. length l) same ∙ length-map ys g)
-
--- a job that no seat had is left
-is_left : (had left gatherer : List ℕ) (n k : ℕ) → k < n → left ≡ gatherer → gatherer ≡ without had n → times k had ≡ 0 → 0 < times k left
-is_left had left gatherer n k low a b none = let same : times k left ≡ times k (without had n) = ap (times k) (a ∙ b) in omega (arith, each_job had n k low (omega arith))
 
 pub all_work-requires-clause-seats : goal.all_work-requires-clause-seats
 all_work-requires-clause-seats g c κs within = λ k d l.
@@ -41,14 +35,7 @@ close-tally-requires g c =
     record { count_is = count; each = c.in_ok-seats.ensures.seats }
 
 pub gathered-requires-clause-places : goal.gathered-requires-clause-places
-gathered-requires-clause-places g c κs within = λ k l.
-    let had : List ℕ = all_had c.in_ok-seats.seats.items in
-    let same = ap (λ (h : List (List ℕ)). length h) c.requires.graph.1 in
-    let low : k < c.jobs.result = omega (arith, c.jobs.ensures.jobs) in
-    match_none (get_or c.in_ok-places.places.items k None) _ _ _
-    (λ none. is_left had c.as_slice-3.result.now c.close-tally.result.gatherer.items (length c.args.board.graph) k (omega arith) c.as_slice-3.ensures.value c.close-tally.ensures.gatherer
-    (ap (times k) (sym c.in_ok-seats.ensures.ran) ∙ none))
-    (c.in_ok-places.ensures.each k low)
+gathered-requires-clause-places g c κs within = λ k l. match_some (get_or c.in_ok-places.places.items k None) _ _ (c.in_ok-places.ensures.each k l)
 
 pub returns-clause-seats : goal.returns-clause-seats
 returns-clause-seats g c =

@@ -1,12 +1,13 @@
-use Rattle.std.proofs.Common.{◌++◌, ◌∷◌, [], map, sym, ap, ◌∙◌}
-use mathlib.Core.List.{map-append}
-use Rattle.m2_worker.specs.Results.{results}
-use Rattle.m2_worker.proofs.Picks.{picked_more}
+use Rattle.std.proofs.Common.{map, length, Some, ap, arith, length-append, ◌∷◌, []}
+use Rattle.once_cell.specs.Once.{cell_name}
+use Rattle.m2_worker.proofs.Picks.{both_more, cells_more}
 use Rattle.m2_worker.proofs.cells.all_finished.Goals as goal
 
 pub loop-job-preserved : goal.loop-job-preserved
 loop-job-preserved g c =
-    ap (map (λ x. x.now)) c.in_ok-push-in-Some.ensures.items
-    ∙ (map-append (λ x. x.now) c.loop-job.outs.items (c.in-Some.out ∷ [])
-    ∙ (ap (λ l. l ++ c.in-Some.out.now ∷ []) c.loop-job.invariant
-    ∙ sym (picked_more (results (g.W.Work.graph c.args.key.now) (g.W.Work.defined c.args.key.now)) c.args.jobs.now c.loop-job.job-index c.in-Some.out.now c.loop-job-test.true c.in-Some.ensures)))
+    let pushed = ap (λ l. length l) c.in_ok-push.ensures.items in
+    record {
+      count_is = omega (arith, c.loop-job.invariant.count_is, pushed, length-append c.loop-job.outs.items (c.in-Some.out ∷ []));
+      cells_are = cells_more (λ n. n.cell) (map cell_name c.args.cells.now) c.args.jobs.now c.loop-job.notes.items _ c.loop-job.job-index c.in-Some.note c.loop-job-test.true c.in_ok-push-2.ensures.items c.loop-job.invariant.cells_are c.in-Some.ensures.cell;
+      known_are = both_more (λ n. n.known) (λ x. Some x.now) c.loop-job.notes.items _ c.loop-job.outs.items _ c.in-Some.note c.in-Some.out c.in_ok-push-2.ensures.items c.in_ok-push.ensures.items c.loop-job.invariant.known_are c.in-Some.ensures.known;
+    }

@@ -4,7 +4,7 @@ use Rattle.wasm_binary.proofs.module_bytes.bodies_at.Goals as goal
 
 pub returns-in_err-body : goal.returns-in_err-body
 returns-in_err-body c =
-    let p = err_from_is_err_and c.from_residual.result c.from_residual.ensures.1 in
+    let p = err_from_is_err_and c.from_residual-in_err-body.result c.from_residual-in_err-body.ensures.1 in
     rw (p.1, p.2) (fails c.in_err-body.field-0.0 c.loop-type_index.functions _ _
     (bodies_fail c.args.types.now c.loop-type_index.type_index-index c.loop-type_index.rest.now c.in_err-body.field-0.0 c.loop-type_index-test.true c.in_err-body.ensures) c.loop-type_index.invariant)
 

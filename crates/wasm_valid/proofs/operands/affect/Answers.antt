@@ -7,13 +7,12 @@ use Rattle.wasm_valid.proofs.operands.affect.Goals as goal
 
 pub returns-in-Takes : goal.returns-in-Takes
 returns-in-Takes c =
-    let same : Exchanges (c.types_of.result.now ++ c.types_of-in-Takes.result.now) c.types_of-in-Takes-2.result.now ≡ Exchanges (result_types c.in-Takes.first ++ result_types c.in-Takes.second) (result_types c.in-Takes.given) = cc in
-    affects c.exchange.result _ _ (seen c.args.effect) c.args.operands.now c.exchange.new.operands (same ∙ ap seen (sym c.in-Takes.is)) c.exchange.ensures
+    affects c.exchange_few.result (result_types c.in-Takes.first ++ result_types c.in-Takes.second) (result_types c.in-Takes.given) (seen c.args.effect) c.args.operands.now c.exchange_few.new.operands (ap seen (sym c.in-Takes.is)) c.exchange_few.ensures
 
 pub returns-in-Calls : goal.returns-in-Calls
 returns-in-Calls c =
     let same : Exchanges c.as_slice.result.now c.as_slice-in-Calls.result.now ≡ Exchanges c.in-Calls.t.now.params c.in-Calls.t.now.results = cc in
-    affects c.exchange-in-Calls.result _ _ (seen c.args.effect) c.args.operands.now c.exchange-in-Calls.new.operands (same ∙ ap seen (sym c.in-Calls.is)) c.exchange-in-Calls.ensures
+    affects c.exchange.result _ _ (seen c.args.effect) c.args.operands.now c.exchange.new.operands (same ∙ ap seen (sym c.in-Calls.is)) c.exchange.ensures
 
 pub returns-in-CallsSlot : goal.returns-in-CallsSlot
 returns-in-CallsSlot c =

@@ -17,7 +17,7 @@ check_code-returns-in_err-step-clause-fits t c =
     exit c.from_residual-in_err-step.result p.0 _ _ _ p.1 p.2 (exit_halts c.args.frame c.args.blocks.now _ c.args.code.now c.loop-instr.instr-index c.instr-item.result c.loop-instr.operands (result_types c.args.given) _ (c.as_slice.ensures ∙ c.in_ok-check_inside.ensures.blocks ∙ c.loop-instr.invariant.same) c.loop-instr-test.true c.instr-item.is c.loop-instr.invariant.on c.in_err-step.ensures)
 
 pub check_code-returns-clause-fits : goal.check_code-returns-clause-fits
-check_code-returns-clause-fits t c = decides_end c.check_last.result (frame_context c.args.frame c.args.blocks.now) c.args.code.now c.loop-instr.instr-index c.loop-instr.operands (result_types c.args.given) c.loop-instr-test.false c.loop-instr.invariant.on c.check_last.ensures
+check_code-returns-clause-fits t c = decides_end c.check_last-decided.result (frame_context c.args.frame c.args.blocks.now) c.args.code.now c.loop-instr.instr-index c.loop-instr.operands (result_types c.args.given) c.loop-instr-test.false c.loop-instr.invariant.on c.check_last-decided.ensures
 
 pub check_code-loop-instr-preserved : goal.check_code-loop-instr-preserved
 check_code-loop-instr-preserved t c =

@@ -1,0 +1,125 @@
+//! Programs of many files.
+
+use crate::gates::Always;
+use crate::rows::executed;
+use anyhow::{Result, bail};
+use m2c::{Options, Outcome, SourceFile, build};
+use std::alloc::{AllocError, Global};
+use std::thread::Threads;
+
+fn file(alloc: Global, name: &str, text: &str) -> Result<SourceFile, AllocError> {
+    Ok(SourceFile {
+        name: String::from_str(alloc, name)?,
+        bytes: Vec::from_slice(alloc, text.as_bytes())?,
+    })
+}
+
+/// The text of the k-th implementation, which imports the module before it.
+fn implementation(alloc: Global, k: usize) -> Result<String> {
+    let before = k.saturating_sub(1);
+    let imports = if k == 0 {
+        String::new(alloc)
+    } else {
+        format!(in alloc; "IMPORT M{before}; ")?
+    };
+    Ok(format!(in alloc;
+        "IMPLEMENTATION MODULE M{k}; FROM Console IMPORT Put; {imports}BEGIN Put('m') END M{k}."
+    )?)
+}
+
+/// Adds the definition of the k-th module and its implementation.
+fn add_module(alloc: Global, files: &mut Vec<SourceFile>, k: usize) -> Result<()> {
+    let name = format!(in alloc; "M{k}.def")?;
+    let text = format!(in alloc; "DEFINITION MODULE M{k}; END M{k}.")?;
+    files.push(file(alloc, name.as_str(), text.as_str())?)?;
+    let name = format!(in alloc; "M{k}.mod")?;
+    let text = implementation(alloc, k)?;
+    files.push(file(alloc, name.as_str(), text.as_str())?)?;
+    Ok(())
+}
+
+/// So many modules, each of which imports the one before it, and a program that imports the last.
+fn many(alloc: Global, count: usize) -> Result<Vec<SourceFile>> {
+    let mut files = Vec::new(alloc);
+    for k in 0..count {
+        add_module(alloc, &mut files, k)?;
+    }
+    let last = count.saturating_sub(1);
+    let text = format!(in alloc;
+        "MODULE P; FROM Console IMPORT Put; IMPORT M{last}; BEGIN Put('P') END P."
+    )?;
+    files.push(file(alloc, "P.mod", text.as_str())?)?;
+    Ok(files)
+}
+
+fn outcome<R: Threads + Sync>(
+    rt: &R,
+    alloc: Global,
+    files: &[SourceFile],
+    workers: usize,
+) -> Result<Outcome> {
+    let options = Options { workers, pages: 1 };
+    Ok(build(rt, alloc, files, options, &Always(true))?)
+}
+
+/// The bytes of link, and behind them those of each module.
+fn bytes_of(
+    alloc: Global,
+    link: &[u8],
+    modules: &[(String, Vec<u8>)],
+) -> Result<Vec<u8>, AllocError> {
+    let mut all = Vec::from_slice(alloc, link)?;
+    for module in modules {
+        all.extend_from_slice(&module.1)?;
+    }
+    Ok(all)
+}
+
+/// What so many workers build of files; executed, it is to print a byte for each module, and P last.
+fn built<R: Threads + Sync>(
+    rt: &R,
+    alloc: Global,
+    files: &[SourceFile],
+    workers: usize,
+) -> Result<Vec<u8>> {
+    let Outcome::Built { link, modules } = outcome(rt, alloc, files, workers)? else {
+        bail!("the files are refused");
+    };
+    let (status, printed) = executed(alloc, &link, &modules);
+    let count = printed.len();
+    if status != 0 || count != modules.len() || printed.last() != Some(&b'P') {
+        bail!("status {status}, with {count} bytes printed");
+    }
+    Ok(bytes_of(alloc, &link, &modules)?)
+}
+
+/// 513 files are built, with the same bytes by 1, 2, 8 and 64 workers.
+pub fn five_hundred_and_thirteen_files<R: Threads + Sync>(rt: &R, alloc: Global) -> Result<()> {
+    let files = many(alloc, 256)?;
+    let first = built(rt, alloc, &files, 1)?;
+    for workers in [2, 8, 64] {
+        let other = built(rt, alloc, &files, workers)?;
+        if other.as_slice() != first.as_slice() {
+            bail!("{workers} workers build other modules");
+        }
+    }
+    Ok(())
+}
+
+/// 1025 files are too many, which is told at the last of them.
+pub fn one_file_too_many<R: Threads + Sync>(rt: &R, alloc: Global) -> Result<()> {
+    let files = many(alloc, 512)?;
+    let Outcome::Refused(refusals) = outcome(rt, alloc, &files, 8)? else {
+        bail!("1025 files are built");
+    };
+    for refusal in &refusals {
+        let told = format!(in alloc; "{refusal}")?;
+        if told.as_str() != "P.mod:1:1: refusal 25" {
+            bail!("told is {told}");
+        }
+    }
+    if refusals.len() != 1 {
+        bail!("another number of refusals");
+    }
+    Ok(())
+}

@@ -1,0 +1,262 @@
+use crate::gates::{Always, Meeting};
+use m2c::{BuildFault, Options, Outcome, SourceFile, build};
+use std::alloc::{AllocError, Global};
+use std::test::Fail;
+use std::thread::Threads;
+
+/// The module link of the first program with 16 pages, encoded by hand from Core 1.0, section 5.
+const LINK: [u8; 134] = [
+    0x00, 0x61, 0x73, 0x6D, 0x01, 0x00, 0x00, 0x00, 0x01, 0x08, 0x02, 0x60, 0x00, 0x00, 0x60, 0x01,
+    0x7F, 0x00, 0x03, 0x02, 0x01, 0x00, 0x04, 0x05, 0x01, 0x70, 0x01, 0x02, 0x02, 0x05, 0x04, 0x01,
+    0x01, 0x10, 0x10, 0x06, 0x18, 0x04, 0x7F, 0x00, 0x41, 0x80, 0x80, 0xC0, 0x00, 0x0B, 0x7F, 0x00,
+    0x41, 0x00, 0x0B, 0x7F, 0x00, 0x41, 0x00, 0x0B, 0x7F, 0x00, 0x41, 0x01, 0x0B, 0x07, 0x3A, 0x07,
+    0x06, 0x6D, 0x65, 0x6D, 0x6F, 0x72, 0x79, 0x02, 0x00, 0x05, 0x74, 0x61, 0x62, 0x6C, 0x65, 0x01,
+    0x00, 0x05, 0x6C, 0x69, 0x6D, 0x69, 0x74, 0x03, 0x00, 0x06, 0x62, 0x61, 0x73, 0x65, 0x2E, 0x4D,
+    0x03, 0x01, 0x06, 0x74, 0x65, 0x78, 0x74, 0x2E, 0x4D, 0x03, 0x02, 0x05, 0x74, 0x61, 0x62, 0x2E,
+    0x4D, 0x03, 0x03, 0x03, 0x72, 0x75, 0x6E, 0x00, 0x00, 0x0A, 0x0B, 0x01, 0x09, 0x00, 0x41, 0x00,
+    0x23, 0x03, 0x11, 0x01, 0x00, 0x0B,
+];
+
+/// The module of its body.
+const BODY: [u8; 186] = [
+    0x00, 0x61, 0x73, 0x6D, 0x01, 0x00, 0x00, 0x00, 0x01, 0x22, 0x06, 0x60, 0x01, 0x7E, 0x00, 0x60,
+    0x03, 0x7F, 0x7F, 0x7F, 0x00, 0x60, 0x02, 0x7F, 0x7F, 0x00, 0x60, 0x04, 0x7E, 0x7E, 0x7E, 0x7E,
+    0x01, 0x7E, 0x60, 0x02, 0x7E, 0x7E, 0x01, 0x7E, 0x60, 0x01, 0x7F, 0x00, 0x02, 0x70, 0x08, 0x04,
+    0x6C, 0x69, 0x6E, 0x6B, 0x06, 0x6D, 0x65, 0x6D, 0x6F, 0x72, 0x79, 0x02, 0x00, 0x01, 0x04, 0x6C,
+    0x69, 0x6E, 0x6B, 0x05, 0x74, 0x61, 0x62, 0x6C, 0x65, 0x01, 0x70, 0x00, 0x01, 0x04, 0x6C, 0x69,
+    0x6E, 0x6B, 0x05, 0x6C, 0x69, 0x6D, 0x69, 0x74, 0x03, 0x7F, 0x00, 0x04, 0x6C, 0x69, 0x6E, 0x6B,
+    0x06, 0x62, 0x61, 0x73, 0x65, 0x2E, 0x4D, 0x03, 0x7F, 0x00, 0x04, 0x6C, 0x69, 0x6E, 0x6B, 0x06,
+    0x74, 0x65, 0x78, 0x74, 0x2E, 0x4D, 0x03, 0x7F, 0x00, 0x04, 0x6C, 0x69, 0x6E, 0x6B, 0x05, 0x74,
+    0x61, 0x62, 0x2E, 0x4D, 0x03, 0x7F, 0x00, 0x04, 0x68, 0x6F, 0x73, 0x74, 0x03, 0x70, 0x75, 0x74,
+    0x00, 0x00, 0x04, 0x68, 0x6F, 0x73, 0x74, 0x04, 0x73, 0x74, 0x6F, 0x70, 0x00, 0x00, 0x03, 0x02,
+    0x01, 0x05, 0x09, 0x07, 0x01, 0x00, 0x23, 0x03, 0x0B, 0x01, 0x02, 0x0A, 0x0D, 0x01, 0x0B, 0x02,
+    0x02, 0x7F, 0x00, 0x7E, 0x42, 0xC1, 0x00, 0x10, 0x00, 0x0B,
+];
+
+const FIRST: &str = "MODULE M; FROM Console IMPORT Put; BEGIN Put(\"A\") END M.";
+
+const EMPTY: &str = "MODULE N; BEGIN END N.";
+
+fn file(alloc: Global, name: &str, text: &str) -> Result<SourceFile, AllocError> {
+    Ok(SourceFile {
+        name: String::from_str(alloc, name)?,
+        bytes: Vec::from_slice(alloc, text.as_bytes())?,
+    })
+}
+
+fn options(workers: usize) -> Options {
+    Options { workers, pages: 16 }
+}
+
+/// What is told of the files, a line for each refusal, or nothing where they are built.
+fn told<R: Threads + Sync>(
+    rt: &R,
+    alloc: Global,
+    files: &[SourceFile],
+    workers: usize,
+) -> Result<String, BuildFault> {
+    let mut text = String::new(alloc);
+    let outcome = build(rt, alloc, files, options(workers), &Always(true))?;
+    if let Outcome::Refused(refusals) = outcome {
+        for refusal in refusals.as_slice() {
+            let line = format!(in alloc; "{refusal};")?;
+            text.push_str(line.as_str())?;
+        }
+    }
+    Ok(text)
+}
+
+#[test]
+fn builds_the_first_program(rt: HostRuntime) -> Result<(), Fail> {
+    let alloc = rt.alloc();
+    let files = [file(alloc, "m.mod", FIRST)?];
+    let Outcome::Built { link, modules } = build(&rt, alloc, &files, options(4), &Always(true))?
+    else {
+        return Err(Fail::from("refused"));
+    };
+    assert_eq!(rt; link.as_slice(), LINK.as_slice());
+    assert_eq!(rt; modules.len(), 1);
+    assert_eq!(rt; modules[0].0.as_str(), "M");
+    assert_eq!(rt; modules[0].1.as_slice(), BODY.as_slice());
+    Ok(())
+}
+
+#[test]
+fn tells_the_second_program(rt: HostRuntime) -> Result<(), Fail> {
+    let alloc = rt.alloc();
+    let files = [file(alloc, "n.mod", EMPTY)?, file(alloc, "m.mod", FIRST)?];
+    for workers in [1, 2] {
+        let text = told(&rt, alloc, &files, workers)?;
+        assert_eq!(rt; text.as_str(), "n.mod:1:8: refusal 23;");
+    }
+    Ok(())
+}
+
+#[test]
+fn tells_what_is_refused(rt: HostRuntime) -> Result<(), Fail> {
+    let alloc = rt.alloc();
+    let rows = [
+        ("", "b.mod:1:1: refusal 10;"),
+        ("MODULE M; BEGIN", "b.mod:1:16: refusal 10;"),
+        ("MODULE END; BEGIN END END.", "b.mod:1:8: refusal 10;"),
+        ("MODULE M; END N.", "b.mod:1:15: refusal 11;"),
+        ("MODULE M; MODULE", "b.mod:1:11: refusal 13;"),
+        (
+            "MODULE M; VAR p: POINTER TO CHAR; END M.",
+            "b.mod:1:18: refusal 13;",
+        ),
+        ("(* (* *) END", "b.mod:1:1: refusal 3;"),
+        (
+            "MODULE M; FROM Console IMPORT Put; BEGIN Put(400C) END M.",
+            "b.mod:1:46: refusal 6;",
+        ),
+    ];
+    for (text, expected) in rows {
+        let files = [file(alloc, "b.mod", text)?, file(alloc, "a.mod", EMPTY)?];
+        let told = told(&rt, alloc, &files, 1)?;
+        assert_eq!(rt; told.as_str(), expected, "{text}");
+    }
+    let text = told(&rt, alloc, &[], 1)?;
+    assert_eq!(rt; text.as_str(), ":1:1: refusal 23;");
+    Ok(())
+}
+
+#[test]
+fn tells_what_is_not_compiled_so_far(rt: HostRuntime) -> Result<(), Fail> {
+    let alloc = rt.alloc();
+    let rows = [
+        ("MODULE M; BEGIN Put(101C) END M.", "b.mod:1:1: refusal 99;"),
+        (
+            "MODULE M; VAR i: CARDINAL; END M.",
+            "b.mod:1:1: refusal 99;",
+        ),
+        ("MODULE Put; BEGIN END Put.", "b.mod:1:1: refusal 99;"),
+        ("DEFINITION MODULE M; END M.", "b.mod:1:1: refusal 23;"),
+        ("MODULE M; IMPORT A; END M.", "b.mod:1:18: refusal 20;"),
+    ];
+    for (text, expected) in rows {
+        let files = [file(alloc, "b.mod", text)?];
+        let told = told(&rt, alloc, &files, 1)?;
+        assert_eq!(rt; told.as_str(), expected, "{text}");
+    }
+    Ok(())
+}
+
+#[test]
+fn tells_a_circle_once(rt: HostRuntime) -> Result<(), Fail> {
+    let alloc = rt.alloc();
+    let files = [
+        file(alloc, "P.mod", "MODULE P; END P.")?,
+        file(alloc, "B.mod", "IMPLEMENTATION MODULE B; END B.")?,
+        file(alloc, "B.def", "DEFINITION MODULE B; IMPORT A; END B.")?,
+        file(alloc, "A.mod", "IMPLEMENTATION MODULE A; END A.")?,
+        file(alloc, "A.def", "DEFINITION MODULE A; IMPORT B; END A.")?,
+    ];
+    let text = told(&rt, alloc, &files, 2)?;
+    assert_eq!(rt; text.as_str(), "A.def:1:29: refusal 22;");
+    Ok(())
+}
+
+#[test]
+fn a_blocked_job_tells_nothing(rt: HostRuntime) -> Result<(), Fail> {
+    let alloc = rt.alloc();
+    let files = [
+        file(alloc, "P.mod", "MODULE P; IMPORT A; VAR v: CHAR; END P.")?,
+        file(
+            alloc,
+            "A.mod",
+            "IMPLEMENTATION MODULE A; VAR v: CHAR; END A.",
+        )?,
+        file(alloc, "A.def", "DEFINITION MODULE A; VAR v: CHAR; END A.")?,
+    ];
+    let text = told(&rt, alloc, &files, 2)?;
+    assert_eq!(rt; text.as_str(), "A.def:1:1: refusal 99;");
+    Ok(())
+}
+
+#[test]
+fn hands_out_what_is_reached_in_start_order(rt: HostRuntime) -> Result<(), Fail> {
+    let alloc = rt.alloc();
+    let files = [
+        file(alloc, "P.mod", "MODULE P; IMPORT A; END P.")?,
+        file(alloc, "A.mod", "IMPLEMENTATION MODULE A; IMPORT B; END A.")?,
+        file(alloc, "A.def", "DEFINITION MODULE A; END A.")?,
+        file(alloc, "B.mod", "IMPLEMENTATION MODULE B; IMPORT A; END B.")?,
+        file(alloc, "B.def", "DEFINITION MODULE B; END B.")?,
+        file(alloc, "C.mod", "IMPLEMENTATION MODULE C; END C.")?,
+        file(alloc, "C.def", "DEFINITION MODULE C; END C.")?,
+    ];
+    let Outcome::Built { link: _, modules } = build(&rt, alloc, &files, options(4), &Always(true))?
+    else {
+        return Err(Fail::from("refused"));
+    };
+    let mut names = String::new(alloc);
+    for module in modules.as_slice() {
+        names.push_str(module.0.as_str())?;
+    }
+    assert_eq!(rt; names.as_str(), "BAP");
+    Ok(())
+}
+
+#[test]
+fn tells_files_in_order_of_their_names(rt: HostRuntime) -> Result<(), Fail> {
+    let alloc = rt.alloc();
+    let files = [
+        file(alloc, "c.mod", "MODULE")?,
+        file(alloc, "b.mod", "DEFINITION MODULE M; END M.")?,
+        file(alloc, "a.mod", "x_y")?,
+        file(alloc, "a.mod", "8B")?,
+    ];
+    let text = told(&rt, alloc, &files, 1)?;
+    assert_eq!(rt;
+        text.as_str(),
+        "a.mod:1:2: refusal 2;a.mod:1:1: refusal 5;c.mod:1:7: refusal 10;"
+    );
+    Ok(())
+}
+
+#[test]
+fn compiles_programs_without_statements(rt: HostRuntime) -> Result<(), Fail> {
+    let alloc = rt.alloc();
+    let texts = [
+        "MODULE N; END N.",
+        "MODULE N; (* no statement *) BEGIN ; END N.",
+        "MODULE N; FROM Console IMPORT Put; END N.",
+    ];
+    for text in texts {
+        let told = told(&rt, alloc, &[file(alloc, "n.mod", text)?], 64)?;
+        assert_eq!(rt; told.as_str(), "", "{text}");
+    }
+    Ok(())
+}
+
+#[test]
+fn workers_meet_at_the_gate(rt: HostRuntime) -> Result<(), Fail> {
+    let alloc = rt.alloc();
+    let files = [file(alloc, "n.mod", EMPTY)?, file(alloc, "m.mod", FIRST)?];
+    let gate = Meeting::new();
+    let Outcome::Refused(refusals) = build(&rt, alloc, &files, options(2), &gate)? else {
+        return Err(Fail::from("built"));
+    };
+    assert_eq!(rt; refusals.len(), 1);
+    assert_eq!(rt;
+        format!(in alloc; "{}", refusals[0])?.as_str(),
+        "n.mod:1:8: refusal 23"
+    );
+    assert!(rt; gate.met());
+    Ok(())
+}
+
+#[test]
+fn who_is_never_let_in_leaves_all_to_the_gatherer(rt: HostRuntime) -> Result<(), Fail> {
+    let alloc = rt.alloc();
+    let files = [file(alloc, "m.mod", FIRST)?];
+    let outcome = build(&rt, alloc, &files, options(4), &Always(false))?;
+    let Outcome::Built { link, modules } = outcome else {
+        return Err(Fail::from("refused"));
+    };
+    assert_eq!(rt; link.as_slice(), LINK.as_slice());
+    assert_eq!(rt; modules.len(), 1);
+    assert_eq!(rt; modules[0].1.as_slice(), BODY.as_slice());
+    Ok(())
+}

@@ -1,0 +1,11 @@
+pub mod Marking
+pub mod Chains
+pub mod Reaching
+pub mod Numbers
+pub mod Walking
+pub mod Finishing
+pub mod Turning
+pub mod Sweeping
+pub mod Awaiting
+pub mod Holding
+pub mod Complete

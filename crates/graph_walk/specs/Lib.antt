@@ -1,0 +1,8 @@
+pub mod Frames
+pub mod Marks
+pub mod Links
+pub mod Starts
+pub mod Numbering
+pub mod Turned
+pub mod Circles
+pub mod Waiting

@@ -1,0 +1,4 @@
+pub mod Program
+pub mod Scheme
+pub mod Suits
+pub mod Headline

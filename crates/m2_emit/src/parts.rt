@@ -1,0 +1,65 @@
+//! Parts of modules.
+
+ghost use Rattle.std.specs.Prelude.{◌≡◌, ◌++◌, ◌∷◌, [], IfOk};
+ghost use Rattle.m2_emit.specs.Scheme.{type_from, exported_as, constant_global};
+
+use sqlite_items::Items;
+use std::alloc::{AllocError, Global};
+use wasm_tree::{Export, ExportKind, FuncType, Global as Constant, Instr, Limits, ValueType};
+
+/// At least one page, or one slot.
+pub const AT_LEAST_ONE: Limits = Limits { min: 1, max: None };
+
+/// A list of one item.
+pub fn one<T>(alloc: Global, item: T) -> Result<Items<T>, AllocError>
+where
+    T: Drop,
+    ensures { IfOk result (λ items. items ≡ item ∷ []) }
+{
+    let mut items = Items::new(alloc);
+    items.push(item)?;
+    Ok(items)
+}
+
+/// A name of a module behind a word.
+pub fn joined(alloc: Global, word: &[u8], name: &[u8]) -> Result<Items<u8>, AllocError>
+    ensures { IfOk result (λ bytes. bytes ≡ word.now ++ name.now) }
+{
+    let mut bytes = Vec::from_slice(alloc, word)?;
+    bytes.extend_from_slice(name)?;
+    Ok(Items::from_vec(bytes))
+}
+
+/// A function's type.
+pub fn type_from(
+    alloc: Global,
+    params: &[ValueType],
+    results: &[ValueType],
+) -> Result<FuncType, AllocError>
+    ensures { IfOk result (λ t. t ≡ type_from params.now results.now) }
+{
+    Ok(FuncType {
+        params: Items::from_slice(alloc, params)?,
+        results: Items::from_slice(alloc, results)?,
+    })
+}
+
+/// A global with this number for ever.
+pub fn constant_global(alloc: Global, number: u32) -> Result<Constant, AllocError>
+    ensures { IfOk result (λ global. global ≡ constant_global number) }
+{
+    Ok(Constant {
+        value_type: ValueType::I32,
+        value: one(alloc, Instr::I32Const(number))?,
+    })
+}
+
+/// An export under this name.
+pub fn exported_as(alloc: Global, name: &[u8], kind: ExportKind) -> Result<Export, AllocError>
+    ensures { IfOk result (λ e. e ≡ exported_as name.now kind) }
+{
+    Ok(Export {
+        name: Items::from_slice(alloc, name)?,
+        kind,
+    })
+}

@@ -1,0 +1,6 @@
+pub mod Sorting
+pub mod Walking
+pub mod Numbered
+pub mod Circling
+pub mod Rows
+pub mod Once

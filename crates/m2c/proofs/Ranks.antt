@@ -1,0 +1,109 @@
+-- Refusals in order, as what is told.
+use Rattle.std.proofs.Common.{◌≡◌, ℕ, ◌+◌, Bool, true, false, not, ◌&&◌, cond, List, [], ◌∷◌, length, refl, sym, ap, subst, ◌∙◌, arith}
+use Rattle.std.specs.Prelude.{map, slice_index_or}
+use Rattle.std.specs.List.{filter, list_any}
+use Rattle.std.specs.List.Sorted.{IsSortedBy, IsStableBy, ties}
+use Rattle.std.specs.declared.cmp.Ordering.{Ordering}
+use Rattle.std.specs.declared.cmp.Ordering.TheVariants.{Less, Equal, Greater}
+use Rattle.std.specs.Ordering.{ordering_reverse}
+use Rattle.std.proofs.lemmas.Cmp.{nat_list_cmp_total}
+use Rattle.std.proofs.lemmas.Map.Lookups.{exact_bytes}
+use Rattle.std.specs.Ordering.{nat_cmp, is_lt}
+use Rattle.std.specs.Cmp.Lexicographic.{slice_cmp}
+use Rattle.std.proofs.lemmas.List.{get_or-map as mapped_at, length-map}
+use Rattle.std.proofs.lemmas.List.Sorted.{list_any-IsPermutation}
+use Rattle.m2_tree.specs.declared.refusal.Refusal.{Refusal}
+use Rattle.m2_once.proofs.Sorting.{by_key, one_stable_sort}
+use Rattle.m2c.specs.Order.{AreInOrder}
+use Rattle.m2c.specs.Build.{Told, told, AreTold}
+
+-- the file of the first is less
+abbrev pub ranks : Told → Told → Bool
+ranks t u = is_lt (slice_cmp nat_cmp t.file u.file)
+
+filter_through : {X Y : Type 0} (p : Y → Bool) (f : X → Y) (xs : List X) → filter p (map f xs) ≡ map f (filter (λ x. p (f x)) xs)
+filter_through p f [] = refl
+filter_through p f (x ∷ xs) = step (p (f x)) (filter_through p f xs)
+  where
+    step : (b : Bool) → filter p (map f xs) ≡ map f (filter (λ x. p (f x)) xs) → cond b (f x ∷ filter p (map f xs)) (filter p (map f xs)) ≡ map f (cond b (x ∷ filter (λ x. p (f x)) xs) (filter (λ x. p (f x)) xs))
+    step true e = ap (λ ys. f x ∷ ys) e
+    step false e = e
+
+-- ---- places of equal rank
+
+tie : (a b : List ℕ) → is_lt (slice_cmp nat_cmp a b) ≡ false → is_lt (slice_cmp nat_cmp b a) ≡ false → a ≡ b
+tie a b e f = by (slice_cmp nat_cmp a b) refl
+  where
+    by : (o : Ordering) → slice_cmp nat_cmp a b ≡ o → a ≡ b
+    by Equal is = exact_bytes a b is
+    by Less is = absurd (let other : true ≡ false = sym (ap is_lt is) ∙ e in cc)
+    by Greater is = absurd (let other : true ≡ false = sym (ap is_lt (nat_list_cmp_total.antisymm b a ∙ ap ordering_reverse is)) ∙ f in cc)
+
+both_true : (a b : Bool) → (a && b) ≡ true → (a ≡ true) × (b ≡ true)
+both_true true b e = (refl, e)
+both_true false b e = absurd cc
+
+not_true : (b : Bool) → not b ≡ true → b ≡ false
+not_true false e = refl
+not_true true e = absurd cc
+
+abbrev ties_with : List ℕ → Told → Bool
+ties_with name t = not (is_lt (slice_cmp nat_cmp name t.file)) && not (is_lt (slice_cmp nat_cmp t.file name))
+
+same_name : (name : List ℕ) (t : Told) → ties_with name t ≡ true → name ≡ t.file
+same_name name t e = let w = both_true (not (is_lt (slice_cmp nat_cmp name t.file))) (not (is_lt (slice_cmp nat_cmp t.file name))) e in tie name t.file (not_true _ w.0) (not_true _ w.1)
+
+none_left : {X : Type 0} (p : X → Bool) (xs : List X) → list_any p xs ≡ false → filter p xs ≡ []
+none_left p [] e = refl
+none_left p (x ∷ xs) e = by (p x) refl (λ h. none_left p xs h)
+  where
+    by : (b : Bool) → p x ≡ b → (list_any p xs ≡ false → filter p xs ≡ []) → filter p (x ∷ xs) ≡ []
+    by true is onward = absurd (let other : list_any p (x ∷ xs) ≡ true = rw is refl in cc)
+    by false is onward = rw is (onward (sym (rw is refl) ∙ e))
+
+found_one : {X : Type 0} (p : X → Bool) (xs : List X) → list_any p xs ≡ true → (x : X) × (p x ≡ true)
+found_one p [] e = absurd cc
+found_one {X = X} p (x ∷ xs) e = by (p x) refl (λ h. found_one p xs h)
+  where
+    by : (b : Bool) → p x ≡ b → (list_any p xs ≡ true → (y : X) × (p y ≡ true)) → (y : X) × (p y ≡ true)
+    by true is onward = (x, is)
+    by false is onward = onward (sym (rw is refl) ∙ e)
+
+-- ---- refusals in order
+
+module _ (found refusals : List Refusal) (order : AreInOrder found refusals) where
+  ranked_stable : IsStableBy ranks (map told found) (map told refusals)
+  ranked_stable x = by (list_any (λ (r : Refusal). ties_with x.file (told r)) refusals) refl
+    where
+      by : (b : Bool) → list_any (λ (r : Refusal). ties_with x.file (told r)) refusals ≡ b → filter (ties ranks x) (map told refusals) ≡ filter (ties ranks x) (map told found)
+      by true is =
+          let one = found_one (λ (r : Refusal). ties_with x.file (told r)) refusals is in
+          let same : x.file ≡ (told one.0).file = same_name x.file (told one.0) one.1 in
+          filter_through (ties_with x.file) told refusals
+          ∙ ap (λ (name : List ℕ). map told (filter (λ (r : Refusal). ties_with name (told r)) refusals)) same
+          ∙ ap (map told) (order.stable one.0)
+          ∙ sym (ap (λ (name : List ℕ). map told (filter (λ (r : Refusal). ties_with name (told r)) found)) same)
+          ∙ sym (filter_through (ties_with x.file) told found)
+      by false is =
+          filter_through (ties_with x.file) told refusals
+          ∙ ap (map told) (none_left (λ (r : Refusal). ties_with x.file (told r)) refusals is)
+          ∙ sym (ap (map told) (none_left (λ (r : Refusal). ties_with x.file (told r)) found (list_any-IsPermutation (λ (r : Refusal). ties_with x.file (told r)) found refusals order.same ∙ is)))
+          ∙ sym (filter_through (ties_with x.file) told found)
+
+  ranked_sorted : IsSortedBy ranks (map told refusals)
+  ranked_sorted k d zero_le h = by refusals refl
+    where
+      by : (rs : List Refusal) → refusals ≡ rs → ranks (slice_index_or (map told refusals) (k + 1) d) (slice_index_or (map told refusals) k d) ≡ false
+      by [] is = absurd (let none : length (map told refusals) ≡ 0 = ap (λ (ss : List Refusal). length (map told ss)) is in omega (arith, none, h))
+      by (r ∷ rs) is =
+          let many : length (map told refusals) ≡ length refusals = length-map refusals told in
+          let next : slice_index_or (map told refusals) (k + 1) d ≡ told (slice_index_or refusals (k + 1) r) = mapped_at told refusals (k + 1) r d (omega (arith, h, many)) in
+          let here : slice_index_or (map told refusals) k d ≡ told (slice_index_or refusals k r) = mapped_at told refusals k r d (omega (arith, h, many)) in
+          ap (λ (t : Told). ranks t (slice_index_or (map told refusals) k d)) next ∙ ap (ranks (told (slice_index_or refusals (k + 1) r))) here ∙ order.sorted k r zero_le (omega (arith, h, many))
+
+-- what is told in order is one list
+pub one_order : (all : List Told) (rs qs : List Refusal) → AreTold all rs → AreTold all qs → map told rs ≡ map told qs
+one_order all rs qs h k =
+    one_stable_sort ranks (by_key (λ (t : Told). t.file)) all (map told rs) (map told qs)
+    (ranked_sorted h.0 rs h.2) (subst (λ (xs : List Told). IsStableBy ranks xs (map told rs)) h.1 (ranked_stable h.0 rs h.2))
+    (ranked_sorted k.0 qs k.2) (subst (λ (xs : List Told). IsStableBy ranks xs (map told qs)) k.1 (ranked_stable k.0 qs k.2))

@@ -1,7 +1,0 @@
-use Rattle.std.proofs.Common.{◌≡◌, ◌-◌}
-use Rattle.wasm_core.specs.Binary.{locals_at}
-use Rattle.wasm_core.proofs.Loop.{with_front}
-use Rattle.wasm_core.proofs.binary.body.groups_at.Given as goal
-
-abbrev pub invariant-loop : goal.invariant-loop
-invariant-loop l = with_front l.groups (locals_at (l.count - l.counter) l.before l.rest) ≡ locals_at l.count 0 l.bytes

@@ -1,7 +1,0 @@
-use Rattle.std.proofs.Common.{◌≡◌, ◌-◌}
-use Rattle.wasm_core.specs.Parts.{many}
-use Rattle.wasm_core.proofs.Loop.{with_front}
-use Rattle.wasm_core.proofs.binary.many.Given as goal
-
-abbrev pub invariant-loop : goal.invariant-loop
-invariant-loop g l = with_front l.items (many g.T.Binary.format (l.count - l.counter) l.rest) ≡ many g.T.Binary.format l.count l.bytes

@@ -1,7 +1,0 @@
-use Rattle.std.proofs.Common.{◌≡◌, ◌++◌, length, take}
-use Rattle.std.specs.List.{flat_map}
-use Rattle.wasm_core.specs.Number.{unsigned}
-use Rattle.wasm_core.proofs.binary.write_vector.Given as goal
-
-abbrev pub invariant-loop-item : goal.invariant-loop-item
-invariant-loop-item g l = l.out ≡ l.fn.out ++ (unsigned.spelling (length l.items) ++ flat_map g.T.Binary.format.spelling (take l.item-index l.items))

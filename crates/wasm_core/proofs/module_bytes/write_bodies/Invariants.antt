@@ -1,8 +1,0 @@
-use Rattle.std.proofs.Common.{◌≡◌, ◌++◌, length, take}
-use Rattle.std.specs.List.{flat_map}
-use Rattle.wasm_core.specs.Number.{unsigned}
-use Rattle.wasm_core.specs.Binary.{body_spelling}
-use Rattle.wasm_core.proofs.module_bytes.write_bodies.Given as goal
-
-abbrev pub invariant-loop-function : goal.invariant-loop-function
-invariant-loop-function l = l.out ≡ l.fn.out ++ (unsigned.spelling (length l.functions) ++ flat_map body_spelling (take l.function-index l.functions))

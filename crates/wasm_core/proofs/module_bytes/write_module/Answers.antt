@@ -1,5 +1,0 @@
-use Rattle.wasm_core.proofs.LawsModule.{is_only_spelling}
-use Rattle.wasm_core.proofs.module_bytes.write_module.Goals as goal
-
-pub returns-clause-only : goal.returns-clause-only
-returns-clause-only c = is_only_spelling c.args.tree.now c.written.result c.written.ensures

@@ -1,7 +1,0 @@
-use Rattle.std.specs.Prelude.{All, take}
-use Rattle.wasm_core.specs.Scope.{scope_of}
-use Rattle.wasm_core.specs.Validity.{IsFunction}
-use Rattle.wasm_core.proofs.valid.check_functions.Given as goal
-
-abbrev pub invariant-loop-function : goal.invariant-loop-function
-invariant-loop-function l = All (IsFunction (scope_of l.scope)) (take l.function-index l.functions)

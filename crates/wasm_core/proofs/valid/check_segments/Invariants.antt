@@ -1,7 +1,0 @@
-use Rattle.std.specs.Prelude.{All, take}
-use Rattle.wasm_core.specs.Scope.{scope_of}
-use Rattle.wasm_core.specs.Validity.{IsData}
-use Rattle.wasm_core.proofs.valid.check_segments.Given as goal
-
-abbrev pub invariant-loop-segment : goal.invariant-loop-segment
-invariant-loop-segment l = All (IsData (scope_of l.scope)) (take l.segment-index l.segments)

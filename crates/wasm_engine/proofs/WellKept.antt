@@ -1,0 +1,75 @@
+-- The engine's configuration stays well typed.
+use Rattle.std.proofs.Math.Logic.{∥∥₁_map}
+use Rattle.std.proofs.Common.{◌-◌, ◌∷◌, [], take, drop, ap₂, ◌≡◌, ℕ, ◌<◌, ◌≤◌, ◌+◌, length, get_or, List, Bool, Option, ap, subst, sym, ◌∙◌, arith, inl, inr}
+use Rattle.std.proofs.Math.Nat.{eq-or-lt_of_le}
+use Rattle.std.proofs.lemmas.List.{get_or_default, nil_from_length, take_all}
+use Rattle.std.proofs.lemmas.Grind.{merely}
+use Rattle.std.specs.Prelude.{All, Ok, false, ◌⊎◌}
+use Rattle.wasm_tree.specs.declared.module.WModule.{WModule}
+use Rattle.wasm_tree.specs.declared.instr.Instr.{Instr, out-Instr}
+use Rattle.wasm_tree.specs.declared.store.Store.{Store}
+use Rattle.wasm_tree.specs.Machine.{Activation, Going, split_last}
+use Rattle.wasm_sound.specs.Ready.{IsReady, IsReadyToEnd}
+use Rattle.wasm_tree.specs.Machine.{Config, run}
+use Rattle.wasm_tree.specs.Linking.{link}
+use Rattle.wasm_tree.specs.Validity.{IsValid}
+use Rattle.wasm_sound.proofs.Linked.{link_is_sound}
+use Rattle.wasm_sound.proofs.Soundness.{run_is_sound, is_ready_to_begin, is_ready_to_end}
+use Rattle.std.specs.Prelude.{Result, IfOk, Err, is_err}
+use Rattle.wasm_engine.specs.Well.{IsWell}
+use Rattle.wasm_engine.specs.Instances.{modules_of, config_of, Runs}
+use Rattle.wasm_engine.specs.declared.engine.End.{End}
+use Rattle.wasm_engine.specs.declared.engine.RunFault.{RunFault}
+use Rattle.wasm_engine.specs.declared.engine.Instances.{Instances}
+
+ran : (modules : List WModule) (n : ℕ) (c : Config) → IsWell modules c → IsWell modules (run modules n c).0
+ran modules n c h = record { valid = h.valid; sound = run_is_sound modules n c h.valid h.sound }
+
+-- after so many reductions
+pub well_run : (modules : List WModule) (n : ℕ) (c next : Config) → ∥ IsWell modules c ∥₁ → next ≡ (run modules n c).0 → ∥ IsWell modules next ∥₁
+well_run modules n c next h e = ∥∥₁_map h (λ w. subst (IsWell modules) (sym e) (ran modules n c w))
+
+pub well_linked : (modules : List WModule) (c : Config) → All IsValid modules → link modules ≡ Ok c → IsWell modules c
+well_linked modules c valid e = record { valid = valid; sound = link_is_sound modules c valid e }
+
+-- of linked modules whose run was not broken off
+pub well_before : (i : Instances) → i.is_broken ≡ false → ∥ IsWell (modules_of i) (config_of i) ∥₁
+well_before i e = ∥∥₁_map i.sound (λ h. h e)
+
+-- and once more reductions were made
+pub well_after : {S : Type 0} (told : S → Option (List ℕ)) (failed : S → ℕ) (steps : ℕ) (old new : Instances) (before after : S) (r : Result End RunFault) (broken : Bool)
+    → broken ≡ is_err r → IfOk r (λ e. Runs told failed steps e old new before after) → modules_of new ≡ modules_of old → ∥ IsWell (modules_of old) (config_of old) ∥₁
+    → ∥ (broken ≡ false → IsWell (modules_of new) (config_of new)) ∥₁
+well_after told failed steps old new before after (Ok e) broken is h same w =
+    ∥∥₁_map (well_run (modules_of old) steps (config_of old) (config_of new) w h.config) (λ x _. subst (λ (m : List WModule). IsWell m (config_of new)) (sym same) x)
+well_after told failed steps old new before after (Err e) broken is h same w = merely (λ g. absurd (grind (arith, is, g)))
+
+-- each module up to a place, and the one there
+abbrev pub AreValid : ℕ → List WModule → Type 0
+AreValid n modules = (k : ℕ) (d : WModule) → k < n → IsValid (get_or modules k d)
+
+pub seen_more : (modules : List WModule) (n : ℕ) (x : WModule) → AreValid n modules → n < length modules → x ≡ get_or modules n x → IsValid x → AreValid (n + 1) modules
+seen_more modules n x before within is valid k d less = go (eq-or-lt_of_le at_most)
+  where
+    at_most : k ≤ n
+    at_most = omega arith
+
+    go : (k ≡ n) ⊎ (k < n) → IsValid (get_or modules k d)
+    go (inl e) = subst IsValid (is ∙ (get_or_default modules n x d within ∙ ap (λ (j : ℕ). get_or modules j d) (sym e))) valid
+    go (inr h) = before k d h
+
+-- ---- what the next instruction needs is there
+
+front_is : (xs : List Instr) (x : Instr) (left : List Instr) → 1 ≤ length xs → x ≡ get_or xs 0 x → left ≡ take (length xs - 1) (drop 1 xs) → xs ≡ x ∷ left
+front_is [] x left h e g = absurd (omega arith)
+front_is (y ∷ ys) x left h e g = ap₂ (λ (z : Instr) (zs : List Instr). z ∷ zs) (sym e) (sym (g ∙ take_all (length (y ∷ ys) - 1) ys (omega arith)))
+
+pub front_ready : (modules : List WModule) (st : Store) (now : Activation) (callers : List Activation) (x : Instr) (left : List Instr) → ∥ IsWell modules (Going st now callers) ∥₁ → 1 ≤ length now.rest → x ≡ get_or now.rest 0 x
+    → left ≡ take (length now.rest - 1) (drop 1 now.rest) → ∥ IsReady modules st (record now { rest = left }) (out-Instr x) ∥₁
+front_ready modules st now callers x left w h e g = ∥∥₁_map w (λ a. is_ready_to_begin modules a.valid st now callers a.sound x left (front_is now.rest x left h e g))
+
+pub end_ready : (modules : List WModule) (st : Store) (now : Activation) (callers : List Activation) → ∥ IsWell modules (Going st now callers) ∥₁ → length now.rest < 1 → ∥ IsReadyToEnd now (split_last now.labels) ∥₁
+end_ready modules st now callers w h = ∥∥₁_map w (λ a. is_ready_to_end modules a.valid st now callers a.sound (nil_from_length now.rest none))
+  where
+    none : length now.rest ≡ 0
+    none = omega arith

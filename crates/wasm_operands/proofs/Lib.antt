@@ -1,0 +1,2 @@
+pub mod Merely
+pub mod Cells

@@ -1,6 +1,0 @@
-use Rattle.std.proofs.Common.{◌≡◌, ◌++◌, replicate}
-use Rattle.wasm_core.specs.Machine.{zero_of}
-use Rattle.wasm_run.proofs.machine.push_zeros.Given as goal
-
-abbrev pub invariant-loop : goal.invariant-loop
-invariant-loop l = l.locals.items ≡ l.fn.locals.items ++ replicate l.counter (zero_of l.group.value_type)

@@ -1,7 +1,0 @@
-use Rattle.std.proofs.Common.{◌≡◌, drop}
-use Rattle.wasm_core.specs.Linking.{each, with_element}
-use Rattle.wasm_run.specs.Run.{linked}
-use Rattle.wasm_run.proofs.segments.with_elements.Given as goal
-
-abbrev pub invariant-loop-element : goal.invariant-loop-element
-invariant-loop-element l = each with_element (drop l.element-index l.elements) (linked l.store l.instance) ≡ each with_element l.elements (linked l.fn.store l.instance)

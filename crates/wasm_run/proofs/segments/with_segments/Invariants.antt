@@ -1,7 +1,0 @@
-use Rattle.std.proofs.Common.{◌≡◌, drop}
-use Rattle.wasm_core.specs.Linking.{each, with_segment}
-use Rattle.wasm_run.specs.Run.{linked}
-use Rattle.wasm_run.proofs.segments.with_segments.Given as goal
-
-abbrev pub invariant-loop-segment : goal.invariant-loop-segment
-invariant-loop-segment l = each with_segment (drop l.segment-index l.segments) (linked l.store l.instance) ≡ each with_segment l.segments (linked l.fn.store l.instance)

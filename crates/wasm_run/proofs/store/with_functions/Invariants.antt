@@ -1,8 +1,0 @@
-use Rattle.std.proofs.Common.{◌≡◌, drop}
-use Rattle.wasm_core.specs.Linking.{with_functions}
-use Rattle.wasm_run.specs.Run.{linked}
-use Rattle.wasm_run.proofs.store.with_functions.Given as goal
-
-abbrev pub invariant-loop-function : goal.invariant-loop-function
-invariant-loop-function l =
-    with_functions l.number l.function (drop l.function l.functions) (linked l.store l.instance) ≡ with_functions l.number 0 l.functions (linked l.fn.store l.fn.instance)

@@ -1,7 +1,0 @@
-use Rattle.std.proofs.Common.{◌≡◌, drop}
-use Rattle.wasm_core.specs.Linking.{each, with_global}
-use Rattle.wasm_run.specs.Run.{linked}
-use Rattle.wasm_run.proofs.store.with_globals.Given as goal
-
-abbrev pub invariant-loop-global : goal.invariant-loop-global
-invariant-loop-global l = each with_global (drop l.global-index l.globals) (linked l.store l.instance) ≡ each with_global l.globals (linked l.fn.store l.fn.instance)

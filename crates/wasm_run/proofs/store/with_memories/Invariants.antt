@@ -1,7 +1,0 @@
-use Rattle.std.proofs.Common.{◌≡◌, drop}
-use Rattle.wasm_core.specs.Linking.{each, with_memory}
-use Rattle.wasm_run.specs.Run.{linked}
-use Rattle.wasm_run.proofs.store.with_memories.Given as goal
-
-abbrev pub invariant-loop-memory : goal.invariant-loop-memory
-invariant-loop-memory l = each with_memory (drop l.memory-index l.memories) (linked l.store l.instance) ≡ each with_memory l.memories (linked l.fn.store l.fn.instance)

@@ -1,7 +1,0 @@
-use Rattle.std.proofs.Common.{◌≡◌, drop}
-use Rattle.wasm_core.specs.Linking.{each, with_table}
-use Rattle.wasm_run.specs.Run.{linked}
-use Rattle.wasm_run.proofs.store.with_tables.Given as goal
-
-abbrev pub invariant-loop-table : goal.invariant-loop-table
-invariant-loop-table l = each with_table (drop l.table-index l.tables) (linked l.store l.instance) ≡ each with_table l.tables (linked l.fn.store l.fn.instance)

@@ -1,6 +1,0 @@
-use Rattle.std.proofs.Common.{◌≡◌, drop}
-use Rattle.wasm_core.specs.Machine.{are_same}
-use Rattle.wasm_run.proofs.types.are_same.Given as goal
-
-abbrev pub invariant-loop-k : goal.invariant-loop-k
-invariant-loop-k l = are_same (drop l.k l.xs) (drop l.k l.ys) ≡ are_same l.xs l.ys

@@ -1,0 +1,4 @@
+pub mod Sound
+pub mod Ready
+pub mod Traps
+pub mod Ranges
