@@ -1,3 +1,4 @@
+pub mod Code
 pub mod Format
 pub mod Validity
 pub mod Numbers

@@ -2,12 +2,14 @@
 //! are valid, how they are linked, and each step of the machine.
 #![tactic(auto)]
 
+mod code;
 mod fault;
 mod instr;
 mod kinds;
 mod module;
 mod store;
 
+pub use code::{Code, Op, split_ops};
 pub use fault::WFault;
 pub use instr::{Instr, Load, Numeric, Operation, Relation, StoreWidth};
 pub use kinds::{FuncType, Limits, MemoryType, TableType, ValueType};

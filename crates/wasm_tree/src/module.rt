@@ -1,6 +1,6 @@
 //! Modules as trees (Core 1.0, section 2.5).
 
-use crate::instr::Instr;
+use crate::code::Code;
 use crate::kinds::{FuncType, Limits, MemoryType, TableType, ValueType};
 use sqlite_items::Items;
 
@@ -27,7 +27,7 @@ pub struct Import {
 #[derive(Debug, Drop)]
 pub struct Global {
     pub value_type: ValueType,
-    pub value: Items<Instr>,
+    pub value: Code,
 }
 
 /// What is exported, by its index among the module's things of that kind, imported ones first.
@@ -50,7 +50,7 @@ pub struct Export {
 #[derive(Debug, Drop)]
 pub struct Element {
     pub table: u32,
-    pub offset: Items<Instr>,
+    pub offset: Code,
     pub functions: Items<u32>,
 }
 
@@ -65,7 +65,7 @@ pub struct Locals {
 #[derive(Debug, Drop)]
 pub struct Body {
     pub locals: Items<Locals>,
-    pub code: Items<Instr>,
+    pub code: Code,
 }
 
 /// A function, its type by its index.
@@ -79,7 +79,7 @@ pub struct Function {
 #[derive(Debug, Drop)]
 pub struct Data {
     pub memory: u32,
-    pub offset: Items<Instr>,
+    pub offset: Code,
     pub bytes: Items<u8>,
 }
 
