@@ -4,14 +4,14 @@ ghost use Rattle.std.specs.Prelude.{◌≡◌, ◌<◌, ◌++◌, ◌∷◌, [],
 ghost use Rattle.m2_emit.specs.Program.{Put};
 ghost use Rattle.m2_emit.specs.Scheme.{base_name, body, body_code, body_imports, body_locals, body_module, body_types, from_host, from_link, host_imports, imported_globals, own_imports, tab_name};
 
-use crate::code::body_code;
+use crate::code::{body_code, global_code};
 use crate::parts::{AT_LEAST_ONE, joined, one, type_from};
 use crate::source::Source;
 use m2_tree::Name;
 use sqlite_items::Items;
 use std::alloc::{AllocError, Global};
 use wasm_tree::{
-    Body, Element, FuncType, Function, Import, ImportKind, Instr, Locals, MemoryType, TableType,
+    Body, Element, FuncType, Function, Import, ImportKind, Locals, MemoryType, TableType,
     ValueType, WModule,
 };
 
@@ -152,7 +152,7 @@ pub fn body_module(alloc: Global, source: &Source) -> Result<WModule, AllocError
 {
     let element = Element {
         table: 0,
-        offset: one(alloc, Instr::GlobalGet(3))?,
+        offset: global_code(alloc, 3)?,
         functions: one(alloc, 2)?,
     };
     Ok(WModule {

@@ -3,9 +3,10 @@
 ghost use Rattle.std.specs.Prelude.{◌≡◌, ◌++◌, ◌∷◌, [], IfOk};
 ghost use Rattle.m2_emit.specs.Scheme.{type_from, exported_as, constant_global};
 
+use crate::code::number_code;
 use sqlite_items::Items;
 use std::alloc::{AllocError, Global};
-use wasm_tree::{Export, ExportKind, FuncType, Global as Constant, Instr, Limits, ValueType};
+use wasm_tree::{Export, ExportKind, FuncType, Global as Constant, Limits, ValueType};
 
 /// At least one page, or one slot.
 pub const AT_LEAST_ONE: Limits = Limits { min: 1, max: None };
@@ -50,7 +51,7 @@ pub fn constant_global(alloc: Global, number: u32) -> Result<Constant, AllocErro
 {
     Ok(Constant {
         value_type: ValueType::I32,
-        value: one(alloc, Instr::I32Const(number))?,
+        value: number_code(alloc, number)?,
     })
 }
 

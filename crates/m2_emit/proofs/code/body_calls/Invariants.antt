@@ -1,6 +1,7 @@
 use Rattle.std.proofs.Common.{◌≡◌, ◌+◌, ◌*◌, ◌++◌, drop}
-use Rattle.m2_emit.specs.Scheme.{body_calls, program}
+use Rattle.m2_emit.specs.Scheme.{program}
+use Rattle.m2_emit.proofs.Lists.{call_ops}
 use Rattle.m2_emit.proofs.code.body_calls.Given as goal
 
 abbrev pub invariant-loop : goal.invariant-loop
-invariant-loop l = (l.global ≡ 3 + 3 * l.index) × (l.code ++ body_calls l.global (program (drop l.index l.sources)) ≡ body_calls 3 (program l.sources))
+invariant-loop l = (l.global ≡ 3 + 3 * l.index) × (l.ops.items ++ call_ops l.global (program (drop l.index l.sources)) ≡ call_ops 3 (program l.sources))

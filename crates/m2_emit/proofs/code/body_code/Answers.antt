@@ -1,8 +1,8 @@
-use Rattle.std.proofs.Common.{◌<◌, ℕ, get_or, [], ◌∷◌, sym, ap, ◌∙◌, arith}
-use Rattle.std.specs.List.{flat_map}
+use Rattle.std.proofs.Common.{◌<◌, ℕ, get_or, sym, ap, ◌∙◌, arith}
 use Rattle.std.proofs.lemmas.List.{take_all, get_or_default}
 use Rattle.std.proofs.lemmas.List.Folds.{flat_map-map}
-use Rattle.wasm_tree.specs.declared.instr.Instr.TheVariants.{Call, I64Const}
+use Rattle.wasm_tree.specs.Code.{tree}
+use Rattle.m2_emit.proofs.Lists.{put_ops, puts}
 use Rattle.m2_emit.specs.Program.{Put}
 use Rattle.m2_emit.specs.Scheme.{stmt_code}
 use Rattle.m2_emit.proofs.code.body_code.Goals as goal
@@ -11,7 +11,7 @@ pub returns-clause-code : goal.returns-clause-code
 returns-clause-code c =
     let all = take_all c.loop-byte.byte-index c.args.printed.now (omega arith) in
     let same = flat_map-map stmt_code (λ (b : ℕ). Put b) c.args.printed.now in
-    c.loop-byte.invariant ∙ ap (flat_map (λ (ch : ℕ). I64Const ch ∷ Call 0 ∷ [])) all ∙ sym same
+    ap tree (c.loop-byte.invariant ∙ ap put_ops all) ∙ puts c.args.printed.now ∙ sym same
 
 pub returns-clause-small : goal.returns-clause-small
 returns-clause-small c = λ k d h.
