@@ -1,13 +1,13 @@
 -- What is found where it is there.
 use Rattle.std.proofs.Common.{◌≡◌, ℕ, ◌-◌, ◌<◌, ◌≤◌, List, [], ◌∷◌, ◌++◌, take, length, zero, suc, Option, Some, None, refl, sym, ap, ◌∙◌, arith}
-use Rattle.std.specs.Prelude.{slice_get}
+use Rattle.std.specs.Prelude.{slice_get, slice_index_or}
 use Rattle.wasm_tree.specs.declared.store.Value.{Value}
 use Rattle.std.proofs.lemmas.Bool.{lt-ltb, le-leb}
 use Rattle.std.specs.Prelude.{slice_set, Result, Ok, Err, IfOk}
 use Rattle.wasm_tree.specs.declared.module.WModule.{WModule}
 use Rattle.wasm_tree.specs.declared.store.Store.{Store}
-use Rattle.wasm_tree.specs.declared.instr.Instr.TheVariants.{Drop, LocalGet, LocalSet, LocalTee, outs-Drop, outs-LocalGet, outs-LocalSet, outs-LocalTee}
-use Rattle.wasm_tree.specs.Machine.{Activation, Going, split_last, topmost, begun, begun_layer, or_trap, with_local, pushed, branched, found}
+use Rattle.wasm_tree.specs.declared.instr.Instr.TheVariants.{BrTable, Drop, LocalGet, LocalSet, LocalTee, outs-BrTable, outs-Drop, outs-LocalGet, outs-LocalSet, outs-LocalTee}
+use Rattle.wasm_tree.specs.Machine.{Activation, Going, split_last, top_i32, topmost, begun, begun_layer, or_trap, with_local, pushed, branched, found}
 use Rattle.wasm_engine.specs.declared.frame.Machine.{Machine}
 use Rattle.wasm_engine.specs.declared.frame.Reduced.{Reduced}
 use Rattle.wasm_engine.specs.Going.{progress}
@@ -63,3 +63,13 @@ pub leaves : {E : Type 0} (r : Result Reduced E) (m : Machine) (st : Store) (now
     → IfOk r (λ x. progress x m ≡ found st now callers None) → IfOk r (λ x. progress x m ≡ branched st now callers l)
 leaves (Ok x) m st now callers l h e is = is ∙ branched_out st now callers l h e
 leaves (Err x) m st now callers l h e is = tt
+
+-- a branch to the label that an operand numbers
+pub tabled : {E : Type 0} (r : Result Reduced E) (m : Machine) (st : Store) (now : Activation) (callers : List Activation) (ls : List ℕ) (default n l : ℕ) (rest : List Value) → top_i32 now.stack ≡ Some (rest, n) → l ≡ slice_index_or ls n default
+    → IfOk r (λ x. progress x m ≡ branched st (record now { stack = rest }) callers l) → IfOk r (λ x. (modules : List WModule) → progress x m ≡ begun modules st now callers (BrTable ls default))
+tabled (Ok x) m st now callers ls default n l rest top is h = λ modules.
+    h
+    ∙ (ap (branched st (record now { stack = rest }) callers) is
+    ∙ sym (ap (begun_layer modules st now callers (BrTable ls default)) (outs-BrTable ls default)
+    ∙ ap (λ (o : Option (List Value × ℕ)). or_trap o (λ p. branched st (record now { stack = p.0 }) callers (slice_index_or ls p.1 default))) top))
+tabled (Err x) m st now callers ls default n l rest top is h = tt

@@ -6,3 +6,4 @@ pub mod WellKept
 pub mod Found
 pub mod Ready
 pub mod Groups
+pub mod Opened

@@ -3,6 +3,7 @@ use Rattle.std.specs.Prelude.{ℕ, List, [], ◌∷◌, ◌++◌, map, length, O
 use Rattle.std.specs.Borrow.{Bor}
 use Rattle.wasm_tree.specs.declared.store.Memory.{Memory}
 use Rattle.wasm_tree.specs.declared.store.Store.{Store}
+use Rattle.wasm_tree.specs.Code.{tree}
 use Rattle.wasm_tree.specs.Machine as machine
 use Rattle.wasm_tree.specs.Machine.{Activation, Config, Going, Over, Trapped, Progress, Typed, trapped, or_trap, split_end, entered}
 use Rattle.wasm_engine.specs.declared.frame.Label.{Label}
@@ -13,10 +14,10 @@ use Rattle.wasm_engine.specs.declared.frame.Reduced.{Reduced}
 use Rattle.wasm_engine.specs.declared.frame.Reduced.TheVariants as reduced
 
 abbrev pub label_of : Label → machine.Label
-label_of l = record { arity = l.arity; height = l.height; again = l.again.now; rest = l.rest.now }
+label_of l = record { arity = l.arity; height = l.height; again = tree l.again.now; rest = tree l.rest.now }
 
 abbrev pub activation : Frame → Activation
-activation f = record { instance = f.instance; arity = f.arity; locals = f.locals.known.values; labels = map label_of f.labels.items; rest = f.rest.now; stack = f.stack.known.values }
+activation f = record { instance = f.instance; arity = f.arity; locals = f.locals.known.values; labels = map label_of f.labels.items; rest = tree f.rest.now; stack = f.stack.known.values }
 
 abbrev pub memory_from : Pages → Memory
 memory_from p = record { bytes = p.bytes.items; max = p.max }

@@ -1,6 +1,8 @@
 //! Blocks and branches (Core 1.0, section 4.4.5).
 
-ghost use Rattle.std.specs.Prelude.{◌≡◌, ◌≤◌, ◌+◌, ◌-◌, IfOk, Some, List, map, take, length, slice_index_or};
+ghost use Rattle.std.specs.Prelude.{◌≡◌, ◌≤◌, ◌+◌, ◌-◌, IfOk, Some, List, map, take, drop, length, slice_index_or};
+ghost use Rattle.wasm_tree.specs.Code as code;
+ghost use Rattle.wasm_tree.specs.Code.{tree};
 ghost use Rattle.wasm_tree.specs.Machine.{inside, found, branched, begun, ended, split_last};
 ghost use Rattle.wasm_tree.specs.declared.module.WModule.{WModule};
 ghost use Rattle.wasm_tree.specs.declared.instr.Instr.TheVariants.{BrIf, BrTable};
@@ -10,17 +12,17 @@ ghost use Rattle.wasm_engine.specs.Going.{activation, label_of, store_of, caller
 use crate::call::leave;
 use crate::frame::{Label, Machine, Reduced};
 use std::alloc::AllocError;
-use wasm_tree::Instr;
+use wasm_tree::{Op, split_ops};
 
 /// A block begins: a branch to it keeps so many operands and goes on there.
 #[inline(always)]
 pub fn inside<'a>(
     machine: &mut Machine<'a>,
     arity: usize,
-    again: &'a [Instr],
-    body: &'a [Instr],
+    again: &'a [Op],
+    body: &'a [Op],
 ) -> Result<Reduced, AllocError>
-    ensures { IfOk result (λ r. progress r machine.new ≡ inside (store_of machine.old) (activation machine.old.now) (callers_of machine.old) arity again.now body.now) }
+    ensures { IfOk result (λ r. progress r machine.new ≡ inside (store_of machine.old) (activation machine.old.now) (callers_of machine.old) arity (tree again.now) (tree body.now)) }
 {
     let label = Label {
         arity,
@@ -31,6 +33,37 @@ pub fn inside<'a>(
     machine.now.labels.push(label)?;
     machine.now.rest = body;
     Ok(Reduced::On)
+}
+
+/// A block begins that holds so many of the instructions ahead: a branch to it keeps so many operands and goes on behind
+/// it.
+#[inline(always)]
+pub fn block<'a>(
+    machine: &mut Machine<'a>,
+    arity: usize,
+    ahead: &'a [Op],
+    count: u32,
+) -> Result<Reduced, AllocError>
+    ensures { IfOk result (λ r. progress r machine.new ≡ inside (store_of machine.old) (record (activation machine.old.now) { rest = tree (drop count ahead.now) }) (callers_of machine.old) arity (tree (drop count ahead.now)) (tree (take count ahead.now))) }
+{
+    let (body, behind) = split_ops(ahead, count);
+    machine.now.rest = behind;
+    inside(machine, arity, behind, body)
+}
+
+/// The same of a loop, at the front of `code` and just before these instructions: a branch to it begins it again.
+#[inline(always)]
+pub fn again<'a>(
+    machine: &mut Machine<'a>,
+    code: &'a [Op],
+    ahead: &'a [Op],
+    count: u32,
+) -> Result<Reduced, AllocError>
+    ensures { IfOk result (λ r. progress r machine.new ≡ inside (store_of machine.old) (record (activation machine.old.now) { rest = tree (drop count ahead.now) }) (callers_of machine.old) 0 (tree code.now) (tree (take count ahead.now))) }
+{
+    let (body, behind) = split_ops(ahead, count);
+    machine.now.rest = behind;
+    inside(machine, 0, code, body)
 }
 
 /// Takes off the labels up to the one of this number, counted from the innermost one, and that one too.
@@ -66,6 +99,7 @@ pub fn branch(machine: &mut Machine<'_>, label: u32) -> Result<Reduced, AllocErr
 }
 
 /// A branch where the topmost operand is not 0.
+#[tactic(auto, using(crate::proofs::Opened::out_br_if))]
 #[inline(always)]
 pub fn branch_if(machine: &mut Machine<'_>, label: u32) -> Result<Reduced, AllocError>
     requires { ∥ CanBranchIf (activation machine.old.now).labels machine.old.now.arity machine.old.now.stack.known.values label ∥₁ }
@@ -77,14 +111,25 @@ pub fn branch_if(machine: &mut Machine<'_>, label: u32) -> Result<Reduced, Alloc
     branch(machine, label)
 }
 
-/// The label of this number in the list, or the default.
+/// The label that a branch names.
 #[inline(always)]
-fn chosen(labels: &[u32], number: u32, default: u32) -> u32
-    ensures { result ≡ slice_index_or labels.now number default }
+fn label_of(op: Op) -> u32
+    ensures { result ≡ code.label_of op }
+{
+    match op {
+        Op::Br(label) => label,
+        _ => 0,
+    }
+}
+
+/// The label of this number among branches, or the default.
+#[inline(always)]
+fn chosen(branches: &[Op], number: u32, default: u32) -> u32
+    ensures { result ≡ slice_index_or (map code.label_of branches.now) number default }
 {
     let number = number as usize;
-    if number < labels.len() {
-        labels[number]
+    if number < branches.len() {
+        label_of(branches[number])
     } else {
         default
     }
@@ -94,14 +139,30 @@ fn chosen(labels: &[u32], number: u32, default: u32) -> u32
 #[inline(always)]
 pub fn branch_table(
     machine: &mut Machine<'_>,
-    labels: &[u32],
+    branches: &[Op],
     default: u32,
 ) -> Result<Reduced, AllocError>
-    requires { ∥ CanBranchTable (activation machine.old.now).labels machine.old.now.arity machine.old.now.stack.known.values labels.now default ∥₁ }
-    ensures { IfOk result (λ r. (modules : List WModule) → progress r machine.new ≡ begun modules (store_of machine.old) (activation machine.old.now) (callers_of machine.old) (BrTable labels.now default)) }
+    requires { ∥ CanBranchTable (activation machine.old.now).labels machine.old.now.arity machine.old.now.stack.known.values (map code.label_of branches.now) default ∥₁ }
+    ensures { IfOk result (λ r. (modules : List WModule) → progress r machine.new ≡ begun modules (store_of machine.old) (activation machine.old.now) (callers_of machine.old) (BrTable (map code.label_of branches.now) default)) }
 {
     let number = machine.now.stack.pop_i32();
-    branch(machine, chosen(labels, number, default))
+    branch(machine, chosen(branches, number, default))
+}
+
+/// The same, where so many of the instructions ahead are the branches.
+#[inline(always)]
+pub fn table<'a>(
+    machine: &mut Machine<'a>,
+    ahead: &'a [Op],
+    count: u32,
+    default: u32,
+) -> Result<Reduced, AllocError>
+    requires { ∥ CanBranchTable (activation machine.old.now).labels machine.old.now.arity machine.old.now.stack.known.values (map code.label_of (take count ahead.now)) default ∥₁ }
+    ensures { IfOk result (λ r. (modules : List WModule) → progress r machine.new ≡ begun modules (store_of machine.old) (record (activation machine.old.now) { rest = tree (drop count ahead.now) }) (callers_of machine.old) (BrTable (map code.label_of (take count ahead.now)) default)) }
+{
+    let (branches, behind) = split_ops(ahead, count);
+    machine.now.rest = behind;
+    branch_table(machine, branches, default)
 }
 
 /// The end of a block, or of the function where there is none.

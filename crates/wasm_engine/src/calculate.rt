@@ -157,6 +157,7 @@ fn calculated(stack: &mut Operands, numeric: Numeric) -> bool
 }
 
 /// Puts what this instruction makes of the topmost operands in their place.
+#[tactic(auto, using(crate::proofs::Opened::out_numeric))]
 #[inline(always)]
 pub fn calculate(machine: &mut Machine<'_>, numeric: Numeric) -> Reduced
     requires { ∥ AreNumbers numeric machine.old.now.stack.known.values ∥₁ }

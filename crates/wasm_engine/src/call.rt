@@ -61,7 +61,7 @@ fn enter<'a>(
     frame.locals.push_end(stack, count)?;
     push_locals(&mut frame.locals, body.locals.as_slice())?;
     frame.labels.clear();
-    frame.rest = body.code.as_slice();
+    frame.rest = body.code.ops();
     frame.stack.truncate(0);
     Ok(())
 }
@@ -167,6 +167,7 @@ fn call<'a>(
 }
 
 /// The call of the function of this index.
+#[tactic(auto, using(crate::proofs::Opened::out_call))]
 #[inline(always)]
 pub fn call_index<'a>(
     alloc: Global,
@@ -182,6 +183,7 @@ pub fn call_index<'a>(
 }
 
 /// The call of the function in the slot that the topmost operand names.
+#[tactic(auto, using(crate::proofs::Opened::out_call_indirect))]
 #[inline(always)]
 pub fn call_indirect<'a>(
     alloc: Global,

@@ -1,7 +1,7 @@
 //! Where a run is (Core 1.0, section 4.2): functions that run or wait, with their labels and operands.
 
 use wasm_operands::Operands;
-use wasm_tree::{Instr, Store};
+use wasm_tree::{Op, Store};
 
 /// A block that was begun. A branch to it keeps `arity` operands above the lowest `height` ones and goes on with `again`;
 /// behind its end stands `rest`.
@@ -9,8 +9,8 @@ use wasm_tree::{Instr, Store};
 pub struct Label<'a> {
     pub arity: usize,
     pub height: usize,
-    pub again: &'a [Instr],
-    pub rest: &'a [Instr],
+    pub again: &'a [Op],
+    pub rest: &'a [Op],
 }
 
 /// A function that runs, or waits for one that it called. The last label is the innermost one.
@@ -20,7 +20,7 @@ pub struct Frame<'a> {
     pub arity: usize,
     pub locals: Operands,
     pub labels: Vec<Label<'a>>,
-    pub rest: &'a [Instr],
+    pub rest: &'a [Op],
     pub stack: Operands,
 }
 

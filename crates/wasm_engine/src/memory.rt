@@ -35,6 +35,7 @@ fn loaded_at(kind: Load, bytes: &[u8], place: u32) -> Option<u64>
 }
 
 /// Puts what the memory holds at the address on top in its place.
+#[tactic(auto, using(crate::proofs::Opened::out_load))]
 #[inline(always)]
 pub fn load(machine: &mut Machine<'_>, kind: Load) -> Reduced
     requires address { ∥ IsI32 machine.old.now.stack.known.values ∥₁ }
@@ -82,6 +83,7 @@ fn store_bytes(machine: &mut Machine<'_>, bytes: &[u8]) -> Reduced
 }
 
 /// Takes a number and an address below it, and stores the number there.
+#[tactic(auto, using(crate::proofs::Opened::out_store))]
 #[inline(always)]
 pub fn store(machine: &mut Machine<'_>, width: StoreWidth) -> Reduced
     requires { ∥ CanStore (store_of machine.old) machine.old.now.instance machine.old.now.stack.known.values ∥₁ }

@@ -13,6 +13,7 @@ use std::alloc::AllocError;
 use wasm_tree::Value;
 
 /// Pushes the value of a global.
+#[tactic(auto, using(crate::proofs::Opened::out_global_get))]
 #[inline(always)]
 pub fn global_get(machine: &mut Machine<'_>, global: u32) -> Result<Reduced, AllocError>
     requires { IsThere (global_at (store_of machine.old) machine.old.now.instance global) }
