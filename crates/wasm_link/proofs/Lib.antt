@@ -1,3 +1,4 @@
 pub mod Fold
 pub mod Same
 pub mod Addressed
+pub mod Constants

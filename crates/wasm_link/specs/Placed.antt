@@ -1,5 +1,5 @@
 -- What the values of the linker stand for.
-use Rattle.std.specs.Prelude.{ℕ, List, Option, Some, None}
+use Rattle.std.specs.Prelude.{List, Option, Some, None}
 use Rattle.std.specs.Borrow.{Bor}
 use Rattle.std.specs.Global.{Vec}
 use Rattle.wasm_tree.specs.declared.kinds.FuncType.{FuncType}

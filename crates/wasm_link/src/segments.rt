@@ -98,7 +98,7 @@ fn with_element(
 ) -> Result<(), WFault>
     ensures { Gives (λ _. linked store.new instance.now) result (with_element element.now (linked store.old instance.now)) }
 {
-    let place = offset_of(value_of(store, instance, element.offset.as_slice()))?;
+    let place = offset_of(value_of(store, instance, element.offset.ops()))?;
     let table = some_address(instance.tables.as_slice(), element.table)?;
     match addresses(alloc, instance, element.functions.as_slice())? {
         None => Err(WFault::SegmentOutside),
@@ -150,7 +150,7 @@ fn with_segment(
 ) -> Result<(), WFault>
     ensures { Gives (λ _. linked store.new instance.now) result (with_segment segment.now (linked store.old instance.now)) }
 {
-    let place = offset_of(value_of(store, instance, segment.offset.as_slice()))?;
+    let place = offset_of(value_of(store, instance, segment.offset.ops()))?;
     let memory = some_address(instance.memories.as_slice(), segment.memory)?;
     with_bytes(alloc, store, memory, place, segment.bytes.as_slice())
 }

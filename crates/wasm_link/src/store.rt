@@ -1,6 +1,8 @@
 //! What a module adds to the store (Core 1.0, section 4.5.3).
 
-ghost use Rattle.std.specs.Prelude.{◌≡◌, ◌*◌, Ok, OnOk, IfOk, replicate, None};
+ghost use Rattle.std.specs.Prelude.{◌≡◌, ◌*◌, List, Ok, OnOk, IfOk, replicate, None};
+ghost use Rattle.wasm_tree.specs.declared.code.Op.{Op};
+ghost use Rattle.wasm_tree.specs.Code.{tree, head};
 ghost use Rattle.wasm_tree.specs.Format.{Gives};
 ghost use Rattle.wasm_tree.specs.Linking.{with_function, with_functions, fresh_table, with_table, fresh_memory, with_memory, constant, value_of, with_value, with_global, each};
 ghost use Rattle.wasm_link.specs.Placed.{linked};
@@ -8,7 +10,7 @@ ghost use Rattle.wasm_link.specs.Placed.{linked};
 use sqlite_items::{Items, at};
 use std::alloc::{AllocError, Global};
 use wasm_tree::{
-    Callee, Function, Global as Constant, Instance, Instr, Memory, MemoryType, Store, Table,
+    Callee, Function, Global as Constant, Instance, Memory, MemoryType, Op, Store, Table,
     TableType, Value, WFault,
 };
 
@@ -124,26 +126,44 @@ pub fn with_memories(
     Ok(())
 }
 
-fn constant(store: &Store, instance: &Instance, instr: &Instr) -> Option<Value>
-    ensures { result ≡ constant (linked store.now instance.now) instr.now }
+/// The value of an instruction that is constant, whatever stands behind it.
+fn constant(store: &Store, instance: &Instance, op: Op) -> Option<Value>
+    ensures { (rest : List Op) → result ≡ constant (linked store.now instance.now) (head tree op rest) }
 {
-    match instr {
-        Instr::I32Const(number) => Some(Value::I32(*number)),
-        Instr::I64Const(number) => Some(Value::I64(*number)),
-        Instr::GlobalGet(global) => {
-            let address = at(instance.globals.as_slice(), *global as usize)?;
+    match op {
+        Op::I32Const(number) => Some(Value::I32(number)),
+        Op::I64Const(number) => Some(Value::I64(number)),
+        Op::GlobalGet(global) => {
+            let address = at(instance.globals.as_slice(), global as usize)?;
             Some(*at(store.globals.as_slice(), *address)?)
         }
-        _ => None,
+        Op::Unreachable
+        | Op::Block(_, _)
+        | Op::Loop(_, _)
+        | Op::If(_, _)
+        | Op::IfElse(_, _, _)
+        | Op::Br(_)
+        | Op::BrIf(_)
+        | Op::BrTable(_, _)
+        | Op::Return
+        | Op::Call(_)
+        | Op::CallIndirect(_)
+        | Op::Drop
+        | Op::LocalGet(_)
+        | Op::LocalSet(_)
+        | Op::LocalTee(_)
+        | Op::Load(_)
+        | Op::Store(_)
+        | Op::Numeric(_) => None,
     }
 }
 
 /// The value of a constant expression.
-pub fn value_of(store: &Store, instance: &Instance, code: &[Instr]) -> Option<Value>
-    ensures { result ≡ value_of (linked store.now instance.now) code.now }
+pub fn value_of(store: &Store, instance: &Instance, code: &[Op]) -> Option<Value>
+    ensures { result ≡ value_of (linked store.now instance.now) (tree code.now) }
 {
     match code {
-        [instr] => constant(store, instance, instr),
+        [op] => constant(store, instance, *op),
         _ => None,
     }
 }
@@ -151,7 +171,7 @@ pub fn value_of(store: &Store, instance: &Instance, code: &[Instr]) -> Option<Va
 fn with_global(store: &mut Store, instance: &mut Instance, global: &Constant) -> Result<(), WFault>
     ensures { Gives (λ _. linked store.new instance.new) result (with_global global.now (linked store.old instance.old)) }
 {
-    let Some(value) = value_of(store, instance, global.value.as_slice()) else {
+    let Some(value) = value_of(store, instance, global.value.ops()) else {
         return Err(WFault::Unlinked);
     };
     let address = store.globals.len();

@@ -19,7 +19,7 @@ each_all {X} P xs k le all = subst (λ (ys : List X). All P ys) (take_all k xs l
 pub each_refused : {X : Type 0} (P : X → Type 0) (xs : List X) (k : ℕ) (x : X) (e : WFault) → k < length xs → x ≡ get_or xs k x → Refuses e (¬ P x) → Refuses e (¬ All P xs)
 each_refused P xs k x e lt is h = refuses_so e (¬ P x) (¬ All P xs) (λ n all. n (subst P (sym is) (all k x lt))) h
 
-all_names : {X Y : Type 0} (P : Y → Type 0) (f : X → Y) (xs : List X) → All P (map f xs) → All (λ x. P (f x)) xs
+pub all_names : {X Y : Type 0} (P : Y → Type 0) (f : X → Y) (xs : List X) → All P (map f xs) → All (λ x. P (f x)) xs
 all_names P f [] h = All-nil (λ x. P (f x))
 all_names P f (x ∷ xs) h = All-cons (λ y. P (f y)) x xs (All-head P (f x) (map f xs) h) (all_names P f xs (All-tail P (f x) (map f xs) h))
 

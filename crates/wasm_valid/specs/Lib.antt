@@ -1,3 +1,4 @@
 pub mod Scope
 pub mod Framed
+pub mod Opened
 pub mod Typing

@@ -5,15 +5,17 @@ ghost use Rattle.std.specs.Option.{option_map, option_and_then};
 ghost use Rattle.wasm_tree.specs.declared.kinds.ValueType.{ValueType};
 ghost use Rattle.wasm_tree.specs.declared.kinds.ValueType.TheVariants.{I32};
 ghost use Rattle.wasm_valid.specs.Scope.{scope_of};
-ghost use Rattle.wasm_tree.specs.declared.instr.Instr.{out-Instr};
+ghost use Rattle.wasm_tree.specs.declared.code.Op.{Op};
+ghost use Rattle.wasm_tree.specs.Code.{label_of};
 ghost use Rattle.wasm_tree.specs.Validity.{declared, result_types, numeric_params, numeric_result};
 ghost use Rattle.wasm_valid.specs.Framed.{frame_context, labels_of, locals_of};
+ghost use Rattle.wasm_valid.specs.Opened.{opened};
 ghost use Rattle.wasm_valid.specs.Typing.{change, seen, called, called_slot, Exchanges, Leaves};
 
 use crate::operands::Effect;
 use crate::scope::Scope;
 use sqlite_items::at;
-use wasm_tree::{Instr, Locals, Numeric, ValueType};
+use wasm_tree::{Locals, Numeric, Op, ValueType};
 
 /// What the code of one function may name, but for the labels of its blocks.
 #[derive(Clone, Copy)]
@@ -92,11 +94,42 @@ fn is_same_label(blocks: &[Option<ValueType>], left: u32, right: u32) -> bool
     }
 }
 
-/// Whether branches to all of these labels take what one to the last does.
-pub fn are_same_labels(blocks: &[Option<ValueType>], indices: &[u32], last: u32) -> bool
-    ensures { IsTrue result ↔ All (λ l. slice_get (labels_of blocks.now) l ≡ slice_get (labels_of blocks.now) last) indices.now }
+/// The label that a branch names.
+fn label_of(op: Op) -> u32
+    ensures { result ≡ label_of op }
 {
-    indices.iter().all(|l| is_same_label(blocks, *l, last))
+    match op {
+        Op::Br(l) => l,
+        Op::Unreachable
+        | Op::Block(_, _)
+        | Op::Loop(_, _)
+        | Op::If(_, _)
+        | Op::IfElse(_, _, _)
+        | Op::BrIf(_)
+        | Op::BrTable(_, _)
+        | Op::Return
+        | Op::Call(_)
+        | Op::CallIndirect(_)
+        | Op::Drop
+        | Op::LocalGet(_)
+        | Op::LocalSet(_)
+        | Op::LocalTee(_)
+        | Op::GlobalGet(_)
+        | Op::Load(_)
+        | Op::Store(_)
+        | Op::I32Const(_)
+        | Op::I64Const(_)
+        | Op::Numeric(_) => 0,
+    }
+}
+
+/// Whether all of these branches take what one to the last label does.
+pub fn are_same_labels(blocks: &[Option<ValueType>], branches: &[Op], last: u32) -> bool
+    ensures { IsTrue result ↔ All (λ o. slice_get (labels_of blocks.now) (label_of o) ≡ slice_get (labels_of blocks.now) last) branches.now }
+{
+    branches
+        .iter()
+        .all(|o| is_same_label(blocks, label_of(*o), last))
 }
 
 fn numeric_effect(numeric: Numeric) -> Effect<'static>
@@ -220,35 +253,32 @@ fn with_memory<'a>(scope: Scope<'_>, effect: Effect<'a>) -> Option<Effect<'a>>
 }
 
 /// What the instruction does to the operands, whatever code stands inside it. Nothing where it names what is not there.
-pub fn effect_of<'a>(
-    frame: Frame<'a>,
-    blocks: &[Option<ValueType>],
-    instr: &Instr,
-) -> Option<Effect<'a>>
-    ensures { option_map seen result ≡ change (frame_context frame.entry blocks.now) (out-Instr instr.now) }
+pub fn effect_of<'a>(frame: Frame<'a>, blocks: &[Option<ValueType>], op: Op) -> Option<Effect<'a>>
+    ensures { (rest : List Op) → option_map seen result ≡ change (frame_context frame.entry blocks.now) (opened op rest) }
 {
     let narrow = Some(ValueType::I32);
     let wide = Some(ValueType::I64);
-    match instr {
-        Instr::Unreachable => Some(Effect::Leaves(None, None)),
-        Instr::Block(given, _) => Some(Effect::Takes(None, None, *given)),
-        Instr::Loop(given, _) => Some(Effect::Takes(None, None, *given)),
-        Instr::If(given, _, _) => Some(Effect::Takes(None, narrow, *given)),
-        Instr::Br(l) => branch(blocks, *l),
-        Instr::BrIf(l) => branch_if(blocks, *l),
-        Instr::BrTable(_, last) => branch_table(blocks, *last),
-        Instr::Return => Some(Effect::Leaves(None, frame.returns)),
-        Instr::Call(function) => call(frame.scope, *function),
-        Instr::CallIndirect(type_index) => call_slot(frame.scope, *type_index),
-        Instr::Drop => Some(Effect::Drops),
-        Instr::LocalGet(x) => gives(local(frame, *x)),
-        Instr::LocalSet(x) => takes(local(frame, *x)),
-        Instr::LocalTee(x) => keeps(local(frame, *x)),
-        Instr::GlobalGet(g) => gives(global(frame.scope, *g)),
-        Instr::Load(_) => with_memory(frame.scope, Effect::Takes(None, narrow, wide)),
-        Instr::Store(_) => with_memory(frame.scope, Effect::Takes(narrow, wide, None)),
-        Instr::I32Const(_) => Some(Effect::Takes(None, None, narrow)),
-        Instr::I64Const(_) => Some(Effect::Takes(None, None, wide)),
-        Instr::Numeric(numeric) => Some(numeric_effect(*numeric)),
+    match op {
+        Op::Unreachable => Some(Effect::Leaves(None, None)),
+        Op::Block(given, _) => Some(Effect::Takes(None, None, given)),
+        Op::Loop(given, _) => Some(Effect::Takes(None, None, given)),
+        Op::If(given, _) => Some(Effect::Takes(None, narrow, given)),
+        Op::IfElse(given, _, _) => Some(Effect::Takes(None, narrow, given)),
+        Op::Br(l) => branch(blocks, l),
+        Op::BrIf(l) => branch_if(blocks, l),
+        Op::BrTable(_, last) => branch_table(blocks, last),
+        Op::Return => Some(Effect::Leaves(None, frame.returns)),
+        Op::Call(function) => call(frame.scope, function),
+        Op::CallIndirect(type_index) => call_slot(frame.scope, type_index),
+        Op::Drop => Some(Effect::Drops),
+        Op::LocalGet(x) => gives(local(frame, x)),
+        Op::LocalSet(x) => takes(local(frame, x)),
+        Op::LocalTee(x) => keeps(local(frame, x)),
+        Op::GlobalGet(g) => gives(global(frame.scope, g)),
+        Op::Load(_) => with_memory(frame.scope, Effect::Takes(None, narrow, wide)),
+        Op::Store(_) => with_memory(frame.scope, Effect::Takes(narrow, wide, None)),
+        Op::I32Const(_) => Some(Effect::Takes(None, None, narrow)),
+        Op::I64Const(_) => Some(Effect::Takes(None, None, wide)),
+        Op::Numeric(numeric) => Some(numeric_effect(numeric)),
     }
 }

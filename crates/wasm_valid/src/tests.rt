@@ -3,10 +3,10 @@ use sqlite_items::Items;
 use std::alloc::Global;
 use std::process::Abort;
 use std::test::*;
-use wasm_tree::{Body, FuncType, Function, Instr, Numeric, ValueType, WFault, WModule};
+use wasm_tree::{Body, Code, FuncType, Function, Numeric, Op, ValueType, WFault, WModule};
 
 /// A module of one function with this code, without parameters, results and locals.
-fn module(rt: &impl Abort, alloc: Global, code: Items<Instr>) -> WModule {
+fn module(rt: &impl Abort, alloc: Global, code: Code) -> WModule {
     let mut types = Items::new(alloc);
     let func_type = FuncType {
         params: Items::new(alloc),
@@ -36,8 +36,8 @@ fn module(rt: &impl Abort, alloc: Global, code: Items<Instr>) -> WModule {
 }
 
 /// Whether this code is valid in a function without parameters, results and locals. Another fault than `Invalid` stops the test.
-fn accepts(rt: &impl Abort, alloc: Global, code: Vec<Instr>) -> bool {
-    let tree = module(rt, alloc, Items::from_vec(code));
+fn accepts(rt: &impl Abort, alloc: Global, code: Vec<Op>) -> bool {
+    let tree = module(rt, alloc, Code::new(code));
     match validate(alloc, tree) {
         Ok(_) => true,
         Err(e) => {
@@ -50,11 +50,9 @@ fn accepts(rt: &impl Abort, alloc: Global, code: Vec<Instr>) -> bool {
 #[test]
 fn labels_are_those_of_the_blocks_around(rt: HostRuntime) -> Result<(), Fail> {
     let alloc = rt.alloc();
-    let inner = Items::from_vec(vec![in alloc; Instr::Br(1)]?);
-    let code = vec![in alloc; Instr::Block(None, inner)]?;
+    let code = vec![in alloc; Op::Block(None, 1), Op::Br(1)]?;
     assert!(rt; accepts(&rt, alloc, code));
-    let inner = Items::from_vec(vec![in alloc; Instr::Br(5)]?);
-    let code = vec![in alloc; Instr::Block(None, inner)]?;
+    let code = vec![in alloc; Op::Block(None, 1), Op::Br(5)]?;
     assert!(rt; !accepts(&rt, alloc, code));
     Ok(())
 }
@@ -62,9 +60,9 @@ fn labels_are_those_of_the_blocks_around(rt: HostRuntime) -> Result<(), Fail> {
 #[test]
 fn nothing_is_left(rt: HostRuntime) -> Result<(), Fail> {
     let alloc = rt.alloc();
-    let code = vec![in alloc; Instr::I32Const(1), Instr::Drop]?;
+    let code = vec![in alloc; Op::I32Const(1), Op::Drop]?;
     assert!(rt; accepts(&rt, alloc, code));
-    let code = vec![in alloc; Instr::I32Const(1)]?;
+    let code = vec![in alloc; Op::I32Const(1)]?;
     assert!(rt; !accepts(&rt, alloc, code));
     Ok(())
 }
@@ -72,14 +70,17 @@ fn nothing_is_left(rt: HostRuntime) -> Result<(), Fail> {
 #[test]
 fn both_sides_of_an_if_give_its_result(rt: HostRuntime) -> Result<(), Fail> {
     let alloc = rt.alloc();
-    let first = Items::from_vec(vec![in alloc; Instr::I64Const(1)]?);
-    let second = Items::from_vec(vec![in alloc; Instr::I64Const(2)]?);
-    let whole = Instr::If(Some(ValueType::I64), first, Some(second));
-    let code = vec![in alloc; Instr::I32Const(1), whole, Instr::Drop]?;
+    let whole = Op::IfElse(Some(ValueType::I64), 1, 1);
+    let code = vec![in alloc;
+        Op::I32Const(1),
+        whole,
+        Op::I64Const(1),
+        Op::I64Const(2),
+        Op::Drop,
+    ]?;
     assert!(rt; accepts(&rt, alloc, code));
-    let alone = Items::from_vec(vec![in alloc; Instr::I64Const(1)]?);
-    let half = Instr::If(Some(ValueType::I64), alone, None);
-    let code = vec![in alloc; Instr::I32Const(1), half, Instr::Drop]?;
+    let half = Op::If(Some(ValueType::I64), 1);
+    let code = vec![in alloc; Op::I32Const(1), half, Op::I64Const(1), Op::Drop]?;
     assert!(rt; !accepts(&rt, alloc, code));
     Ok(())
 }
@@ -87,11 +88,32 @@ fn both_sides_of_an_if_give_its_result(rt: HostRuntime) -> Result<(), Fail> {
 #[test]
 fn any_operands_may_stand_behind_a_branch(rt: HostRuntime) -> Result<(), Fail> {
     let alloc = rt.alloc();
-    let add = Instr::Numeric(Numeric::I32Add);
-    let code = vec![in alloc; Instr::Br(0), add, Instr::Drop]?;
+    let add = Op::Numeric(Numeric::I32Add);
+    let code = vec![in alloc; Op::Br(0), add, Op::Drop]?;
     assert!(rt; accepts(&rt, alloc, code));
-    let add = Instr::Numeric(Numeric::I32Add);
-    let code = vec![in alloc; Instr::Br(0), Instr::I64Const(1), add, Instr::Drop]?;
+    let code = vec![in alloc; Op::Br(0), Op::I64Const(1), add, Op::Drop]?;
+    assert!(rt; !accepts(&rt, alloc, code));
+    Ok(())
+}
+
+#[test]
+fn all_labels_of_a_table_take_the_same(rt: HostRuntime) -> Result<(), Fail> {
+    let alloc = rt.alloc();
+    let code = vec![in alloc;
+        Op::I32Const(1),
+        Op::BrTable(2, 0),
+        Op::Br(0),
+        Op::Br(0),
+        Op::Drop,
+    ]?;
+    assert!(rt; accepts(&rt, alloc, code));
+    let code = vec![in alloc;
+        Op::I32Const(1),
+        Op::BrTable(2, 0),
+        Op::Br(0),
+        Op::Br(7),
+        Op::Drop,
+    ]?;
     assert!(rt; !accepts(&rt, alloc, code));
     Ok(())
 }

@@ -1,10 +1,12 @@
 //! Which operands code takes and gives (Core 1.0, section 3.3).
 
-ghost use Rattle.std.specs.Prelude.{◌≡◌, ◌++◌, ◌∷◌, [], All, IsTrue, OnOk, ◌↔◌, slice_get};
-ghost use Rattle.wasm_tree.specs.declared.instr.Instr.{out-Instr};
-ghost use Rattle.wasm_tree.specs.Validity.{Leads, IsConstant, IsConstantOf, result_types, within};
+ghost use Rattle.std.specs.Prelude.{◌≡◌, ◌++◌, ◌∷◌, [], List, map, true, All, IsTrue, OnOk, MatchOption, ◌↔◌, slice_get};
+ghost use Rattle.wasm_tree.specs.declared.code.Op.{Op};
+ghost use Rattle.wasm_tree.specs.Code.{tree, behind, label_of};
+ghost use Rattle.wasm_tree.specs.Validity.{Leads, is_constant, IsConstant, IsConstantOf, result_types, within};
 ghost use Rattle.wasm_valid.specs.Scope.{scope_of};
 ghost use Rattle.wasm_valid.specs.Framed.{frame_context, labels_of};
+ghost use Rattle.wasm_valid.specs.Opened.{opened};
 ghost use Rattle.wasm_valid.specs.Typing.{Decides, Steps, Stands, MayRule, CodeFits, change};
 
 use crate::frame::{Frame, are_same_labels, effect_of};
@@ -12,27 +14,27 @@ use crate::operands::{Operands, Spares, affect, may_be, no_operands, types_of};
 use crate::scope::Scope;
 use sqlite_items::Items;
 use std::alloc::Global;
-use wasm_tree::{Instr, ValueType, WFault};
+use wasm_tree::{Op, ValueType, WFault, split_ops};
 
 /// What the instruction does to the operands, whatever code stands inside it.
 fn step(
     frame: Frame<'_>,
     blocks: &[Option<ValueType>],
-    instr: &Instr,
+    op: Op,
     operands: &mut Operands,
 ) -> Result<(), WFault>
-    ensures { Steps result (MayRule (change (frame_context frame.entry blocks.now) (out-Instr instr.now))) operands.old operands.new }
+    ensures { (rest : List Op) → Steps result (MayRule (change (frame_context frame.entry blocks.now) (opened op rest))) operands.old operands.new }
 {
-    match effect_of(frame, blocks, instr) {
+    match effect_of(frame, blocks, op) {
         Some(effect) => affect(operands, effect),
         None => Err(WFault::Invalid),
     }
 }
 
-fn check_labels(blocks: &[Option<ValueType>], indices: &[u32], last: u32) -> Result<(), WFault>
-    ensures { Decides result (All (λ l. slice_get (labels_of blocks.now) l ≡ slice_get (labels_of blocks.now) last) indices.now) }
+fn check_labels(blocks: &[Option<ValueType>], branches: &[Op], last: u32) -> Result<(), WFault>
+    ensures { Decides result (All (λ l. slice_get (labels_of blocks.now) l ≡ slice_get (labels_of blocks.now) last) (map label_of branches.now)) }
 {
-    if are_same_labels(blocks, indices, last) {
+    if are_same_labels(blocks, branches, last) {
         Ok(())
     } else {
         Err(WFault::Invalid)
@@ -50,44 +52,88 @@ fn check_last(operands: &mut Operands, wanted: Option<ValueType>) -> Result<(), 
     }
 }
 
-/// Whether the code inside an instruction fits.
+/// The first of a list, and those behind it.
+#[inline(always)]
+fn first_of(ops: &[Op]) -> Option<(Op, &[Op])>
+    ensures { MatchOption result (ops.now ≡ []) (λ x. ops.now ≡ x.0 ∷ x.1.now) }
+{
+    match ops {
+        [] => None,
+        [op, rest @ ..] => Some((*op, rest)),
+    }
+}
+
+/// What stands behind an instruction and the code inside it.
+#[inline(always)]
+fn behind(op: Op, rest: &[Op]) -> &[Op]
+    ensures { result.now ≡ behind op rest.now }
+{
+    match op {
+        Op::Block(_, n) => split_ops(rest, n).1,
+        Op::Loop(_, n) => split_ops(rest, n).1,
+        Op::If(_, n) => split_ops(rest, n).1,
+        Op::IfElse(_, n, m) => split_ops(split_ops(rest, n).1, m).1,
+        Op::BrTable(n, _) => split_ops(rest, n).1,
+        Op::Unreachable
+        | Op::Br(_)
+        | Op::BrIf(_)
+        | Op::Return
+        | Op::Call(_)
+        | Op::CallIndirect(_)
+        | Op::Drop
+        | Op::LocalGet(_)
+        | Op::LocalSet(_)
+        | Op::LocalTee(_)
+        | Op::GlobalGet(_)
+        | Op::Load(_)
+        | Op::Store(_)
+        | Op::I32Const(_)
+        | Op::I64Const(_)
+        | Op::Numeric(_) => rest,
+    }
+}
+
+/// Whether the code inside an instruction fits, which stands at the front of the rest.
 #[cycle(code)]
 fn check_inside(
     spares: &mut Spares,
     frame: Frame<'_>,
     blocks: &mut Items<Option<ValueType>>,
-    instr: &Instr,
+    op: Op,
+    rest: &[Op],
 ) -> Result<(), WFault>
-    ensures fits { Decides result (CodeFits (frame_context frame.entry blocks.old) (out-Instr instr.now)) }
+    ensures fits { Decides result (CodeFits (frame_context frame.entry blocks.old) (opened op rest.now)) }
     ensures blocks { OnOk result (blocks.new ≡ blocks.old) }
 {
-    match instr {
-        Instr::Block(t, body) => check_block(spares, frame, blocks, body.as_slice(), *t, *t),
-        Instr::Loop(t, body) => check_block(spares, frame, blocks, body.as_slice(), None, *t),
-        Instr::If(t, body, otherwise) => {
-            check_block(spares, frame, blocks, body.as_slice(), *t, *t)?;
-            match otherwise {
-                Some(side) => check_block(spares, frame, blocks, side.as_slice(), *t, *t),
-                None => check_block(spares, frame, blocks, &[], *t, *t),
-            }
+    match op {
+        Op::Block(t, n) => check_block(spares, frame, blocks, split_ops(rest, n).0, t, t),
+        Op::Loop(t, n) => check_block(spares, frame, blocks, split_ops(rest, n).0, None, t),
+        Op::If(t, n) => {
+            check_block(spares, frame, blocks, split_ops(rest, n).0, t, t)?;
+            check_block(spares, frame, blocks, &[], t, t)
         }
-        Instr::BrTable(indices, last) => check_labels(blocks.as_slice(), indices.as_slice(), *last),
-        Instr::Unreachable
-        | Instr::Br(_)
-        | Instr::BrIf(_)
-        | Instr::Return
-        | Instr::Call(_)
-        | Instr::CallIndirect(_)
-        | Instr::Drop
-        | Instr::LocalGet(_)
-        | Instr::LocalSet(_)
-        | Instr::LocalTee(_)
-        | Instr::GlobalGet(_)
-        | Instr::Load(_)
-        | Instr::Store(_)
-        | Instr::I32Const(_)
-        | Instr::I64Const(_)
-        | Instr::Numeric(_) => Ok(()),
+        Op::IfElse(t, n, m) => {
+            let (first, others) = split_ops(rest, n);
+            check_block(spares, frame, blocks, first, t, t)?;
+            check_block(spares, frame, blocks, split_ops(others, m).0, t, t)
+        }
+        Op::BrTable(n, last) => check_labels(blocks.as_slice(), split_ops(rest, n).0, last),
+        Op::Unreachable
+        | Op::Br(_)
+        | Op::BrIf(_)
+        | Op::Return
+        | Op::Call(_)
+        | Op::CallIndirect(_)
+        | Op::Drop
+        | Op::LocalGet(_)
+        | Op::LocalSet(_)
+        | Op::LocalTee(_)
+        | Op::GlobalGet(_)
+        | Op::Load(_)
+        | Op::Store(_)
+        | Op::I32Const(_)
+        | Op::I64Const(_)
+        | Op::Numeric(_) => Ok(()),
     }
 }
 
@@ -97,11 +143,11 @@ fn check_block(
     spares: &mut Spares,
     frame: Frame<'_>,
     blocks: &mut Items<Option<ValueType>>,
-    code: &[Instr],
+    code: &[Op],
     taken: Option<ValueType>,
     given: Option<ValueType>,
 ) -> Result<(), WFault>
-    ensures fits { Decides result (Leads (within (result_types taken) (frame_context frame.entry blocks.old)) code.now [] (result_types given)) }
+    ensures fits { Decides result (Leads (within (result_types taken) (frame_context frame.entry blocks.old)) (tree code.now) [] (result_types given)) }
     ensures blocks { OnOk result (blocks.new ≡ blocks.old) }
 {
     blocks.push(taken)?;
@@ -116,61 +162,70 @@ pub fn check_code(
     spares: &mut Spares,
     frame: Frame<'_>,
     blocks: &mut Items<Option<ValueType>>,
-    code: &[Instr],
+    code: &[Op],
     given: Option<ValueType>,
 ) -> Result<(), WFault>
-    ensures fits { Decides result (Leads (frame_context frame.entry blocks.old) code.now [] (result_types given)) }
+    ensures fits { Decides result (Leads (frame_context frame.entry blocks.old) (tree code.now) [] (result_types given)) }
     ensures blocks { OnOk result (blocks.new ≡ blocks.old) }
 {
     let mut operands = no_operands(spares);
-    for instr in code {
-        check_inside(spares, frame, blocks, instr)?;
-        step(frame, blocks.as_slice(), instr, &mut operands)?;
+    let mut rest = code;
+    'ops: while let Some((op, others)) = first_of(rest) {
+        check_inside(spares, frame, blocks, op, others)?;
+        step(frame, blocks.as_slice(), op, &mut operands)?;
+        rest = behind(op, others);
     }
     let decided = check_last(&mut operands, given);
     spares.keep(operands);
     decided
 }
 
-fn is_constant(instr: &Instr) -> bool
-    ensures { IsTrue result ↔ IsConstant instr.now }
+fn is_constant(op: Op) -> bool
+    ensures { IsTrue result ↔ (is_constant (opened op []) ≡ true) }
 {
-    match instr {
-        Instr::GlobalGet(_) | Instr::I32Const(_) | Instr::I64Const(_) => true,
-        Instr::Unreachable
-        | Instr::Block(_, _)
-        | Instr::Loop(_, _)
-        | Instr::If(_, _, _)
-        | Instr::Br(_)
-        | Instr::BrIf(_)
-        | Instr::BrTable(_, _)
-        | Instr::Return
-        | Instr::Call(_)
-        | Instr::CallIndirect(_)
-        | Instr::Drop
-        | Instr::LocalGet(_)
-        | Instr::LocalSet(_)
-        | Instr::LocalTee(_)
-        | Instr::Load(_)
-        | Instr::Store(_)
-        | Instr::Numeric(_) => false,
+    match op {
+        Op::GlobalGet(_) | Op::I32Const(_) | Op::I64Const(_) => true,
+        Op::Unreachable
+        | Op::Block(_, _)
+        | Op::Loop(_, _)
+        | Op::If(_, _)
+        | Op::IfElse(_, _, _)
+        | Op::Br(_)
+        | Op::BrIf(_)
+        | Op::BrTable(_, _)
+        | Op::Return
+        | Op::Call(_)
+        | Op::CallIndirect(_)
+        | Op::Drop
+        | Op::LocalGet(_)
+        | Op::LocalSet(_)
+        | Op::LocalTee(_)
+        | Op::Load(_)
+        | Op::Store(_)
+        | Op::Numeric(_) => false,
     }
 }
 
-fn are_constant(code: &[Instr]) -> bool
-    ensures { IsTrue result ↔ All IsConstant code.now }
+fn are_constant_ops(code: &[Op]) -> bool
+    ensures { IsTrue result ↔ All (λ o. is_constant (opened o []) ≡ true) code.now }
 {
-    code.iter().all(|i| is_constant(i))
+    code.iter().all(|o| is_constant(*o))
+}
+
+fn are_constant(code: &[Op]) -> bool
+    ensures { IsTrue result ↔ All IsConstant (tree code.now) }
+{
+    are_constant_ops(code)
 }
 
 /// Whether the code is a constant expression of this type. `Invalid` where it is not.
 pub fn check_constant(
     alloc: Global,
     scope: Scope<'_>,
-    code: &[Instr],
+    code: &[Op],
     value_type: ValueType,
 ) -> Result<(), WFault>
-    ensures { Decides result (IsConstantOf (scope_of scope.entry) value_type code.now) }
+    ensures { Decides result (IsConstantOf (scope_of scope.entry) value_type (tree code.now)) }
 {
     if !are_constant(code) {
         return Err(WFault::Invalid);

@@ -76,7 +76,7 @@ fn check_body(
     };
     let mut blocks = Items::new(alloc);
     blocks.push(returns)?;
-    check_code(spares, frame, &mut blocks, body.code.as_slice(), returns)
+    check_code(spares, frame, &mut blocks, body.code.ops(), returns)
 }
 
 fn check_function(
@@ -97,7 +97,7 @@ fn check_function(
 fn check_global(alloc: Global, scope: Scope<'_>, global: &Constant) -> Result<(), WFault>
     ensures { Decides result (IsGlobal (scope_of scope.entry) global.now) }
 {
-    check_constant(alloc, scope, global.value.as_slice(), global.value_type)
+    check_constant(alloc, scope, global.value.ops(), global.value_type)
 }
 
 fn is_export(scope: Scope<'_>, export: &Export) -> bool
@@ -128,7 +128,7 @@ fn check_element(alloc: Global, scope: Scope<'_>, element: &Element) -> Result<(
     if !are_functions(scope, element.functions.as_slice()) {
         return Err(WFault::Invalid);
     }
-    check_constant(alloc, scope, element.offset.as_slice(), ValueType::I32)
+    check_constant(alloc, scope, element.offset.ops(), ValueType::I32)
 }
 
 fn check_data(alloc: Global, scope: Scope<'_>, data: &Data) -> Result<(), WFault>
@@ -137,7 +137,7 @@ fn check_data(alloc: Global, scope: Scope<'_>, data: &Data) -> Result<(), WFault
     if scope.memories.len() <= data.memory as usize {
         return Err(WFault::Invalid);
     }
-    check_constant(alloc, scope, data.offset.as_slice(), ValueType::I32)
+    check_constant(alloc, scope, data.offset.ops(), ValueType::I32)
 }
 
 fn check_functions(alloc: Global, scope: Scope<'_>, functions: &[Function]) -> Result<(), WFault>

@@ -1,6 +1,6 @@
 use Rattle.std.proofs.Common.{refl}
 use Rattle.std.proofs.lemmas.Result.{err_from_is_err_and}
-use Rattle.wasm_tree.specs.Linking.{with_import, with_extern}
+use Rattle.wasm_tree.specs.Linking.{with_import}
 use Rattle.wasm_link.proofs.Fold.{fails_first, each_more, each_fail, each_none}
 use Rattle.wasm_link.proofs.imports.with_imports.Goals as goal
 

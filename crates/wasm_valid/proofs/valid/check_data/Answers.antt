@@ -1,6 +1,7 @@
+use Rattle.wasm_tree.specs.Code.{tree}
 use Rattle.wasm_valid.specs.Scope.{scope_of}
 use Rattle.wasm_valid.proofs.Whole.{data_decides}
 use Rattle.wasm_valid.proofs.valid.check_data.Goals as goal
 
 pub returns : goal.returns
-returns c = data_decides c.check_constant.result (scope_of c.args.scope) c.args.data.now c.as_slice.result.now c.as_slice.ensures c.if-scope-data.false c.check_constant.ensures
+returns c = data_decides c.check_constant.result (scope_of c.args.scope) c.args.data.now (tree c.ops.result.now) c.ops.ensures c.if-scope-data.false c.check_constant.ensures
