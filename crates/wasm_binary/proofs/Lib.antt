@@ -1,5 +1,8 @@
 pub mod Groups
 pub mod Spelled
+pub mod Flats
+pub mod Piles
+pub mod Written
 pub mod Loop
 pub mod Utf8
 pub mod Laws

@@ -14,7 +14,7 @@ use Rattle.wasm_binary.specs.Parts.{many}
 use Rattle.wasm_tree.specs.Format.{skip}
 use Rattle.wasm_tree.specs.declared.module.Body.{Body}
 use Rattle.wasm_binary.specs.declared.binary.code.Ending.{Ending}
-use Rattle.wasm_binary.specs.Binary.{skip_all, body, bodies, value_type, ending_of, onto, instr_of, Sequence, sequence, locals_at}
+use Rattle.wasm_binary.specs.Binary.{skip_all, body, bodies, value_type, ending_of, instr_of, Sequence, sequence, locals_at}
 
 -- what was read before, and what is still read
 abbrev pub with_front : {A : Type 0} → List A → Reading (List A) → Reading (List A)
@@ -134,60 +134,6 @@ sequence_cut op most k (b ∷ bytes) e h f = elim (no_byte e (b ∷ bytes) f) [
 pub sequence_none : (op : ℕ → List ℕ → Reading Instr) (most k : ℕ) (bytes : List ℕ) → most ≤ k → sequence op (most - k) bytes ≡ Err Malformed
 unfolding sequence
 sequence_none op most k bytes h = let none : most - k ≡ 0 = omega arith in rw none refl
-
-instrs_regroup : (front more : List Instr) (read : Reading Sequence) → with_instrs front (with_instrs more read) ≡ with_instrs (front ++ more) read
-instrs_regroup front more (Ok s) = ap (λ (is : List Instr). Ok ((is, s.0.1), s.1)) (simp append_assoc)
-instrs_regroup front more (Err e) = refl
-
-pub instrs_go_on : (front more : List Instr) (now next total : Reading Sequence) → now ≡ with_instrs more next → with_instrs front now ≡ total → with_instrs (front ++ more) next ≡ total
-instrs_go_on front more now next total e so_far = sym (instrs_regroup front more next) ∙ ap (with_instrs front) (sym e) ∙ so_far
-
-pub instrs_fail : (e : WFault) (front : List Instr) (now total : Reading Sequence) → Fails e now → with_instrs front now ≡ total → Fails e total
-instrs_fail Malformed front now total h so_far = sym so_far ∙ rw h refl
-instrs_fail OutsideProfile front now total h so_far = sym so_far ∙ rw h refl
-instrs_fail Invalid front now total h so_far = sym so_far ∙ rw h refl
-instrs_fail Unlinked front now total h so_far = sym so_far ∙ rw h refl
-instrs_fail SegmentOutside front now total h so_far = sym so_far ∙ rw h refl
-instrs_fail NoMemory front now total h so_far = tt
-
-pub instrs_whole : (front : List Instr) (e : Ending) (rest : List ℕ) (now total : Reading Sequence) → now ≡ Ok (([], e), rest) → with_instrs front now ≡ total → total ≡ Ok ((front, e), rest)
-instrs_whole front e rest now total h so_far = sym so_far ∙ rw h (ap (λ (is : List Instr). Ok ((is, e), rest)) (append-nil front))
-
-pub instrs_whole_of : (front taken : List Instr) (e : Ending) (rest : List ℕ) (now total : Reading Sequence) → taken ≡ front → now ≡ Ok (([], e), rest) → with_instrs front now ≡ total → total ≡ Ok ((taken, e), rest)
-instrs_whole_of front taken e rest now total same h so_far = instrs_whole front e rest now total h so_far ∙ ap (λ (is : List Instr). Ok ((is, e), rest)) (sym same)
-
--- what was read onto a pile
-pub onto_ok : (before grown : List Instr) (read : Reading Instr) (after : List ℕ) → onto before read ≡ Ok (grown, after) → (i : Instr) × (read ≡ Ok (i, after)) × (grown ≡ before ++ i ∷ [])
-onto_ok before grown (Ok i) after e =
-    let is = read_is (before ++ i.0 ∷ []) grown i.1 after e in
-    (i.0, ap (λ (r : List ℕ). Ok (i.0, r)) is.1, sym is.0)
-onto_ok before grown (Err f) after e = absurd cc
-
-onto_err : (before : List Instr) (read : Reading Instr) (e : WFault) → onto before read ≡ Err e → read ≡ Err e
-onto_err before (Ok i) e h = absurd cc
-onto_err before (Err f) e h = let same : f ≡ e = cc in ap (λ (x : WFault). Err x) same
-
-pub onto_fail : (e : WFault) (before : List Instr) (read : Reading Instr) → Fails e (onto before read) → Fails e read
-onto_fail Malformed before read h = onto_err before read Malformed h
-onto_fail OutsideProfile before read h = onto_err before read OutsideProfile h
-onto_fail Invalid before read h = onto_err before read Invalid h
-onto_fail Unlinked before read h = onto_err before read Unlinked h
-onto_fail SegmentOutside before read h = onto_err before read SegmentOutside h
-onto_fail NoMemory before read h = tt
-
-longer : (below : ℕ) (xs : List Instr) (i : Instr) → below ≤ length xs → below ≤ length (xs ++ i ∷ [])
-longer below xs i h = rw (length-append xs (i ∷ [])) (omega arith)
-
--- one more instruction on a pile, above so many others
-pub piled_on : (below : ℕ) (old pile grown : List Instr) (i : Instr) (now next total : Reading Sequence) → grown ≡ pile ++ i ∷ []
-    → now ≡ with_instrs (i ∷ []) next
-    → (with_instrs (drop below pile) now ≡ total) × ((take below pile ≡ old) × (below ≤ length pile))
-    → (with_instrs (drop below grown) next ≡ total) × ((take below grown ≡ old) × (below ≤ length grown))
-piled_on below old pile grown i now next total more e h =
-    rw more (
-      rw (drop-append-le below pile (i ∷ []) h.1.1) (instrs_go_on (drop below pile) (i ∷ []) now next total e h.0),
-      (take-append-le below pile (i ∷ []) h.1.1 ∙ h.1.0, longer below pile i h.1.1),
-    )
 
 module _ (expected : List ℕ) (k : ℕ) (bytes : List ℕ) where
   pub skip_more : (after : List ℕ) → k < length expected → skip (get_or expected k 0) bytes ≡ Ok (tt, after) → skip_all (drop k expected) bytes ≡ skip_all (drop (k + 1) expected) after

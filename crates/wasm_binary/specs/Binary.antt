@@ -191,10 +191,6 @@ ending_of b = if b == 0x0B then Some End else (if b == 0x05 then Some Else else 
 abbrev pub Sequence : Type 0
 Sequence = List Instr × Ending
 
--- instructions, and behind them one more that is read
-abbrev pub onto : List Instr → Reading Instr → Reading (List Instr)
-onto before read = read >>= λ i. Ok (before ++ i.0 ∷ [], i.1)
-
 abbrev pub instr_of : (opened : ℕ → List ℕ → Reading Instr) → ℕ → List ℕ → Reading Instr
 instr_of opened b bytes = if opens b then opened b bytes else plain_of b bytes
 

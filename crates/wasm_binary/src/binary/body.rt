@@ -11,7 +11,7 @@ use crate::parts::{closed, front};
 use crate::writer::Writer;
 use sqlite_items::Items;
 use std::alloc::{AllocError, Global};
-use wasm_tree::{Body, Instr, Locals, ValueType, WFault};
+use wasm_tree::{Body, Locals, Op, ValueType, WFault};
 
 /// So many groups of locals, where there are so many locals before them.
 fn groups_at(alloc: Global, count: u32, bytes: &[u8]) -> Result<(Items<Locals>, &[u8]), WFault>
@@ -60,7 +60,7 @@ fn write_locals(out: &mut Writer, groups: &[Locals]) -> Result<(), AllocError>
 #[tactic(auto, unfolding(crate::specs::Binary::body))]
 pub fn body_over<'a>(
     alloc: Global,
-    pile: &mut Vec<Instr>,
+    pile: &mut Vec<Op>,
     bytes: &'a [u8],
 ) -> Result<(Body, &'a [u8]), WFault>
     ensures { Gives (λ x. (x.0, x.1.now)) result (body.reading bytes.now) }
@@ -84,7 +84,7 @@ impl Binary for Body {
     fn write(&self, out: &mut Writer) -> Result<(), AllocError> {
         let mut content = out.nested();
         write_locals(&mut content, self.locals.as_slice())?;
-        write_code(&mut content, self.code.as_slice())?;
+        write_code(&mut content, self.code.ops())?;
         out.sized(content.as_slice())
     }
 }

@@ -1,22 +1,25 @@
 //! Instructions in bytes (Core 1.0, section 5.4).
 
-ghost use Rattle.std.specs.Prelude.{◌≡◌, ◌≤◌, Ok, [], ◌∷◌, ◌++◌, OnOk, IfOk, length, take, drop};
+ghost use Rattle.std.specs.Prelude.{◌≡◌, ◌+◌, ◌-◌, ◌<◌, ◌≤◌, true, Ok, [], ◌∷◌, ◌++◌, OnOk, IfOk, MatchOption, length, map, take, drop, slice_set};
 ghost use Rattle.std.specs.List.{flat_map};
+ghost use Rattle.wasm_tree.specs.Code.{tree, head, behind, label_of};
 ghost use Rattle.wasm_tree.specs.Format.{Format, Gives};
+ghost use Rattle.wasm_tree.specs.declared.code.Op.TheVariants.{Br, IfElse};
+ghost use Rattle.wasm_tree.specs.declared.instr.Instr.TheVariants as instr;
 ghost use Rattle.wasm_binary.specs.Number.{unsigned, signed32, signed64};
 ghost use Rattle.wasm_binary.specs.Parts.{vector};
-ghost use Rattle.wasm_binary.specs.Binary.{block_type, no_offset, memory_of, variable_of, plain_of, opens, one_sided, ending_of, onto, instr_of, code_in, ended, opened, sequence, code_within, instr_spelling, code};
+ghost use Rattle.wasm_binary.specs.Binary.{block_type, no_offset, memory_of, variable_of, plain_of, opens, ending_of, instr_of, code_in, ended, opened, sequence, code_within, instr_spelling, code};
+ghost use Rattle.wasm_binary.specs.Piled.{is_plain, one_sided_op, onto, onto_sequence, onto_code, sides_of};
 
 use crate::binary::opcode::{
     load_of, load_opcode, numeric_of, numeric_opcode, store_of, store_opcode,
 };
-use crate::binary::{Binary, vector, write_vector};
+use crate::binary::vector;
 use crate::number::{signed32_at, signed64_at, unsigned_at};
 use crate::parts::{byte_at, skip};
 use crate::writer::Writer;
-use sqlite_items::Items;
 use std::alloc::{AllocError, Global};
-use wasm_tree::{Instr, ValueType, WFault};
+use wasm_tree::{Code, Op, ValueType, WFault, split_ops};
 
 /// How deep blocks may nest.
 const DEEPEST: u16 = 4096;
@@ -54,32 +57,69 @@ fn no_offset(bytes: &[u8]) -> Result<&[u8], WFault>
     skip(0x00, rest)
 }
 
-/// Puts an instruction on the pile. The bytes behind it are those.
+/// Puts an operation on the pile.
 #[inline(always)]
-fn put<'a>(pile: &mut Vec<Instr>, instr: Instr, rest: &'a [u8]) -> Result<&'a [u8], WFault>
-    ensures { Gives (λ x. (pile.new.items, x.now)) result (onto pile.old.items (Ok (instr, rest.now))) }
+fn put_op(pile: &mut Vec<Op>, op: Op) -> Result<(), AllocError>
+    ensures { OnOk result (pile.new.items ≡ pile.old.items ++ op ∷ []) }
 {
     pile.reserve(1)?;
-    pile.push_reserved(instr);
+    pile.push_reserved(op);
+    Ok(())
+}
+
+/// Puts an instruction without others inside on the pile. The bytes behind it are those.
+#[inline(always)]
+fn put<'a>(pile: &mut Vec<Op>, op: Op, rest: &'a [u8]) -> Result<&'a [u8], WFault>
+    requires { is_plain op ≡ true }
+    ensures { Gives (λ x. (pile.new.items, x.now)) result (onto pile.old.items (Ok (head tree op [], rest.now))) }
+{
+    put_op(pile, op)?;
+    Ok(rest)
+}
+
+/// Puts the branches of a table on the pile.
+fn put_branches(pile: &mut Vec<Op>, labels: &[u32]) -> Result<(), AllocError>
+    ensures { OnOk result (pile.new.items ≡ pile.old.items ++ map Br labels.now) }
+{
+    for label in labels {
+        put_op(pile, Op::Br(*label))?;
+    }
+    Ok(())
+}
+
+/// Puts a table of labels on the pile. The bytes behind it are those.
+fn put_table<'a>(
+    pile: &mut Vec<Op>,
+    labels: &[u32],
+    last: u32,
+    rest: &'a [u8],
+) -> Result<&'a [u8], WFault>
+    ensures { Gives (λ x. (pile.new.items, x.now)) result (onto pile.old.items (Ok (instr.BrTable labels.now last, rest.now))) }
+{
+    let Ok(count) = u32::try_from(labels.len()) else {
+        return Err(WFault::NoMemory);
+    };
+    put_op(pile, Op::BrTable(count, last))?;
+    put_branches(pile, labels)?;
     Ok(rest)
 }
 
 /// Reads the instruction of memory or the numeric one that this opcode begins.
 #[inline(always)]
 #[tactic(auto, unfolding(crate::specs::Binary::memory_of))]
-fn memory_onto<'a>(pile: &mut Vec<Instr>, opcode: u8, bytes: &'a [u8]) -> Result<&'a [u8], WFault>
+fn memory_onto<'a>(pile: &mut Vec<Op>, opcode: u8, bytes: &'a [u8]) -> Result<&'a [u8], WFault>
     ensures { Gives (λ x. (pile.new.items, x.now)) result (onto pile.old.items (memory_of opcode bytes.now)) }
 {
     if let Some(load) = load_of(opcode) {
         let rest = no_offset(bytes)?;
-        return put(pile, Instr::Load(load), rest);
+        return put(pile, Op::Load(load), rest);
     }
     if let Some(width) = store_of(opcode) {
         let rest = no_offset(bytes)?;
-        return put(pile, Instr::Store(width), rest);
+        return put(pile, Op::Store(width), rest);
     }
     match numeric_of(opcode) {
-        Some(numeric) => put(pile, Instr::Numeric(numeric), bytes),
+        Some(numeric) => put(pile, Op::Numeric(numeric), bytes),
         None => Err(WFault::OutsideProfile),
     }
 }
@@ -87,34 +127,34 @@ fn memory_onto<'a>(pile: &mut Vec<Instr>, opcode: u8, bytes: &'a [u8]) -> Result
 /// The same of those that drop an operand, name a variable or push a constant, too.
 #[inline(always)]
 #[tactic(auto, unfolding(crate::specs::Binary::variable_of))]
-fn variable_onto<'a>(pile: &mut Vec<Instr>, opcode: u8, bytes: &'a [u8]) -> Result<&'a [u8], WFault>
+fn variable_onto<'a>(pile: &mut Vec<Op>, opcode: u8, bytes: &'a [u8]) -> Result<&'a [u8], WFault>
     ensures { Gives (λ x. (pile.new.items, x.now)) result (onto pile.old.items (variable_of opcode bytes.now)) }
 {
     match opcode {
-        0x1A => put(pile, Instr::Drop, bytes),
+        0x1A => put(pile, Op::Drop, bytes),
         0x20 => {
             let (local, rest) = unsigned_at(bytes)?;
-            put(pile, Instr::LocalGet(local), rest)
+            put(pile, Op::LocalGet(local), rest)
         }
         0x21 => {
             let (local, rest) = unsigned_at(bytes)?;
-            put(pile, Instr::LocalSet(local), rest)
+            put(pile, Op::LocalSet(local), rest)
         }
         0x22 => {
             let (local, rest) = unsigned_at(bytes)?;
-            put(pile, Instr::LocalTee(local), rest)
+            put(pile, Op::LocalTee(local), rest)
         }
         0x23 => {
             let (global, rest) = unsigned_at(bytes)?;
-            put(pile, Instr::GlobalGet(global), rest)
+            put(pile, Op::GlobalGet(global), rest)
         }
         0x41 => {
             let (number, rest) = signed32_at(bytes)?;
-            put(pile, Instr::I32Const(number), rest)
+            put(pile, Op::I32Const(number), rest)
         }
         0x42 => {
             let (number, rest) = signed64_at(bytes)?;
-            put(pile, Instr::I64Const(number), rest)
+            put(pile, Op::I64Const(number), rest)
         }
         _ => memory_onto(pile, opcode, bytes),
     }
@@ -125,36 +165,36 @@ fn variable_onto<'a>(pile: &mut Vec<Instr>, opcode: u8, bytes: &'a [u8]) -> Resu
 #[tactic(auto, unfolding(crate::specs::Binary::plain_of))]
 fn plain_onto<'a>(
     alloc: Global,
-    pile: &mut Vec<Instr>,
+    pile: &mut Vec<Op>,
     opcode: u8,
     bytes: &'a [u8],
 ) -> Result<&'a [u8], WFault>
     ensures { Gives (λ x. (pile.new.items, x.now)) result (onto pile.old.items (plain_of opcode bytes.now)) }
 {
     match opcode {
-        0x00 => put(pile, Instr::Unreachable, bytes),
+        0x00 => put(pile, Op::Unreachable, bytes),
         0x0C => {
             let (label, rest) = unsigned_at(bytes)?;
-            put(pile, Instr::Br(label), rest)
+            put(pile, Op::Br(label), rest)
         }
         0x0D => {
             let (label, rest) = unsigned_at(bytes)?;
-            put(pile, Instr::BrIf(label), rest)
+            put(pile, Op::BrIf(label), rest)
         }
         0x0E => {
             let (labels, rest) = vector(alloc, bytes)?;
             let (last, rest) = unsigned_at(rest)?;
-            put(pile, Instr::BrTable(labels, last), rest)
+            put_table(pile, labels.as_slice(), last, rest)
         }
-        0x0F => put(pile, Instr::Return, bytes),
+        0x0F => put(pile, Op::Return, bytes),
         0x10 => {
             let (function, rest) = unsigned_at(bytes)?;
-            put(pile, Instr::Call(function), rest)
+            put(pile, Op::Call(function), rest)
         }
         0x11 => {
             let (type_index, rest) = unsigned_at(bytes)?;
             let rest = skip(0x00, rest)?;
-            put(pile, Instr::CallIndirect(type_index), rest)
+            put(pile, Op::CallIndirect(type_index), rest)
         }
         _ => variable_onto(pile, opcode, bytes),
     }
@@ -173,44 +213,115 @@ fn block_type_at(bytes: &[u8]) -> Result<(Option<ValueType>, &[u8]), WFault>
     }
 }
 
-/// The instruction with one sequence that the opcode begins.
-fn one_sided(opcode: u8, kind: Option<ValueType>, instrs: Items<Instr>) -> Instr
-    ensures { result ≡ one_sided opcode kind instrs }
+/// The operation with one sequence, of so many, that the opcode begins.
+#[inline(always)]
+fn one_sided(opcode: u8, kind: Option<ValueType>, count: u32) -> Op
+    ensures { result ≡ one_sided_op opcode kind count }
 {
     match opcode {
-        0x02 => Instr::Block(kind, instrs),
-        0x03 => Instr::Loop(kind, instrs),
-        _ => Instr::If(kind, instrs, None),
+        0x02 => Op::Block(kind, count),
+        0x03 => Op::Loop(kind, count),
+        _ => Op::If(kind, count),
     }
 }
 
-/// The instruction that this opcode begins and that holds others, where so many levels of nesting are left.
+/// Puts an operation into its place on the pile.
+#[inline(always)]
+fn set_op(pile: &mut Vec<Op>, place: usize, op: Op)
+    requires { place < length pile.old.items }
+    ensures { pile.new.items ≡ slice_set pile.old.items place op }
+{
+    pile[place] = op;
+}
+
+/// Puts the operation with one sequence into its place: all behind it are inside.
+fn close_one(
+    pile: &mut Vec<Op>,
+    place: usize,
+    opcode: u8,
+    kind: Option<ValueType>,
+) -> Result<(), AllocError>
+    requires { place < length pile.old.items }
+    ensures { OnOk result (pile.new.items ≡ slice_set pile.old.items place (one_sided_op opcode kind (length pile.old.items - (place + 1)))) }
+{
+    let Ok(count) = u32::try_from(pile.len() - (place + 1)) else {
+        return Err(AllocError);
+    };
+    set_op(pile, place, one_sided(opcode, kind, count));
+    Ok(())
+}
+
+/// Puts an `if` with two sides into its place: the second side begins at that length, and goes up to the end.
+fn close_two(
+    pile: &mut Vec<Op>,
+    place: usize,
+    second: usize,
+    kind: Option<ValueType>,
+) -> Result<(), AllocError>
+    requires first { place < second }
+    requires second { second ≤ length pile.old.items }
+    ensures { OnOk result (pile.new.items ≡ slice_set pile.old.items place (IfElse kind (second - (place + 1)) (length pile.old.items - second))) }
+{
+    let Ok(count) = u32::try_from(second - (place + 1)) else {
+        return Err(AllocError);
+    };
+    let Ok(others) = u32::try_from(pile.len() - second) else {
+        return Err(AllocError);
+    };
+    set_op(pile, place, Op::IfElse(kind, count, others));
+    Ok(())
+}
+
+/// Reads what stands behind the type of an instruction that holds others, where so many levels of nesting are left for
+/// these. Its operation is put into its place when it is known how many they are.
 #[cycle(code)]
-#[tactic(auto, unfolding(crate::specs::Binary::opened))]
-fn opened<'a>(
+fn sides_onto<'a>(
     alloc: Global,
     levels: u16,
-    pile: &mut Vec<Instr>,
+    pile: &mut Vec<Op>,
+    opcode: u8,
+    kind: Option<ValueType>,
+    bytes: &'a [u8],
+) -> Result<&'a [u8], WFault>
+    ensures { Gives (λ x. (pile.new.items, x.now)) result (onto pile.old.items (sides_of levels opcode kind bytes.now)) }
+{
+    let place = pile.len();
+    put_op(pile, Op::Unreachable)?;
+    let (ending, rest) = code_in(alloc, levels, pile, bytes)?;
+    match ending {
+        Ending::End => {
+            close_one(pile, place, opcode, kind)?;
+            Ok(rest)
+        }
+        Ending::Else => {
+            if opcode != 0x04 {
+                return Err(WFault::OutsideProfile);
+            }
+            let second = pile.len();
+            let rest = code_within(alloc, levels, pile, rest)?;
+            close_two(pile, place, second, kind)?;
+            Ok(rest)
+        }
+    }
+}
+
+/// Reads the instruction that this opcode begins and that holds others, where so many levels of nesting are left.
+#[cycle(code)]
+#[tactic(auto, unfolding(crate::specs::Binary::opened))]
+fn opened_onto<'a>(
+    alloc: Global,
+    levels: u16,
+    pile: &mut Vec<Op>,
     opcode: u8,
     bytes: &'a [u8],
-) -> Result<(Instr, &'a [u8]), WFault>
-    ensures gives { Gives (λ x. (x.0, x.1.now)) result (opened levels opcode bytes.now) }
-    ensures pile { OnOk result (pile.new.items ≡ pile.old.items) }
+) -> Result<&'a [u8], WFault>
+    ensures { Gives (λ x. (pile.new.items, x.now)) result (onto pile.old.items (opened levels opcode bytes.now)) }
 {
     if levels == 0 {
         return Err(WFault::OutsideProfile);
     }
     let (kind, rest) = block_type_at(bytes)?;
-    match code_in(alloc, levels - 1, pile, rest)? {
-        (instrs, Ending::End, rest) => Ok((one_sided(opcode, kind, instrs), rest)),
-        (instrs, Ending::Else, rest) => {
-            if opcode != 0x04 {
-                return Err(WFault::OutsideProfile);
-            }
-            let (others, rest) = code_within(alloc, levels - 1, pile, rest)?;
-            Ok((Instr::If(kind, instrs, Some(others)), rest))
-        }
-    }
+    sides_onto(alloc, levels - 1, pile, opcode, kind, rest)
 }
 
 /// Reads the instruction that this opcode begins, and puts it on the pile.
@@ -218,85 +329,81 @@ fn opened<'a>(
 fn instr_onto<'a>(
     alloc: Global,
     levels: u16,
-    pile: &mut Vec<Instr>,
+    pile: &mut Vec<Op>,
     opcode: u8,
     bytes: &'a [u8],
 ) -> Result<&'a [u8], WFault>
     ensures { Gives (λ x. (pile.new.items, x.now)) result (onto pile.old.items (instr_of (opened levels) opcode bytes.now)) }
 {
     if opens(opcode) {
-        let (instr, rest) = opened(alloc, levels, pile, opcode, bytes)?;
-        put(pile, instr, rest)
+        opened_onto(alloc, levels, pile, opcode, bytes)
     } else {
         plain_onto(alloc, pile, opcode, bytes)
     }
 }
 
-/// Takes off the pile what stands on so many others.
-fn taken_off(pile: &mut Vec<Instr>, below: usize) -> Result<Items<Instr>, AllocError>
-    requires { below ≤ length pile.old.items }
-    ensures taken { IfOk result (λ is. is ≡ drop below pile.old.items) }
-    ensures pile { OnOk result (pile.new.items ≡ take below pile.old.items) }
-{
-    Ok(Items::from_vec(pile.split_off(below)?))
-}
-
-/// Instructions and what ends them, where so many levels of nesting are left. The pile holds instructions until the end
-/// of their sequence is read, so that each list asks for memory once.
+/// Puts instructions on the pile up to what ends them, where so many levels of nesting are left.
 #[cycle(code)]
 fn code_in<'a>(
     alloc: Global,
     levels: u16,
-    pile: &mut Vec<Instr>,
+    pile: &mut Vec<Op>,
     bytes: &'a [u8],
-) -> Result<(Items<Instr>, Ending, &'a [u8]), WFault>
-    ensures gives { Gives (λ x. ((x.0, x.1), x.2.now)) result (code_in levels bytes.now) }
-    ensures pile { OnOk result (pile.new.items ≡ pile.old.items) }
+) -> Result<(Ending, &'a [u8]), WFault>
+    ensures { Gives (λ x. ((pile.new.items, x.0), x.1.now)) result (onto_sequence pile.old.items (code_in levels bytes.now)) }
 {
-    let below = pile.len();
     let mut rest = bytes;
     for _ in 0..bytes.len() {
         let (opcode, after) = byte_at(rest)?;
         if let Some(ending) = ending_of(opcode) {
-            let instrs = taken_off(pile, below)?;
-            return Ok((instrs, ending, after));
+            return Ok((ending, after));
         }
         rest = instr_onto(alloc, levels, pile, opcode, after)?;
     }
     Err(WFault::Malformed)
 }
 
-/// The instructions up to their end, where so many levels of nesting are left.
+/// The same up to an end.
 #[cycle(code)]
 fn code_within<'a>(
     alloc: Global,
     levels: u16,
-    pile: &mut Vec<Instr>,
+    pile: &mut Vec<Op>,
     bytes: &'a [u8],
-) -> Result<(Items<Instr>, &'a [u8]), WFault>
-    ensures gives { Gives (λ x. (x.0, x.1.now)) result ((code_within levels).reading bytes.now) }
-    ensures pile { OnOk result (pile.new.items ≡ pile.old.items) }
+) -> Result<&'a [u8], WFault>
+    ensures { Gives (λ x. (pile.new.items, x.now)) result (onto_code pile.old.items ((code_within levels).reading bytes.now)) }
 {
     match code_in(alloc, levels, pile, bytes)? {
-        (instrs, Ending::End, rest) => Ok((instrs, rest)),
-        (_, Ending::Else, _) => Err(WFault::OutsideProfile),
+        (Ending::End, rest) => Ok(rest),
+        (Ending::Else, _) => Err(WFault::OutsideProfile),
     }
 }
 
-/// The instructions up to the end of their sequence, read over a pile that may be used again.
+/// Takes all off the pile.
+fn taken_off(pile: &mut Vec<Op>) -> Result<Code, AllocError>
+    ensures { IfOk result (λ c. c ≡ tree pile.old.items) }
+{
+    Ok(Code::new(pile.split_off(0)?))
+}
+
+/// The instructions up to the end of their sequence, read over a pile that may be used again. So each list asks for memory
+/// once.
 #[tactic(auto, unfolding(crate::specs::Binary::code))]
 pub fn code_over<'a>(
     alloc: Global,
-    pile: &mut Vec<Instr>,
+    pile: &mut Vec<Op>,
     bytes: &'a [u8],
-) -> Result<(Items<Instr>, &'a [u8]), WFault>
+) -> Result<(Code, &'a [u8]), WFault>
     ensures { Gives (λ x. (x.0, x.1.now)) result (code.reading bytes.now) }
 {
-    code_within(alloc, DEEPEST, pile, bytes)
+    pile.clear();
+    let rest = code_within(alloc, DEEPEST, pile, bytes)?;
+    let code = taken_off(pile)?;
+    Ok((code, rest))
 }
 
 /// The instructions up to the end of their sequence.
-pub fn code_at(alloc: Global, bytes: &[u8]) -> Result<(Items<Instr>, &[u8]), WFault>
+pub fn code_at(alloc: Global, bytes: &[u8]) -> Result<(Code, &[u8]), WFault>
     ensures { Gives (λ x. (x.0, x.1.now)) result (code.reading bytes.now) }
 {
     let mut pile = Vec::new(alloc);
@@ -330,11 +437,32 @@ fn write_block_type(out: &mut Writer, kind: Option<ValueType>) -> Result<(), All
     }
 }
 
-fn write_table(out: &mut Writer, labels: &[u32], last: u32) -> Result<(), AllocError>
-    ensures { OnOk result (out.new ≡ out.old ++ (0x0E ∷ (vector unsigned).spelling labels.now ++ unsigned.spelling last)) }
+/// The label that a branch names.
+fn label_of(op: Op) -> u32
+    ensures { result ≡ label_of op }
+{
+    match op {
+        Op::Br(label) => label,
+        _ => 0,
+    }
+}
+
+/// Appends how many labels there are, and then each.
+fn write_labels(out: &mut Writer, labels: &[Op]) -> Result<(), AllocError>
+    ensures { OnOk result (out.new ≡ out.old ++ (vector unsigned).spelling (map label_of labels.now)) }
+{
+    out.unsigned(labels.len() as u64)?;
+    for label in labels {
+        out.unsigned(u64::from(label_of(*label)))?;
+    }
+    Ok(())
+}
+
+fn write_table(out: &mut Writer, labels: &[Op], last: u32) -> Result<(), AllocError>
+    ensures { OnOk result (out.new ≡ out.old ++ (0x0E ∷ (vector unsigned).spelling (map label_of labels.now) ++ unsigned.spelling last)) }
 {
     out.byte(0x0E)?;
-    write_vector(out, labels)?;
+    write_labels(out, labels)?;
     out.unsigned(u64::from(last))
 }
 
@@ -358,13 +486,13 @@ fn write_opened(
     out: &mut Writer,
     opcode: u8,
     kind: Option<ValueType>,
-    instrs: &[Instr],
+    ops: &[Op],
 ) -> Result<(), AllocError>
-    ensures { OnOk result (out.new ≡ out.old ++ (opcode ∷ block_type.spelling kind ++ flat_map instr_spelling instrs.now)) }
+    ensures { OnOk result (out.new ≡ out.old ++ (opcode ∷ block_type.spelling kind ++ flat_map instr_spelling (tree ops.now))) }
 {
     out.byte(opcode)?;
     write_block_type(out, kind)?;
-    write_instrs(out, instrs)
+    write_ops(out, ops)
 }
 
 /// The same with an end.
@@ -373,71 +501,107 @@ fn write_block(
     out: &mut Writer,
     opcode: u8,
     kind: Option<ValueType>,
-    instrs: &[Instr],
+    ops: &[Op],
 ) -> Result<(), AllocError>
-    ensures { OnOk result (out.new ≡ out.old ++ (opcode ∷ block_type.spelling kind ++ flat_map instr_spelling instrs.now ++ 0x0B ∷ [])) }
+    ensures { OnOk result (out.new ≡ out.old ++ (opcode ∷ block_type.spelling kind ++ flat_map instr_spelling (tree ops.now) ++ 0x0B ∷ [])) }
 {
-    write_opened(out, opcode, kind, instrs)?;
+    write_opened(out, opcode, kind, ops)?;
     out.byte(0x0B)
 }
 
+/// Appends an `if` with two sides.
 #[cycle(write)]
-fn write_instr(out: &mut Writer, instr: &Instr) -> Result<(), AllocError>
-    ensures { OnOk result (out.new ≡ out.old ++ instr_spelling instr.now) }
+fn write_sides(
+    out: &mut Writer,
+    kind: Option<ValueType>,
+    ops: &[Op],
+    others: &[Op],
+) -> Result<(), AllocError>
+    ensures { OnOk result (out.new ≡ out.old ++ (0x04 ∷ block_type.spelling kind ++ flat_map instr_spelling (tree ops.now) ++ (0x05 ∷ flat_map instr_spelling (tree others.now) ++ 0x0B ∷ []))) }
 {
-    match instr {
-        Instr::Unreachable => out.byte(0x00),
-        Instr::Block(kind, instrs) => write_block(out, 0x02, *kind, instrs.as_slice()),
-        Instr::Loop(kind, instrs) => write_block(out, 0x03, *kind, instrs.as_slice()),
-        Instr::If(kind, instrs, others) => {
-            write_opened(out, 0x04, *kind, instrs.as_slice())?;
-            match others {
-                None => out.byte(0x0B),
-                Some(others) => {
-                    out.byte(0x05)?;
-                    write_instrs(out, others.as_slice())?;
-                    out.byte(0x0B)
-                }
-            }
+    write_opened(out, 0x04, kind, ops)?;
+    out.byte(0x05)?;
+    write_ops(out, others)?;
+    out.byte(0x0B)
+}
+
+/// Appends the instruction that this operation begins, of which those behind it may be a part.
+#[cycle(write)]
+fn write_op(out: &mut Writer, op: Op, rest: &[Op]) -> Result<(), AllocError>
+    ensures { OnOk result (out.new ≡ out.old ++ instr_spelling (head tree op rest.now)) }
+{
+    match op {
+        Op::Unreachable => out.byte(0x00),
+        Op::Block(kind, count) => write_block(out, 0x02, kind, split_ops(rest, count).0),
+        Op::Loop(kind, count) => write_block(out, 0x03, kind, split_ops(rest, count).0),
+        Op::If(kind, count) => write_block(out, 0x04, kind, split_ops(rest, count).0),
+        Op::IfElse(kind, count, second) => {
+            let (ops, more) = split_ops(rest, count);
+            write_sides(out, kind, ops, split_ops(more, second).0)
         }
-        Instr::Br(label) => write_indexed(out, 0x0C, *label),
-        Instr::BrIf(label) => write_indexed(out, 0x0D, *label),
-        Instr::BrTable(labels, last) => write_table(out, labels.as_slice(), *last),
-        Instr::Return => out.byte(0x0F),
-        Instr::Call(function) => write_indexed(out, 0x10, *function),
-        Instr::CallIndirect(type_index) => {
-            write_indexed(out, 0x11, *type_index)?;
+        Op::Br(label) => write_indexed(out, 0x0C, label),
+        Op::BrIf(label) => write_indexed(out, 0x0D, label),
+        Op::BrTable(count, last) => write_table(out, split_ops(rest, count).0, last),
+        Op::Return => out.byte(0x0F),
+        Op::Call(function) => write_indexed(out, 0x10, function),
+        Op::CallIndirect(type_index) => {
+            write_indexed(out, 0x11, type_index)?;
             out.byte(0x00)
         }
-        Instr::Drop => out.byte(0x1A),
-        Instr::LocalGet(local) => write_indexed(out, 0x20, *local),
-        Instr::LocalSet(local) => write_indexed(out, 0x21, *local),
-        Instr::LocalTee(local) => write_indexed(out, 0x22, *local),
-        Instr::GlobalGet(global) => write_indexed(out, 0x23, *global),
-        Instr::Load(load) => write_no_offset(out, load_opcode(*load)),
-        Instr::Store(width) => write_no_offset(out, store_opcode(*width)),
-        Instr::I32Const(number) => write_i32(out, *number),
-        Instr::I64Const(number) => write_i64(out, *number),
-        Instr::Numeric(numeric) => out.byte(numeric_opcode(*numeric)),
+        Op::Drop => out.byte(0x1A),
+        Op::LocalGet(local) => write_indexed(out, 0x20, local),
+        Op::LocalSet(local) => write_indexed(out, 0x21, local),
+        Op::LocalTee(local) => write_indexed(out, 0x22, local),
+        Op::GlobalGet(global) => write_indexed(out, 0x23, global),
+        Op::Load(load) => write_no_offset(out, load_opcode(load)),
+        Op::Store(width) => write_no_offset(out, store_opcode(width)),
+        Op::I32Const(number) => write_i32(out, number),
+        Op::I64Const(number) => write_i64(out, number),
+        Op::Numeric(numeric) => out.byte(numeric_opcode(numeric)),
+    }
+}
+
+/// What stands behind the instruction that this operation begins.
+fn behind(op: Op, rest: &[Op]) -> &[Op]
+    ensures { result.now ≡ behind op rest.now }
+{
+    match op {
+        Op::Block(_, count) | Op::Loop(_, count) | Op::If(_, count) | Op::BrTable(count, _) => {
+            split_ops(rest, count).1
+        }
+        Op::IfElse(_, count, second) => split_ops(split_ops(rest, count).1, second).1,
+        _ => rest,
+    }
+}
+
+/// The first operation and those behind it.
+fn next(ops: &[Op]) -> Option<(Op, &[Op])>
+    ensures { MatchOption result (ops.now ≡ []) (λ x. ops.now ≡ x.0 ∷ x.1.now) }
+{
+    match ops {
+        [op, rest @ ..] => Some((*op, rest)),
+        [] => None,
     }
 }
 
 /// Appends the instructions, one after another.
 #[cycle(write)]
-fn write_instrs(out: &mut Writer, instrs: &[Instr]) -> Result<(), AllocError>
-    ensures { OnOk result (out.new ≡ out.old ++ flat_map instr_spelling instrs.now) }
+fn write_ops(out: &mut Writer, ops: &[Op]) -> Result<(), AllocError>
+    ensures { OnOk result (out.new ≡ out.old ++ flat_map instr_spelling (tree ops.now)) }
 {
-    for instr in instrs {
-        write_instr(out, instr)?;
+    let mut left = ops;
+    while let Some((op, rest)) = next(left) {
+        write_op(out, op, rest)?;
+        left = behind(op, rest);
     }
     Ok(())
 }
 
 /// Appends the instructions and the end of their sequence.
 #[tactic(auto, unfolding(crate::specs::Binary::code))]
-pub fn write_code(out: &mut Writer, instrs: &[Instr]) -> Result<(), AllocError>
-    ensures { OnOk result (out.new ≡ out.old ++ code.spelling instrs.now) }
+pub fn write_code(out: &mut Writer, ops: &[Op]) -> Result<(), AllocError>
+    ensures { OnOk result (out.new ≡ out.old ++ code.spelling (tree ops.now)) }
 {
-    write_instrs(out, instrs)?;
+    write_ops(out, ops)?;
     out.byte(0x0B)
 }

@@ -107,7 +107,7 @@ impl Binary for Constant {
     fn write(&self, out: &mut Writer) -> Result<(), AllocError> {
         self.value_type.write(out)?;
         out.byte(0x00)?;
-        write_code(out, self.value.as_slice())
+        write_code(out, self.value.ops())
     }
 }
 
@@ -196,7 +196,7 @@ impl Binary for Element {
 
     fn write(&self, out: &mut Writer) -> Result<(), AllocError> {
         self.table.write(out)?;
-        write_code(out, self.offset.as_slice())?;
+        write_code(out, self.offset.ops())?;
         write_vector(out, self.functions.as_slice())
     }
 }
@@ -224,7 +224,7 @@ impl Binary for Data {
 
     fn write(&self, out: &mut Writer) -> Result<(), AllocError> {
         self.memory.write(out)?;
-        write_code(out, self.offset.as_slice())?;
+        write_code(out, self.offset.ops())?;
         out.sized(self.bytes.as_slice())
     }
 }
