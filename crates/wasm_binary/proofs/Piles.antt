@@ -1,5 +1,5 @@
 -- What is on a pile, once an instruction is read onto it.
-use Rattle.std.proofs.Common.{◌≡◌, ℕ, suc, ◌+◌, ◌-◌, ◌<◌, ◌≤◌, true, false, List, [], ◌∷◌, ◌++◌, length, map, Option, Some, None, Result, Ok, Err, refl, sym, ap, ◌∙◌, append_assoc, arith}
+use Rattle.std.proofs.Common.{◌≡◌, ℕ, ◌+◌, ◌-◌, true, List, [], ◌∷◌, ◌++◌, length, map, Option, Some, Result, Ok, Err, refl, sym, ap, ◌∙◌, append_assoc, arith}
 use Rattle.std.specs.Prelude.{slice_set, ◌==◌}
 use Rattle.std.proofs.lemmas.List.{append-nil, length-append}
 use Rattle.wasm_tree.specs.declared.kinds.ValueType.{ValueType}
@@ -10,7 +10,7 @@ use Rattle.wasm_tree.specs.declared.code.Op.TheVariants as op
 use Rattle.wasm_tree.specs.declared.instr.Instr.{Instr}
 use Rattle.wasm_tree.specs.declared.instr.Instr.TheVariants as instr
 use Rattle.wasm_tree.specs.Code.{tree, head, flat_one, flat}
-use Rattle.wasm_tree.specs.Format.{Format, Reading, ◌>>=◌, Fails}
+use Rattle.wasm_tree.specs.Format.{Reading, ◌>>=◌, Fails}
 use Rattle.wasm_tree.proofs.Flat.{tree_flat}
 use Rattle.wasm_binary.specs.declared.binary.code.Ending.{Ending}
 use Rattle.wasm_binary.specs.declared.binary.code.Ending.TheVariants.{End, Else}

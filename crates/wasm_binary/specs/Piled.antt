@@ -1,11 +1,11 @@
 -- What is read onto a pile of operations, which stand for instructions.
-use Rattle.std.specs.Prelude.{ℕ, Bool, true, false, List, [], ◌∷◌, ◌++◌, Option, Ok, Err, ◌==◌, if◌then◌else◌}
+use Rattle.std.specs.Prelude.{ℕ, Bool, true, false, List, ◌++◌, Option, Ok, ◌==◌, if◌then◌else◌}
 use Rattle.wasm_tree.specs.declared.kinds.ValueType.{ValueType}
 use Rattle.wasm_tree.specs.declared.code.Op.{Op}
 use Rattle.wasm_tree.specs.declared.code.Op.TheVariants as op
 use Rattle.wasm_tree.specs.declared.instr.Instr.{Instr}
 use Rattle.wasm_tree.specs.Code.{flat_one, flat, label_of}
-use Rattle.wasm_tree.specs.Format.{Format, Reading, ◌>>=◌}
+use Rattle.wasm_tree.specs.Format.{Reading, ◌>>=◌}
 use Rattle.wasm_binary.specs.declared.binary.code.Ending.{Ending}
 use Rattle.wasm_binary.specs.Number.{unsigned}
 use Rattle.wasm_binary.specs.Binary.{Sequence, closing, code_in}

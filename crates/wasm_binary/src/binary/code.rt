@@ -1,6 +1,6 @@
 //! Instructions in bytes (Core 1.0, section 5.4).
 
-ghost use Rattle.std.specs.Prelude.{◌≡◌, ◌+◌, ◌-◌, ◌<◌, ◌≤◌, true, Ok, [], ◌∷◌, ◌++◌, OnOk, IfOk, MatchOption, length, map, take, drop, slice_set};
+ghost use Rattle.std.specs.Prelude.{◌≡◌, ◌+◌, ◌-◌, ◌<◌, ◌≤◌, true, Ok, [], ◌∷◌, ◌++◌, OnOk, IfOk, MatchOption, length, map, slice_set};
 ghost use Rattle.std.specs.List.{flat_map};
 ghost use Rattle.wasm_tree.specs.Code.{tree, head, behind, label_of};
 ghost use Rattle.wasm_tree.specs.Format.{Format, Gives};
@@ -8,7 +8,7 @@ ghost use Rattle.wasm_tree.specs.declared.code.Op.TheVariants.{Br, IfElse};
 ghost use Rattle.wasm_tree.specs.declared.instr.Instr.TheVariants as instr;
 ghost use Rattle.wasm_binary.specs.Number.{unsigned, signed32, signed64};
 ghost use Rattle.wasm_binary.specs.Parts.{vector};
-ghost use Rattle.wasm_binary.specs.Binary.{block_type, no_offset, memory_of, variable_of, plain_of, opens, ending_of, instr_of, code_in, ended, opened, sequence, code_within, instr_spelling, code};
+ghost use Rattle.wasm_binary.specs.Binary.{block_type, no_offset, memory_of, variable_of, plain_of, opens, ending_of, instr_of, code_in, opened, code_within, instr_spelling, code};
 ghost use Rattle.wasm_binary.specs.Piled.{is_plain, one_sided_op, onto, onto_sequence, onto_code, sides_of};
 
 use crate::binary::opcode::{

@@ -2,7 +2,7 @@ use Rattle.std.proofs.Common.{arith, length, sym, ◌∙◌}
 use Rattle.std.proofs.lemmas.Result.{err_from_is_err_and}
 use Rattle.wasm_tree.specs.declared.fault.WFault.TheVariants.{Malformed}
 use Rattle.wasm_tree.specs.declared.code.Op.TheVariants as op
-use Rattle.wasm_binary.specs.Binary.{opened, instr_of, sequence}
+use Rattle.wasm_binary.specs.Binary.{opened, instr_of}
 use Rattle.wasm_binary.proofs.Loop.{sequence_more, sequence_fail, sequence_end, sequence_cut, sequence_none}
 use Rattle.wasm_binary.proofs.Piles.{instr_onto, faults, fails_onto, ends_onto, goes_on_onto, sides_end, sides_two}
 use Rattle.wasm_binary.proofs.binary.code.+code.Goals as goal

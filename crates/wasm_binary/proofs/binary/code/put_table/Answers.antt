@@ -1,4 +1,3 @@
-use Rattle.std.proofs.Common.{sym}
 use Rattle.wasm_binary.proofs.Piles.{put_table}
 use Rattle.wasm_binary.proofs.binary.code.put_table.Goals as goal
 
