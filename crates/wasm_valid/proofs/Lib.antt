@@ -1,5 +1,6 @@
 pub mod Stacks
 pub mod Each
+pub mod Names
 pub mod Opened
 pub mod Rules
 pub mod Walks

@@ -1,8 +1,10 @@
 //! Valid modules (Core 1.0, section 3.4).
 
-ghost use Rattle.std.specs.Prelude.{[], ◌≡◌, ◌≢◌, ◌<◌, ◌≤◌, ◌^◌, ◌↔◌, ◌⊎◌, All, IsTrue, OnOk, IfOk, MatchResult, map, length, drop};
+ghost use Rattle.std.specs.Prelude.{[], List, ℕ, not, cond, true, ◌≡◌, ◌<◌, ◌≤◌, ◌^◌, ◌↔◌, ◌⊎◌, All, IsTrue, OnOk, IfOk, MatchResult, map, length, drop};
 ghost use Rattle.wasm_tree.specs.Validity.{context, initial_context, AreLimits, IsFuncType, IsImport, function_context, result_types, Leads, IsFunction, IsGlobal, IsExport, IsElement, IsData, AreDistinct, AreKinds, AreBodies, IsValid};
 ghost use Rattle.wasm_valid.specs.Scope.{scope_of};
+ghost use Rattle.std.specs.Str.{bytes_eq};
+ghost use Rattle.wasm_valid.specs.Named.{holds};
 ghost use Rattle.wasm_valid.specs.Typing.{Decides, AreSingle};
 
 use crate::frame::Frame;
@@ -11,6 +13,7 @@ use crate::scope::{Scope, functions_of, initial_scope, names_of, whole_scope};
 use crate::typing::{check_code, check_constant};
 use sqlite_items::{Items, at};
 use std::alloc::{AllocError, Global};
+use std::collections::HashSet;
 use std::marker::Model;
 use wasm_tree::{
     Body, Data, Element, Export, ExportKind, FuncType, Function, Global as Constant, Import,
@@ -178,35 +181,28 @@ fn check_segments(alloc: Global, scope: Scope<'_>, segments: &[Data]) -> Result<
     Ok(())
 }
 
-fn is_same(name: &[u8], other: &[u8]) -> bool
-    ensures { IsTrue result ↔ (name.now ≡ other.now) }
+/// Puts the name into the set. Whether it is new there.
+fn is_added<'a>(names: &mut HashSet<&'a [u8]>, name: &'a [u8]) -> Result<bool, AllocError>
+    ensures new { IfOk result (λ new. new ≡ not (holds names.old name.now)) }
+    ensures held { OnOk result ((n : List ℕ) → holds names.new n ≡ cond (bytes_eq name.now n) true (holds names.old n)) }
 {
-    name == other
-}
-
-/// Whether none of the exports has this name.
-fn is_new(name: &[u8], exports: &[Export]) -> bool
-    ensures { IsTrue result ↔ All (λ e. name.now ≢ e.name) exports.now }
-{
-    for export in exports {
-        if is_same(name, export.name.as_slice()) {
-            return false;
-        }
-    }
-    true
+    let is_new = names.insert(name)?;
+    Ok(is_new)
 }
 
 /// Whether no two exports have one name.
-fn are_distinct(exports: &[Export]) -> bool
-    ensures { IsTrue result ↔ AreDistinct (map (λ e. e.name) exports.now) }
+fn are_distinct(alloc: Global, exports: &[Export]) -> Result<bool, AllocError>
+    ensures { IfOk result (λ yes. IsTrue yes ↔ AreDistinct (map (λ e. e.name) exports.now)) }
 {
-    for k in 0..exports.len() {
-        let (_, others) = exports.split_at(k + 1);
-        if !is_new(exports[k].name.as_slice(), others) {
-            return false;
+    let mut names = HashSet::new(alloc);
+    let mut left = exports.len();
+    while left > 0 {
+        left -= 1;
+        if !is_added(&mut names, exports[left].name.as_slice())? {
+            return Ok(false);
         }
     }
-    true
+    Ok(true)
 }
 
 fn are_func_types(types: &[FuncType]) -> bool
@@ -271,7 +267,7 @@ fn check_bodies(alloc: Global, scope: Scope<'_>, tree: &WModule) -> Result<(), W
 }
 
 /// Whether there is at most one table and one memory, and no two exports have one name.
-fn check_single(scope: Scope<'_>, tree: &WModule) -> Result<(), WFault>
+fn check_single(alloc: Global, scope: Scope<'_>, tree: &WModule) -> Result<(), WFault>
     ensures { Decides result (AreSingle (scope_of scope.entry) tree.now) }
 {
     if scope.tables.len() > 1 {
@@ -280,7 +276,7 @@ fn check_single(scope: Scope<'_>, tree: &WModule) -> Result<(), WFault>
     if scope.memories.len() > 1 {
         return Err(WFault::Invalid);
     }
-    if !are_distinct(tree.exports.as_slice()) {
+    if !are_distinct(alloc, tree.exports.as_slice())? {
         return Err(WFault::Invalid);
     }
     Ok(())
@@ -291,7 +287,7 @@ fn check_whole(alloc: Global, tree: &WModule) -> Result<(), WFault>
 {
     let names = names_of(alloc, tree)?;
     let scope = whole_scope(tree, &names);
-    check_single(scope, tree)?;
+    check_single(alloc, scope, tree)?;
     check_kinds(scope, tree)?;
     check_bodies(alloc, scope, tree)?;
     check_globals(alloc, initial_scope(tree, &names), tree.globals.as_slice())?;

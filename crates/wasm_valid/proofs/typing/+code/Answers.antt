@@ -10,7 +10,7 @@ use Rattle.wasm_valid.proofs.typing.+code.Goals as goal
 pub check_code-returns-in_err-check_inside-clause-fits : goal.check_code-returns-in_err-check_inside-clause-fits
 check_code-returns-in_err-check_inside-clause-fits t c =
     let p = err_from_is_err_and c.from_residual.result c.from_residual.ensures.1 in
-    exit c.from_residual.result p.0 _ _ _ p.1 p.2 (exit_unfit c.args.frame c.args.blocks.now c.ops.blocks (tree c.args.code.now) c.ops.rest.now c.in-Some.op c.in-Some.others.now c.ops.operands (result_types c.args.given) _ c.ops.invariant.same c.in-Some.ensures c.ops.invariant.on c.in_err-check_inside.ensures.fits)
+    exit c.from_residual.result p.0 _ _ _ p.1 p.2 (exit_unfit c.args.frame c.args.blocks.now _ (tree c.args.code.now) c.ops.rest.now c.in-Some.op c.in-Some.others.now c.ops.operands (result_types c.args.given) _ c.ops.invariant.same c.in-Some.ensures c.ops.invariant.on c.in_err-check_inside.ensures.fits)
 
 pub check_code-returns-in_err-step-clause-fits : goal.check_code-returns-in_err-step-clause-fits
 check_code-returns-in_err-step-clause-fits t c =
@@ -24,7 +24,7 @@ pub check_code-ops-preserved : goal.check_code-ops-preserved
 check_code-ops-preserved t c =
     let same = c.in_ok-check_inside.ensures.blocks ∙ c.ops.invariant.same in
     record {
-      on = goes_on c.args.frame c.args.blocks.now c.ops.blocks c.as_slice.result.now (tree c.args.code.now) c.ops.rest.now c.in-Some.op c.in-Some.others.now c.behind-rest.result.now c.ops.operands c.step.new.operands c.ops.invariant.same (c.as_slice.ensures ∙ same) c.in-Some.ensures c.behind-rest.ensures c.in_ok-check_inside.ensures.fits (c.in_ok-step.ensures c.in-Some.others.now) c.ops.invariant.on;
+      on = goes_on c.args.frame c.args.blocks.now _ c.as_slice.result.now (tree c.args.code.now) c.ops.rest.now c.in-Some.op c.in-Some.others.now c.behind-rest.result.now c.ops.operands c.step.new.operands c.ops.invariant.same (c.as_slice.ensures ∙ same) c.in-Some.ensures c.behind-rest.ensures c.in_ok-check_inside.ensures.fits (c.in_ok-step.ensures c.in-Some.others.now) c.ops.invariant.on;
       same = same;
       shorter = shorter c.args.code.now c.ops.rest.now c.in-Some.op c.in-Some.others.now c.behind-rest.result.now c.in-Some.ensures c.behind-rest.ensures c.ops.invariant.shorter;
     }
