@@ -39,14 +39,6 @@ spelled-If-Some t is others =
     ∙ ap (λ (r : List ℕ). 0x04 ∷ block_type.spelling t ++ r ++ (0x05 ∷ concat (map instr_spelling others) ++ 0x0B ∷ [])) (joined is)
     ∙ ap (λ (r : List ℕ). 0x04 ∷ block_type.spelling t ++ flat_map instr_spelling is ++ (0x05 ∷ r ++ 0x0B ∷ [])) (joined others)
 
--- the same of an instruction that is known by its parts
-pub if_is-None : (i : Instr) (t : Option ValueType) (is : List Instr) (o : Option (List Instr)) → i ≡ If t is o → o ≡ None → instr_spelling i ≡ 0x04 ∷ block_type.spelling t ++ flat_map instr_spelling is ++ 0x0B ∷ []
-if_is-None i t is o e f = ap instr_spelling (e ∙ ap (λ (x : Option (List Instr)). If t is x) f) ∙ spelled-If-None t is
-
-pub if_is-Some : (i : Instr) (t : Option ValueType) (is others : List Instr) (o : Option (List Instr)) → i ≡ If t is o → o ≡ Some others
-    → instr_spelling i ≡ 0x04 ∷ block_type.spelling t ++ flat_map instr_spelling is ++ (0x05 ∷ flat_map instr_spelling others ++ 0x0B ∷ [])
-if_is-Some i t is others o e f = ap instr_spelling (e ∙ ap (λ (x : Option (List Instr)). If t is x) f) ∙ spelled-If-Some t is others
-
 pub spelled-Unreachable : instr_spelling Unreachable ≡ 0x00 ∷ []
 spelled-Unreachable = at Unreachable layer.Unreachable outs-Unreachable
 
