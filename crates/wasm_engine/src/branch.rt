@@ -12,7 +12,7 @@ ghost use Rattle.wasm_engine.specs.Going.{activation, label_of, store_of, caller
 use crate::call::leave;
 use crate::frame::{Label, Machine, Reduced};
 use std::alloc::AllocError;
-use wasm_tree::{Op, split_ops};
+use wasm_tree::{Op, label_of, split_ops};
 
 /// A block begins: a branch to it keeps so many operands and goes on there.
 #[inline(always)]
@@ -109,17 +109,6 @@ pub fn branch_if(machine: &mut Machine<'_>, label: u32) -> Result<Reduced, Alloc
         return Ok(Reduced::On);
     }
     branch(machine, label)
-}
-
-/// The label that a branch names.
-#[inline(always)]
-fn label_of(op: Op) -> u32
-    ensures { result ≡ code.label_of op }
-{
-    match op {
-        Op::Br(label) => label,
-        _ => 0,
-    }
 }
 
 /// The label of this number among branches, or the default.

@@ -1,8 +1,8 @@
 //! Code in one list: behind an instruction that holds others stand those, and it says how many they are. So code is read
 //! and walked from front to back, and asks for memory once.
 
-ghost use Rattle.std.specs.Prelude.{◌≡◌, take, drop};
-ghost use Rattle.wasm_tree.specs.Code.{tree};
+ghost use Rattle.std.specs.Prelude.{◌≡◌, ◌∷◌, [], MatchOption, take, drop};
+ghost use Rattle.wasm_tree.specs.Code.{tree, behind, label_of};
 
 use crate::instr::{Load, Numeric, StoreWidth};
 use crate::kinds::ValueType;
@@ -83,4 +83,40 @@ pub fn split_ops(ops: &[Op], count: u32) -> (&[Op], &[Op])
     ensures back { result.1.now ≡ drop count ops.now }
 {
     ops.split_at((count as usize).min(ops.len()))
+}
+
+/// The first of a list, and those behind it.
+#[inline(always)]
+pub fn first_of(ops: &[Op]) -> Option<(Op, &[Op])>
+    ensures { MatchOption result (ops.now ≡ []) (λ x. ops.now ≡ x.0 ∷ x.1.now) }
+{
+    match ops {
+        [] => None,
+        [op, rest @ ..] => Some((*op, rest)),
+    }
+}
+
+/// What stands behind an instruction and the code inside it, where `rest` stands behind its operation.
+#[inline(always)]
+pub fn behind(op: Op, rest: &[Op]) -> &[Op]
+    ensures { result.now ≡ behind op rest.now }
+{
+    match op {
+        Op::Block(_, count) | Op::Loop(_, count) | Op::If(_, count) | Op::BrTable(count, _) => {
+            split_ops(rest, count).1
+        }
+        Op::IfElse(_, count, second) => split_ops(split_ops(rest, count).1, second).1,
+        _ => rest,
+    }
+}
+
+/// The label that a branch names; 0 of any other operation.
+#[inline(always)]
+pub fn label_of(op: Op) -> u32
+    ensures { result ≡ label_of op }
+{
+    match op {
+        Op::Br(label) => label,
+        _ => 0,
+    }
 }

@@ -9,7 +9,7 @@ mod kinds;
 mod module;
 mod store;
 
-pub use code::{Code, Op, split_ops};
+pub use code::{Code, Op, behind, first_of, label_of, split_ops};
 pub use fault::WFault;
 pub use instr::{Instr, Load, Numeric, Operation, Relation, StoreWidth};
 pub use kinds::{FuncType, Limits, MemoryType, TableType, ValueType};

@@ -15,7 +15,7 @@ ghost use Rattle.wasm_valid.specs.Typing.{change, seen, called, called_slot, Exc
 use crate::operands::Effect;
 use crate::scope::Scope;
 use sqlite_items::at;
-use wasm_tree::{Locals, Numeric, Op, ValueType};
+use wasm_tree::{Locals, Numeric, Op, ValueType, label_of};
 
 /// What the code of one function may name, but for the labels of its blocks.
 #[derive(Clone, Copy)]
@@ -91,35 +91,6 @@ fn is_same_label(blocks: &[Option<ValueType>], left: u32, right: u32) -> bool
             None => false,
             Some(u) => is_same_result(t, u),
         },
-    }
-}
-
-/// The label that a branch names.
-fn label_of(op: Op) -> u32
-    ensures { result ≡ label_of op }
-{
-    match op {
-        Op::Br(l) => l,
-        Op::Unreachable
-        | Op::Block(_, _)
-        | Op::Loop(_, _)
-        | Op::If(_, _)
-        | Op::IfElse(_, _, _)
-        | Op::BrIf(_)
-        | Op::BrTable(_, _)
-        | Op::Return
-        | Op::Call(_)
-        | Op::CallIndirect(_)
-        | Op::Drop
-        | Op::LocalGet(_)
-        | Op::LocalSet(_)
-        | Op::LocalTee(_)
-        | Op::GlobalGet(_)
-        | Op::Load(_)
-        | Op::Store(_)
-        | Op::I32Const(_)
-        | Op::I64Const(_)
-        | Op::Numeric(_) => 0,
     }
 }
 

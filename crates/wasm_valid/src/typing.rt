@@ -14,7 +14,7 @@ use crate::operands::{Operands, Spares, affect, may_be, no_operands, types_of};
 use crate::scope::Scope;
 use sqlite_items::Items;
 use std::alloc::Global;
-use wasm_tree::{Op, ValueType, WFault, split_ops};
+use wasm_tree::{Op, ValueType, WFault, behind, first_of, split_ops};
 
 /// What the instruction does to the operands, whatever code stands inside it.
 fn step(
@@ -49,47 +49,6 @@ fn check_last(operands: &mut Operands, wanted: Option<ValueType>) -> Result<(), 
         Ok(())
     } else {
         Err(WFault::Invalid)
-    }
-}
-
-/// The first of a list, and those behind it.
-#[inline(always)]
-fn first_of(ops: &[Op]) -> Option<(Op, &[Op])>
-    ensures { MatchOption result (ops.now ≡ []) (λ x. ops.now ≡ x.0 ∷ x.1.now) }
-{
-    match ops {
-        [] => None,
-        [op, rest @ ..] => Some((*op, rest)),
-    }
-}
-
-/// What stands behind an instruction and the code inside it.
-#[inline(always)]
-fn behind(op: Op, rest: &[Op]) -> &[Op]
-    ensures { result.now ≡ behind op rest.now }
-{
-    match op {
-        Op::Block(_, n) => split_ops(rest, n).1,
-        Op::Loop(_, n) => split_ops(rest, n).1,
-        Op::If(_, n) => split_ops(rest, n).1,
-        Op::IfElse(_, n, m) => split_ops(split_ops(rest, n).1, m).1,
-        Op::BrTable(n, _) => split_ops(rest, n).1,
-        Op::Unreachable
-        | Op::Br(_)
-        | Op::BrIf(_)
-        | Op::Return
-        | Op::Call(_)
-        | Op::CallIndirect(_)
-        | Op::Drop
-        | Op::LocalGet(_)
-        | Op::LocalSet(_)
-        | Op::LocalTee(_)
-        | Op::GlobalGet(_)
-        | Op::Load(_)
-        | Op::Store(_)
-        | Op::I32Const(_)
-        | Op::I64Const(_)
-        | Op::Numeric(_) => rest,
     }
 }
 

@@ -19,7 +19,7 @@ use crate::number::{signed32_at, signed64_at, unsigned_at};
 use crate::parts::{byte_at, skip};
 use crate::writer::Writer;
 use std::alloc::{AllocError, Global};
-use wasm_tree::{Code, Op, ValueType, WFault, split_ops};
+use wasm_tree::{Code, Op, ValueType, WFault, behind, first_of, label_of, split_ops};
 
 /// How deep blocks may nest.
 const DEEPEST: u16 = 4096;
@@ -437,16 +437,6 @@ fn write_block_type(out: &mut Writer, kind: Option<ValueType>) -> Result<(), All
     }
 }
 
-/// The label that a branch names.
-fn label_of(op: Op) -> u32
-    ensures { result ≡ label_of op }
-{
-    match op {
-        Op::Br(label) => label,
-        _ => 0,
-    }
-}
-
 /// Appends how many labels there are, and then each.
 fn write_labels(out: &mut Writer, labels: &[Op]) -> Result<(), AllocError>
     ensures { OnOk result (out.new ≡ out.old ++ (vector unsigned).spelling (map label_of labels.now)) }
@@ -561,36 +551,13 @@ fn write_op(out: &mut Writer, op: Op, rest: &[Op]) -> Result<(), AllocError>
     }
 }
 
-/// What stands behind the instruction that this operation begins.
-fn behind(op: Op, rest: &[Op]) -> &[Op]
-    ensures { result.now ≡ behind op rest.now }
-{
-    match op {
-        Op::Block(_, count) | Op::Loop(_, count) | Op::If(_, count) | Op::BrTable(count, _) => {
-            split_ops(rest, count).1
-        }
-        Op::IfElse(_, count, second) => split_ops(split_ops(rest, count).1, second).1,
-        _ => rest,
-    }
-}
-
-/// The first operation and those behind it.
-fn next(ops: &[Op]) -> Option<(Op, &[Op])>
-    ensures { MatchOption result (ops.now ≡ []) (λ x. ops.now ≡ x.0 ∷ x.1.now) }
-{
-    match ops {
-        [op, rest @ ..] => Some((*op, rest)),
-        [] => None,
-    }
-}
-
 /// Appends the instructions, one after another.
 #[cycle(write)]
 fn write_ops(out: &mut Writer, ops: &[Op]) -> Result<(), AllocError>
     ensures { OnOk result (out.new ≡ out.old ++ flat_map instr_spelling (tree ops.now)) }
 {
     let mut left = ops;
-    while let Some((op, rest)) = next(left) {
+    while let Some((op, rest)) = first_of(left) {
         write_op(out, op, rest)?;
         left = behind(op, rest);
     }
