@@ -10,7 +10,7 @@ abbrev pub labels_of : List (Option ValueType) → List (List ValueType)
 labels_of blocks = map result_types (reverse blocks)
 
 abbrev pub locals_of : Frame → List ValueType
-locals_of f = f.params.now ++ declared f.groups.now
+locals_of f = f.params.now ++ declared f.locals.groups.now
 
 abbrev pub frame_context : Frame → (blocks : List (Option ValueType)) → Context
 frame_context f blocks = record (scope_of f.scope) { locals = locals_of f; labels = labels_of blocks; returns = result_types f.returns }

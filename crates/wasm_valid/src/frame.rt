@@ -7,15 +7,16 @@ ghost use Rattle.wasm_tree.specs.declared.kinds.ValueType.TheVariants.{I32};
 ghost use Rattle.wasm_valid.specs.Scope.{scope_of};
 ghost use Rattle.wasm_tree.specs.declared.code.Op.{Op};
 ghost use Rattle.wasm_tree.specs.Code.{label_of};
-ghost use Rattle.wasm_tree.specs.Validity.{declared, result_types, numeric_params, numeric_result};
+ghost use Rattle.wasm_tree.specs.Validity.{result_types, numeric_params, numeric_result};
 ghost use Rattle.wasm_valid.specs.Framed.{frame_context, labels_of, locals_of};
 ghost use Rattle.wasm_valid.specs.Opened.{opened};
 ghost use Rattle.wasm_valid.specs.Typing.{change, seen, called, called_slot, Exchanges, Leaves};
 
+use crate::grouped::{Groups, in_groups};
 use crate::operands::Effect;
 use crate::scope::Scope;
 use sqlite_items::at;
-use wasm_tree::{Locals, Numeric, Op, ValueType, label_of};
+use wasm_tree::{Numeric, Op, ValueType, label_of};
 
 /// What the code of one function may name, but for the labels of its blocks.
 #[derive(Clone, Copy)]
@@ -23,24 +24,9 @@ pub struct Frame<'a> {
     pub scope: Scope<'a>,
     pub params: &'a [ValueType],
     /// The declared locals, which stand behind the parameters.
-    pub groups: &'a [Locals],
+    pub locals: Groups<'a>,
     /// What the function gives.
     pub returns: Option<ValueType>,
-}
-
-/// The type of a declared local.
-fn in_groups(groups: &[Locals], index: usize) -> Option<ValueType>
-    ensures { result ≡ slice_get (declared groups.now) index }
-{
-    let mut left = index;
-    for group in groups {
-        let count = group.count as usize;
-        if left < count {
-            return Some(group.value_type);
-        }
-        left -= count;
-    }
-    None
 }
 
 #[tactic(auto, using(crate::proofs::Located::local_front, crate::proofs::Located::local_behind))]
@@ -52,7 +38,7 @@ fn local(frame: Frame<'_>, index: u32) -> Option<ValueType>
     if index < count {
         Some(frame.params[index])
     } else {
-        in_groups(frame.groups, index - count)
+        in_groups(frame.locals, index - count)
     }
 }
 

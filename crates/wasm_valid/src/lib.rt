@@ -2,6 +2,7 @@
 #![tactic(auto)]
 
 mod frame;
+mod grouped;
 mod operands;
 mod scope;
 #[cfg(test)]

@@ -10,6 +10,7 @@ ghost use Rattle.wasm_valid.specs.Opened.{opened};
 ghost use Rattle.wasm_valid.specs.Typing.{Decides, Steps, Stands, MayRule, CodeFits, change};
 
 use crate::frame::{Frame, are_same_labels, effect_of};
+use crate::grouped::Groups;
 use crate::operands::{Operands, Spares, affect, may_be, no_operands, types_of};
 use crate::scope::Scope;
 use sqlite_items::Items;
@@ -192,7 +193,10 @@ pub fn check_constant(
     let frame = Frame {
         scope,
         params: &[],
-        groups: &[],
+        locals: Groups {
+            groups: &[],
+            ends: &[],
+        },
         returns: None,
     };
     let mut spares = Spares::new(alloc);

@@ -8,6 +8,7 @@ ghost use Rattle.wasm_valid.specs.Named.{holds};
 ghost use Rattle.wasm_valid.specs.Typing.{Decides, AreSingle};
 
 use crate::frame::Frame;
+use crate::grouped::{Groups, count_ends};
 use crate::operands::Spares;
 use crate::scope::{Scope, functions_of, initial_scope, names_of, whole_scope};
 use crate::typing::{check_code, check_constant};
@@ -60,21 +61,27 @@ fn result_of(results: &[ValueType]) -> Option<ValueType>
 }
 
 /// A function of this type.
-fn check_body(
+fn check_body<'a>(
     alloc: Global,
     spares: &mut Spares,
-    scope: Scope<'_>,
-    func_type: &FuncType,
-    body: &Body,
+    ends: &'a mut Vec<usize>,
+    scope: Scope<'a>,
+    func_type: &'a FuncType,
+    body: &'a Body,
 ) -> Result<(), WFault>
     requires { IsFuncType func_type.now }
     ensures { Decides result (Leads (function_context (scope_of scope.entry) func_type.now body.now.locals) body.now.code [] func_type.now.results) }
 {
     let returns = result_of(func_type.results.as_slice());
+    let groups = body.locals.as_slice();
+    count_ends(ends, groups)?;
     let frame = Frame {
         scope,
         params: func_type.params.as_slice(),
-        groups: body.locals.as_slice(),
+        locals: Groups {
+            groups,
+            ends: ends.as_slice(),
+        },
         returns,
     };
     let mut blocks = Items::new(alloc);
@@ -85,6 +92,7 @@ fn check_body(
 fn check_function(
     alloc: Global,
     spares: &mut Spares,
+    ends: &mut Vec<usize>,
     scope: Scope<'_>,
     function: &Function,
 ) -> Result<(), WFault>
@@ -92,7 +100,7 @@ fn check_function(
     ensures { Decides result (IsFunction (scope_of scope.entry) function.now) }
 {
     match at(scope.types, function.type_index as usize) {
-        Some(func_type) => check_body(alloc, spares, scope, func_type, &function.body),
+        Some(func_type) => check_body(alloc, spares, ends, scope, func_type, &function.body),
         None => Err(WFault::Invalid),
     }
 }
@@ -148,8 +156,9 @@ fn check_functions(alloc: Global, scope: Scope<'_>, functions: &[Function]) -> R
     ensures { Decides result (All (IsFunction (scope_of scope.entry)) functions.now) }
 {
     let mut spares = Spares::new(alloc);
+    let mut ends = Vec::new(alloc);
     for function in functions {
-        check_function(alloc, &mut spares, scope, function)?;
+        check_function(alloc, &mut spares, &mut ends, scope, function)?;
     }
     Ok(())
 }
