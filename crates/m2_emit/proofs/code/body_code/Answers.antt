@@ -11,7 +11,7 @@ pub returns-clause-code : goal.returns-clause-code
 returns-clause-code c =
     let all = take_all c.loop-byte.byte-index c.args.printed.now (omega arith) in
     let same = flat_map-map stmt_code (λ (b : ℕ). Put b) c.args.printed.now in
-    ap tree (c.loop-byte.invariant ∙ ap put_ops all) ∙ puts c.args.printed.now ∙ sym same
+    c.new.ensures ∙ ap tree (c.loop-byte.invariant ∙ ap put_ops all) ∙ puts c.args.printed.now ∙ sym same
 
 pub returns-clause-small : goal.returns-clause-small
 returns-clause-small c = λ k d h.
