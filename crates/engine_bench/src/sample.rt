@@ -1,7 +1,7 @@
 //! Modules to execute, read and validate, in bytes.
 
 use std::alloc::{AllocError, Global};
-use wasm_binary::Writer;
+use wasm_bytes::Writer;
 
 /// A module whose `run` is a loop without an end: memory and the loop's local change, and function 1 is called, in each
 /// turn.

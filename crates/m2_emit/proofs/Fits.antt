@@ -20,9 +20,9 @@ use Rattle.wasm_tree.specs.declared.kinds.ValueType.TheVariants.{I32}
 use Rattle.wasm_tree.specs.declared.module.Function.{Function}
 use Rattle.wasm_tree.specs.declared.module.WModule.{WModule}
 use Rattle.wasm_tree.specs.Format.{Format}
-use Rattle.wasm_binary.specs.Number.{groups, signed_groups, shifted, unsigned}
-use Rattle.wasm_binary.specs.Parts.{section_fits, section}
-use Rattle.wasm_binary.specs.Binary.{value_type, func_type, limits, table_type, memory_type, instr_spelling, instr_fits, code, name, import_kind, import, global, export_kind, export, element, locals, body, bodies_spelling, types_of, module_fits}
+use Rattle.wasm_bytes.specs.Number.{groups, signed_groups, shifted, unsigned}
+use Rattle.wasm_bytes.specs.Parts.{section_fits, section, name}
+use Rattle.wasm_binary.specs.Binary.{value_type, func_type, limits, table_type, memory_type, instr_spelling, instr_fits, code, import_kind, import, global, export_kind, export, element, locals, body, bodies_spelling, types_of, module_fits}
 use Rattle.wasm_tree.specs.declared.instr.Instr.{Instr}
 use Rattle.wasm_tree.specs.declared.instr.Instr.TheVariants.{Call, CallIndirect, GlobalGet, I32Const, I64Const}
 use Rattle.wasm_binary.proofs.Spelled.{spelled-Call, spelled-CallIndirect, spelled-GlobalGet, spelled-I32Const, spelled-I64Const}

@@ -1,7 +1,6 @@
 -- The laws of the parts of a module.
 use Rattle.std.proofs.Common.{◌≡◌, ℕ, zero, suc, ◌+◌, ◌^◌, ◌<◌, true, cond, ltb, List, [], ◌∷◌, ◌++◌, length, Ok, Err, refl, sym, ap, subst, ◌∙◌, append_assoc, arith, inl, inr}
 use Rattle.std.specs.List.{flat_map}
-use Rattle.std.specs.Str.{is_utf8}
 use Rattle.std.proofs.lemmas.Bool.{lt-ltb, ltb-true, and_parts, and_from}
 use Rattle.std.proofs.lemmas.List.Sums.{sum_by-cons}
 use Rattle.wasm_tree.specs.declared.fault.WFault.TheVariants.{Malformed}
@@ -12,20 +11,16 @@ use Rattle.wasm_tree.specs.declared.module.Locals.{Locals}
 use Rattle.wasm_tree.specs.declared.module.ExportKind.{ExportKind}
 use Rattle.wasm_tree.specs.declared.module.ExportKind.TheVariants as exported
 use Rattle.wasm_tree.specs.Format.{◌>>=◌}
-use Rattle.wasm_binary.specs.Number.{unsigned}
-use Rattle.wasm_binary.specs.Parts.{◌◂◌, ◌·◌, seen, vector, sized, bytes_left}
-use Rattle.wasm_binary.specs.Binary.{value_type, table_type, memory_type, code, name, import_kind, import, global, export_kind, export, element, locals_at, locals_spelling, declared, locals, body, data_segment}
-use Rattle.wasm_binary.proofs.Laws.{IsBytes, IsBytes-tail, bind_ok, guard_ok, read_is, Taken, Law, whole}
+use Rattle.wasm_bytes.specs.Number.{unsigned}
+use Rattle.wasm_bytes.specs.Parts.{◌◂◌, ◌·◌, seen, vector, sized, bytes_left, name}
+use Rattle.wasm_binary.specs.Binary.{value_type, table_type, memory_type, code, import_kind, import, global, export_kind, export, element, locals_at, locals_spelling, declared, locals, body, data_segment}
+use Rattle.wasm_bytes.proofs.Laws.{IsBytes, IsBytes-tail, bind_ok, guard_ok, read_is, Taken, Law, whole}
 use Rattle.wasm_binary.proofs.LawsKinds.{if_tag, bind_behind, tagged, value_type_law, value_type_fits, table_type_law, memory_type_law}
 use Rattle.wasm_binary.proofs.LawsCode.{code_law}
-use Rattle.wasm_binary.proofs.LawsNumber.{unsigned_law}
-use Rattle.wasm_binary.proofs.LawsParts.{behind_law, then_law, seen_law, that_law, vector_law, sized_law, bytes_left_law}
+use Rattle.wasm_bytes.proofs.LawsNumber.{unsigned_law}
+use Rattle.wasm_bytes.proofs.LawsParts.{name_law, behind_law, then_law, seen_law, vector_law, sized_law, bytes_left_law}
 
 -- ---- the parts of a module
-
-pub name_law : Law name
-unfolding name
-name_law = that_law is_utf8 (sized bytes_left) (sized_law bytes_left bytes_left_law)
 
 import_kind_takes : (bytes : List ℕ) (x : ImportKind) (rest : List ℕ) → IsBytes bytes → import_kind.reading bytes ≡ Ok (x, rest) → Taken import_kind bytes x rest
 unfolding import_kind

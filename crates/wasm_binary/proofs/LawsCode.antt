@@ -22,13 +22,13 @@ use Rattle.wasm_tree.specs.declared.instr.Instr.TheVariants.{rolls-Block, rolls-
 use Rattle.wasm_tree.specs.Format.{Format, Reading, ◌>>=◌, byte_at, skip}
 use Rattle.wasm_binary.specs.declared.binary.code.Ending.{Ending}
 use Rattle.wasm_binary.specs.declared.binary.code.Ending.TheVariants.{End, Else}
-use Rattle.wasm_binary.specs.Number.{unsigned, signed32, signed64}
-use Rattle.wasm_binary.specs.Parts.{◌◂◌, ◌·◌, vector}
+use Rattle.wasm_bytes.specs.Number.{unsigned, signed32, signed64}
+use Rattle.wasm_bytes.specs.Parts.{◌◂◌, ◌·◌, vector}
 use Rattle.wasm_binary.specs.Opcode.{found, tests, calculations, loads as all_loads, widths, numeric_opcode, load_opcode, store_opcode, numeric_of, load_of, store_of}
 use Rattle.wasm_binary.specs.Binary.{value_type, block_type, instr_spelling, instr_fits, no_offset, memory_reading, memory_of, variable_of, plain_of, opens, one_sided, ending_of, Sequence, instr_of, sequence, ended, closing, opened, code_in, code_within, code}
-use Rattle.wasm_binary.proofs.Laws.{IsBytes, IsBytes-tail, IsBytes-after, bind_ok, guard_ok, ok_is, read_is, Taken, taken_at, Law}
-use Rattle.wasm_binary.proofs.LawsNumber.{unsigned_law, signed32_law, signed64_law}
-use Rattle.wasm_binary.proofs.LawsParts.{skip_ok, behind_law, then_law, vector_law}
+use Rattle.wasm_bytes.proofs.Laws.{IsBytes, IsBytes-tail, IsBytes-after, bind_ok, guard_ok, ok_is, read_is, Taken, taken_at, Law}
+use Rattle.wasm_bytes.proofs.LawsNumber.{unsigned_law, signed32_law, signed64_law}
+use Rattle.wasm_bytes.proofs.LawsParts.{skip_ok, behind_law, then_law, vector_law}
 use Rattle.wasm_binary.proofs.LawsKinds.{if_tag, read_as, tagged, bind_behind, bind_pair, value_type_law}
 use Rattle.wasm_binary.proofs.Loop.{with_instrs}
 use Rattle.wasm_binary.proofs.Spelled.{spelled-Block, spelled-Loop, spelled-If-None, spelled-If-Some, spelled-Unreachable, spelled-Br, spelled-BrIf, spelled-BrTable, spelled-Return, spelled-Call, spelled-CallIndirect, spelled-Drop, spelled-LocalGet, spelled-LocalSet, spelled-LocalTee, spelled-GlobalGet, spelled-Load, spelled-Store, spelled-I32Const, spelled-I64Const, spelled-Numeric}

@@ -7,12 +7,12 @@ use Rattle.wasm_tree.specs.declared.kinds.ValueType.{ValueType}
 use Rattle.wasm_tree.specs.declared.kinds.ValueType.TheVariants.{I32, I64}
 use Rattle.wasm_tree.specs.declared.kinds.Limits.{Limits}
 use Rattle.wasm_tree.specs.Format.{Format, Reading, ◌>>=◌, skip}
-use Rattle.wasm_binary.specs.Number.{unsigned}
-use Rattle.wasm_binary.specs.Parts.{◌▸◌, ◌◂◌, ◌·◌, vector}
+use Rattle.wasm_bytes.specs.Number.{unsigned}
+use Rattle.wasm_bytes.specs.Parts.{◌▸◌, ◌◂◌, ◌·◌, vector}
 use Rattle.wasm_binary.specs.Binary.{value_type, func_type, limits, table_type, memory_type}
-use Rattle.wasm_binary.proofs.Laws.{IsBytes, IsBytes-tail, bind_ok, guard_ok, read_is, put_before, Taken, taken_at, Law}
-use Rattle.wasm_binary.proofs.LawsNumber.{unsigned_law}
-use Rattle.wasm_binary.proofs.LawsParts.{before_law, then_law, seen_law, vector_law}
+use Rattle.wasm_bytes.proofs.Laws.{IsBytes, IsBytes-tail, bind_ok, guard_ok, read_is, put_before, Taken, taken_at, Law}
+use Rattle.wasm_bytes.proofs.LawsNumber.{unsigned_law}
+use Rattle.wasm_bytes.proofs.LawsParts.{before_law, then_law, seen_law, vector_law}
 
 -- ---- a byte that says which of several parts follows
 

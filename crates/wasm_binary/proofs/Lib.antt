@@ -1,13 +1,8 @@
-pub mod Groups
 pub mod Spelled
 pub mod Flats
 pub mod Piles
 pub mod Written
 pub mod Loop
-pub mod Utf8
-pub mod Laws
-pub mod LawsNumber
-pub mod LawsParts
 pub mod LawsKinds
 pub mod Fitting
 pub mod LawsCode

@@ -5,12 +5,12 @@ use Rattle.std.proofs.Math.Seq.{drop-cons}
 use Rattle.wasm_tree.specs.declared.fault.WFault.{WFault}
 use Rattle.wasm_tree.specs.declared.fault.WFault.TheVariants.{Malformed, OutsideProfile, Invalid, Unlinked, SegmentOutside, NoMemory}
 use Rattle.wasm_tree.specs.Format.{Format, Reading, ◌>>=◌, Fails, byte_at}
-use Rattle.wasm_binary.proofs.Laws.{read_is}
+use Rattle.wasm_bytes.proofs.Laws.{read_is}
 use Rattle.std.proofs.lemmas.Bool.{lt-ltb, le-ltb}
 use Rattle.wasm_tree.specs.declared.kinds.ValueType.{ValueType}
 use Rattle.wasm_tree.specs.declared.instr.Instr.{Instr}
-use Rattle.wasm_binary.specs.Number.{unsigned}
-use Rattle.wasm_binary.specs.Parts.{many}
+use Rattle.wasm_bytes.specs.Number.{unsigned}
+use Rattle.wasm_bytes.specs.Parts.{many}
 use Rattle.wasm_tree.specs.Format.{skip}
 use Rattle.wasm_tree.specs.declared.module.Body.{Body}
 use Rattle.wasm_binary.specs.declared.binary.code.Ending.{Ending}

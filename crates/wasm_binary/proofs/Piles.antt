@@ -16,7 +16,7 @@ use Rattle.wasm_binary.specs.declared.binary.code.Ending.{Ending}
 use Rattle.wasm_binary.specs.declared.binary.code.Ending.TheVariants.{End, Else}
 use Rattle.wasm_binary.specs.Binary.{Sequence, one_sided, closing, code_in, code_within, code, ended}
 use Rattle.wasm_binary.specs.Piled.{is_plain, one_sided_op, onto, onto_sequence, onto_code, sides_of}
-use Rattle.wasm_binary.proofs.Laws.{read_is}
+use Rattle.wasm_bytes.proofs.Laws.{read_is}
 use Rattle.wasm_binary.proofs.Loop.{with_instrs, fails_same}
 use Rattle.wasm_binary.proofs.Flats.{plain_flat, table_flat, one_flat, sides_flat}
 

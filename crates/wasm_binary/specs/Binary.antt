@@ -1,7 +1,6 @@
 -- The binary format of modules (Core 1.0, section 5), in this project's profile: each number in its shortest spelling.
 use Rattle.std.specs.Prelude.{◌≡◌, ℕ, zero, suc, ◌+◌, ◌^◌, Bool, true, false, ◌&&◌, ◌||◌, List, [], ◌∷◌, ◌++◌, length, take, map, sum_by, Option, Some, None, Result, Ok, Err, nat_lt, ◌==◌, if◌then◌else◌}
 use Rattle.std.specs.List.{concat, flat_map, list_all}
-use Rattle.std.specs.Str.{is_utf8}
 use Rattle.wasm_tree.specs.declared.fault.WFault.{WFault}
 use Rattle.wasm_tree.specs.declared.fault.WFault.TheVariants.{Malformed, OutsideProfile}
 use Rattle.wasm_tree.specs.declared.kinds.ValueType.{ValueType}
@@ -32,9 +31,9 @@ use Rattle.wasm_tree.specs.declared.module.WModule.{WModule}
 use Rattle.wasm_tree.specs.Format.{Format, Reading, ◌>>=◌, byte_at, skip}
 use Rattle.wasm_binary.specs.declared.binary.code.Ending.{Ending}
 use Rattle.wasm_binary.specs.declared.binary.code.Ending.TheVariants.{End, Else}
-use Rattle.wasm_binary.specs.Number.{unsigned, signed32, signed64}
+use Rattle.wasm_bytes.specs.Number.{unsigned, signed32, signed64}
 use Rattle.wasm_binary.specs.Opcode.{numeric_opcode, load_opcode, store_opcode, numeric_of, load_of, store_of}
-use Rattle.wasm_binary.specs.Parts.{◌▸◌, ◌◂◌, ◌·◌, seen, that, vector, closed, sized, bytes_left, section}
+use Rattle.wasm_bytes.specs.Parts.{◌▸◌, ◌◂◌, ◌·◌, seen, vector, closed, sized, bytes_left, section, name}
 
 -- ---- types (5.3)
 
@@ -235,9 +234,6 @@ unfoldable pub code : Format (List Instr)
 code = code_within 4096
 
 -- ---- the parts of a module (5.5)
-
-unfoldable pub name : Format (List ℕ)
-name = that is_utf8 (sized bytes_left)
 
 abbrev pub import_kind_spelling : ImportKind → List ℕ
 import_kind_spelling (imported.Function t) = 0x00 ∷ unsigned.spelling t

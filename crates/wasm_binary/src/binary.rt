@@ -2,22 +2,19 @@
 
 ghost use Rattle.std.specs.Prelude.{◌≡◌, ◌++◌, List, ℕ, OnOk};
 ghost use Rattle.wasm_tree.specs.Format.{Format, Gives};
-ghost use Rattle.wasm_binary.specs.Number.{unsigned};
-ghost use Rattle.wasm_binary.specs.Parts.{many, vector, entries, section};
+ghost use Rattle.wasm_bytes.specs.Number.{unsigned};
+ghost use Rattle.wasm_bytes.specs.Parts.{many, vector, entries, section};
 
 mod body;
 mod code;
 mod kinds;
-mod name;
 mod opcode;
 mod sections;
 
-use crate::number::unsigned_at;
-use crate::parts::{closed, front};
-use crate::writer::Writer;
 pub use body::body_over;
 use sqlite_items::Items;
 use std::alloc::{AllocError, Global};
+use wasm_bytes::{Writer, closed, front, unsigned_at};
 use wasm_tree::WFault;
 
 /// A value that is read from the front of bytes, and written.

@@ -3,12 +3,8 @@
 
 mod binary;
 mod module_bytes;
-mod number;
-mod parts;
-mod writer;
 
 pub use module_bytes::{read_module, write_module};
-pub use writer::Writer;
 
 #[cfg(test)]
 mod tests;

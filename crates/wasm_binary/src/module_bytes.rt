@@ -7,11 +7,9 @@ ghost use Rattle.wasm_tree.specs.declared.fault.WFault.TheVariants.{NoMemory};
 ghost use Rattle.wasm_tree.specs.declared.module.WModule.{WModule};
 
 use crate::binary::{Binary, body_over, section, write_section};
-use crate::number::unsigned_at;
-use crate::parts::{closed, front, skip};
-use crate::writer::Writer;
 use sqlite_items::Items;
 use std::alloc::{AllocError, Global};
+use wasm_bytes::{Writer, closed, front, skip, unsigned_at};
 use wasm_tree::{Function, WFault, WModule};
 
 /// The magic number and the version.

@@ -2,6 +2,7 @@ use super::*;
 use std::alloc::{AllocError, Global};
 use std::process::Abort;
 use std::test::*;
+use wasm_bytes::Writer;
 use wasm_tree::WFault;
 
 /// The header, one type of no operands and no results, and one function of it.

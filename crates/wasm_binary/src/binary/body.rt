@@ -6,11 +6,9 @@ ghost use Rattle.wasm_binary.specs.Binary.{locals, locals_at, locals_spelling, b
 
 use crate::binary::Binary;
 use crate::binary::code::{code_over, write_code};
-use crate::number::unsigned_at;
-use crate::parts::{closed, front};
-use crate::writer::Writer;
 use sqlite_items::Items;
 use std::alloc::{AllocError, Global};
+use wasm_bytes::{Writer, closed, front, unsigned_at};
 use wasm_tree::{Body, Locals, Op, ValueType, WFault};
 
 /// So many groups of locals, where there are so many locals before them.

@@ -5,10 +5,8 @@ ghost use Rattle.wasm_tree.specs.Format.{Format, Gives};
 ghost use Rattle.wasm_binary.specs.Binary.{value_type, func_type, limits, table_type, memory_type};
 
 use crate::binary::{Binary, vector, write_vector};
-use crate::number::unsigned_at;
-use crate::parts::{byte_at, skip};
-use crate::writer::Writer;
 use std::alloc::{AllocError, Global};
+use wasm_bytes::{Writer, byte_at, skip, unsigned_at};
 use wasm_tree::{FuncType, Limits, MemoryType, TableType, ValueType, WFault};
 
 #[tactic(auto, unfolding(crate::specs::Binary::value_type))]

@@ -1,5 +1,5 @@
 use Rattle.std.proofs.Common.{◌≡◌, ◌-◌}
-use Rattle.wasm_binary.specs.Parts.{many}
+use Rattle.wasm_bytes.specs.Parts.{many}
 use Rattle.wasm_binary.proofs.Loop.{with_front}
 use Rattle.wasm_binary.proofs.binary.many.Given as goal
 

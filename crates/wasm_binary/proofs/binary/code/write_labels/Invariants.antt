@@ -1,6 +1,6 @@
 use Rattle.std.proofs.Common.{◌≡◌, ◌++◌, length, take}
 use Rattle.std.specs.List.{flat_map}
-use Rattle.wasm_binary.specs.Number.{unsigned}
+use Rattle.wasm_bytes.specs.Number.{unsigned}
 use Rattle.wasm_binary.specs.Piled.{label_spelling}
 use Rattle.wasm_binary.proofs.binary.code.write_labels.Given as goal
 

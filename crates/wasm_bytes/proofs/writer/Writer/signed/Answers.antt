@@ -1,6 +1,6 @@
 use Rattle.std.proofs.Common.{◌≡◌, ℕ, ◌+◌, ◌-◌, [], ◌∷◌, ap, ◌∙◌, arith}
-use Rattle.wasm_binary.proofs.Groups.{signed_small, signed_great, signed_more, signed_none, shifted_within, ends, goes_on, is_whole}
-use Rattle.wasm_binary.proofs.writer.Writer.signed.Goals as goal
+use Rattle.wasm_bytes.proofs.Groups.{signed_small, signed_great, signed_more, signed_none, shifted_within, ends, goes_on, is_whole}
+use Rattle.wasm_bytes.proofs.writer.Writer.signed.Goals as goal
 
 pub returns-then-rest-lt64 : goal.returns-then-rest-lt64
 returns-then-rest-lt64 c =

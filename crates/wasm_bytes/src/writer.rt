@@ -2,7 +2,7 @@
 
 ghost use Rattle.std.specs.Prelude.{◌≡◌, ◌++◌, ◌∷◌, [], ◌+◌, ◌-◌, ◌*◌, ◌/◌, ◌%◌, ◌^◌, ◌<◌, ◌≤◌, length, OnOk, IsTrue, ◌↔◌};
 ghost use Rattle.wasm_tree.specs.Format.{Format};
-ghost use Rattle.wasm_binary.specs.Number.{unsigned, groups, signed32, signed64, signed_groups, shifted};
+ghost use Rattle.wasm_bytes.specs.Number.{unsigned, groups, signed32, signed64, signed_groups, shifted};
 
 use std::alloc::{AllocError, Global};
 use std::marker::Model;

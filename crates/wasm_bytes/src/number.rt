@@ -2,7 +2,7 @@
 
 ghost use Rattle.std.specs.Prelude.{◌≡◌, ◌+◌, ◌*◌, ◌%◌, ◌<◌, ◌≤◌, ◌^◌, ◌-◌, ◌/◌, IfOk};
 ghost use Rattle.wasm_tree.specs.Format.{Format, Gives};
-ghost use Rattle.wasm_binary.specs.Number.{unsigned, groups_at, joined, signed32, signed64, signed_groups_at, signed_joined};
+ghost use Rattle.wasm_bytes.specs.Number.{unsigned, groups_at, joined, signed32, signed64, signed_groups_at, signed_joined};
 
 use wasm_tree::WFault;
 

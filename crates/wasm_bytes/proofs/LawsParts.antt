@@ -1,14 +1,15 @@
 -- The laws of formats that are put together.
 use Rattle.std.proofs.Common.{◌≡◌, ℕ, zero, suc, ◌^◌, ◌<◌, ◌≤◌, Bool, true, cond, ltb, leb, eqb, ◌&&◌, List, [], ◌∷◌, ◌++◌, length, take, drop, Ok, Err, refl, sym, ap, subst, ◌∙◌, append_assoc, arith, inl, inr}
 use Rattle.std.specs.List.{flat_map, list_all}
+use Rattle.std.specs.Str.{is_utf8}
 use Rattle.std.proofs.lemmas.Bool.{false≢true, lt-ltb, ltb-true, leb-true, le-leb, eqb-true, eq-eqb, ne_eqb, and_parts, and_from, cases_Bool}
 use Rattle.std.proofs.lemmas.List.{append-nil, length-append, take-append-drop, take_at, drop_at, nil_from_length, length-take-le}
 use Rattle.wasm_tree.specs.declared.fault.WFault.TheVariants.{Malformed}
 use Rattle.wasm_tree.specs.Format.{Format, Reading, ◌>>=◌, skip}
-use Rattle.wasm_binary.specs.Number.{unsigned}
-use Rattle.wasm_binary.specs.Parts.{◌▸◌, ◌◂◌, ◌·◌, seen, that, many, vector, positive, entries, closed, sized, bytes_left, section_spelling, section_reading, section_fits, section}
-use Rattle.wasm_binary.proofs.Laws.{IsBytes, IsBytes-tail, IsBytes-take, IsBytes-drop, bind_ok, guard_ok, ok_is, read_is, Taken, taken_at, Law, WholeLaw, whole}
-use Rattle.wasm_binary.proofs.LawsNumber.{unsigned_law}
+use Rattle.wasm_bytes.specs.Number.{unsigned}
+use Rattle.wasm_bytes.specs.Parts.{◌▸◌, ◌◂◌, ◌·◌, seen, that, many, vector, positive, entries, closed, sized, bytes_left, section_spelling, section_reading, section_fits, section, name}
+use Rattle.wasm_bytes.proofs.Laws.{IsBytes, IsBytes-tail, IsBytes-take, IsBytes-drop, bind_ok, guard_ok, ok_is, read_is, Taken, taken_at, Law, WholeLaw, whole}
+use Rattle.wasm_bytes.proofs.LawsNumber.{unsigned_law}
 
 -- ---- a byte that has to stand there
 
@@ -313,3 +314,9 @@ module _ {A : Type 0} (number : ℕ) (p : Format A) (law : Law p) where
 
   pub section_law : SectionLaw number p
   section_law = record { takes = section_takes; again = section_again }
+
+-- ---- names
+
+pub name_law : Law name
+unfolding name
+name_law = that_law is_utf8 (sized bytes_left) (sized_law bytes_left bytes_left_law)

@@ -1,10 +1,11 @@
 -- How formats are put together.
 use Rattle.std.specs.Prelude.{ℕ, zero, suc, ◌^◌, Bool, true, ◌&&◌, List, [], ◌∷◌, ◌++◌, length, take, drop, Result, Ok, Err, nat_lt, nat_le, ◌==◌, if◌then◌else◌}
 use Rattle.std.specs.List.{flat_map, list_all}
+use Rattle.std.specs.Str.{is_utf8}
 use Rattle.wasm_tree.specs.declared.fault.WFault.{WFault}
 use Rattle.wasm_tree.specs.declared.fault.WFault.TheVariants.{Malformed}
 use Rattle.wasm_tree.specs.Format.{Format, Reading, ◌>>=◌, skip}
-use Rattle.wasm_binary.specs.Number.{unsigned}
+use Rattle.wasm_bytes.specs.Number.{unsigned}
 
 -- a byte that has to stand there, before a part or behind it
 infixr 40 ◌▸◌
@@ -95,3 +96,7 @@ section_fits p (x ∷ xs) = (sized (entries p)).fits (x ∷ xs)
 
 abbrev pub section : {A : Type 0} → (number : ℕ) → Format A → Format (List A)
 section number p = record { spelling = section_spelling number p; reading = section_reading number p; fits = section_fits p }
+
+-- a name in UTF-8 (Core 1.0, section 5.2.4)
+unfoldable pub name : Format (List ℕ)
+name = that is_utf8 (sized bytes_left)

@@ -1,5 +1,5 @@
-use Rattle.wasm_binary.proofs.Groups.{groups_last, groups_more, groups_none, ends, goes_on, is_whole}
-use Rattle.wasm_binary.proofs.writer.Writer.groups.Goals as goal
+use Rattle.wasm_bytes.proofs.Groups.{groups_last, groups_more, groups_none, ends, goes_on, is_whole}
+use Rattle.wasm_bytes.proofs.writer.Writer.groups.Goals as goal
 
 pub returns-then-rest-lt128 : goal.returns-then-rest-lt128
 returns-then-rest-lt128 c =

@@ -3,8 +3,8 @@ use Rattle.std.proofs.Common.{◌≡◌, ℕ, zero, suc, ◌+◌, ◌-◌, ◌*�
 use Rattle.std.proofs.lemmas.Bool.{cases_lt, lt-ltb, le-ltb, ltb-true, ltb-false, le-leb, lt-leb}
 use Rattle.wasm_tree.specs.declared.fault.WFault.TheVariants.{Malformed}
 use Rattle.wasm_tree.specs.Format.{Reading}
-use Rattle.wasm_binary.specs.Number.{groups, joined, groups_at, unsigned, shifted, signed_groups, signed_joined, signed_groups_at, signed32, signed64}
-use Rattle.wasm_binary.proofs.Laws.{IsBytes, IsBytes-tail, IsBytes-after, bind_ok, guard_ok, otherwise_ok, read_is, put_before, Law}
+use Rattle.wasm_bytes.specs.Number.{groups, joined, groups_at, unsigned, shifted, signed_groups, signed_joined, signed_groups_at, signed32, signed64}
+use Rattle.wasm_bytes.proofs.Laws.{IsBytes, IsBytes-tail, IsBytes-after, bind_ok, guard_ok, otherwise_ok, read_is, put_before, Law}
 
 record Joined (low high n : ℕ) (bytes rest : List ℕ) : Type 0 where
   more : 0 < high

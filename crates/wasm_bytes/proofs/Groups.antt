@@ -5,7 +5,7 @@ use Rattle.std.proofs.lemmas.List.{append-nil}
 use Rattle.std.proofs.lemmas.Bool.{lt-ltb, le-ltb}
 use Rattle.std.proofs.lemmas.Bool.Decides.{nat_tests}
 use Rattle.std.proofs.lemmas.Result.{on_ok_weaker}
-use Rattle.wasm_binary.specs.Number.{groups, signed_groups, shifted}
+use Rattle.wasm_bytes.specs.Number.{groups, signed_groups, shifted}
 
 one_less : (k most : ℕ) → k < most → most - k ≡ suc (most - (k + 1))
 one_less k most h = omega arith

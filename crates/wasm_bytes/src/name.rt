@@ -3,7 +3,7 @@
 ghost use Rattle.std.specs.Prelude.{◌≡◌, ◌++◌, OnOk};
 ghost use Rattle.std.specs.Str.{is_utf8};
 ghost use Rattle.wasm_tree.specs.Format.{Gives};
-ghost use Rattle.wasm_binary.specs.Binary.{name};
+ghost use Rattle.wasm_bytes.specs.Parts.{name};
 
 use crate::number::unsigned_at;
 use crate::parts::{closed, front};
@@ -19,7 +19,7 @@ fn is_utf8(text: &[u8]) -> bool
 }
 
 /// A name in UTF-8.
-#[tactic(auto, unfolding(crate::specs::Binary::name))]
+#[tactic(auto, unfolding(crate::specs::Parts::name))]
 pub fn name_at(alloc: Global, bytes: &[u8]) -> Result<(Items<u8>, &[u8]), WFault>
     ensures { Gives (λ x. (x.0, x.1.now)) result (name.reading bytes.now) }
 {
@@ -33,7 +33,7 @@ pub fn name_at(alloc: Global, bytes: &[u8]) -> Result<(Items<u8>, &[u8]), WFault
 }
 
 /// Appends a name.
-#[tactic(auto, unfolding(crate::specs::Binary::name))]
+#[tactic(auto, unfolding(crate::specs::Parts::name))]
 pub fn write_name(out: &mut Writer, text: &[u8]) -> Result<(), AllocError>
     ensures { OnOk result (out.new ≡ out.old ++ name.spelling text.now) }
 {

@@ -2,7 +2,7 @@
 
 ghost use Rattle.std.specs.Prelude.{◌≡◌, take};
 ghost use Rattle.wasm_tree.specs.Format.{Gives, skip, byte_at};
-ghost use Rattle.wasm_binary.specs.Parts.{closed};
+ghost use Rattle.wasm_bytes.specs.Parts.{closed};
 
 use wasm_tree::WFault;
 

@@ -1,0 +1,5 @@
+pub mod Groups
+pub mod Utf8
+pub mod Laws
+pub mod LawsNumber
+pub mod LawsParts

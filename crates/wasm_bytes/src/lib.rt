@@ -1,0 +1,13 @@
+//! What the bytes of WebAssembly modules are made of (Core 1.0, section 5): numbers, names, parts that state their sizes, and
+//! a buffer that they are written to.
+#![tactic(auto)]
+
+mod name;
+mod number;
+mod parts;
+mod writer;
+
+pub use name::{name_at, write_name};
+pub use number::{signed32_at, signed64_at, unsigned_at};
+pub use parts::{byte_at, closed, front, skip};
+pub use writer::Writer;
