@@ -9,6 +9,3 @@ mod writer;
 
 pub use module_bytes::{read_module, write_module};
 pub use writer::Writer;
-
-#[cfg(test)]
-mod tests;

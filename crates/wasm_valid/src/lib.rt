@@ -4,8 +4,6 @@
 mod frame;
 mod operands;
 mod scope;
-#[cfg(test)]
-mod tests;
 mod typing;
 mod valid;
 

@@ -1,7 +1,7 @@
-use super::*;
 use std::alloc::{AllocError, Global};
 use std::process::Abort;
 use std::test::*;
+use wasm_binary::{Writer, read_module, write_module};
 use wasm_tree::WFault;
 
 /// The header, one type of no operands and no results, and one function of it.

@@ -1,0 +1,12 @@
+//! Tests of the machine: of `wasm_binary`, `wasm_valid`, `wasm_engine` and `m2_execute`, in a crate of their own, so that
+//! these libraries are proved once.
+#![tactic(auto)]
+
+#[cfg(test)]
+mod binary;
+#[cfg(test)]
+mod engine;
+#[cfg(test)]
+mod execute;
+#[cfg(test)]
+mod valid;
