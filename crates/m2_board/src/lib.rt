@@ -13,6 +13,3 @@ mod rule;
 pub use board::{Board, BoardSeat, Tally};
 pub use graph::JobGraph;
 pub use refusal::PoolRefusal;
-
-#[cfg(test)]
-mod tests;

@@ -12,6 +12,3 @@ pub use dir::InDir;
 pub use report::Report;
 pub use runner::execute;
 pub use wasm_engine::Sink;
-
-#[cfg(test)]
-mod tests;

@@ -16,8 +16,6 @@ mod numbering;
 mod order;
 mod program;
 mod sources;
-#[cfg(test)]
-mod tests;
 mod told;
 
 pub use error::GraphError;

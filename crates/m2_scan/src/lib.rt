@@ -8,8 +8,6 @@ mod lengths;
 mod number;
 mod refusal;
 mod symbols;
-#[cfg(test)]
-mod tests;
 mod tokens;
 
 pub use number::number_of;

@@ -13,8 +13,6 @@ mod name;
 mod pos;
 mod refusal;
 mod stmt;
-#[cfg(test)]
-mod tests;
 mod text;
 mod token;
 

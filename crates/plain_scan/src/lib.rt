@@ -7,8 +7,6 @@ mod division;
 mod form;
 mod longest;
 mod place;
-#[cfg(test)]
-mod tests;
 mod token;
 
 pub use comment::is_closed;

@@ -5,6 +5,3 @@ mod binary;
 mod module_bytes;
 
 pub use module_bytes::{read_module, write_module};
-
-#[cfg(test)]
-mod tests;

@@ -14,6 +14,3 @@ mod variables;
 
 pub use engine::{End, Instances, RunFault};
 pub use sink::Sink;
-
-#[cfg(test)]
-mod tests;

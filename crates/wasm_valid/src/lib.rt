@@ -5,8 +5,6 @@ mod frame;
 mod grouped;
 mod operands;
 mod scope;
-#[cfg(test)]
-mod tests;
 mod typing;
 mod valid;
 

@@ -1,6 +1,6 @@
 ghost use Rattle.std.specs.Prelude.{◌≡◌, Some};
 
-use crate::{InDir, Sink, execute};
+use m2_execute::{InDir, Sink, execute};
 use std::alloc::{AllocError, Global};
 use std::test::Fail;
 use wasm_binary::read_module;

@@ -1,9 +1,9 @@
-use super::*;
 use sqlite_items::Items;
 use std::alloc::Global;
 use std::process::Abort;
 use std::test::*;
 use wasm_tree::{Body, Code, FuncType, Function, Numeric, Op, ValueType, WFault, WModule};
+use wasm_valid::validate;
 
 /// A module of one function with this code, without parameters, results and locals.
 fn module(rt: &impl Abort, alloc: Global, code: Code) -> WModule {

@@ -1,6 +1,6 @@
 ghost use Rattle.std.specs.Prelude.{◌≡◌, [], ◌∷◌, map, IfOk};
 
-use crate::{Board, JobGraph, PoolRefusal};
+use m2_board::{Board, JobGraph, PoolRefusal};
 use std::alloc::{AllocError, Global};
 use std::test::Fail;
 

@@ -1,10 +1,17 @@
 //! Worked rows.
 
-use crate::program::Part;
-use crate::{Graph, GraphError};
+use m2_graph::{Graph, GraphError};
 use m2_tree::{Block, Contents, Ident, Import, Items, Module, Name, Pos, Refusal};
 use std::alloc::{AllocError, Global};
 use std::test::Fail;
+
+/// A sort of modules.
+#[derive(Clone, Copy)]
+enum Part {
+    Definition,
+    Implementation,
+    Body,
+}
 
 /// A file with a module that has at most one import, at column 20; its own name is at column 8.
 #[derive(Clone, Copy)]

@@ -1,10 +1,10 @@
 ghost use Rattle.std.specs.Prelude.{◌≡◌, Some};
 
-use super::*;
 use std::alloc::Global;
 use std::process::Abort;
 use std::test::*;
 use wasm_binary::read_module;
+use wasm_engine::{End, Instances, RunFault, Sink};
 use wasm_tree::WFault;
 use wasm_valid::{ValidModule, validate};
 

@@ -1,4 +1,4 @@
-use crate::{MAX_TEXT, ScanError, scan};
+use m2_scan::{MAX_TEXT, ScanError, scan};
 use m2_tree::{Lexeme, Symbol, Token};
 use std::alloc::{AllocError, Global};
 use std::test::Fail;

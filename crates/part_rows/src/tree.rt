@@ -1,4 +1,4 @@
-use crate::{Boxed, Expr, Ident, Import, Item, Items, Name, Pos, Quoted, Refusal, are_equal};
+use m2_tree::{Boxed, Expr, Ident, Import, Item, Items, Name, Pos, Quoted, Refusal, are_equal};
 use std::alloc::{AllocError, Global};
 use std::test::Fail;
 

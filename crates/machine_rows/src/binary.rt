@@ -1,7 +1,7 @@
-use super::*;
 use std::alloc::{AllocError, Global};
 use std::process::Abort;
 use std::test::*;
+use wasm_binary::{read_module, write_module};
 use wasm_bytes::Writer;
 use wasm_tree::WFault;
 

@@ -1,4 +1,4 @@
-use Rattle.plain_scan.proofs.tests.+disagreements.Given as goal
+use Rattle.part_rows.proofs.plain.+disagreements.Given as goal
 
 abbrev pub decreases-disagreements : goal.decreases-disagreements
 decreases-disagreements l = l.more

@@ -1,6 +1,6 @@
-use crate::{is_closed, is_form, is_longest, tokens};
 use m2_scan::{MAX_TEXT, scan};
 use m2_tree::Pos;
+use plain_scan::{is_closed, is_form, is_longest, tokens};
 use std::alloc::{AllocError, Global};
 use std::test::Fail;
 
