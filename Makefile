@@ -1,6 +1,6 @@
 # The toolchain's command `rt` proves, builds and tests; see README.md.
 
-.PHONY: build example test
+.PHONY: build example programs test
 
 # Proves and builds the programs: build/m2c and build/m2run.
 build:
@@ -14,6 +14,10 @@ example: build
 	ls -l build/hello
 	build/m2run build/hello
 	if command -v node; then node hosts/node/run.mjs build/hello; fi
+
+# Tries the two programs on command lines, files and streams, good and bad, and on the outside examples of modules.
+programs: build
+	tools/try_programs
 
 # The gate: every proof from nothing, the tests, the programs and the edits that the prover must refuse.
 test:
