@@ -30,9 +30,9 @@ ghost use Rattle.m2_grammar.specs.Tables.{in_decl};
 ghost use Rattle.m2_grammar.specs.Trees.{formals_of, heading_of, if_any, with_first};
 ghost use Rattle.m2_grammar.specs.Reading.{is_among, read, read_rule, Reads, ReadsAs};
 
-use crate::stmt::stmts;
 use m2_grammar::{Kind, Stop};
 use m2_phrase::Cursor;
+use m2_stmt::stmts;
 use m2_tree::{
     Block, Boxed, Constant, Decl, Def, Heading, Items, Qualified, Section, Stmt, Symbol, TypeDecl,
     Variables,

@@ -3,7 +3,6 @@
 
 mod decl;
 mod module;
-mod stmt;
 
 pub use m2_grammar::{ParseError, ParseRefusal};
 pub use module::parse;

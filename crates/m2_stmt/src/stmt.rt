@@ -109,7 +109,7 @@ fn step(cursor: &mut Cursor, room: usize) -> Result<Option<Expr>, Stop>
 /// Statements, with so many levels of nesting left. An empty one leaves no trace.
 #[cycle(stmt)]
 #[tactic(auto, using(m2_grammar::proofs::Rules::stmts_is, m2_grammar::proofs::Loops::lists))]
-pub(crate) fn stmts(cursor: &mut Cursor, room: usize) -> Result<Items<Stmt>, Stop>
+pub fn stmts(cursor: &mut Cursor, room: usize) -> Result<Items<Stmt>, Stop>
     ensures { Reads (read_rule room stmts_rule cursor.old) result cursor.new }
 {
     let mut found = Items::new(cursor.alloc);

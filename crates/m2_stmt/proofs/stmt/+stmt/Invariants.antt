@@ -5,7 +5,7 @@ use Rattle.m2_grammar.specs.Grammar.{◌▸◌, many, opt}
 use Rattle.m2_grammar.specs.Ebnf.{arm, arms, stmt}
 use Rattle.m2_grammar.specs.Trees.{present, with_first}
 use Rattle.m2_grammar.specs.Reading.{gathered, mapped, read, read_rule}
-use Rattle.m2_parse.proofs.stmt.+stmt.Given as goal
+use Rattle.m2_stmt.proofs.stmt.+stmt.Given as goal
 
 abbrev pub decreases-arm : goal.decreases-arm
 decreases-arm l = l.room * 32 + 23

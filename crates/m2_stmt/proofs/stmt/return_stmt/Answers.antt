@@ -1,6 +1,6 @@
 use Rattle.std.proofs.Common.{refl, rules, arith, None, Some}
 use Rattle.std.proofs.lemmas.Grind.{common_steps}
-use Rattle.m2_parse.proofs.stmt.return_stmt.Goals as goal
+use Rattle.m2_stmt.proofs.stmt.return_stmt.Goals as goal
 
 pub returns-then-not-begins_expr : goal.returns-then-not-begins_expr
 returns-then-not-begins_expr c =

@@ -10,7 +10,7 @@ use Rattle.m2_grammar.proofs.Rules as rules_of
 use Rattle.m2_grammar.proofs.Turns.{many-is}
 use Rattle.m2_grammar.proofs.Loops.{optional, loop_turn, loop_stop, word_then, turn_shorter, mapped_ok}
 use Rattle.m2_grammar.proofs.Items as each
-use Rattle.m2_parse.proofs.stmt.+stmt.Goals as goal
+use Rattle.m2_stmt.proofs.stmt.+stmt.Goals as goal
 
 pub stmts-returns-in_err-maybe_stmt-2 : goal.stmts-returns-in_err-maybe_stmt-2
 stmts-returns-in_err-maybe_stmt-2 t c =

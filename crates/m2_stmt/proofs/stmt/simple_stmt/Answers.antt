@@ -1,6 +1,6 @@
 use Rattle.std.proofs.Common.{refl, rules, arith, inl, inr, None, Some}
 use Rattle.std.proofs.lemmas.Grind.{common_steps}
-use Rattle.m2_parse.proofs.stmt.simple_stmt.Goals as goal
+use Rattle.m2_stmt.proofs.stmt.simple_stmt.Goals as goal
 
 pub returns-then-eat : goal.returns-then-eat
 returns-then-eat c = ((c.in_ok-to.to, inl c.in_ok-value.value), first_of (search rules, grind (arith, common_steps)), refl)
