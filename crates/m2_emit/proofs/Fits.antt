@@ -22,11 +22,12 @@ use Rattle.wasm_tree.specs.declared.module.WModule.{WModule}
 use Rattle.wasm_tree.specs.Format.{Format}
 use Rattle.wasm_bytes.specs.Number.{groups, signed_groups, shifted, unsigned}
 use Rattle.wasm_bytes.specs.Parts.{section_fits, section, name}
-use Rattle.wasm_binary.specs.Binary.{value_type, func_type, limits, table_type, memory_type, instr_spelling, instr_fits, code, import_kind, import, global, export_kind, export, element, locals, body, bodies_spelling, types_of, module_fits}
+use Rattle.wasm_code.specs.Instructions.{value_type, instr_spelling, instr_fits, code}
+use Rattle.wasm_binary.specs.Binary.{func_type, limits, table_type, memory_type, import_kind, import, global, export_kind, export, element, locals, body, bodies_spelling, types_of, module_fits}
 use Rattle.wasm_tree.specs.declared.instr.Instr.{Instr}
 use Rattle.wasm_tree.specs.declared.instr.Instr.TheVariants.{Call, CallIndirect, GlobalGet, I32Const, I64Const}
-use Rattle.wasm_binary.proofs.Spelled.{spelled-Call, spelled-CallIndirect, spelled-GlobalGet, spelled-I32Const, spelled-I64Const}
-use Rattle.wasm_binary.proofs.Fitting.{fits-Call, fits-CallIndirect, fits-GlobalGet, fits-I32Const, fits-I64Const}
+use Rattle.wasm_code.proofs.Spelled.{spelled-Call, spelled-CallIndirect, spelled-GlobalGet, spelled-I32Const, spelled-I64Const}
+use Rattle.wasm_code.proofs.Fitting.{fits-Call, fits-CallIndirect, fits-GlobalGet, fits-I32Const, fits-I64Const}
 use Rattle.m2_emit.specs.Program.{Program, Body as Compiled, Stmt, Put, names}
 use Rattle.m2_emit.specs.Scheme.{link_module, module_exports, module_globals, body_calls, body_module, body_code, body_locals, imported_globals, host_imports, constant_global, exported_as, base_name, text_name, tab_name, from_link}
 use Rattle.m2_emit.proofs.Names.{◌▪◌, among_all, IsName, IsAmong, IsBody, AreBytes}

@@ -1,10 +1,4 @@
-pub mod Spelled
-pub mod Flats
-pub mod Piles
-pub mod Written
 pub mod Loop
 pub mod LawsKinds
-pub mod Fitting
-pub mod LawsCode
 pub mod LawsBinary
 pub mod LawsModule

@@ -1,20 +1,12 @@
 -- The binary format of modules (Core 1.0, section 5), in this project's profile: each number in its shortest spelling.
-use Rattle.std.specs.Prelude.{◌≡◌, ℕ, zero, suc, ◌+◌, ◌^◌, Bool, true, false, ◌&&◌, ◌||◌, List, [], ◌∷◌, ◌++◌, length, take, map, sum_by, Option, Some, None, Result, Ok, Err, nat_lt, ◌==◌, if◌then◌else◌}
-use Rattle.std.specs.List.{concat, flat_map, list_all}
+use Rattle.std.specs.Prelude.{◌≡◌, ℕ, zero, suc, ◌+◌, ◌^◌, Bool, true, ◌&&◌, List, [], ◌∷◌, ◌++◌, length, take, map, sum_by, Some, None, Result, Ok, Err, nat_lt, ◌==◌, if◌then◌else◌}
+use Rattle.std.specs.List.{flat_map, list_all}
 use Rattle.wasm_tree.specs.declared.fault.WFault.{WFault}
 use Rattle.wasm_tree.specs.declared.fault.WFault.TheVariants.{Malformed, OutsideProfile}
-use Rattle.wasm_tree.specs.declared.kinds.ValueType.{ValueType}
-use Rattle.wasm_tree.specs.declared.kinds.ValueType.TheVariants.{I32, I64}
 use Rattle.wasm_tree.specs.declared.kinds.FuncType.{FuncType}
 use Rattle.wasm_tree.specs.declared.kinds.Limits.{Limits}
 use Rattle.wasm_tree.specs.declared.kinds.TableType.{TableType}
 use Rattle.wasm_tree.specs.declared.kinds.MemoryType.{MemoryType}
-use Rattle.wasm_tree.specs.declared.instr.Load as load
-use Rattle.wasm_tree.specs.declared.instr.StoreWidth.{StoreWidth}
-use Rattle.wasm_tree.specs.declared.instr.Numeric as numeric
-use Rattle.wasm_tree.specs.declared.instr.Instr.{Instr, Instr-F, fold-Instr}
-use Rattle.wasm_tree.specs.declared.instr.Instr.TheOpen as layer
-use Rattle.wasm_tree.specs.declared.instr.Instr.TheVariants.{Unreachable, Block, Loop, If, Br, BrIf, BrTable, Return, Call, CallIndirect, Drop, LocalGet, LocalSet, LocalTee, GlobalGet, Load, Store, I32Const, I64Const, Numeric}
 use Rattle.wasm_tree.specs.declared.module.ImportKind.{ImportKind}
 use Rattle.wasm_tree.specs.declared.module.ImportKind.TheVariants as imported
 use Rattle.wasm_tree.specs.declared.module.Import.{Import}
@@ -29,23 +21,11 @@ use Rattle.wasm_tree.specs.declared.module.Function.{Function}
 use Rattle.wasm_tree.specs.declared.module.Data.{Data}
 use Rattle.wasm_tree.specs.declared.module.WModule.{WModule}
 use Rattle.wasm_tree.specs.Format.{Format, Reading, ◌>>=◌, byte_at, skip}
-use Rattle.wasm_binary.specs.declared.binary.code.Ending.{Ending}
-use Rattle.wasm_binary.specs.declared.binary.code.Ending.TheVariants.{End, Else}
-use Rattle.wasm_bytes.specs.Number.{unsigned, signed32, signed64}
-use Rattle.wasm_binary.specs.Opcode.{numeric_opcode, load_opcode, store_opcode, numeric_of, load_of, store_of}
+use Rattle.wasm_bytes.specs.Number.{unsigned}
+use Rattle.wasm_code.specs.Instructions.{value_type, code}
 use Rattle.wasm_bytes.specs.Parts.{◌▸◌, ◌◂◌, ◌·◌, seen, vector, closed, sized, bytes_left, section, name}
 
 -- ---- types (5.3)
-
-abbrev pub value_type_spelling : ValueType → List ℕ
-value_type_spelling I32 = 0x7F ∷ []
-value_type_spelling I64 = 0x7E ∷ []
-
-abbrev pub value_type_of : ℕ → List ℕ → Reading ValueType
-value_type_of b bytes = if b == 0x7F then Ok (I32, bytes) else (if b == 0x7E then Ok (I64, bytes) else Err OutsideProfile)
-
-unfoldable pub value_type : Format ValueType
-value_type = record { spelling = value_type_spelling; reading = λ bytes. byte_at bytes >>= λ b. value_type_of b.0 b.1; fits = λ t. true }
 
 unfoldable pub func_type : Format FuncType
 func_type = seen (λ p. record { params = p.0; results = p.1 }) (λ t. (t.params, t.results)) (0x60 ▸ vector value_type · vector value_type)
@@ -69,169 +49,6 @@ table_type = seen (λ l. record { limits = l }) (λ t. t.limits) (0x70 ▸ limit
 
 unfoldable pub memory_type : Format MemoryType
 memory_type = seen (λ l. record { limits = l }) (λ t. t.limits) limits
-
--- ---- instructions (5.4)
-
-abbrev pub block_type_spelling : Option ValueType → List ℕ
-block_type_spelling None = 0x40 ∷ []
-block_type_spelling (Some t) = value_type_spelling t
-
-abbrev pub block_type_of : ℕ → List ℕ → Reading (Option ValueType)
-block_type_of b bytes = if b == 0x40 then Ok (None, bytes) else (value_type_of b bytes >>= λ t. Ok (Some t.0, t.1))
-
-unfoldable pub block_type : Format (Option ValueType)
-block_type = record { spelling = block_type_spelling; reading = λ bytes. byte_at bytes >>= λ b. block_type_of b.0 b.1; fits = λ t. true }
-
--- the side of an if behind its else
-abbrev pub else_spelling : Option (List (List ℕ)) → List ℕ
-else_spelling None = []
-else_spelling (Some is) = 0x05 ∷ concat is
-
--- an instruction, where each one inside it is given by its spelling
-abbrev pub spelling_step : Instr-F (List ℕ) → List ℕ
-spelling_step layer.Unreachable = 0x00 ∷ []
-spelling_step (layer.Block t is) = 0x02 ∷ block_type.spelling t ++ concat is ++ 0x0B ∷ []
-spelling_step (layer.Loop t is) = 0x03 ∷ block_type.spelling t ++ concat is ++ 0x0B ∷ []
-spelling_step (layer.If t is others) = 0x04 ∷ block_type.spelling t ++ concat is ++ (else_spelling others ++ 0x0B ∷ [])
-spelling_step (layer.Br l) = 0x0C ∷ unsigned.spelling l
-spelling_step (layer.BrIf l) = 0x0D ∷ unsigned.spelling l
-spelling_step (layer.BrTable ls l) = 0x0E ∷ (vector unsigned).spelling ls ++ unsigned.spelling l
-spelling_step layer.Return = 0x0F ∷ []
-spelling_step (layer.Call f) = 0x10 ∷ unsigned.spelling f
-spelling_step (layer.CallIndirect t) = 0x11 ∷ unsigned.spelling t ++ 0x00 ∷ []
-spelling_step layer.Drop = 0x1A ∷ []
-spelling_step (layer.LocalGet x) = 0x20 ∷ unsigned.spelling x
-spelling_step (layer.LocalSet x) = 0x21 ∷ unsigned.spelling x
-spelling_step (layer.LocalTee x) = 0x22 ∷ unsigned.spelling x
-spelling_step (layer.GlobalGet x) = 0x23 ∷ unsigned.spelling x
-spelling_step (layer.Load l) = load_opcode l ∷ 0x00 ∷ 0x00 ∷ []
-spelling_step (layer.Store w) = store_opcode w ∷ 0x00 ∷ 0x00 ∷ []
-spelling_step (layer.I32Const n) = 0x41 ∷ signed32.spelling n
-spelling_step (layer.I64Const n) = 0x42 ∷ signed64.spelling n
-spelling_step (layer.Numeric n) = numeric_opcode n ∷ []
-
-unfoldable pub instr_spelling : Instr → List ℕ
-instr_spelling = fold-Instr (List ℕ) spelling_step
-
--- numbers fit their widths, and blocks nest at most so deep
-abbrev pub fits_step : Instr-F (ℕ → Bool) → (levels : ℕ) → Bool
-fits_step (layer.Block t is) zero = false
-fits_step (layer.Block t is) (suc levels) = list_all (λ fits. fits levels) is
-fits_step (layer.Loop t is) zero = false
-fits_step (layer.Loop t is) (suc levels) = list_all (λ fits. fits levels) is
-fits_step (layer.If t is others) zero = false
-fits_step (layer.If t is None) (suc levels) = list_all (λ fits. fits levels) is
-fits_step (layer.If t is (Some others)) (suc levels) = list_all (λ fits. fits levels) is && list_all (λ fits. fits levels) others
-fits_step (layer.Br l) levels = unsigned.fits l
-fits_step (layer.BrIf l) levels = unsigned.fits l
-fits_step (layer.BrTable ls l) levels = (vector unsigned).fits ls && unsigned.fits l
-fits_step (layer.Call f) levels = unsigned.fits f
-fits_step (layer.CallIndirect t) levels = unsigned.fits t
-fits_step (layer.LocalGet x) levels = unsigned.fits x
-fits_step (layer.LocalSet x) levels = unsigned.fits x
-fits_step (layer.LocalTee x) levels = unsigned.fits x
-fits_step (layer.GlobalGet x) levels = unsigned.fits x
-fits_step (layer.I32Const n) levels = signed32.fits n
-fits_step (layer.I64Const n) levels = signed64.fits n
-fits_step _ levels = true
-
-unfoldable pub instr_fits : Instr → (levels : ℕ) → Bool
-instr_fits = fold-Instr (ℕ → Bool) fits_step
-
--- the bytes behind the hint and the offset of a load or a store, which are 0
-abbrev pub no_offset : List ℕ → Result (List ℕ) WFault
-no_offset bytes = skip 0x00 bytes >>= λ s. skip 0x00 s.1 >>= λ t. Ok t.1
-
--- a load, a store or a numeric instruction, behind its opcode, where the opcode is one of the first, the second or the third kind
-abbrev pub memory_reading : Option load.Load → Option StoreWidth → Option numeric.Numeric → List ℕ → Reading Instr
-memory_reading (Some l) width number bytes = no_offset bytes >>= λ rest. Ok (Load l, rest)
-memory_reading None (Some w) number bytes = no_offset bytes >>= λ rest. Ok (Store w, rest)
-memory_reading None None (Some n) bytes = Ok (Numeric n, bytes)
-memory_reading None None None bytes = Err OutsideProfile
-
--- The instruction that an opcode begins: of memory, or a numeric one (5.4.4, 5.4.5).
-unfoldable pub memory_of : ℕ → List ℕ → Reading Instr
-memory_of b bytes = memory_reading (load_of b) (store_of b) (numeric_of b) bytes
-
--- the same of those that drop an operand, name a variable or push a constant, too (5.4.2, 5.4.3)
-unfoldable pub variable_of : ℕ → List ℕ → Reading Instr
-variable_of b bytes =
-    if b == 0x1A then Ok (Drop, bytes)
-    else (if b == 0x20 then (unsigned.reading bytes >>= λ x. Ok (LocalGet x.0, x.1))
-    else (if b == 0x21 then (unsigned.reading bytes >>= λ x. Ok (LocalSet x.0, x.1))
-    else (if b == 0x22 then (unsigned.reading bytes >>= λ x. Ok (LocalTee x.0, x.1))
-    else (if b == 0x23 then (unsigned.reading bytes >>= λ x. Ok (GlobalGet x.0, x.1))
-    else (if b == 0x41 then (signed32.reading bytes >>= λ n. Ok (I32Const n.0, n.1))
-    else (if b == 0x42 then (signed64.reading bytes >>= λ n. Ok (I64Const n.0, n.1)) else memory_of b bytes))))))
-
--- the same of those that go elsewhere, too (5.4.1)
-unfoldable pub plain_of : ℕ → List ℕ → Reading Instr
-plain_of b bytes =
-    if b == 0x00 then Ok (Unreachable, bytes)
-    else (if b == 0x0C then (unsigned.reading bytes >>= λ l. Ok (Br l.0, l.1))
-    else (if b == 0x0D then (unsigned.reading bytes >>= λ l. Ok (BrIf l.0, l.1))
-    else (if b == 0x0E then ((vector unsigned).reading bytes >>= λ ls. unsigned.reading ls.1 >>= λ l. Ok (BrTable ls.0 l.0, l.1))
-    else (if b == 0x0F then Ok (Return, bytes)
-    else (if b == 0x10 then (unsigned.reading bytes >>= λ f. Ok (Call f.0, f.1))
-    else (if b == 0x11 then (unsigned.reading bytes >>= λ t. skip 0x00 t.1 >>= λ s. Ok (CallIndirect t.0, s.1)) else variable_of b bytes))))))
-
--- whether the opcode begins an instruction that holds others
-abbrev pub opens : ℕ → Bool
-opens b = (b == 0x02) || (b == 0x03) || (b == 0x04)
-
--- the instruction with one sequence that such an opcode begins
-abbrev pub one_sided : ℕ → Option ValueType → List Instr → Instr
-one_sided b t is = if b == 0x02 then Block t is else (if b == 0x03 then Loop t is else If t is None)
-
--- what ends a sequence
-abbrev pub ending_of : ℕ → Option Ending
-ending_of b = if b == 0x0B then Some End else (if b == 0x05 then Some Else else None)
-
-abbrev pub Sequence : Type 0
-Sequence = List Instr × Ending
-
-abbrev pub instr_of : (opened : ℕ → List ℕ → Reading Instr) → ℕ → List ℕ → Reading Instr
-instr_of opened b bytes = if opens b then opened b bytes else plain_of b bytes
-
--- at most so many instructions and what ends them, where `opened` reads an instruction that holds others
-unfoldable pub sequence : (opened : ℕ → List ℕ → Reading Instr) (most : ℕ) → List ℕ → Reading Sequence
-sequence opened zero bytes = Err Malformed
-sequence opened (suc most) [] = Err Malformed
-sequence opened (suc most) (b ∷ bytes) = elim (ending_of b) [
-  | Some e ↦ Ok (([], e), bytes)
-  | None ↦ instr_of opened b bytes >>= λ i. sequence opened most i.1 >>= λ s. Ok ((i.0 ∷ s.0.0, s.0.1), s.1)
-]
-
--- the same with an end behind them: no else may stand there
-abbrev pub ended : Reading Sequence → Reading (List Instr)
-ended read = read >>= λ s. elim s.0.1 [ End ↦ Ok (s.0.0, s.1) | Else ↦ Err OutsideProfile ]
-
--- the instruction, once its first sequence is read. Only an if goes on behind an else
-abbrev pub closing : (inner : List ℕ → Reading Sequence) → ℕ → Option ValueType → List Instr → Ending → List ℕ → Reading Instr
-closing inner b t is End bytes = Ok (one_sided b t is, bytes)
-closing inner b t is Else bytes = if b == 0x04 then (ended (inner bytes) >>= λ others. Ok (If t is (Some others.0), others.1)) else Err OutsideProfile
-
--- an instruction that holds others, behind its opcode, where so many levels of nesting are left
-unfoldable pub opened : (levels : ℕ) → ℕ → List ℕ → Reading Instr
-opened zero b bytes = Err OutsideProfile
-opened (suc levels) b bytes =
-    block_type.reading bytes >>= λ t. sequence (opened levels) (length t.1) t.1 >>= λ s.
-    closing (λ rest. sequence (opened levels) (length rest) rest) b t.0 s.0.0 s.0.1 s.1
-
--- instructions and what ends them, where so many levels of nesting are left
-abbrev pub code_in : (levels : ℕ) → List ℕ → Reading Sequence
-code_in levels bytes = sequence (opened levels) (length bytes) bytes
-
-abbrev pub code_within : (levels : ℕ) → Format (List Instr)
-code_within levels = record {
-  spelling = λ is. flat_map instr_spelling is ++ 0x0B ∷ [];
-  reading = λ bytes. ended (code_in levels bytes);
-  fits = λ is. list_all (λ i. instr_fits i levels) is;
-}
-
--- code, in which blocks nest at most 4096 deep
-unfoldable pub code : Format (List Instr)
-code = code_within 4096
 
 -- ---- the parts of a module (5.5)
 

@@ -1,3 +1,1 @@
-pub mod Opcode
 pub mod Binary
-pub mod Piled

@@ -6,9 +6,7 @@ ghost use Rattle.wasm_bytes.specs.Number.{unsigned};
 ghost use Rattle.wasm_bytes.specs.Parts.{many, vector, entries, section};
 
 mod body;
-mod code;
 mod kinds;
-mod opcode;
 mod sections;
 
 pub use body::body_over;

@@ -6,8 +6,8 @@ use Rattle.std.proofs.lemmas.Bool.{lt-ltb, le-leb}
 use Rattle.std.specs.Prelude.{slice_set, Result, Ok, Err, IfOk}
 use Rattle.wasm_tree.specs.declared.module.WModule.{WModule}
 use Rattle.wasm_tree.specs.declared.store.Store.{Store}
-use Rattle.wasm_tree.specs.declared.instr.Instr.TheVariants.{BrTable, Drop, LocalGet, LocalSet, LocalTee, outs-BrTable, outs-Drop, outs-LocalGet, outs-LocalSet, outs-LocalTee}
-use Rattle.wasm_tree.specs.Machine.{Activation, Going, split_last, top_i32, topmost, begun, begun_layer, or_trap, with_local, pushed, branched, found}
+use Rattle.wasm_tree.specs.declared.instr.Instr.TheVariants.{BrTable, Drop, LocalGet, LocalSet, LocalTee, GlobalGet, outs-GlobalGet, outs-BrTable, outs-Drop, outs-LocalGet, outs-LocalSet, outs-LocalTee}
+use Rattle.wasm_tree.specs.Machine.{Activation, Going, split_last, top_i32, topmost, begun, begun_layer, or_trap, global_at, with_local, pushed, branched, found}
 use Rattle.wasm_engine.specs.declared.frame.Machine.{Machine}
 use Rattle.wasm_engine.specs.declared.frame.Reduced.{Reduced}
 use Rattle.wasm_engine.specs.Going.{progress}
@@ -43,6 +43,10 @@ module _ (modules : List WModule) (st : Store) (now : Activation) (callers : Lis
 
   pub begun_get : (x : ℕ) → x < length now.locals → begun modules st now callers (LocalGet x) ≡ (Going st (record now { stack = now.stack ++ value_at now.locals x ∷ [] }) callers, [])
   begun_get x h = ap (begun_layer modules st now callers (LocalGet x)) (outs-LocalGet x) ∙ ap (λ (o : Option Value). or_trap o (pushed st now callers)) (at_place now.locals x h)
+
+  -- of a global that stands at this place among all
+  pub begun_global : (g place : ℕ) → global_at st now.instance g ≡ slice_get st.globals place → place < length st.globals → begun modules st now callers (GlobalGet g) ≡ (Going st (record now { stack = now.stack ++ value_at st.globals place ∷ [] }) callers, [])
+  begun_global g place e h = ap (begun_layer modules st now callers (GlobalGet g)) (outs-GlobalGet g) ∙ ap (λ (o : Option Value). or_trap o (pushed st now callers)) (e ∙ at_place st.globals place h)
 
   pub begun_set : (x : ℕ) → x < length now.locals → 0 < length now.stack
       → begun modules st now callers (LocalSet x) ≡ (Going st (record now { locals = slice_set now.locals x (last_of now.stack); stack = take (length now.stack - 1) now.stack }) callers, [])

@@ -1,6 +1,6 @@
 -- What is ready, for code that makes no test of it.
 use Rattle.std.proofs.Math.Logic.{∥∥₁_map, ∥∥₁_elim}
-use Rattle.std.proofs.Common.{◌≡◌, ℕ, ◌+◌, ◌-◌, ◌<◌, ◌≤◌, List, take, length, true, Option, Some, None, sym, ap, subst, ◌∙◌, arith}
+use Rattle.std.proofs.Common.{◌≡◌, ℕ, zero, suc, ◌+◌, ◌-◌, ◌<◌, ◌≤◌, List, [], ◌∷◌, take, length, true, Option, Some, None, refl, sym, ap, subst, ◌∙◌, arith}
 use Rattle.std.specs.Prelude.{slice_get, slice_index_or}
 use Rattle.std.specs.Option.{option_and_then}
 use Rattle.std.specs.Coded.{Coded-set, coded_bool}
@@ -26,6 +26,16 @@ some_there o x e = ap is_there e
 
 pub there_by : {A X : Type 0} (o : Option X) → (A → (x : X) × (o ≡ Some x)) → ∥ A ∥₁ → IsThere o
 there_by o f t = ∥∥₁_elim t (Coded-set coded_bool (is_there o) true) (λ a. some_there o (f a).0 (f a).1)
+
+there_before : {A B : Type 0} (f : A → Option B) (o : Option A) → IsThere (option_and_then f o) → IsThere o
+there_before f None h = h
+there_before f (Some x) h = refl
+
+-- what is there stands at a place of the list
+pub there_within : {A : Type 0} (xs : List A) (k : ℕ) → IsThere (slice_get xs k) → k < length xs
+there_within [] k h = absurd cc
+there_within (x ∷ xs) zero h = omega arith
+there_within (x ∷ xs) (suc k) h = let g = there_within xs k h in omega (arith, g)
 
 pub to_there : {A X : Type 0} (o : Option X) → (A → IsThere o) → ∥ A ∥₁ → IsThere o
 to_there o f t = ∥∥₁_elim t (Coded-set coded_bool (is_there o) true) f
@@ -151,6 +161,20 @@ call_agreed modules st m index stack slot c t h is type agrees = ∥∥₁_map h
     go k =
         let a = in_slot st m slot c k.1 k.2 k.3 k.5 k.6 k.7 is in
         agreed modules stack k.0 t a.0 st c (k.8 a.0 a.1) a.2 (same_Some k.0 t (sym k.4 ∙ type)) agrees
+
+-- the function in a slot that is filled has a type
+pub called_there : (modules : List WModule) (st : Store) (m index : ℕ) (stack : List Value) (slot : ℕ) (c : Callee) → ∥ CanCallIndirect modules st m stack index slot ∥₁ → callee_in st m slot ≡ Some c → IsThere (callee_type modules c)
+called_there modules st m index stack slot c h is = there_by (callee_type modules c) go h
+  where
+    go : CanCallIndirect modules st m stack index slot → (t : FuncType) × (callee_type modules c ≡ Some t)
+    go k =
+        let a = in_slot st m slot c k.1 k.2 k.3 k.5 k.6 k.7 is in
+        let b = k.8 a.0 a.1 in
+        (b.1, ap (callee_type modules) (same_Some c b.0 (sym a.2 ∙ b.2)) ∙ b.3)
+
+-- a function that has a type is there
+pub typed_there : (modules : List WModule) (m f : ℕ) → IsThere (callee_type modules (Own m f)) → IsThere (own_function modules m f)
+typed_there modules m f h = there_before (λ (t : Typed). Some t.type) (own_function modules m f) h
 
 -- ---- slots
 

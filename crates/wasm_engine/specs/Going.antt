@@ -22,9 +22,9 @@ activation f = record { instance = f.instance; arity = f.arity; locals = f.local
 abbrev pub memory_from : Pages → Memory
 memory_from p = record { bytes = p.bytes.items; max = p.max }
 
--- the store, with its memories in their place
+-- the store, with its memories and the values of its globals in their place
 abbrev pub store_of : Machine → Store
-store_of m = record m.store { memories = map memory_from m.memories.items }
+store_of m = record m.store { memories = map memory_from m.memories.items; globals = m.globals.known.values }
 
 abbrev pub callers_of : Machine → List Activation
 callers_of m = map activation m.callers.items

@@ -2,22 +2,23 @@
 
 ghost use Rattle.std.specs.Prelude.{◌≡◌, ◌≤◌, ◌-◌, [], ◌++◌, IfOk, OnOk, Some, None, List, map, drop, length};
 ghost use Rattle.std.specs.List.{flat_map};
-ghost use Rattle.wasm_tree.specs.Machine.{stopped, entered, called, begun, found, zeros, split_last};
+ghost use Rattle.wasm_tree.specs.Machine.{agree, callee_type, stopped, entered, called, begun, found, zeros, split_last};
 ghost use Rattle.wasm_link.specs.Placed.{typed};
 ghost use Rattle.wasm_tree.specs.declared.store.Callee.TheVariants.{Put, Stop, Own};
 ghost use Rattle.wasm_tree.specs.declared.instr.Instr.TheVariants.{Call, CallIndirect};
 ghost use Rattle.wasm_tree.specs.declared.module.WModule.{WModule};
 ghost use Rattle.wasm_sound.specs.Ready.{IsI64, CanCall, CanCallIndex, CanCallTop};
 ghost use Rattle.wasm_engine.specs.Going.{activation, store_of, callers_of, progress, waiting, called_typed};
+ghost use Rattle.wasm_engine.specs.There.{IsThere};
 ghost use Rattle.wasm_engine.specs.declared.frame.Machine.{Machine};
 
 use crate::frame::{Frame, Machine, Reduced};
 use crate::places::{callee_at, callee_in, function_at, type_at};
 use std::alloc::{AllocError, Global};
 use std::mem;
-use wasm_link::{TypedFunction, agrees};
+use wasm_link::{TypedFunction, has_types, is_same_type};
 use wasm_operands::Operands;
-use wasm_tree::{Callee, Locals};
+use wasm_tree::{Callee, FuncType, Locals, ValueType};
 use wasm_valid::ValidModule;
 
 #[inline(always)]
@@ -182,6 +183,20 @@ pub fn call_index<'a>(
     call(alloc, modules, machine, callee)
 }
 
+/// Whether the function can be called as one of the type asked for.
+#[inline(always)]
+fn agrees(modules: &[ValidModule], asked: &FuncType, callee: Callee) -> bool
+    requires { IsThere (callee_type modules.now callee) }
+    ensures { result ≡ agree (Some asked.now) (callee_type modules.now callee) }
+{
+    match callee {
+        Callee::Put | Callee::Stop => has_types(asked, &[ValueType::I64], &[]),
+        Callee::Own { module, function } => {
+            is_same_type(asked, function_at(modules, module, function).func_type)
+        }
+    }
+}
+
 /// The call of the function in the slot that the topmost operand names.
 #[tactic(auto, using(crate::proofs::Opened::out_call_indirect))]
 #[inline(always)]
@@ -199,7 +214,7 @@ pub fn call_indirect<'a>(
         return Ok(Reduced::Trapped);
     };
     let asked = type_at(modules, machine.now.instance, type_index);
-    if !agrees(modules, Some(asked), callee) {
+    if !agrees(modules, asked, callee) {
         return Ok(Reduced::Trapped);
     }
     call(alloc, modules, machine, callee)

@@ -19,6 +19,7 @@ use sqlite_items::{Items, at};
 use std::alloc::{AllocError, Global};
 use thiserror::Error;
 use wasm_link::{linked_all, own_function, run_of};
+use wasm_operands::Operands;
 use wasm_tree::{Callee, Memory, Store, WFault};
 use wasm_valid::ValidModule;
 
@@ -93,6 +94,15 @@ fn take_memories(alloc: Global, store: &mut Store) -> Result<Vec<Pages>, AllocEr
     Ok(memories)
 }
 
+/// Takes the values of globals out of the store.
+fn take_globals(alloc: Global, store: &mut Store) -> Result<Operands, AllocError>
+    ensures { IfOk result (λ o. (o.known.values ≡ store.old.globals) × (store.new ≡ record store.old { globals = [] })) }
+{
+    let globals = Operands::from_values(alloc, store.globals.as_slice())?;
+    store.globals = Items::new(alloc);
+    Ok(globals)
+}
+
 /// The machine at the beginning of this function.
 fn machine_at<'a>(
     alloc: Global,
@@ -109,9 +119,11 @@ fn machine_at<'a>(
     let now = entered(alloc, number, first)?;
     let mut store = store;
     let memories = take_memories(alloc, &mut store)?;
+    let globals = take_globals(alloc, &mut store)?;
     Ok(Machine {
         store,
         memories,
+        globals,
         now,
         callers: Vec::new(alloc),
         spare: Vec::new(alloc),

@@ -31,12 +31,13 @@ pub struct Pages {
     pub max: Option<u32>,
 }
 
-/// Linked modules while their run goes on. The memories stand apart from the store. The spare frames are those that were
+/// Linked modules while their run goes on. The memories and the values of globals stand apart from the store. The spare frames are those that were
 /// left: what they hold means nothing, and the room that they have is used by later calls.
 #[derive(Drop)]
 pub struct Machine<'a> {
     pub store: Store,
     pub memories: Vec<Pages>,
+    pub globals: Operands,
     pub now: Frame<'a>,
     pub callers: Vec<Frame<'a>>,
     pub spare: Vec<Frame<'a>>,

@@ -9,7 +9,8 @@ ghost use Rattle.wasm_engine.specs.There.{IsThere, HasSlots};
 use crate::frame::Pages;
 use sqlite_items::at;
 use wasm_link::TypedFunction;
-use wasm_tree::{Callee, FuncType, Store, Value};
+use wasm_operands::Operands;
+use wasm_tree::{Callee, FuncType, Store};
 use wasm_valid::ValidModule;
 
 /// The element at an index.
@@ -21,15 +22,14 @@ pub fn the<T>(items: &[T], index: usize) -> &T
     &items[index]
 }
 
-/// The value of a global.
+/// Where the value of a global stands among those of all.
 #[inline(always)]
-pub fn global_at(store: &Store, instance: usize, index: u32) -> Value
-    requires { IsThere (global_at store.now instance index) }
-    ensures { global_at store.now instance index ≡ Some result }
+pub fn place_of_global(store: &Store, globals: &Operands, instance: usize, index: u32) -> usize
+    requires { IsThere (global_at (record store.now { globals = globals.now.known.values }) instance index) }
+    ensures { global_at (record store.now { globals = globals.now.known.values }) instance index ≡ slice_get globals.now.known.values result }
 {
     let instance = the(store.instances.as_slice(), instance);
-    let address = the(instance.globals.as_slice(), index as usize);
-    *the(store.globals.as_slice(), *address)
+    *the(instance.globals.as_slice(), index as usize)
 }
 
 /// The function of an index.

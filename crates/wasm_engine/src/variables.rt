@@ -8,21 +8,18 @@ ghost use Rattle.wasm_engine.specs.Going.{activation, store_of, callers_of, prog
 ghost use Rattle.wasm_engine.specs.There.{IsThere};
 
 use crate::frame::{Machine, Reduced};
-use crate::places::global_at;
+use crate::places::place_of_global;
 use std::alloc::AllocError;
-use wasm_tree::Value;
 
 /// Pushes the value of a global.
-#[tactic(auto, using(crate::proofs::Opened::out_global_get))]
 #[inline(always)]
 pub fn global_get(machine: &mut Machine<'_>, global: u32) -> Result<Reduced, AllocError>
     requires { IsThere (global_at (store_of machine.old) machine.old.now.instance global) }
     ensures { IfOk result (λ r. (modules : List WModule) → progress r machine.new ≡ begun modules (store_of machine.old) (activation machine.old.now) (callers_of machine.old) (instr.GlobalGet global)) }
 {
-    match global_at(&machine.store, machine.now.instance, global) {
-        Value::I32(number) => machine.now.stack.push_i32(number)?,
-        Value::I64(number) => machine.now.stack.push_i64(number)?,
-    }
+    let instance = machine.now.instance;
+    let place = place_of_global(&machine.store, &machine.globals, instance, global);
+    machine.now.stack.push_copy(&machine.globals, place)?;
     Ok(Reduced::On)
 }
 

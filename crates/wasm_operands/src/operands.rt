@@ -1,6 +1,6 @@
 //! Operands and locals, as cells of 64 bits each. What kinds they are of is known to proofs alone.
 
-ghost use Rattle.std.specs.Prelude.{◌≡◌, ◌≤◌, ◌<◌, ◌+◌, ◌-◌, [], ◌∷◌, ◌++◌, map, take, drop, length, slice_set, OnOk, Some, if◌then◌else◌};
+ghost use Rattle.std.specs.Prelude.{◌≡◌, ◌≤◌, ◌<◌, ◌+◌, ◌-◌, [], ◌∷◌, ◌++◌, map, take, drop, length, slice_set, IfOk, OnOk, Some, if◌then◌else◌};
 ghost use Rattle.std.specs.Result.{is_ok};
 ghost use Rattle.std.specs.Option.{option_map};
 ghost use Rattle.wasm_tree.specs.declared.store.Value.TheVariants.{I32, I64};
@@ -73,6 +73,17 @@ impl Operands {
         }
     }
 
+    /// These values, the last on top.
+    pub fn from_values(alloc: Global, values: &[Value]) -> Result<Operands, AllocError>
+        ensures { IfOk result (λ o. o.known.values ≡ values.now) }
+    {
+        let mut operands = Operands::new(alloc);
+        for value in values {
+            operands.push(*value)?;
+        }
+        Ok(operands)
+    }
+
     /// How many there are.
     #[inline(always)]
     pub fn len(&self) -> usize
@@ -99,6 +110,16 @@ impl Operands {
         self.cells.push(number)?;
         self.known = known_as(&self.known, &self.known, &Value::I64(number), &0, &0);
         Ok(())
+    }
+
+    /// Puts a value on top.
+    fn push(&mut self, value: Value) -> Result<(), AllocError>
+        ensures { OnOk result (self.new.known.values ≡ self.old.known.values ++ value ∷ []) }
+    {
+        match value {
+            Value::I32(number) => self.push_i32(number),
+            Value::I64(number) => self.push_i64(number),
+        }
     }
 
     /// Puts the value at a place of others on top.

@@ -1,13 +1,14 @@
 -- What a loop has tested of each element so far.
-use Rattle.std.proofs.Common.{◌≡◌, ◌≢◌, ℕ, suc, ◌+◌, ◌<◌, ◌≤◌, List, [], ◌∷◌, length, get_or, take, drop, map, sym, subst, add-one}
+use Rattle.std.proofs.Common.{◌≡◌, ◌≢◌, ℕ, suc, ◌+◌, ◌<◌, ◌≤◌, List, ◌∷◌, length, get_or, take, drop, map, sym, subst, add-one}
 use Rattle.std.proofs.Math.Seq.{drop-cons}
 use Rattle.std.specs.Prelude.{All}
 use Rattle.std.proofs.lemmas.List.{take_all}
-use Rattle.std.proofs.lemmas.List.Elements.{All-nil, All-cons, All-head, All-tail, All-more, All-map}
+use Rattle.std.proofs.lemmas.List.Elements.{All-more, All-map}
 use Rattle.wasm_tree.specs.declared.fault.WFault.{WFault}
 use Rattle.wasm_tree.specs.Validity.{AreDistinct}
-use Rattle.wasm_valid.specs.Typing.{Refuses}
-use Rattle.wasm_valid.proofs.Stacks.{refuses_so}
+use Rattle.wasm_typing.specs.Typing.{Refuses}
+use Rattle.wasm_typing.proofs.Located.{all_names}
+use Rattle.wasm_typing.proofs.Stacks.{refuses_so}
 
 pub each_more : {X : Type 0} (P : X → Type 0) (xs : List X) (k : ℕ) (x : X) → k < length xs → x ≡ get_or xs k x → All P (take k xs) → P x → All P (take (k + 1) xs)
 each_more P xs k x lt is before here = All-more P xs k x lt before (subst P is here)
@@ -18,10 +19,6 @@ each_all {X} P xs k le all = subst (λ (ys : List X). All P ys) (take_all k xs l
 -- where one is refused, so are all
 pub each_refused : {X : Type 0} (P : X → Type 0) (xs : List X) (k : ℕ) (x : X) (e : WFault) → k < length xs → x ≡ get_or xs k x → Refuses e (¬ P x) → Refuses e (¬ All P xs)
 each_refused P xs k x e lt is h = refuses_so e (¬ P x) (¬ All P xs) (λ n all. n (subst P (sym is) (all k x lt))) h
-
-pub all_names : {X Y : Type 0} (P : Y → Type 0) (f : X → Y) (xs : List X) → All P (map f xs) → All (λ x. P (f x)) xs
-all_names P f [] h = All-nil (λ x. P (f x))
-all_names P f (x ∷ xs) h = All-cons (λ y. P (f y)) x xs (All-head P (f x) (map f xs) h) (all_names P f xs (All-tail P (f x) (map f xs) h))
 
 -- names that are distinct from the next one on are so from this one on, where this one differs from the others
 pub distinct_more : {X : Type 0} (name : X → List ℕ) (xs : List X) (k : ℕ) (d : X) → k < length xs → All (λ x. name (get_or xs k d) ≢ name x) (drop (k + 1) xs) → AreDistinct (map name (drop (k + 1) xs)) → AreDistinct (map name (drop k xs))

@@ -1,5 +1,5 @@
 -- The parts of a module, and the whole.
-use Rattle.std.proofs.Common.{◌≡◌, ◌⊎◌, ◌<◌, List, [], ◌∷◌, ◌++◌, Option, Some, Result, length, refl, sym, ap, subst, ◌∙◌, inl, inr}
+use Rattle.std.proofs.Common.{◌≡◌, ◌⊎◌, ◌<◌, List, [], Some, Result, length, refl, sym, subst, ◌∙◌, inl, inr}
 use Rattle.std.specs.Prelude.{All, slice_get}
 use Rattle.wasm_tree.specs.declared.fault.WFault.{WFault}
 use Rattle.wasm_tree.specs.declared.fault.WFault.TheVariants.{Malformed, OutsideProfile, Invalid, Unlinked, SegmentOutside, NoMemory}
@@ -7,40 +7,16 @@ use Rattle.wasm_tree.specs.declared.kinds.ValueType.{ValueType}
 use Rattle.wasm_tree.specs.declared.kinds.ValueType.TheVariants.{I32}
 use Rattle.wasm_tree.specs.declared.kinds.FuncType.{FuncType}
 use Rattle.wasm_tree.specs.declared.instr.Instr.{Instr}
-use Rattle.wasm_tree.specs.declared.module.Locals.{Locals}
 use Rattle.wasm_tree.specs.declared.module.Global.{Global}
 use Rattle.wasm_tree.specs.declared.module.Element.{Element}
 use Rattle.wasm_tree.specs.declared.module.Function.{Function}
 use Rattle.wasm_tree.specs.declared.module.Data.{Data}
 use Rattle.wasm_tree.specs.declared.module.WModule.{WModule}
-use Rattle.wasm_tree.specs.Validity.{Context, context, initial_context, declared, result_types, function_context, Leads, IsConstant, IsConstantOf, IsFunction, IsGlobal, IsElement, IsData, AreKinds, AreBodies, IsValid}
-use Rattle.wasm_valid.specs.declared.frame.Frame.{Frame}
-use Rattle.wasm_valid.specs.Scope.{scope_of}
-use Rattle.wasm_valid.specs.Framed.{frame_context}
-use Rattle.wasm_valid.specs.Typing.{Refuses, Decides, AreSingle}
-use Rattle.wasm_valid.proofs.Stacks.{refuses_so}
-use Rattle.wasm_valid.proofs.Walks.{decides_same}
-
--- ---- code in its frame
-
-leads_in : {A : Type 0} (result : Result A WFault) (c d : Context) (code other : List Instr) (rs ts : List ValueType) → c ≡ d → code ≡ other → rs ≡ ts → Decides result (Leads c code [] rs) → Decides result (Leads d other [] ts)
-leads_in result c d code other rs ts e f g h =
-    subst (λ (x : Context). Decides result (Leads x other [] ts)) e (subst (λ (x : List Instr). Decides result (Leads c x [] ts)) f (subst (λ (x : List ValueType). Decides result (Leads c code [] x)) g h))
-
-body_context : (f : Frame) (blocks : List (Option ValueType)) (t : FuncType) (groups : List Locals) → f.params.now ≡ t.params → f.locals.groups.now ≡ groups → blocks ≡ f.returns ∷ [] → result_types f.returns ≡ t.results → frame_context f blocks ≡ function_context (scope_of f.scope) t groups
-body_context f blocks t groups p g b r =
-    ap (λ (x : List (Option ValueType)). frame_context f x) b
-    ∙ ap (λ (x : List ValueType). record (scope_of f.scope) { locals = x ++ declared f.locals.groups.now; labels = result_types f.returns ∷ []; returns = result_types f.returns }) p
-    ∙ ap (λ (x : List Locals). record (scope_of f.scope) { locals = t.params ++ declared x; labels = result_types f.returns ∷ []; returns = result_types f.returns }) g
-    ∙ ap (λ (x : List ValueType). record (scope_of f.scope) { locals = t.params ++ declared groups; labels = x ∷ []; returns = x }) r
-
-pub body_decides : {A : Type 0} (result : Result A WFault) (f : Frame) (blocks : List (Option ValueType)) (t : FuncType) (groups : List Locals) (code other : List Instr) → f.params.now ≡ t.params → f.locals.groups.now ≡ groups → blocks ≡ f.returns ∷ [] → result_types f.returns ≡ t.results → code ≡ other → Decides result (Leads (frame_context f blocks) code [] (result_types f.returns)) → Decides result (Leads (function_context (scope_of f.scope) t groups) other [] t.results)
-body_decides result f blocks t groups code other p g b r e h = leads_in result (frame_context f blocks) (function_context (scope_of f.scope) t groups) code other (result_types f.returns) t.results (body_context f blocks t groups p g b r) e r h
-
-pub constant_decides : {A : Type 0} (result : Result A WFault) (c d : Context) (code : List Instr) (t : ValueType) → All IsConstant code → Decides result (Leads c code [] (t ∷ [])) → c ≡ d → Decides result (IsConstantOf d t code)
-constant_decides result c d code t all h same =
-    let here = subst (λ (x : Context). Decides result (Leads x code [] (t ∷ []))) same h in
-    decides_same result (Leads d code [] (t ∷ [])) (IsConstantOf d t code) (λ x. record { constant = all; typed = x }, λ x. x.typed) here
+use Rattle.wasm_tree.specs.Validity.{Context, context, initial_context, function_context, Leads, IsConstantOf, IsFunction, IsGlobal, IsElement, IsData, AreKinds, AreBodies, IsValid}
+use Rattle.wasm_valid.specs.Single.{AreSingle}
+use Rattle.wasm_typing.specs.Typing.{Refuses, Decides}
+use Rattle.wasm_typing.proofs.Stacks.{refuses_so}
+use Rattle.wasm_typing.proofs.Walks.{decides_same}
 
 -- ---- the parts
 

@@ -1,6 +1,3 @@
 pub mod Scope
-pub mod Ends
-pub mod Framed
-pub mod Opened
 pub mod Named
-pub mod Typing
+pub mod Single

@@ -1,12 +1,8 @@
--- What the lists of a scope stand for.
-use Rattle.std.specs.Prelude.{◌≡◌, []}
-use Rattle.wasm_valid.specs.declared.scope.Scope as rust
+-- What the names of a module stand for.
+use Rattle.std.specs.Prelude.{◌≡◌}
 use Rattle.wasm_valid.specs.declared.scope.Names.{Names}
 use Rattle.wasm_tree.specs.declared.module.WModule.{WModule}
-use Rattle.wasm_tree.specs.Validity.{Context, context, initial_context}
-
-abbrev pub scope_of : rust.Scope → Context
-scope_of s = record { types = s.types.now; functions = s.functions.now; tables = s.tables.now; memories = s.memories.now; globals = s.globals.now; locals = []; labels = []; returns = [] }
+use Rattle.wasm_tree.specs.Validity.{context, initial_context}
 
 pub record HasNames (n : Names) (m : WModule) : Type 0 where
   pub functions : n.functions.items ≡ (context m).functions

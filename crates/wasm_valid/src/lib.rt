@@ -1,11 +1,7 @@
 //! Valid WebAssembly modules (Core 1.0, section 3), in this project's profile.
 #![tactic(auto)]
 
-mod frame;
-mod grouped;
-mod operands;
 mod scope;
-mod typing;
 mod valid;
 
 pub use valid::{ValidModule, validate};

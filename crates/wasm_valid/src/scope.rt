@@ -1,23 +1,14 @@
-//! What a module's code may name (Core 1.0, section 3.1).
+//! What a module's indices stand for (Core 1.0, section 3.1).
 
 ghost use Rattle.std.specs.Prelude.{◌≡◌, ◌++◌, map, IfOk};
 ghost use Rattle.std.specs.List.{filter_map};
 ghost use Rattle.wasm_tree.specs.Validity.{function_import, table_import, memory_import, global_import, context, initial_context};
-ghost use Rattle.wasm_valid.specs.Scope.{scope_of, HasNames};
+ghost use Rattle.wasm_typing.specs.Scope.{scope_of};
+ghost use Rattle.wasm_valid.specs.Scope.{HasNames};
 
 use std::alloc::{AllocError, Global};
-use wasm_tree::{FuncType, Import, ImportKind, Limits, ValueType, WModule};
-
-/// The types, functions, tables, memories and globals that indices stand for.
-#[derive(Clone, Copy)]
-pub struct Scope<'a> {
-    pub types: &'a [FuncType],
-    /// The index of each function's type.
-    pub functions: &'a [u32],
-    pub tables: &'a [Limits],
-    pub memories: &'a [Limits],
-    pub globals: &'a [ValueType],
-}
+use wasm_tree::{Import, ImportKind, Limits, ValueType, WModule};
+use wasm_typing::Scope;
 
 /// The lists that a scope lends.
 #[derive(Drop)]

@@ -1,25 +1,23 @@
 //! Valid modules (Core 1.0, section 3.4).
 
-ghost use Rattle.std.specs.Prelude.{[], List, ℕ, not, cond, true, ◌≡◌, ◌<◌, ◌≤◌, ◌^◌, ◌↔◌, ◌⊎◌, All, IsTrue, OnOk, IfOk, MatchResult, map, length, drop};
-ghost use Rattle.wasm_tree.specs.Validity.{context, initial_context, AreLimits, IsFuncType, IsImport, function_context, result_types, Leads, IsFunction, IsGlobal, IsExport, IsElement, IsData, AreDistinct, AreKinds, AreBodies, IsValid};
-ghost use Rattle.wasm_valid.specs.Scope.{scope_of};
+ghost use Rattle.std.specs.Prelude.{List, ℕ, not, cond, true, ◌≡◌, ◌<◌, ◌^◌, ◌↔◌, ◌⊎◌, All, IsTrue, OnOk, IfOk, MatchResult, map, length};
+ghost use Rattle.wasm_tree.specs.Validity.{context, AreLimits, IsFuncType, IsImport, IsFunction, IsGlobal, IsExport, IsElement, IsData, AreDistinct, AreKinds, AreBodies, IsValid};
+ghost use Rattle.wasm_typing.specs.Scope.{scope_of};
 ghost use Rattle.std.specs.Str.{bytes_eq};
 ghost use Rattle.wasm_valid.specs.Named.{holds};
-ghost use Rattle.wasm_valid.specs.Typing.{Decides, AreSingle};
+ghost use Rattle.wasm_typing.specs.Typing.{Decides};
+ghost use Rattle.wasm_valid.specs.Single.{AreSingle};
 
-use crate::frame::Frame;
-use crate::grouped::{Groups, count_ends};
-use crate::operands::Spares;
-use crate::scope::{Scope, functions_of, initial_scope, names_of, whole_scope};
-use crate::typing::{check_code, check_constant};
-use sqlite_items::{Items, at};
+use crate::scope::{functions_of, initial_scope, names_of, whole_scope};
+use sqlite_items::at;
 use std::alloc::{AllocError, Global};
 use std::collections::HashSet;
 use std::marker::Model;
 use wasm_tree::{
-    Body, Data, Element, Export, ExportKind, FuncType, Function, Global as Constant, Import,
-    ImportKind, Limits, MemoryType, TableType, ValueType, WFault, WModule,
+    Data, Element, Export, ExportKind, FuncType, Function, Global as Constant, Import, ImportKind,
+    Limits, MemoryType, TableType, ValueType, WFault, WModule,
 };
+use wasm_typing::{Scope, Spares, check_body, check_constant};
 
 fn are_limits(limits: Limits, most: u64) -> bool
     ensures { IsTrue result ↔ AreLimits most limits }
@@ -46,47 +44,6 @@ fn is_import(scope: Scope<'_>, import: &Import) -> bool
         ImportKind::Memory(memory) => are_limits(memory.limits, 65536),
         ImportKind::Global(_) => true,
     }
-}
-
-/// What the function gives.
-fn result_of(results: &[ValueType]) -> Option<ValueType>
-    requires { length results.now ≤ 1 }
-    ensures { result_types result ≡ results.now }
-{
-    if results.is_empty() {
-        None
-    } else {
-        Some(results[0])
-    }
-}
-
-/// A function of this type.
-fn check_body<'a>(
-    alloc: Global,
-    spares: &mut Spares,
-    ends: &'a mut Vec<usize>,
-    scope: Scope<'a>,
-    func_type: &'a FuncType,
-    body: &'a Body,
-) -> Result<(), WFault>
-    requires { IsFuncType func_type.now }
-    ensures { Decides result (Leads (function_context (scope_of scope.entry) func_type.now body.now.locals) body.now.code [] func_type.now.results) }
-{
-    let returns = result_of(func_type.results.as_slice());
-    let groups = body.locals.as_slice();
-    count_ends(ends, groups)?;
-    let frame = Frame {
-        scope,
-        params: func_type.params.as_slice(),
-        locals: Groups {
-            groups,
-            ends: ends.as_slice(),
-        },
-        returns,
-    };
-    let mut blocks = Items::new(alloc);
-    blocks.push(returns)?;
-    check_code(spares, frame, &mut blocks, body.code.ops(), returns)
 }
 
 fn check_function(

@@ -5,10 +5,10 @@ ghost use Rattle.wasm_tree.specs.Format.{Format, Gives};
 ghost use Rattle.wasm_binary.specs.Binary.{locals, locals_at, locals_spelling, body};
 
 use crate::binary::Binary;
-use crate::binary::code::{code_over, write_code};
 use sqlite_items::Items;
 use std::alloc::{AllocError, Global};
 use wasm_bytes::{Writer, closed, front, unsigned_at};
+use wasm_code::{code_over, write_code};
 use wasm_tree::{Body, Locals, Op, ValueType, WFault};
 
 /// So many groups of locals, where there are so many locals before them.

@@ -2,14 +2,15 @@
 
 ghost use Rattle.std.specs.Prelude.{◌≡◌, ◌++◌, OnOk};
 ghost use Rattle.wasm_tree.specs.Format.{Format, Gives};
-ghost use Rattle.wasm_binary.specs.Binary.{value_type, func_type, limits, table_type, memory_type};
+ghost use Rattle.wasm_code.specs.Instructions.{value_type};
+ghost use Rattle.wasm_binary.specs.Binary.{func_type, limits, table_type, memory_type};
 
 use crate::binary::{Binary, vector, write_vector};
 use std::alloc::{AllocError, Global};
 use wasm_bytes::{Writer, byte_at, skip, unsigned_at};
 use wasm_tree::{FuncType, Limits, MemoryType, TableType, ValueType, WFault};
 
-#[tactic(auto, unfolding(crate::specs::Binary::value_type))]
+#[tactic(auto, unfolding(wasm_code::specs::Instructions::value_type))]
 impl Binary for ValueType {
     ghost format = { value_type };
 

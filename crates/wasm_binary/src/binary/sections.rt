@@ -4,11 +4,11 @@ ghost use Rattle.std.specs.Prelude.{◌≡◌, ◌++◌, OnOk};
 ghost use Rattle.wasm_tree.specs.Format.{Format, Gives};
 ghost use Rattle.wasm_binary.specs.Binary.{import_kind, import, global, export_kind, export, element, data_segment};
 
-use crate::binary::code::{code_at, write_code};
 use crate::binary::{Binary, vector, write_vector};
 use sqlite_items::Items;
 use std::alloc::{AllocError, Global};
 use wasm_bytes::{Writer, byte_at, closed, front, name_at, skip, unsigned_at, write_name};
+use wasm_code::{code_at, write_code};
 use wasm_tree::{
     Data, Element, Export, ExportKind, Global as Constant, Import, ImportKind, MemoryType,
     TableType, ValueType, WFault,

@@ -1,5 +1,5 @@
 use Rattle.std.proofs.lemmas.Result.{err_from_is_err_and}
-use Rattle.wasm_binary.proofs.Loop.{goes_on, fails, is_whole, many_more, many_fail, many_none}
+use Rattle.wasm_code.proofs.Loop.{goes_on, fails, is_whole, many_more, many_fail, many_none}
 use Rattle.wasm_binary.proofs.binary.many.Goals as goal
 
 pub returns-in_err-item : goal.returns-in_err-item

@@ -1,6 +1,6 @@
 use Rattle.std.proofs.Common.{◌≡◌, ◌-◌}
 use Rattle.wasm_bytes.specs.Parts.{many}
-use Rattle.wasm_binary.proofs.Loop.{with_front}
+use Rattle.wasm_code.proofs.Loop.{with_front}
 use Rattle.wasm_binary.proofs.binary.many.Given as goal
 
 abbrev pub invariant-loop : goal.invariant-loop

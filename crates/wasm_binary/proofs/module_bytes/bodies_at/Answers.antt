@@ -1,5 +1,6 @@
 use Rattle.std.proofs.lemmas.Result.{err_from_is_err_and}
-use Rattle.wasm_binary.proofs.Loop.{goes_on, fails, is_whole, bodies_more, bodies_fail, bodies_none}
+use Rattle.wasm_code.proofs.Loop.{goes_on, fails, is_whole}
+use Rattle.wasm_binary.proofs.Loop.{bodies_more, bodies_fail, bodies_none}
 use Rattle.wasm_binary.proofs.module_bytes.bodies_at.Goals as goal
 
 pub returns-in_err-body : goal.returns-in_err-body

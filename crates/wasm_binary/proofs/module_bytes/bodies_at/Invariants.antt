@@ -1,6 +1,6 @@
 use Rattle.std.proofs.Common.{◌≡◌, drop}
 use Rattle.wasm_binary.specs.Binary.{bodies}
-use Rattle.wasm_binary.proofs.Loop.{with_front}
+use Rattle.wasm_code.proofs.Loop.{with_front}
 use Rattle.wasm_binary.proofs.module_bytes.bodies_at.Given as goal
 
 abbrev pub invariant-loop-type_index : goal.invariant-loop-type_index

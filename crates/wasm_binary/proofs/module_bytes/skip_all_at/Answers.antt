@@ -1,6 +1,7 @@
 use Rattle.std.proofs.Common.{sym, ◌∙◌}
 use Rattle.std.proofs.lemmas.Result.{err_from_is_err_and}
-use Rattle.wasm_binary.proofs.Loop.{fails_same, skip_more, skip_fail, skip_none}
+use Rattle.wasm_code.proofs.Loop.{fails_same}
+use Rattle.wasm_binary.proofs.Loop.{skip_more, skip_fail, skip_none}
 use Rattle.wasm_binary.proofs.module_bytes.skip_all_at.Goals as goal
 
 pub returns-in_err-rest : goal.returns-in_err-rest

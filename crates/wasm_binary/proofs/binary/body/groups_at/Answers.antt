@@ -1,6 +1,7 @@
 use Rattle.std.proofs.Common.{arith}
 use Rattle.std.proofs.lemmas.Result.{err_from_is_err_and}
-use Rattle.wasm_binary.proofs.Loop.{goes_on, fails, is_whole, locals_more, locals_fail_first, locals_too_many, locals_fail_type, locals_none}
+use Rattle.wasm_code.proofs.Loop.{goes_on, fails, is_whole}
+use Rattle.wasm_binary.proofs.Loop.{locals_more, locals_fail_first, locals_too_many, locals_fail_type, locals_none}
 use Rattle.wasm_tree.specs.declared.fault.WFault.TheVariants.{Malformed}
 use Rattle.wasm_binary.proofs.binary.body.groups_at.Goals as goal
 

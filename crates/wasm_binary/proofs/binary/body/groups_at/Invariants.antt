@@ -1,6 +1,6 @@
 use Rattle.std.proofs.Common.{◌≡◌, ◌-◌}
 use Rattle.wasm_binary.specs.Binary.{locals_at}
-use Rattle.wasm_binary.proofs.Loop.{with_front}
+use Rattle.wasm_code.proofs.Loop.{with_front}
 use Rattle.wasm_binary.proofs.binary.body.groups_at.Given as goal
 
 abbrev pub invariant-loop : goal.invariant-loop

@@ -1,5 +1,0 @@
-use Rattle.wasm_binary.proofs.Written.{labels_written}
-use Rattle.wasm_binary.proofs.binary.code.write_labels.Goals as goal
-
-pub returns : goal.returns
-returns c = labels_written c.loop-label.out c.args.out.now c.args.labels.now c.loop-label.label-index c.loop-label-test.false c.loop-label.invariant

@@ -1,0 +1,8 @@
+pub mod Spelled
+pub mod Flats
+pub mod Piles
+pub mod Written
+pub mod Loop
+pub mod LawsTagged
+pub mod Fitting
+pub mod LawsCode

@@ -1,0 +1,3 @@
+pub mod Opcode
+pub mod Instructions
+pub mod Piled

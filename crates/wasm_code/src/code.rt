@@ -1,0 +1,592 @@
+//! Instructions in bytes (Core 1.0, section 5.4).
+
+ghost use Rattle.std.specs.Prelude.{◌≡◌, ◌+◌, ◌-◌, ◌<◌, ◌≤◌, true, Ok, [], ◌∷◌, ◌++◌, OnOk, IfOk, MatchOption, length, map, slice_set};
+ghost use Rattle.std.specs.List.{flat_map};
+ghost use Rattle.wasm_tree.specs.Code.{tree, head, behind, label_of};
+ghost use Rattle.wasm_tree.specs.Format.{Format, Gives};
+ghost use Rattle.wasm_tree.specs.declared.code.Op.TheVariants.{Br, IfElse};
+ghost use Rattle.wasm_tree.specs.declared.instr.Instr.TheVariants as instr;
+ghost use Rattle.wasm_bytes.specs.Number.{unsigned, signed32, signed64};
+ghost use Rattle.wasm_bytes.specs.Parts.{many, vector};
+ghost use Rattle.wasm_code.specs.Instructions.{block_type, no_offset, memory_of, variable_of, plain_of, opens, ending_of, instr_of, code_in, opened, code_within, instr_spelling, code};
+ghost use Rattle.wasm_code.specs.Piled.{is_plain, one_sided_op, onto, onto_sequence, onto_code, sides_of};
+
+use crate::opcode::{load_of, load_opcode, numeric_of, numeric_opcode, store_of, store_opcode};
+use sqlite_items::Items;
+use std::alloc::{AllocError, Global};
+use wasm_bytes::{Writer, byte_at, signed32_at, signed64_at, skip, unsigned_at};
+use wasm_tree::{Code, Op, ValueType, WFault, behind, first_of, label_of, split_ops};
+
+/// How deep blocks may nest.
+const DEEPEST: u16 = 4096;
+
+/// What stands behind instructions in a row.
+#[derive(Clone, Copy)]
+pub enum Ending {
+    End,
+    Else,
+}
+
+/// What ends a sequence, where the opcode does.
+fn ending_of(opcode: u8) -> Option<Ending>
+    ensures { result ≡ ending_of opcode }
+{
+    match opcode {
+        0x0B => Some(Ending::End),
+        0x05 => Some(Ending::Else),
+        _ => None,
+    }
+}
+
+/// Whether the opcode begins an instruction that holds others.
+fn opens(opcode: u8) -> bool
+    ensures { result ≡ opens opcode }
+{
+    opcode == 0x02 || opcode == 0x03 || opcode == 0x04
+}
+
+/// The two bytes of zero behind a load or a store: its hint and its offset.
+fn no_offset(bytes: &[u8]) -> Result<&[u8], WFault>
+    ensures { Gives (λ x. x.now) result (no_offset bytes.now) }
+{
+    let rest = skip(0x00, bytes)?;
+    skip(0x00, rest)
+}
+
+/// Puts an operation on the pile.
+#[inline(always)]
+fn put_op(pile: &mut Vec<Op>, op: Op) -> Result<(), AllocError>
+    ensures { OnOk result (pile.new.items ≡ pile.old.items ++ op ∷ []) }
+{
+    pile.reserve(1)?;
+    pile.push_reserved(op);
+    Ok(())
+}
+
+/// Puts an instruction without others inside on the pile. The bytes behind it are those.
+#[inline(always)]
+fn put<'a>(pile: &mut Vec<Op>, op: Op, rest: &'a [u8]) -> Result<&'a [u8], WFault>
+    requires { is_plain op ≡ true }
+    ensures { Gives (λ x. (pile.new.items, x.now)) result (onto pile.old.items (Ok (head tree op [], rest.now))) }
+{
+    put_op(pile, op)?;
+    Ok(rest)
+}
+
+/// Puts the branches of a table on the pile.
+fn put_branches(pile: &mut Vec<Op>, labels: &[u32]) -> Result<(), AllocError>
+    ensures { OnOk result (pile.new.items ≡ pile.old.items ++ map Br labels.now) }
+{
+    for label in labels {
+        put_op(pile, Op::Br(*label))?;
+    }
+    Ok(())
+}
+
+/// So many labels, one after another.
+fn many_labels(alloc: Global, count: u32, bytes: &[u8]) -> Result<(Items<u32>, &[u8]), WFault>
+    ensures { Gives (λ x. (x.0, x.1.now)) result (many unsigned count bytes.now) }
+{
+    let mut labels = Items::new(alloc);
+    let mut rest = bytes;
+    for _ in 0..count {
+        let (label, after) = unsigned_at(rest)?;
+        labels.push(label)?;
+        rest = after;
+    }
+    Ok((labels, rest))
+}
+
+/// How many labels there are, and then each.
+fn labels_at(alloc: Global, bytes: &[u8]) -> Result<(Items<u32>, &[u8]), WFault>
+    ensures { Gives (λ x. (x.0, x.1.now)) result ((vector unsigned).reading bytes.now) }
+{
+    let (count, rest) = unsigned_at(bytes)?;
+    many_labels(alloc, count, rest)
+}
+
+/// Puts a table of labels on the pile. The bytes behind it are those.
+fn put_table<'a>(
+    pile: &mut Vec<Op>,
+    labels: &[u32],
+    last: u32,
+    rest: &'a [u8],
+) -> Result<&'a [u8], WFault>
+    ensures { Gives (λ x. (pile.new.items, x.now)) result (onto pile.old.items (Ok (instr.BrTable labels.now last, rest.now))) }
+{
+    let Ok(count) = u32::try_from(labels.len()) else {
+        return Err(WFault::NoMemory);
+    };
+    put_op(pile, Op::BrTable(count, last))?;
+    put_branches(pile, labels)?;
+    Ok(rest)
+}
+
+/// Reads the instruction of memory or the numeric one that this opcode begins.
+#[inline(always)]
+#[tactic(auto, unfolding(crate::specs::Instructions::memory_of))]
+fn memory_onto<'a>(pile: &mut Vec<Op>, opcode: u8, bytes: &'a [u8]) -> Result<&'a [u8], WFault>
+    ensures { Gives (λ x. (pile.new.items, x.now)) result (onto pile.old.items (memory_of opcode bytes.now)) }
+{
+    if let Some(load) = load_of(opcode) {
+        let rest = no_offset(bytes)?;
+        return put(pile, Op::Load(load), rest);
+    }
+    if let Some(width) = store_of(opcode) {
+        let rest = no_offset(bytes)?;
+        return put(pile, Op::Store(width), rest);
+    }
+    match numeric_of(opcode) {
+        Some(numeric) => put(pile, Op::Numeric(numeric), bytes),
+        None => Err(WFault::OutsideProfile),
+    }
+}
+
+/// The same of those that drop an operand, name a variable or push a constant, too.
+#[inline(always)]
+#[tactic(auto, unfolding(crate::specs::Instructions::variable_of))]
+fn variable_onto<'a>(pile: &mut Vec<Op>, opcode: u8, bytes: &'a [u8]) -> Result<&'a [u8], WFault>
+    ensures { Gives (λ x. (pile.new.items, x.now)) result (onto pile.old.items (variable_of opcode bytes.now)) }
+{
+    match opcode {
+        0x1A => put(pile, Op::Drop, bytes),
+        0x20 => {
+            let (local, rest) = unsigned_at(bytes)?;
+            put(pile, Op::LocalGet(local), rest)
+        }
+        0x21 => {
+            let (local, rest) = unsigned_at(bytes)?;
+            put(pile, Op::LocalSet(local), rest)
+        }
+        0x22 => {
+            let (local, rest) = unsigned_at(bytes)?;
+            put(pile, Op::LocalTee(local), rest)
+        }
+        0x23 => {
+            let (global, rest) = unsigned_at(bytes)?;
+            put(pile, Op::GlobalGet(global), rest)
+        }
+        0x41 => {
+            let (number, rest) = signed32_at(bytes)?;
+            put(pile, Op::I32Const(number), rest)
+        }
+        0x42 => {
+            let (number, rest) = signed64_at(bytes)?;
+            put(pile, Op::I64Const(number), rest)
+        }
+        _ => memory_onto(pile, opcode, bytes),
+    }
+}
+
+/// Reads the instruction without others inside that this opcode begins.
+#[inline(always)]
+#[tactic(auto, unfolding(crate::specs::Instructions::plain_of))]
+fn plain_onto<'a>(
+    alloc: Global,
+    pile: &mut Vec<Op>,
+    opcode: u8,
+    bytes: &'a [u8],
+) -> Result<&'a [u8], WFault>
+    ensures { Gives (λ x. (pile.new.items, x.now)) result (onto pile.old.items (plain_of opcode bytes.now)) }
+{
+    match opcode {
+        0x00 => put(pile, Op::Unreachable, bytes),
+        0x0C => {
+            let (label, rest) = unsigned_at(bytes)?;
+            put(pile, Op::Br(label), rest)
+        }
+        0x0D => {
+            let (label, rest) = unsigned_at(bytes)?;
+            put(pile, Op::BrIf(label), rest)
+        }
+        0x0E => {
+            let (labels, rest) = labels_at(alloc, bytes)?;
+            let (last, rest) = unsigned_at(rest)?;
+            put_table(pile, labels.as_slice(), last, rest)
+        }
+        0x0F => put(pile, Op::Return, bytes),
+        0x10 => {
+            let (function, rest) = unsigned_at(bytes)?;
+            put(pile, Op::Call(function), rest)
+        }
+        0x11 => {
+            let (type_index, rest) = unsigned_at(bytes)?;
+            let rest = skip(0x00, rest)?;
+            put(pile, Op::CallIndirect(type_index), rest)
+        }
+        _ => variable_onto(pile, opcode, bytes),
+    }
+}
+
+/// The type of a block.
+#[tactic(auto, unfolding(crate::specs::Instructions::block_type))]
+fn block_type_at(bytes: &[u8]) -> Result<(Option<ValueType>, &[u8]), WFault>
+    ensures { Gives (λ x. (x.0, x.1.now)) result (block_type.reading bytes.now) }
+{
+    match byte_at(bytes)? {
+        (0x40, rest) => Ok((None, rest)),
+        (0x7F, rest) => Ok((Some(ValueType::I32), rest)),
+        (0x7E, rest) => Ok((Some(ValueType::I64), rest)),
+        _ => Err(WFault::OutsideProfile),
+    }
+}
+
+/// The operation with one sequence, of so many, that the opcode begins.
+#[inline(always)]
+fn one_sided(opcode: u8, kind: Option<ValueType>, count: u32) -> Op
+    ensures { result ≡ one_sided_op opcode kind count }
+{
+    match opcode {
+        0x02 => Op::Block(kind, count),
+        0x03 => Op::Loop(kind, count),
+        _ => Op::If(kind, count),
+    }
+}
+
+/// Puts an operation into its place on the pile.
+#[inline(always)]
+fn set_op(pile: &mut Vec<Op>, place: usize, op: Op)
+    requires { place < length pile.old.items }
+    ensures { pile.new.items ≡ slice_set pile.old.items place op }
+{
+    pile[place] = op;
+}
+
+/// Puts the operation with one sequence into its place: all behind it are inside.
+fn close_one(
+    pile: &mut Vec<Op>,
+    place: usize,
+    opcode: u8,
+    kind: Option<ValueType>,
+) -> Result<(), AllocError>
+    requires { place < length pile.old.items }
+    ensures { OnOk result (pile.new.items ≡ slice_set pile.old.items place (one_sided_op opcode kind (length pile.old.items - (place + 1)))) }
+{
+    let Ok(count) = u32::try_from(pile.len() - (place + 1)) else {
+        return Err(AllocError);
+    };
+    set_op(pile, place, one_sided(opcode, kind, count));
+    Ok(())
+}
+
+/// Puts an `if` with two sides into its place: the second side begins at that length, and goes up to the end.
+fn close_two(
+    pile: &mut Vec<Op>,
+    place: usize,
+    second: usize,
+    kind: Option<ValueType>,
+) -> Result<(), AllocError>
+    requires first { place < second }
+    requires second { second ≤ length pile.old.items }
+    ensures { OnOk result (pile.new.items ≡ slice_set pile.old.items place (IfElse kind (second - (place + 1)) (length pile.old.items - second))) }
+{
+    let Ok(count) = u32::try_from(second - (place + 1)) else {
+        return Err(AllocError);
+    };
+    let Ok(others) = u32::try_from(pile.len() - second) else {
+        return Err(AllocError);
+    };
+    set_op(pile, place, Op::IfElse(kind, count, others));
+    Ok(())
+}
+
+/// Reads what stands behind the type of an instruction that holds others, where so many levels of nesting are left for
+/// these. Its operation is put into its place when it is known how many they are.
+#[cycle(code)]
+fn sides_onto<'a>(
+    alloc: Global,
+    levels: u16,
+    pile: &mut Vec<Op>,
+    opcode: u8,
+    kind: Option<ValueType>,
+    bytes: &'a [u8],
+) -> Result<&'a [u8], WFault>
+    ensures { Gives (λ x. (pile.new.items, x.now)) result (onto pile.old.items (sides_of levels opcode kind bytes.now)) }
+{
+    let place = pile.len();
+    put_op(pile, Op::Unreachable)?;
+    let (ending, rest) = code_in(alloc, levels, pile, bytes)?;
+    match ending {
+        Ending::End => {
+            close_one(pile, place, opcode, kind)?;
+            Ok(rest)
+        }
+        Ending::Else => {
+            if opcode != 0x04 {
+                return Err(WFault::OutsideProfile);
+            }
+            let second = pile.len();
+            let rest = code_within(alloc, levels, pile, rest)?;
+            close_two(pile, place, second, kind)?;
+            Ok(rest)
+        }
+    }
+}
+
+/// Reads the instruction that this opcode begins and that holds others, where so many levels of nesting are left.
+#[cycle(code)]
+#[tactic(auto, unfolding(crate::specs::Instructions::opened))]
+fn opened_onto<'a>(
+    alloc: Global,
+    levels: u16,
+    pile: &mut Vec<Op>,
+    opcode: u8,
+    bytes: &'a [u8],
+) -> Result<&'a [u8], WFault>
+    ensures { Gives (λ x. (pile.new.items, x.now)) result (onto pile.old.items (opened levels opcode bytes.now)) }
+{
+    if levels == 0 {
+        return Err(WFault::OutsideProfile);
+    }
+    let (kind, rest) = block_type_at(bytes)?;
+    sides_onto(alloc, levels - 1, pile, opcode, kind, rest)
+}
+
+/// Reads the instruction that this opcode begins, and puts it on the pile.
+#[cycle(code)]
+fn instr_onto<'a>(
+    alloc: Global,
+    levels: u16,
+    pile: &mut Vec<Op>,
+    opcode: u8,
+    bytes: &'a [u8],
+) -> Result<&'a [u8], WFault>
+    ensures { Gives (λ x. (pile.new.items, x.now)) result (onto pile.old.items (instr_of (opened levels) opcode bytes.now)) }
+{
+    if opens(opcode) {
+        opened_onto(alloc, levels, pile, opcode, bytes)
+    } else {
+        plain_onto(alloc, pile, opcode, bytes)
+    }
+}
+
+/// Puts instructions on the pile up to what ends them, where so many levels of nesting are left.
+#[cycle(code)]
+fn code_in<'a>(
+    alloc: Global,
+    levels: u16,
+    pile: &mut Vec<Op>,
+    bytes: &'a [u8],
+) -> Result<(Ending, &'a [u8]), WFault>
+    ensures { Gives (λ x. ((pile.new.items, x.0), x.1.now)) result (onto_sequence pile.old.items (code_in levels bytes.now)) }
+{
+    let mut rest = bytes;
+    for _ in 0..bytes.len() {
+        let (opcode, after) = byte_at(rest)?;
+        if let Some(ending) = ending_of(opcode) {
+            return Ok((ending, after));
+        }
+        rest = instr_onto(alloc, levels, pile, opcode, after)?;
+    }
+    Err(WFault::Malformed)
+}
+
+/// The same up to an end.
+#[cycle(code)]
+fn code_within<'a>(
+    alloc: Global,
+    levels: u16,
+    pile: &mut Vec<Op>,
+    bytes: &'a [u8],
+) -> Result<&'a [u8], WFault>
+    ensures { Gives (λ x. (pile.new.items, x.now)) result (onto_code pile.old.items ((code_within levels).reading bytes.now)) }
+{
+    match code_in(alloc, levels, pile, bytes)? {
+        (Ending::End, rest) => Ok(rest),
+        (Ending::Else, _) => Err(WFault::OutsideProfile),
+    }
+}
+
+/// Takes all off the pile.
+fn taken_off(pile: &mut Vec<Op>) -> Result<Code, AllocError>
+    ensures { IfOk result (λ c. c ≡ tree pile.old.items) }
+{
+    Ok(Code::new(pile.split_off(0)?))
+}
+
+/// The instructions up to the end of their sequence, read over a pile that may be used again. So each list asks for memory
+/// once.
+#[tactic(auto, unfolding(crate::specs::Instructions::code))]
+pub fn code_over<'a>(
+    alloc: Global,
+    pile: &mut Vec<Op>,
+    bytes: &'a [u8],
+) -> Result<(Code, &'a [u8]), WFault>
+    ensures { Gives (λ x. (x.0, x.1.now)) result (code.reading bytes.now) }
+{
+    pile.clear();
+    let rest = code_within(alloc, DEEPEST, pile, bytes)?;
+    let code = taken_off(pile)?;
+    Ok((code, rest))
+}
+
+/// The instructions up to the end of their sequence.
+pub fn code_at(alloc: Global, bytes: &[u8]) -> Result<(Code, &[u8]), WFault>
+    ensures { Gives (λ x. (x.0, x.1.now)) result (code.reading bytes.now) }
+{
+    let mut pile = Vec::new(alloc);
+    code_over(alloc, &mut pile, bytes)
+}
+
+/// Appends an opcode and the index behind it.
+fn write_indexed(out: &mut Writer, opcode: u8, index: u32) -> Result<(), AllocError>
+    ensures { OnOk result (out.new ≡ out.old ++ (opcode ∷ unsigned.spelling index)) }
+{
+    out.byte(opcode)?;
+    out.unsigned(u64::from(index))
+}
+
+/// Appends an opcode and the two bytes of zero behind it.
+fn write_no_offset(out: &mut Writer, opcode: u8) -> Result<(), AllocError>
+    ensures { OnOk result (out.new ≡ out.old ++ (opcode ∷ 0x00 ∷ 0x00 ∷ [])) }
+{
+    out.byte(opcode)?;
+    out.bytes(&[0x00, 0x00])
+}
+
+#[tactic(auto, unfolding(crate::specs::Instructions::block_type))]
+fn write_block_type(out: &mut Writer, kind: Option<ValueType>) -> Result<(), AllocError>
+    ensures { OnOk result (out.new ≡ out.old ++ block_type.spelling kind) }
+{
+    match kind {
+        None => out.byte(0x40),
+        Some(ValueType::I32) => out.byte(0x7F),
+        Some(ValueType::I64) => out.byte(0x7E),
+    }
+}
+
+/// Appends how many labels there are, and then each.
+fn write_labels(out: &mut Writer, labels: &[Op]) -> Result<(), AllocError>
+    ensures { OnOk result (out.new ≡ out.old ++ (vector unsigned).spelling (map label_of labels.now)) }
+{
+    out.unsigned(labels.len() as u64)?;
+    for label in labels {
+        out.unsigned(u64::from(label_of(*label)))?;
+    }
+    Ok(())
+}
+
+fn write_table(out: &mut Writer, labels: &[Op], last: u32) -> Result<(), AllocError>
+    ensures { OnOk result (out.new ≡ out.old ++ (0x0E ∷ (vector unsigned).spelling (map label_of labels.now) ++ unsigned.spelling last)) }
+{
+    out.byte(0x0E)?;
+    write_labels(out, labels)?;
+    out.unsigned(u64::from(last))
+}
+
+fn write_i32(out: &mut Writer, number: u32) -> Result<(), AllocError>
+    ensures { OnOk result (out.new ≡ out.old ++ (0x41 ∷ signed32.spelling number)) }
+{
+    out.byte(0x41)?;
+    out.signed32(number)
+}
+
+fn write_i64(out: &mut Writer, number: u64) -> Result<(), AllocError>
+    ensures { OnOk result (out.new ≡ out.old ++ (0x42 ∷ signed64.spelling number)) }
+{
+    out.byte(0x42)?;
+    out.signed64(number)
+}
+
+/// Appends an opcode, the type of a block and the instructions inside, without an end.
+#[cycle(write)]
+fn write_opened(
+    out: &mut Writer,
+    opcode: u8,
+    kind: Option<ValueType>,
+    ops: &[Op],
+) -> Result<(), AllocError>
+    ensures { OnOk result (out.new ≡ out.old ++ (opcode ∷ block_type.spelling kind ++ flat_map instr_spelling (tree ops.now))) }
+{
+    out.byte(opcode)?;
+    write_block_type(out, kind)?;
+    write_ops(out, ops)
+}
+
+/// The same with an end.
+#[cycle(write)]
+fn write_block(
+    out: &mut Writer,
+    opcode: u8,
+    kind: Option<ValueType>,
+    ops: &[Op],
+) -> Result<(), AllocError>
+    ensures { OnOk result (out.new ≡ out.old ++ (opcode ∷ block_type.spelling kind ++ flat_map instr_spelling (tree ops.now) ++ 0x0B ∷ [])) }
+{
+    write_opened(out, opcode, kind, ops)?;
+    out.byte(0x0B)
+}
+
+/// Appends an `if` with two sides.
+#[cycle(write)]
+fn write_sides(
+    out: &mut Writer,
+    kind: Option<ValueType>,
+    ops: &[Op],
+    others: &[Op],
+) -> Result<(), AllocError>
+    ensures { OnOk result (out.new ≡ out.old ++ (0x04 ∷ block_type.spelling kind ++ flat_map instr_spelling (tree ops.now) ++ (0x05 ∷ flat_map instr_spelling (tree others.now) ++ 0x0B ∷ []))) }
+{
+    write_opened(out, 0x04, kind, ops)?;
+    out.byte(0x05)?;
+    write_ops(out, others)?;
+    out.byte(0x0B)
+}
+
+/// Appends the instruction that this operation begins, of which those behind it may be a part.
+#[cycle(write)]
+fn write_op(out: &mut Writer, op: Op, rest: &[Op]) -> Result<(), AllocError>
+    ensures { OnOk result (out.new ≡ out.old ++ instr_spelling (head tree op rest.now)) }
+{
+    match op {
+        Op::Unreachable => out.byte(0x00),
+        Op::Block(kind, count) => write_block(out, 0x02, kind, split_ops(rest, count).0),
+        Op::Loop(kind, count) => write_block(out, 0x03, kind, split_ops(rest, count).0),
+        Op::If(kind, count) => write_block(out, 0x04, kind, split_ops(rest, count).0),
+        Op::IfElse(kind, count, second) => {
+            let (ops, more) = split_ops(rest, count);
+            write_sides(out, kind, ops, split_ops(more, second).0)
+        }
+        Op::Br(label) => write_indexed(out, 0x0C, label),
+        Op::BrIf(label) => write_indexed(out, 0x0D, label),
+        Op::BrTable(count, last) => write_table(out, split_ops(rest, count).0, last),
+        Op::Return => out.byte(0x0F),
+        Op::Call(function) => write_indexed(out, 0x10, function),
+        Op::CallIndirect(type_index) => {
+            write_indexed(out, 0x11, type_index)?;
+            out.byte(0x00)
+        }
+        Op::Drop => out.byte(0x1A),
+        Op::LocalGet(local) => write_indexed(out, 0x20, local),
+        Op::LocalSet(local) => write_indexed(out, 0x21, local),
+        Op::LocalTee(local) => write_indexed(out, 0x22, local),
+        Op::GlobalGet(global) => write_indexed(out, 0x23, global),
+        Op::Load(load) => write_no_offset(out, load_opcode(load)),
+        Op::Store(width) => write_no_offset(out, store_opcode(width)),
+        Op::I32Const(number) => write_i32(out, number),
+        Op::I64Const(number) => write_i64(out, number),
+        Op::Numeric(numeric) => out.byte(numeric_opcode(numeric)),
+    }
+}
+
+/// Appends the instructions, one after another.
+#[cycle(write)]
+fn write_ops(out: &mut Writer, ops: &[Op]) -> Result<(), AllocError>
+    ensures { OnOk result (out.new ≡ out.old ++ flat_map instr_spelling (tree ops.now)) }
+{
+    let mut left = ops;
+    while let Some((op, rest)) = first_of(left) {
+        write_op(out, op, rest)?;
+        left = behind(op, rest);
+    }
+    Ok(())
+}
+
+/// Appends the instructions and the end of their sequence.
+#[tactic(auto, unfolding(crate::specs::Instructions::code))]
+pub fn write_code(out: &mut Writer, ops: &[Op]) -> Result<(), AllocError>
+    ensures { OnOk result (out.new ≡ out.old ++ code.spelling (tree ops.now)) }
+{
+    write_ops(out, ops)?;
+    out.byte(0x0B)
+}

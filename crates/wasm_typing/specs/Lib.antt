@@ -1,0 +1,5 @@
+pub mod Scope
+pub mod Ends
+pub mod Framed
+pub mod Opened
+pub mod Typing
