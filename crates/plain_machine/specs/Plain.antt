@@ -1,9 +1,10 @@
 -- What the plain machine's values stand for.
-use Rattle.std.specs.Prelude.{ℕ, Bool, true, false, List, [], ◌∷◌, map, Option, Some, None}
+use Rattle.std.specs.Prelude.{ℕ, Bool, true, false, List, [], ◌∷◌, ◌++◌, length, map, Option, Some, None}
 use Rattle.std.specs.Borrow.{Bor}
 use Rattle.wasm_tree.specs.declared.kinds.FuncType.{FuncType}
 use Rattle.wasm_tree.specs.declared.module.Function.{Function}
 use Rattle.wasm_tree.specs.declared.store.Memory.{Memory}
+use Rattle.wasm_tree.specs.declared.store.Store.{Store}
 use Rattle.wasm_tree.specs.Code.{tree}
 use Rattle.wasm_tree.specs.Machine as machine
 use Rattle.wasm_tree.specs.Machine.{Progress, trapped, Typed}
@@ -83,3 +84,8 @@ place_seen (Some p) = Some (p.0, p.1.now)
 abbrev pub if_kept : {A : Type 0} → List A → Bool → Option (List A)
 if_kept left false = None
 if_kept left true = Some left
+
+-- a call of this function of a module
+abbrev pub called_typed : Store → machine.Activation → List machine.Activation → (m : ℕ) → Typed → Progress
+called_typed st now callers m t =
+    machine.or_trap (machine.split_end (length t.type.params) now.stack) (λ p. (machine.Going st (machine.entered m t p.1) (callers ++ record now { stack = p.0 } ∷ []), []))

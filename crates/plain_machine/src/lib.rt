@@ -13,3 +13,7 @@ pub use operands::{pop_i64};
 pub use places::{callee_at, callee_in, type_at, agrees, memory_of};
 pub use variables::{push, local_get, global_get, local_set, local_tee, drop_operand};
 pub use blocks::{inside, leave, branch_if, branch_table, end};
+mod calls;
+pub use calls::{entered, call_index, call_indirect};
+pub mod numbers;
+pub mod calculate;
