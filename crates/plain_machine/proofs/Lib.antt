@@ -1,2 +1,3 @@
 pub mod Last
 pub mod Groups
+pub mod Low

@@ -17,3 +17,5 @@ mod calls;
 pub use calls::{entered, call_index, call_indirect};
 pub mod numbers;
 pub mod calculate;
+mod bytes;
+pub mod memory;
