@@ -1,3 +1,4 @@
 pub mod Last
 pub mod Groups
 pub mod Low
+pub mod Opened

@@ -3,19 +3,18 @@
 #![tactic(auto)]
 
 mod blocks;
+mod bytes;
+mod calculate;
+mod calls;
 mod config;
+mod instructions;
+mod memory;
+mod numbers;
 mod operands;
 mod places;
+mod steps;
 mod variables;
 
-pub use config::{Activation, Config, Label, Machine, Step};
-pub use operands::{pop_i64};
-pub use places::{callee_at, callee_in, type_at, agrees, memory_of};
-pub use variables::{push, local_get, global_get, local_set, local_tee, drop_operand};
-pub use blocks::{inside, leave, branch_if, branch_table, end};
-mod calls;
-pub use calls::{entered, call_index, call_indirect};
-pub mod numbers;
-pub mod calculate;
-mod bytes;
-pub mod memory;
+pub use calls::entered;
+pub use config::{Activation, Config, Label, Machine};
+pub use steps::{reduce, run};
