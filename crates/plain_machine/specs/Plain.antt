@@ -41,11 +41,6 @@ progress (step.Printed b) m = (going m, b ∷ [])
 progress (step.Over k) m = (machine.Over k, [])
 progress step.Trapped m = trapped
 
--- what was printed
-abbrev pub printed : Option ℕ → List ℕ
-printed None = []
-printed (Some b) = b ∷ []
-
 -- what was taken off a list, behind what is left
 abbrev pub taken : {A B : Type 0} → A → Option B → Option (A × B)
 taken left None = None

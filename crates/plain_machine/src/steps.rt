@@ -1,9 +1,9 @@
 //! Reductions, one and many (Core 1.0, section 4.4).
 
-ghost use Rattle.std.specs.Prelude.{◌≡◌, IfOk};
+ghost use Rattle.std.specs.Prelude.{◌≡◌, IfOk, option_to_list};
 ghost use Rattle.wasm_tree.specs.Code.{tree};
 ghost use Rattle.wasm_tree.specs.Machine.{next, reduce, run};
-ghost use Rattle.plain_machine.specs.Plain.{activation, callers_of, progress, config_of, printed};
+ghost use Rattle.plain_machine.specs.Plain.{activation, callers_of, progress, config_of};
 
 use crate::blocks::end;
 use crate::config::{Config, Machine, Step};
@@ -29,7 +29,7 @@ fn next<'a>(
 
 /// Where a step led.
 fn settled<'a>(step: Step, machine: Machine<'a>) -> (Config<'a>, Option<u8>)
-    ensures { (config_of result.0, printed result.1) ≡ progress step machine.entry }
+    ensures { (config_of result.0, option_to_list result.1) ≡ progress step machine.entry }
 {
     match step {
         Step::On => (Config::Going(machine), None),
@@ -46,7 +46,7 @@ pub fn reduce<'a>(
     modules: &'a [WModule],
     config: Config<'a>,
 ) -> Result<(Config<'a>, Option<u8>), AllocError>
-    ensures { IfOk result (λ r. (config_of r.0, printed r.1) ≡ reduce modules.now (config_of config.entry)) }
+    ensures { IfOk result (λ r. (config_of r.0, option_to_list r.1) ≡ reduce modules.now (config_of config.entry)) }
 {
     match config {
         Config::Going(machine) => {
