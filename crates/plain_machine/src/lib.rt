@@ -18,3 +18,4 @@ mod variables;
 pub use calls::entered;
 pub use config::{Activation, Config, Label, Machine};
 pub use steps::{reduce, run};
+mod imports;

@@ -67,7 +67,7 @@ pub fn type_at(modules: &[WModule], number: usize, index: u32) -> Option<&FuncTy
     at(at(modules, number)?.types.as_slice(), index as usize)
 }
 
-fn is_same_value_type(x: ValueType, y: ValueType) -> bool
+pub fn is_same_value_type(x: ValueType, y: ValueType) -> bool
     ensures { result ≡ is_same_value_type x y }
 {
     match (x, y) {
