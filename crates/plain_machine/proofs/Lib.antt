@@ -3,3 +3,5 @@ pub mod Groups
 pub mod Low
 pub mod Opened
 pub mod Runs
+pub mod Constants
+pub mod Placing

@@ -19,3 +19,5 @@ pub use calls::entered;
 pub use config::{Activation, Config, Label, Machine};
 pub use steps::{reduce, run};
 mod imports;
+mod stores;
+mod segments;

@@ -10,8 +10,8 @@ use crate::bytes::{load_size, loaded, stored};
 use crate::config::{Machine, Step};
 use crate::operands::{pop_i32, pop_i64};
 use crate::places::memory_of;
+use crate::segments::pasted;
 use crate::variables::push;
-use sqlite_items::Items;
 use std::alloc::{AllocError, Global};
 use wasm_tree::{Load, Memory, Store, StoreWidth, Value};
 
@@ -55,25 +55,6 @@ pub fn load(machine: &mut Machine<'_>, kind: Load) -> Result<Step, AllocError>
         None => Ok(Step::Trapped),
         Some(number) => push(machine, Value::I64(number)),
     }
-}
-
-/// The list with others from a place on.
-fn pasted(
-    alloc: Global,
-    bytes: &[u8],
-    place: usize,
-    others: &[u8],
-) -> Result<Items<u8>, AllocError>
-    requires { place + length others.now ≤ length bytes.now }
-    ensures { IfOk result (λ it. it ≡ pasted bytes.now place others.now) }
-{
-    let (before, rest) = bytes.split_at(place);
-    let (_, after) = rest.split_at(others.len());
-    let mut all = Vec::new(alloc);
-    all.extend_from_slice(before)?;
-    all.extend_from_slice(others)?;
-    all.extend_from_slice(after)?;
-    Ok(Items::from_vec(all))
 }
 
 /// The memory with these bytes from a place on, if it reaches so far.
