@@ -83,11 +83,7 @@ fn keep(
 }
 
 /// A branch to a label that was taken off the others.
-fn go_to<'a>(
-    alloc: Global,
-    machine: &mut Machine<'a>,
-    label: Label<'a>,
-) -> Result<Step, AllocError>
+fn go_to<'a>(alloc: Global, machine: &mut Machine<'a>, label: Label<'a>) -> Result<Step, AllocError>
     ensures { IfOk result (λ s. progress s machine.new ≡ found machine.old.store (activation machine.old.now) (callers_of machine.old) (Some (map label_of machine.old.now.labels.items, label_of label.entry))) }
 {
     if !keep(alloc, &mut machine.now.stack, label.height, label.arity)? {
@@ -107,11 +103,7 @@ fn pop_labels<'a>(labels: &mut Vec<Label<'a>>, label: usize) -> Option<Label<'a>
 }
 
 /// A branch to the label of this number, counted from the innermost one.
-pub fn branch(
-    alloc: Global,
-    machine: &mut Machine<'_>,
-    label: u32,
-) -> Result<Step, AllocError>
+pub fn branch(alloc: Global, machine: &mut Machine<'_>, label: u32) -> Result<Step, AllocError>
     ensures { IfOk result (λ s. progress s machine.new ≡ branched machine.old.store (activation machine.old.now) (callers_of machine.old) label) }
 {
     let label = label as usize;
@@ -125,11 +117,7 @@ pub fn branch(
 }
 
 /// A branch where the topmost operand is not 0.
-pub fn branch_if(
-    alloc: Global,
-    machine: &mut Machine<'_>,
-    label: u32,
-) -> Result<Step, AllocError>
+pub fn branch_if(alloc: Global, machine: &mut Machine<'_>, label: u32) -> Result<Step, AllocError>
     ensures { IfOk result (λ s. progress s machine.new ≡ or_trap (top_i32 machine.old.now.stack) (λ p. branched_if machine.old.store (record (activation machine.old.now) { stack = p.0 }) (callers_of machine.old) label p.1)) }
 {
     match pop_i32(&mut machine.now.stack) {

@@ -7,7 +7,7 @@ ghost use Rattle.plain_machine.specs.Plain.{activation, callers_of, progress};
 
 use crate::blocks::{branch, branch_if, branch_table, inside, leave};
 use crate::calculate::calculate;
-use crate::calls::{call_indirect, call_index};
+use crate::calls::{call_index, call_indirect};
 use crate::config::{Machine, Step};
 use crate::memory::{load, store};
 use crate::operands::pop_i32;

@@ -76,7 +76,7 @@ pub fn is_same_value_type(x: ValueType, y: ValueType) -> bool
     }
 }
 
-fn are_same(xs: &[ValueType], ys: &[ValueType]) -> bool
+pub fn are_same(xs: &[ValueType], ys: &[ValueType]) -> bool
     ensures { result ≡ are_same xs.now ys.now }
 {
     match xs {

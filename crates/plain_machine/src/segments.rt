@@ -60,8 +60,7 @@ fn addresses(
     match functions {
         [] => Ok(Some(Vec::new(alloc))),
         [function, rest @ ..] => {
-            let Some(address) = at(linking.instance.functions.as_slice(), *function as usize)
-            else {
+            let Some(address) = at(linking.instance.functions.as_slice(), *function as usize) else {
                 return Ok(None);
             };
             let Some(mut slots) = addresses(alloc, linking, rest)? else {
@@ -162,11 +161,7 @@ fn with_segment(alloc: Global, linking: &mut Linking, segment: &Data) -> Result<
 
 /// Places the data. `SegmentOutside` at the first that reaches past its memory.
 #[tactic(auto, unfolding(wasm_tree::specs::Linking::each))]
-pub fn with_segments(
-    alloc: Global,
-    linking: &mut Linking,
-    segments: &[Data],
-) -> Result<(), WFault>
+pub fn with_segments(alloc: Global, linking: &mut Linking, segments: &[Data]) -> Result<(), WFault>
     ensures { Gives (λ _. linked linking.new) result (each with_segment segments.now (linked linking.old)) }
 {
     match segments {

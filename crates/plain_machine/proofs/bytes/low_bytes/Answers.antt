@@ -14,8 +14,8 @@ loop-init c = record {
 pub loop-preserved : goal.loop-preserved
 loop-preserved c = record {
   bytes =
-    ap (λ (l : List ℕ). l ++ bytes_low_first (c.loop.counter + 1) (c.args.count - (c.loop.counter + 1)) c.args.number) c.in_ok-push.ensures.ok
-    ∙ low_more _ c.loop.bytes c.loop.counter c.args.count c.args.number c.loop.rest c.loop-test.true c.loop.invariant.rest c.loop.invariant.bytes;
+      ap (λ (l : List ℕ). l ++ bytes_low_first (c.loop.counter + 1) (c.args.count - (c.loop.counter + 1)) c.args.number) c.in_ok-push.ensures.ok
+      ∙ low_more _ c.loop.bytes c.loop.counter c.args.count c.args.number c.loop.rest c.loop-test.true c.loop.invariant.rest c.loop.invariant.bytes;
   rest = rest_more c.loop.counter c.args.number c.loop.rest c.loop.invariant.rest;
 }
 
