@@ -1,8 +1,8 @@
 //! What instructions make of numbers (Core 1.0, section 4.3), by the rules of arithmetic rather than by the processor's
 //! instructions where these are something else.
 
-ghost use Rattle.std.specs.Prelude.{◌≡◌, ◌<◌, ◌^◌, ◌%◌};
-ghost use Rattle.std.specs.Int.{w32, w64};
+ghost use Rattle.std.specs.Prelude.{◌≡◌, ◌≢◌, ◌<◌, ◌≤◌, ◌-◌, ◌^◌, ◌%◌, if◌then◌else◌, int_div, int_rem, unsigned_abs};
+ghost use Rattle.std.specs.Int.{w32, w64, cast_signed, cast_unsigned, is_negative};
 ghost use Rattle.wasm_tree.specs.Numbers.{truth, compares, is_less, operated, extended};
 
 use wasm_tree::{Operation, Relation};
@@ -117,26 +117,67 @@ fn shifted_right(n: u64, m: u64) -> u64
     n / power_of_2(m % 64)
 }
 
+fn is_negative(n: u64) -> bool
+    ensures { result ≡ is_negative (cast_signed w64 n) }
+{
+    n >= 9_223_372_036_854_775_808
+}
+
+/// How far a signed number is from 0.
+fn distance(n: u64) -> u64
+    ensures value { result ≡ unsigned_abs (cast_signed w64 n) }
+    ensures most { result ≤ 2 ^ 63 }
+    ensures some { n ≢ 0 → 0 < result }
+{
+    if is_negative(n) {
+        (18_446_744_073_709_551_616 - u128::from(n)) as u64
+    } else {
+        n
+    }
+}
+
+/// The number that is so far from 0, below it or not.
+fn on_side(negative: bool, distance: u64) -> u64
+    ensures { result ≡ (if negative then (2 ^ 64 - distance) % 2 ^ 64 else distance) }
+{
+    if negative {
+        low(18_446_744_073_709_551_616 - u128::from(distance))
+    } else {
+        distance
+    }
+}
+
+/// Rounded towards 0.
+fn quotient(n: u64, m: u64) -> u64
+    requires { m ≢ 0 }
+    ensures { result ≡ cast_unsigned w64 (int_div (cast_signed w64 n) (cast_signed w64 m)) }
+{
+    let negative = is_negative(n) != is_negative(m);
+    on_side(negative, distance(n) / distance(m))
+}
+
+/// With the sign of the first.
+fn rest_of(n: u64, m: u64) -> u64
+    requires { m ≢ 0 }
+    ensures { result ≡ cast_unsigned w64 (int_rem (cast_signed w64 n) (cast_signed w64 m)) }
+{
+    on_side(is_negative(n), distance(n) % distance(m))
+}
+
 fn divided_signed(n: u64, m: u64) -> Option<u64>
     ensures { result ≡ operated Operation.DivS n m }
 {
-    if m == 0 || (n == 1 << 63 && m == u64::MAX) {
-        return None;
+    if m == 0 || (n == 9_223_372_036_854_775_808 && m == u64::MAX) {
+        None
+    } else {
+        Some(quotient(n, m))
     }
-    Some((n.cast_signed() / m.cast_signed()).cast_unsigned())
 }
 
 fn remainder_signed(n: u64, m: u64) -> Option<u64>
     ensures { result ≡ operated Operation.RemS n m }
 {
-    if m == 0 {
-        return None;
-    }
-    Some(
-        n.cast_signed()
-            .wrapping_rem(m.cast_signed())
-            .cast_unsigned(),
-    )
+    if m == 0 { None } else { Some(rest_of(n, m)) }
 }
 
 fn divided(n: u64, m: u64) -> Option<u64>
