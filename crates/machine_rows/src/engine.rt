@@ -10,8 +10,8 @@ use wasm_valid::{ValidModule, validate};
 
 /// A sink over memory that refuses bytes from some place on.
 #[derive(Drop)]
-struct Screen {
-    bytes: Vec<u8>,
+pub struct Screen {
+    pub bytes: Vec<u8>,
     room: usize,
     failures: u64,
 }
@@ -34,7 +34,7 @@ impl Sink for Screen {
     }
 }
 
-fn make_screen(alloc: Global, room: usize) -> Screen
+pub fn make_screen(alloc: Global, room: usize) -> Screen
     ensures { result.failures ≡ 0 }
 {
     Screen {
