@@ -49,7 +49,9 @@ mutual
   leads_found _ _ _ _ (valid.Empty c stack) = (length stack, λ most le. few.Empty c stack le)
   leads_found _ _ _ _ (valid.More c i is below p r after h j) =
       let x = types_found c i p r h in
-      let y = leads_found c is (below ++ r) after j in
-      (length (below ++ p) + (x.0 + y.0), λ most le.
-          let others = second_least (length (below ++ p)) (x.0 + y.0) most le in
-          few.More c i is below p r after (first_least (length (below ++ p)) (x.0 + y.0) most le) (x.1 most (first_least x.0 y.0 most others)) (y.1 most (second_least x.0 y.0 most others)))
+      let y = leads_found c is (below ++ r) after j in (
+        length (below ++ p) + (x.0 + y.0),
+        λ most le.
+            let others = second_least (length (below ++ p)) (x.0 + y.0) most le in
+            few.More c i is below p r after (first_least (length (below ++ p)) (x.0 + y.0) most le) (x.1 most (first_least x.0 y.0 most others)) (y.1 most (second_least x.0 y.0 most others)),
+      )

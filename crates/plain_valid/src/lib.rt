@@ -1,7 +1,9 @@
 //! Decides by plain search what the definition of validity says of small modules.
 #![tactic(auto)]
 
-/// One more.
-pub fn one_more(a: u8) -> u8 {
-    if a < 4 { a + 1 } else { a }
-}
+mod context;
+mod plain;
+mod stack;
+
+pub use context::Context;
+pub use plain::is_plain;
