@@ -1,7 +1,7 @@
 -- What the search tries.
-use Rattle.std.specs.Prelude.{◌≡◌, ℕ, ◌≤◌, length, List, [], ◌∷◌, ◌++◌, Some, take, drop, slice_get}
+use Rattle.std.specs.Prelude.{◌≡◌, ℕ, ◌≤◌, length, List, [], ◌∷◌, ◌++◌, Some, take, drop, slice_get, map}
 use Rattle.wasm_tree.specs.declared.kinds.ValueType.{ValueType}
-use Rattle.wasm_tree.specs.declared.kinds.ValueType.TheVariants.{I32}
+use Rattle.wasm_tree.specs.declared.kinds.ValueType.TheVariants.{I32, I64}
 use Rattle.wasm_tree.specs.declared.instr.Instr.{Instr}
 use Rattle.wasm_tree.specs.declared.instr.Instr.TheOpen as layer
 use Rattle.wasm_tree.specs.Validity.{Context, within, result_types, side_of, Are, IsPlain}
@@ -10,6 +10,10 @@ use Rattle.plain_valid.specs.Bounded.{LeadsWithin}
 -- every stack of at most so many operands is among these
 pub record AreAll (most : ℕ) (stacks : List (List ValueType)) : Type 0 where
   pub all : (s : List ValueType) → length s ≤ most → (k : ℕ) × (slice_get stacks k ≡ Some s)
+
+-- the empty stack, and each of these with one more operand below
+abbrev pub longer : List (List ValueType) → List (List ValueType)
+longer shorter = [] ∷ (map (λ (s : List ValueType). I32 ∷ s) shorter ++ map (λ (s : List ValueType). I64 ∷ s) shorter)
 
 -- an instruction takes these operands and gives those, and the code inside it goes by stacks of at most so many
 abbrev pub Fits : (most : ℕ) → Context → layer.Instr-F Instr → (params results : List ValueType) → Type 0

@@ -3,7 +3,10 @@
 
 mod context;
 mod plain;
+mod search;
 mod stack;
+mod stacks;
 
 pub use context::Context;
 pub use plain::is_plain;
+pub use search::leads;
