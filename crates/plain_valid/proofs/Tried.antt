@@ -39,13 +39,6 @@ longer_at n shorter a (I64 ∷ s) h =
 pub all_longer : (n : ℕ) (shorter stacks : List (List ValueType)) → stacks ≡ longer shorter → AreAll n shorter → AreAll (n + 1) stacks
 all_longer n shorter stacks e a = record { all = λ s h. let f = longer_at n shorter a s h in (f.0, ap (λ (all : List (List ValueType)). slice_get all f.0) e ∙ f.1) }
 
-only_empty : (s : List ValueType) → length s ≤ 0 → (k : ℕ) × (slice_get ([] ∷ []) k ≡ Some s)
-only_empty [] h = (0, refl)
-only_empty (t ∷ s) h = absurd (omega (arith, h))
-
-pub all_empty : (stacks : List (List ValueType)) → stacks ≡ [] ∷ [] → AreAll 0 stacks
-all_empty stacks e = record { all = λ s h. let f = only_empty s h in (f.0, ap (λ (all : List (List ValueType)). slice_get all f.0) e ∙ f.1) }
-
 -- ---- what was tried
 
 abbrev pub Missed : (P : List ValueType → Type 0) (stacks : List (List ValueType)) → ℕ → Type 0

@@ -26,7 +26,7 @@ struct Bound<'a> {
 }
 
 /// These labels with one more inside them.
-fn with_label(
+pub fn with_label(
     alloc: Global,
     taken: &[ValueType],
     labels: &[Items<ValueType>],
