@@ -1,9 +1,7 @@
 -- Code by few operands leads where code does, and what code leads to it leads to by few enough.
-use Rattle.std.proofs.Common.{◌≡◌, ℕ, ◌≤◌, ◌+◌, List, [], ◌∷◌, ◌++◌, length, Option, arith}
+use Rattle.std.proofs.Common.{ℕ, ◌≤◌, ◌+◌, List, [], ◌++◌, length, arith}
 use Rattle.wasm_tree.specs.declared.kinds.ValueType.{ValueType}
-use Rattle.wasm_tree.specs.declared.kinds.ValueType.TheVariants.{I32}
-use Rattle.wasm_tree.specs.declared.instr.Instr.{Instr, out-Instr}
-use Rattle.wasm_tree.specs.declared.instr.Instr.TheOpen as layer
+use Rattle.wasm_tree.specs.declared.instr.Instr.{Instr}
 use Rattle.wasm_tree.specs.Validity as valid
 use Rattle.wasm_tree.specs.Validity.{Context, within, result_types, side_of, Types, Leads}
 use Rattle.plain_valid.specs.Bounded as few

@@ -1,5 +1,5 @@
 -- What the search decides is what the rules say.
-use Rattle.std.proofs.Common.{◌≡◌, ◌↔◌, ℕ, ◌≤◌, Bool, true, false, List, [], ◌∷◌, ◌++◌, length, take, drop, Result, Ok, Err, Some, None, Option, IfOk, IsTrue, refl, sym, ap, ◌∙◌, subst, arith}
+use Rattle.std.proofs.Common.{◌≡◌, ◌↔◌, ℕ, ◌≤◌, Bool, false, List, [], ◌∷◌, ◌++◌, length, take, drop, Result, Ok, Err, Option, IfOk, IsTrue, refl, sym, ap, ◌∙◌, subst, arith}
 use Rattle.std.proofs.lemmas.List.{take-append-drop, drop_at, take_at, length-append}
 use Rattle.wasm_tree.specs.declared.kinds.ValueType.{ValueType}
 use Rattle.wasm_tree.specs.declared.kinds.ValueType.TheVariants.{I32}
@@ -13,7 +13,7 @@ use Rattle.wasm_tree.proofs.Flat.{tree_front, tree_none}
 use Rattle.plain_valid.specs.Bounded as few
 use Rattle.plain_valid.specs.Bounded.{TypesWithin, LeadsWithin}
 use Rattle.plain_valid.specs.Opened.{opened}
-use Rattle.plain_valid.specs.Search.{Fits, Splits, Steps, Passes}
+use Rattle.plain_valid.specs.Search.{Fits, Steps, Passes}
 use Rattle.plain_valid.proofs.Opened.{opens}
 
 -- ---- one instruction

@@ -1,5 +1,6 @@
 pub mod Bounds
-pub mod Lists
+pub mod Each
 pub mod Opened
 pub mod Tried
 pub mod Led
+pub mod Constants

@@ -1,12 +1,16 @@
--- Code whose operands stay few: the rules of validity with each stack on the way of at most so many operands, inside blocks too.
-use Rattle.std.specs.Prelude.{◌≡◌, ℕ, ◌≤◌, length, List, [], ◌∷◌, ◌++◌, Option, Some, slice_get}
+-- Modules whose operands stay few: the rules of validity with each stack on the way of at most so many operands, inside blocks too.
+use Rattle.std.specs.Prelude.{◌≡◌, ℕ, ◌<◌, ◌≤◌, length, map, All, List, [], ◌∷◌, ◌++◌, Option, Some, slice_get}
 use Rattle.wasm_tree.specs.declared.kinds.ValueType.{ValueType}
 use Rattle.wasm_tree.specs.declared.kinds.ValueType.TheVariants.{I32}
 use Rattle.wasm_tree.specs.declared.kinds.FuncType.{FuncType}
 use Rattle.wasm_tree.specs.declared.instr.Instr.{Instr, out-Instr}
 use Rattle.wasm_tree.specs.declared.instr.Instr.TheOpen as layer
+use Rattle.wasm_tree.specs.declared.module.Global.{Global}
+use Rattle.wasm_tree.specs.declared.module.Element.{Element}
 use Rattle.wasm_tree.specs.declared.module.Function.{Function}
-use Rattle.wasm_tree.specs.Validity.{Context, within, function_context, result_types, side_of, IsPlain}
+use Rattle.wasm_tree.specs.declared.module.Data.{Data}
+use Rattle.wasm_tree.specs.declared.module.WModule.{WModule}
+use Rattle.wasm_tree.specs.Validity.{Context, context, initial_context, within, function_context, result_types, side_of, IsPlain, IsConstant, AreDistinct, AreKinds}
 
 mutual
   -- an instruction takes these operands and gives those; the code inside it goes by such stacks alone
@@ -26,6 +30,40 @@ mutual
     More : (c : Context) (i : Instr) (is : List Instr) (below params results after : List ValueType) → length (below ++ params) ≤ most
         → TypesWithin most c i params results → LeadsWithin most c is (below ++ results) after → LeadsWithin most c (i ∷ is) (below ++ params) after
 
+-- a constant expression (3.3.7)
+pub record IsConstantWithin (most : ℕ) (c : Context) (t : ValueType) (is : List Instr) : Type 0 where
+  pub constant : All IsConstant is
+  pub typed : LeadsWithin most c is [] (t ∷ [])
+
+-- ---- the parts of a module that have code (3.4)
+
 -- 3.4.1
 abbrev pub IsFunctionWithin : (most : ℕ) → Context → Function → Type 0
 IsFunctionWithin most c f = (t : FuncType) × (slice_get c.types f.type_index ≡ Some t) × LeadsWithin most (function_context c t f.body.locals) f.body.code [] t.results
+
+abbrev pub IsGlobalWithin : (most : ℕ) → Context → Global → Type 0
+IsGlobalWithin most c g = IsConstantWithin most c g.value_type g.value
+
+abbrev pub IsElementWithin : (most : ℕ) → Context → Element → Type 0
+IsElementWithin most c e = (e.table < length c.tables) × IsConstantWithin most c I32 e.offset × All (λ f. f < length c.functions) e.functions
+
+abbrev pub IsDataWithin : (most : ℕ) → Context → Data → Type 0
+IsDataWithin most c d = (d.memory < length c.memories) × IsConstantWithin most c I32 d.offset
+
+pub record AreBodiesWithin (most : ℕ) (c : Context) (m : WModule) : Type 0 where
+  pub functions : All (IsFunctionWithin most c) m.functions
+  pub elements : All (IsElementWithin most c) m.elements
+  pub segments : All (IsDataWithin most c) m.data
+
+-- at most one table and one memory, and no two exports of one name
+pub record AreSingle (c : Context) (m : WModule) : Type 0 where
+  pub one_table : length c.tables ≤ 1
+  pub one_memory : length c.memories ≤ 1
+  pub names : AreDistinct (map (λ e. e.name) m.exports)
+
+-- 3.4.10
+pub record IsValidWithin (most : ℕ) (m : WModule) : Type 0 where
+  pub kinds : AreKinds (context m) m
+  pub bodies : AreBodiesWithin most (context m) m
+  pub globals : All (IsGlobalWithin most (initial_context m)) m.globals
+  pub single : AreSingle (context m) m

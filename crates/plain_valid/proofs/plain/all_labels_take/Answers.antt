@@ -1,7 +1,7 @@
 use Rattle.std.proofs.Common.{◌≡◌, Some}
 use Rattle.std.specs.Prelude.{slice_get}
 use Rattle.wasm_tree.specs.Code.{label_of}
-use Rattle.plain_valid.proofs.Lists.{all_names, names_all}
+use Rattle.plain_valid.proofs.Each.{all_names, names_all}
 use Rattle.plain_valid.proofs.plain.all_labels_take.Goals as goal
 
 pub returns : goal.returns

@@ -1,5 +1,5 @@
 use Rattle.std.proofs.Common.{arith}
-use Rattle.plain_valid.proofs.Lists.{drops}
+use Rattle.plain_valid.proofs.Each.{drops}
 use Rattle.plain_valid.proofs.plain.is_drop.Goals as goal
 
 pub returns-in-len1 : goal.returns-in-len1

@@ -1,4 +1,4 @@
-use Rattle.std.proofs.Common.{List, length, arith}
+use Rattle.std.proofs.Common.{List, arith}
 use Rattle.wasm_tree.specs.declared.kinds.ValueType.{ValueType}
 use Rattle.wasm_tree.specs.Code.{tree, behind}
 use Rattle.plain_valid.specs.Bounded.{LeadsWithin}

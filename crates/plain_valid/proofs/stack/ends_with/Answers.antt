@@ -1,5 +1,5 @@
 use Rattle.std.proofs.Common.{arith}
-use Rattle.plain_valid.proofs.Lists.{ends}
+use Rattle.plain_valid.proofs.Each.{ends}
 use Rattle.plain_valid.proofs.stack.ends_with.Goals as goal
 
 pub returns : goal.returns
