@@ -23,10 +23,10 @@ mutual
 
 -- ---- what holds is found within some bound, and within each greater one
 
-first_least : (n m most : ℕ) → n + m ≤ most → n ≤ most
+pub first_least : (n m most : ℕ) → n + m ≤ most → n ≤ most
 first_least n m most h = omega (arith, h)
 
-second_least : (n m most : ℕ) → n + m ≤ most → m ≤ most
+pub second_least : (n m most : ℕ) → n + m ≤ most → m ≤ most
 second_least n m most h = omega (arith, h)
 
 mutual

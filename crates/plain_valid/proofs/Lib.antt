@@ -4,3 +4,4 @@ pub mod Opened
 pub mod Tried
 pub mod Led
 pub mod Constants
+pub mod Whole

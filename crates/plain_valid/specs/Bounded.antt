@@ -10,7 +10,7 @@ use Rattle.wasm_tree.specs.declared.module.Element.{Element}
 use Rattle.wasm_tree.specs.declared.module.Function.{Function}
 use Rattle.wasm_tree.specs.declared.module.Data.{Data}
 use Rattle.wasm_tree.specs.declared.module.WModule.{WModule}
-use Rattle.wasm_tree.specs.Validity.{Context, context, initial_context, within, function_context, result_types, side_of, IsPlain, IsConstant, AreDistinct, AreKinds}
+use Rattle.wasm_tree.specs.Validity.{Context, context, initial_context, within, function_context, result_types, side_of, IsPlain, IsConstant, AreDistinct, AreKinds, IsValid}
 
 mutual
   -- an instruction takes these operands and gives those; the code inside it goes by such stacks alone
@@ -67,3 +67,7 @@ pub record IsValidWithin (most : ℕ) (m : WModule) : Type 0 where
   pub bodies : AreBodiesWithin most (context m) m
   pub globals : All (IsGlobalWithin most (initial_context m)) m.globals
   pub single : AreSingle (context m) m
+
+-- The bound is no other rule: what is valid within one is valid, and what is valid is so within each bound that is great enough.
+abbrev pub IsExact : WModule → Type 0
+IsExact m = ((most : ℕ) → IsValidWithin most m → IsValid m) × (IsValid m → (least : ℕ) × ((most : ℕ) → least ≤ most → IsValidWithin most m))

@@ -2,7 +2,7 @@
 
 ghost use Rattle.std.specs.Prelude.{◌↔◌, IfOk, IsTrue};
 ghost use Rattle.wasm_tree.specs.Validity.{AreKinds};
-ghost use Rattle.plain_valid.specs.Bounded.{AreSingle, IsValidWithin};
+ghost use Rattle.plain_valid.specs.Bounded.{AreSingle, IsValidWithin, IsExact};
 ghost use Rattle.plain_valid.specs.Scene.{scene};
 
 use crate::context::Context;
@@ -28,9 +28,7 @@ fn is_plainly_valid(context: Context<'_>, tree: &WModule) -> bool
     are_kinds(context, tree) && is_single(context, tree)
 }
 
-/// Whether the module is valid (Core 1.0, section 3.4.10), its code by stacks of at most `most` operands. The time is
-/// exponential in `most` and in the length of the code. The only error is that memory ran out.
-pub fn is_valid(alloc: Global, tree: &WModule, most: usize) -> Result<bool, AllocError>
+fn decide(alloc: Global, tree: &WModule, most: usize) -> Result<bool, AllocError>
     ensures { IfOk result (λ yes. IsTrue yes ↔ IsValidWithin most tree.now) }
 {
     let lists = lists_of(alloc, tree)?;
@@ -38,4 +36,14 @@ pub fn is_valid(alloc: Global, tree: &WModule, most: usize) -> Result<bool, Allo
     let bodies = are_bodies(alloc, context, tree, most)?;
     let globals = all_globals(alloc, initial(tree, &lists), tree.globals.as_slice(), most)?;
     Ok(are_all(is_plainly_valid(context, tree), bodies, globals))
+}
+
+/// Whether the module is valid (Core 1.0, section 3.4.10), its code by stacks of at most `most` operands. So a module is
+/// valid where the answer is yes, and where it is valid the answer is yes from some bound on. The time is exponential in
+/// `most` and in the length of the code. The only error is that memory ran out.
+pub fn is_valid(alloc: Global, tree: &WModule, most: usize) -> Result<bool, AllocError>
+    ensures within { IfOk result (λ yes. IsTrue yes ↔ IsValidWithin most tree.now) }
+    ensures exact { IsExact tree.now }
+{
+    decide(alloc, tree, most)
 }
