@@ -8,12 +8,12 @@ use Rattle.wasm_tree.specs.declared.code.Op.TheVariants as op
 use Rattle.wasm_tree.specs.declared.instr.Instr.{Instr, out-Instr}
 use Rattle.wasm_tree.specs.declared.instr.Instr.TheOpen as layer
 use Rattle.wasm_tree.specs.Code.{tree, head, behind}
-use Rattle.wasm_tree.specs.Validity.{Context, within, result_types, Are, IsPlain}
+use Rattle.wasm_tree.specs.Validity.{Context, result_types, Are, IsPlain}
 use Rattle.wasm_tree.proofs.Flat.{tree_front, tree_none}
 use Rattle.plain_valid.specs.Bounded as few
 use Rattle.plain_valid.specs.Bounded.{TypesWithin, LeadsWithin}
 use Rattle.plain_valid.specs.Opened.{opened}
-use Rattle.plain_valid.specs.Search.{Fits, Steps, Passes}
+use Rattle.plain_valid.specs.Search.{IsIf, Fits, Steps, Passes}
 use Rattle.plain_valid.proofs.Opened.{opens}
 
 -- ---- one instruction
@@ -106,14 +106,11 @@ pub none_found : (P : List ValueType → Type 0) → ((s : List ValueType) → P
 none_found P none = (λ h. cc, λ x. absurd (none x.0 x.1))
 
 -- an `if` without a second side
-pub fits_if : {E : Type 0} (result : Result Bool E) (most : ℕ) (c : Context) (o : Op) (t : Option ValueType) (n : ℕ) (rest inner : List Op) (given p r : List ValueType)
-    → o ≡ op.If t n → inner ≡ take n rest → given ≡ result_types t → Are (I32 ∷ []) given p r → LeadsWithin most (within given c) (tree inner) [] given
-    → IfOk result (λ yes. IsTrue yes ↔ LeadsWithin most (within given c) (tree []) [] given) → IfOk result (λ yes. IsTrue yes ↔ Fits most c (opened o rest) p r)
-fits_if result most c o t n rest inner given p r is front gives a first h =
-    let P : List ValueType → List Op → Type 0 = λ g code. LeadsWithin most (within g c) (tree code) [] g in
-    let one : P (result_types t) (take n rest) = subst (λ (code : List Op). P (result_types t) code) front (subst (λ (g : List ValueType). P g inner) gives first) in
-    let taken : Are (I32 ∷ []) (result_types t) p r = subst (λ (g : List ValueType). Are (I32 ∷ []) g p r) gives a in
-    let here = subst (λ (g : List ValueType). IfOk result (λ yes. IsTrue yes ↔ P g [])) gives h in
-    let other = subst (λ (is : List Instr). IfOk result (λ yes. IsTrue yes ↔ LeadsWithin most (within (result_types t) c) is [] (result_types t))) tree_none here in
-    subst (λ (x : Op). IfOk result (λ yes. IsTrue yes ↔ Fits most c (opened x rest) p r)) (sym is)
-    (answers_as result (LeadsWithin most (within (result_types t) c) [] [] (result_types t)) (Fits most c (opened (op.If t n) rest) p r) (λ x. (taken, one, x), λ x. x.2) other)
+pub fits_if : {E : Type 0} (result : Result Bool E) (most : ℕ) (c : Context) (o : Op) (t : Option ValueType) (n : ℕ) (rest first : List Op) (given p r : List ValueType)
+    → o ≡ op.If t n → first ≡ take n rest → given ≡ result_types t → IfOk result (λ yes. IsTrue yes ↔ IsIf most c (tree first) (tree []) given p r) → IfOk result (λ yes. IsTrue yes ↔ Fits most c (opened o rest) p r)
+fits_if result most c o t n rest first given p r is front gives h =
+    let P : List ValueType → List Op → List Instr → Type 0 = λ g code second. IfOk result (λ yes. IsTrue yes ↔ IsIf most c (tree code) second g p r) in
+    let one : P (result_types t) first (tree []) = subst (λ (g : List ValueType). P g first (tree [])) gives h in
+    let two : P (result_types t) (take n rest) (tree []) = subst (λ (code : List Op). P (result_types t) code (tree [])) front one in
+    let three : P (result_types t) (take n rest) [] = subst (λ (second : List Instr). P (result_types t) (take n rest) second) tree_none two in
+    subst (λ (x : Op). IfOk result (λ yes. IsTrue yes ↔ Fits most c (opened x rest) p r)) (sym is) three

@@ -15,12 +15,15 @@ pub record AreAll (most : ℕ) (stacks : List (List ValueType)) : Type 0 where
 abbrev pub longer : List (List ValueType) → List (List ValueType)
 longer shorter = [] ∷ (map (λ (s : List ValueType). I32 ∷ s) shorter ++ map (λ (s : List ValueType). I64 ∷ s) shorter)
 
+-- an `if` of these two sides takes and gives these
+abbrev pub IsIf : (most : ℕ) → Context → (first second : List Instr) → (given params results : List ValueType) → Type 0
+IsIf most c first second given p r = Are (I32 ∷ []) given p r × LeadsWithin most (within given c) first [] given × LeadsWithin most (within given c) second [] given
+
 -- an instruction takes these operands and gives those, and the code inside it goes by stacks of at most so many
 abbrev pub Fits : (most : ℕ) → Context → layer.Instr-F Instr → (params results : List ValueType) → Type 0
 Fits most c (layer.Block t body) p r = Are [] (result_types t) p r × LeadsWithin most (within (result_types t) c) body [] (result_types t)
 Fits most c (layer.Loop t body) p r = Are [] (result_types t) p r × LeadsWithin most (within [] c) body [] (result_types t)
-Fits most c (layer.If t body otherwise) p r =
-    Are (I32 ∷ []) (result_types t) p r × LeadsWithin most (within (result_types t) c) body [] (result_types t) × LeadsWithin most (within (result_types t) c) (side_of otherwise) [] (result_types t)
+Fits most c (layer.If t body otherwise) p r = IsIf most c body (side_of otherwise) (result_types t) p r
 Fits most c l p r = IsPlain c l p r
 
 -- it does so with this many operands left below

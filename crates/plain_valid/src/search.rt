@@ -3,11 +3,11 @@
 ghost use Rattle.std.specs.Prelude.{◌≡◌, ◌↔◌, ◌≤◌, ◌∷◌, [], ℕ, List, IfOk, IsTrue, length};
 ghost use Rattle.wasm_tree.specs.declared.kinds.ValueType.{ValueType};
 ghost use Rattle.wasm_tree.specs.Code.{tree, behind};
-ghost use Rattle.wasm_tree.specs.Validity.{within};
+ghost use Rattle.wasm_tree.specs.Validity.{within, Are};
 ghost use Rattle.plain_valid.specs.Bounded.{LeadsWithin};
 ghost use Rattle.plain_valid.specs.Opened.{opened};
 ghost use Rattle.plain_valid.specs.Scene.{scene};
-ghost use Rattle.plain_valid.specs.Search.{AreAll, Fits, Splits, Steps, Passes};
+ghost use Rattle.plain_valid.specs.Search.{AreAll, IsIf, Fits, Splits, Steps, Passes};
 
 use crate::context::Context;
 use crate::plain::is_plain;
@@ -61,6 +61,49 @@ fn is_inside(
     is_led(bound, inner, code, &[], given)
 }
 
+/// Whether a block of this code takes and gives these, where a branch to it takes `taken`.
+#[cycle(search)]
+fn is_block(
+    bound: Bound<'_>,
+    context: Context<'_>,
+    code: &[Op],
+    taken: &[ValueType],
+    given: &[ValueType],
+    params: &[ValueType],
+    results: &[ValueType],
+) -> Result<bool, AllocError>
+    requires { AreAll bound.most bound.stacks.now }
+    ensures { IfOk result (λ yes. IsTrue yes ↔ (Are [] given.now params.now results.now × LeadsWithin bound.entry.most (within taken.now (scene context.entry)) (tree code.now) [] given.now)) }
+{
+    if !are(params, results, &[], given) {
+        return Ok(false);
+    }
+    is_inside(bound, context, code, taken, given)
+}
+
+/// Whether an `if` of these two sides takes and gives these.
+#[cycle(search)]
+fn is_if(
+    bound: Bound<'_>,
+    context: Context<'_>,
+    first: &[Op],
+    second: &[Op],
+    given: &[ValueType],
+    params: &[ValueType],
+    results: &[ValueType],
+) -> Result<bool, AllocError>
+    requires { AreAll bound.most bound.stacks.now }
+    ensures { IfOk result (λ yes. IsTrue yes ↔ IsIf bound.entry.most (scene context.entry) (tree first.now) (tree second.now) given.now params.now results.now) }
+{
+    if !are(params, results, &[ValueType::I32], given) {
+        return Ok(false);
+    }
+    if !is_inside(bound, context, first, given, given)? {
+        return Ok(false);
+    }
+    is_inside(bound, context, second, given, given)
+}
+
 /// Whether the instruction takes these and gives those, and the code inside it fits.
 #[cycle(search)]
 fn fits(
@@ -74,42 +117,24 @@ fn fits(
     requires { AreAll bound.most bound.stacks.now }
     ensures { IfOk result (λ yes. IsTrue yes ↔ Fits bound.entry.most (scene context.entry) (opened op rest.now) params.now results.now) }
 {
-    let condition = &[ValueType::I32];
     match op {
         Op::Block(t, count) => {
             let given = types_of(&t);
-            if !are(params, results, &[], given) {
-                return Ok(false);
-            }
-            is_inside(bound, context, split_ops(rest, count).0, given, given)
+            let code = split_ops(rest, count).0;
+            is_block(bound, context, code, given, given, params, results)
         }
         Op::Loop(t, count) => {
-            let given = types_of(&t);
-            if !are(params, results, &[], given) {
-                return Ok(false);
-            }
-            is_inside(bound, context, split_ops(rest, count).0, &[], given)
+            let code = split_ops(rest, count).0;
+            is_block(bound, context, code, &[], types_of(&t), params, results)
         }
         Op::If(t, count) => {
-            let given = types_of(&t);
-            if !are(params, results, condition, given) {
-                return Ok(false);
-            }
-            if !is_inside(bound, context, split_ops(rest, count).0, given, given)? {
-                return Ok(false);
-            }
-            is_inside(bound, context, &[], given, given)
+            let first = split_ops(rest, count).0;
+            is_if(bound, context, first, &[], types_of(&t), params, results)
         }
-        Op::IfElse(t, count, second) => {
-            let given = types_of(&t);
-            if !are(params, results, condition, given) {
-                return Ok(false);
-            }
+        Op::IfElse(t, count, second_count) => {
             let (first, others) = split_ops(rest, count);
-            if !is_inside(bound, context, first, given, given)? {
-                return Ok(false);
-            }
-            is_inside(bound, context, split_ops(others, second).0, given, given)
+            let second = split_ops(others, second_count).0;
+            is_if(bound, context, first, second, types_of(&t), params, results)
         }
         Op::Unreachable
         | Op::Br(_)

@@ -9,9 +9,9 @@ use Rattle.plain_valid.proofs.Led.{answers_as, fits_if, led_few, led_none, led_s
 use Rattle.plain_valid.proofs.Tried.{missed_all}
 use Rattle.plain_valid.proofs.search.+search.Goals as goal
 
-pub fits-returns-else-not-branch : goal.fits-returns-else-not-branch
-fits-returns-else-not-branch t c =
-    fits_if c.is_inside-in-If-2.result c.args.bound.most (scene c.args.context) c.args.op c.in-If.t c.in-If.count c.args.rest.now c.split_ops-in-If.result.0.now c.types_of-given-in-If.result.now c.args.params.now c.args.results.now c.in-If.is c.split_ops-in-If.ensures.front c.types_of-given-in-If.ensures (c.are-in-If.ensures.0 c.if-not-are-3.false) (c.in_ok-is_inside-in-If.ensures.0 c.if-not-branch.false) c.is_inside-in-If-2.ensures
+pub fits-returns-in-If : goal.fits-returns-in-If
+fits-returns-in-If t c =
+    fits_if c.is_if.result c.args.bound.most (scene c.args.context) c.args.op c.in-If.t c.in-If.count c.args.rest.now c.split_ops-in-If.result.0.now c.types_of-in-If.result.now c.args.params.now c.args.results.now c.in-If.is c.split_ops-in-If.ensures.front c.types_of-in-If.ensures c.is_if.ensures
 
 pub is_led-returns-in-None : goal.is_led-returns-in-None
 is_led-returns-in-None t c =

@@ -10,6 +10,12 @@ use Rattle.plain_valid.proofs.search.+search.Given as goal
 abbrev pub decreases-is_inside : goal.decreases-is_inside
 decreases-is_inside l = 9 * length l.code.now + 1
 
+abbrev pub decreases-is_block : goal.decreases-is_block
+decreases-is_block l = 9 * length l.code.now + 2
+
+abbrev pub decreases-is_if : goal.decreases-is_if
+decreases-is_if l = 9 * (length l.first.now + length l.second.now) + 2
+
 abbrev pub decreases-fits : goal.decreases-fits
 decreases-fits l = 9 * length l.rest.now + 4
 
