@@ -1,0 +1,4 @@
+pub mod Bounded
+pub mod Scene
+pub mod Opened
+pub mod Search

@@ -1,0 +1,177 @@
+//! What a module's indices stand for, imported things first (Core 1.0, section 3.1).
+
+ghost use Rattle.std.specs.Prelude.{◌≡◌, ◌++◌, map, IfOk};
+ghost use Rattle.std.specs.List.{filter_map};
+ghost use Rattle.wasm_tree.specs.Validity.{function_import, table_import, memory_import, global_import, context, initial_context};
+ghost use Rattle.plain_valid.specs.Scene.{scene, HasLists};
+
+use crate::context::Context;
+use std::alloc::{AllocError, Global};
+use wasm_tree::{Import, ImportKind, Limits, ValueType, WModule};
+
+/// The lists that a context lends.
+#[derive(Drop)]
+pub struct Lists {
+    pub functions: Vec<u32>,
+    pub tables: Vec<Limits>,
+    pub memories: Vec<Limits>,
+    pub imported_globals: Vec<ValueType>,
+    pub globals: Vec<ValueType>,
+}
+
+fn function_import(import: &Import) -> Option<u32>
+    ensures { result ≡ function_import import.now }
+{
+    match import.kind {
+        ImportKind::Function(type_index) => Some(type_index),
+        _ => None,
+    }
+}
+
+fn table_import(import: &Import) -> Option<Limits>
+    ensures { result ≡ table_import import.now }
+{
+    match import.kind {
+        ImportKind::Table(table) => Some(table.limits),
+        _ => None,
+    }
+}
+
+fn memory_import(import: &Import) -> Option<Limits>
+    ensures { result ≡ memory_import import.now }
+{
+    match import.kind {
+        ImportKind::Memory(memory) => Some(memory.limits),
+        _ => None,
+    }
+}
+
+fn global_import(import: &Import) -> Option<ValueType>
+    ensures { result ≡ global_import import.now }
+{
+    match import.kind {
+        ImportKind::Global(value_type) => Some(value_type),
+        _ => None,
+    }
+}
+
+fn imported_functions(alloc: Global, tree: &WModule) -> Result<Vec<u32>, AllocError>
+    ensures { IfOk result (λ v. v.items ≡ filter_map function_import tree.now.imports) }
+{
+    let imports = tree.imports.as_slice();
+    imports
+        .iter()
+        .filter_map(|i| function_import(i))
+        .collect(alloc)
+}
+
+fn functions_of(alloc: Global, tree: &WModule) -> Result<Vec<u32>, AllocError>
+    ensures { IfOk result (λ v. v.items ≡ filter_map function_import tree.now.imports ++ map (λ f. f.type_index) tree.now.functions) }
+{
+    let mut functions = imported_functions(alloc, tree)?;
+    for function in tree.functions.as_slice() {
+        functions.push(function.type_index)?;
+    }
+    Ok(functions)
+}
+
+fn imported_tables(alloc: Global, tree: &WModule) -> Result<Vec<Limits>, AllocError>
+    ensures { IfOk result (λ v. v.items ≡ filter_map table_import tree.now.imports) }
+{
+    let imports = tree.imports.as_slice();
+    imports
+        .iter()
+        .filter_map(|i| table_import(i))
+        .collect(alloc)
+}
+
+fn tables_of(alloc: Global, tree: &WModule) -> Result<Vec<Limits>, AllocError>
+    ensures { IfOk result (λ v. v.items ≡ filter_map table_import tree.now.imports ++ map (λ t. t.limits) tree.now.tables) }
+{
+    let mut tables = imported_tables(alloc, tree)?;
+    for table in tree.tables.as_slice() {
+        tables.push(table.limits)?;
+    }
+    Ok(tables)
+}
+
+fn imported_memories(alloc: Global, tree: &WModule) -> Result<Vec<Limits>, AllocError>
+    ensures { IfOk result (λ v. v.items ≡ filter_map memory_import tree.now.imports) }
+{
+    let imports = tree.imports.as_slice();
+    imports
+        .iter()
+        .filter_map(|i| memory_import(i))
+        .collect(alloc)
+}
+
+fn memories_of(alloc: Global, tree: &WModule) -> Result<Vec<Limits>, AllocError>
+    ensures { IfOk result (λ v. v.items ≡ filter_map memory_import tree.now.imports ++ map (λ t. t.limits) tree.now.memories) }
+{
+    let mut memories = imported_memories(alloc, tree)?;
+    for memory in tree.memories.as_slice() {
+        memories.push(memory.limits)?;
+    }
+    Ok(memories)
+}
+
+fn imported_globals(alloc: Global, tree: &WModule) -> Result<Vec<ValueType>, AllocError>
+    ensures { IfOk result (λ v. v.items ≡ filter_map global_import tree.now.imports) }
+{
+    let imports = tree.imports.as_slice();
+    imports
+        .iter()
+        .filter_map(|i| global_import(i))
+        .collect(alloc)
+}
+
+fn globals_of(alloc: Global, tree: &WModule) -> Result<Vec<ValueType>, AllocError>
+    ensures { IfOk result (λ v. v.items ≡ filter_map global_import tree.now.imports ++ map (λ g. g.value_type) tree.now.globals) }
+{
+    let mut globals = imported_globals(alloc, tree)?;
+    for global in tree.globals.as_slice() {
+        globals.push(global.value_type)?;
+    }
+    Ok(globals)
+}
+
+/// All that the module's indices stand for.
+pub fn lists_of(alloc: Global, tree: &WModule) -> Result<Lists, AllocError>
+    ensures { IfOk result (λ l. HasLists l tree.now) }
+{
+    Ok(Lists {
+        functions: functions_of(alloc, tree)?,
+        tables: tables_of(alloc, tree)?,
+        memories: memories_of(alloc, tree)?,
+        imported_globals: imported_globals(alloc, tree)?,
+        globals: globals_of(alloc, tree)?,
+    })
+}
+
+/// What the module's code may name.
+pub fn whole<'a>(tree: &'a WModule, lists: &'a Lists) -> Context<'a>
+    requires { HasLists lists.now tree.now }
+    ensures { scene result ≡ context tree.now }
+{
+    Context {
+        types: tree.types.as_slice(),
+        functions: lists.functions.as_slice(),
+        tables: lists.tables.as_slice(),
+        memories: lists.memories.as_slice(),
+        globals: lists.globals.as_slice(),
+        locals: &[],
+        labels: &[],
+        returns: &[],
+    }
+}
+
+/// What the values of its globals may name.
+pub fn initial<'a>(tree: &'a WModule, lists: &'a Lists) -> Context<'a>
+    requires { HasLists lists.now tree.now }
+    ensures { scene result ≡ initial_context tree.now }
+{
+    Context {
+        globals: lists.imported_globals.as_slice(),
+        ..whole(tree, lists)
+    }
+}
