@@ -3,6 +3,7 @@
 
 use crate::engine::make_screen;
 use plain_machine::{Config, link, run};
+use sqlite_items::Items;
 use std::alloc::Global;
 use std::process::Abort;
 use std::test::*;
@@ -10,9 +11,9 @@ use wasm_binary::read_module;
 use wasm_engine::{End, Instances};
 use wasm_tree::{
     Body, Code, Function, Load, Locals, Numeric, Op, Operation, Relation, StoreWidth, ValueType,
-    WModule,
+    WFault, WModule,
 };
-use wasm_valid::validate;
+use wasm_valid::{ValidModule, validate};
 
 /// A module with `put` as function 0 and `stop` as function 1, both of type 1, from a number of 64 bits to nothing;
 /// `run` as function 2, of type 0, with no code; function 3, of type 2, which adds two numbers of 64 bits; and function 4,
@@ -23,7 +24,7 @@ const AROUND: &[u8] =
 
 /// The function `run` with this code. It has two locals of 64 bits, and one of 32.
 fn run_function(rt: &impl Abort, alloc: Global, code: &[Op]) -> Function {
-    let mut locals = sqlite_items::Items::new(alloc);
+    let mut locals = Items::new(alloc);
     for (count, value_type) in [(2, ValueType::I64), (1, ValueType::I32)] {
         locals
             .push(Locals { count, value_type })
@@ -48,10 +49,8 @@ fn module_of(rt: &impl Abort, alloc: Global, code: &[Op]) -> WModule {
 }
 
 /// Where the fast machine is after so many reductions, and what it printed.
-fn fast(rt: &impl Abort, alloc: Global, code: &[Op], steps: u64) -> (End, Vec<u8>) {
-    let valid = validate(alloc, module_of(rt, alloc, code)).expect(rt, "a valid module");
-    let modules = vec![in alloc; valid].expect(rt, "memory");
-    let mut instances = Instances::link(alloc, &modules).expect(rt, "linked");
+fn fast(rt: &impl Abort, alloc: Global, modules: &[ValidModule], steps: u64) -> (End, Vec<u8>) {
+    let mut instances = Instances::link(alloc, modules).expect(rt, "linked");
     let mut out = make_screen(alloc, 1000);
     let end = instances.run(steps, &mut out).expect(rt, "a run");
     (end, out.bytes)
@@ -67,24 +66,79 @@ fn end_of(config: &Config) -> End {
 }
 
 /// The same of the plain machine.
-fn plain(rt: &impl Abort, alloc: Global, code: &[Op], steps: u64) -> (End, Vec<u8>) {
-    let modules = vec![in alloc; module_of(rt, alloc, code)].expect(rt, "memory");
-    let config = link(alloc, &modules).expect(rt, "linked");
-    let (config, printed) = run(alloc, &modules, steps, config).expect(rt, "memory");
+fn plain(rt: &impl Abort, alloc: Global, modules: &[WModule], steps: u64) -> (End, Vec<u8>) {
+    let config = link(alloc, modules).expect(rt, "linked");
+    let (config, printed) = run(alloc, modules, steps, config).expect(rt, "memory");
     (end_of(&config), printed)
 }
 
-/// Both machines do the same in 0 to 60 reductions, and at last this.
-fn compare(rt: &impl Abort, alloc: Global, code: &[Op], end: End, printed: &[u8]) {
-    for steps in 0..61 {
-        let quick = fast(rt, alloc, code, steps);
-        let slow = plain(rt, alloc, code, steps);
+/// The same modules for both machines.
+#[derive(Drop)]
+struct Pair {
+    valid: Vec<ValidModule>,
+    trees: Vec<WModule>,
+}
+
+impl Pair {
+    /// Adds a module, made twice.
+    fn push(&mut self, rt: &impl Abort, alloc: Global, first: WModule, second: WModule) {
+        let valid = validate(alloc, first).expect(rt, "a valid module");
+        self.valid.push(valid).expect(rt, "memory");
+        self.trees.push(second).expect(rt, "memory");
+    }
+
+    /// Both machines do the same in so many reductions.
+    fn compare_at(&self, rt: &impl Abort, alloc: Global, steps: u64) -> (End, Vec<u8>) {
+        let quick = fast(rt, alloc, &self.valid, steps);
+        let slow = plain(rt, alloc, &self.trees, steps);
         assert_eq!(rt; slow.0, quick.0);
         assert_eq!(rt; slow.1.as_slice(), quick.1.as_slice());
+        slow
     }
-    let last = plain(rt, alloc, code, 60);
-    assert_eq!(rt; last.0, end);
-    assert_eq!(rt; last.1.as_slice(), printed);
+
+    /// Both machines do the same in 0 to 60 reductions, and at last this.
+    fn compare(&self, rt: &impl Abort, alloc: Global, end: End, printed: &[u8]) {
+        for steps in 0..60 {
+            self.compare_at(rt, alloc, steps);
+        }
+        let last = self.compare_at(rt, alloc, 60);
+        assert_eq!(rt; last.0, end);
+        assert_eq!(rt; last.1.as_slice(), printed);
+    }
+
+    /// Neither machine can link the modules, for this reason.
+    fn refuse(&self, rt: &impl Abort, alloc: Global, fault: WFault) {
+        assert!(rt; matches!(Instances::link(alloc, &self.valid), Err(e) if e == fault));
+        assert!(rt; matches!(link(alloc, &self.trees), Err(e) if e == fault));
+    }
+}
+
+/// The modules of these bytes.
+fn modules_of(rt: &impl Abort, alloc: Global, sources: &[&[u8]]) -> Pair {
+    let mut pair = Pair {
+        valid: Vec::new(alloc),
+        trees: Vec::new(alloc),
+    };
+    for source in sources {
+        let first = read_module(alloc, source).expect(rt, "a module");
+        let second = read_module(alloc, source).expect(rt, "a module");
+        pair.push(rt, alloc, first, second);
+    }
+    pair
+}
+
+/// The module above with this code in `run`.
+fn pair_of(rt: &impl Abort, alloc: Global, code: &[Op]) -> Pair {
+    let mut pair = modules_of(rt, alloc, &[]);
+    let first = module_of(rt, alloc, code);
+    let second = module_of(rt, alloc, code);
+    pair.push(rt, alloc, first, second);
+    pair
+}
+
+/// Both machines do the same with this code in 0 to 60 reductions, and at last this.
+fn compare(rt: &impl Abort, alloc: Global, code: &[Op], end: End, printed: &[u8]) {
+    pair_of(rt, alloc, code).compare(rt, alloc, end, printed);
 }
 
 #[test]
@@ -349,10 +403,7 @@ fn compare_local(rt: &impl Abort, alloc: Global, code: &[Op]) {
         all.push(shift).expect(rt, "memory");
         all.push(Op::Call(0)).expect(rt, "memory");
     }
-    let quick = fast(rt, alloc, &all, 60);
-    let slow = plain(rt, alloc, &all, 60);
-    assert_eq!(rt; slow.0, quick.0);
-    assert_eq!(rt; slow.1.as_slice(), quick.1.as_slice());
+    pair_of(rt, alloc, &all).compare_at(rt, alloc, 60);
 }
 
 #[test]
@@ -421,4 +472,34 @@ fn relations(rt: HostRuntime) {
             }
         }
     }
+}
+
+/// A module that exports `run` and its table `t` of one slot; `run` calls the function in the slot.
+const WITH_TABLE: &[u8] =
+    b"\x00asm\x01\x00\x00\x00\x01\x04\x01\x60\x00\x00\x03\x02\x01\x00\x04\x04\x01\x70\x00\x01\x07\x0B\x02\x03run\x00\x00\x01t\x01\x00\x0A\x09\x01\x07\x00\x41\x00\x11\x00\x00\x0B";
+
+/// A module that puts a function into the slot of link's table `t`; the function prints an `X`.
+const FILLS_TABLE: &[u8] =
+    b"\x00asm\x01\x00\x00\x00\x01\x08\x02\x60\x00\x00\x60\x01\x7E\x00\x02\x17\x02\x04link\x01t\x01\x70\x00\x01\x04host\x03put\x00\x01\x03\x02\x01\x00\x09\x07\x01\x00\x41\x00\x0B\x01\x01\x0A\x09\x01\x07\x00\x42\xD8\x00\x10\x00\x0B";
+
+#[test]
+fn several_modules(rt: HostRuntime) {
+    let alloc = rt.alloc();
+    modules_of(&rt, alloc, &[WITH_TABLE]).compare(&rt, alloc, End::Trap, b"");
+    let both = modules_of(&rt, alloc, &[WITH_TABLE, FILLS_TABLE]);
+    both.compare(&rt, alloc, End::Done(0), b"X");
+}
+
+#[test]
+fn modules_that_cannot_be_linked(rt: HostRuntime) {
+    let alloc = rt.alloc();
+    modules_of(&rt, alloc, &[]).refuse(&rt, alloc, WFault::Unlinked);
+    let empty = b"\x00asm\x01\x00\x00\x00".as_slice();
+    modules_of(&rt, alloc, &[empty]).refuse(&rt, alloc, WFault::Unlinked);
+    let other_link = modules_of(&rt, alloc, &[AROUND, FILLS_TABLE]);
+    other_link.refuse(&rt, alloc, WFault::Unlinked);
+    // `run` beside a data segment of one byte behind the end of a memory of no page
+    let past =
+        b"\x00asm\x01\x00\x00\x00\x01\x04\x01\x60\x00\x00\x03\x02\x01\x00\x05\x03\x01\x00\x00\x07\x07\x01\x03run\x00\x00\x0A\x04\x01\x02\x00\x0B\x0B\x07\x01\x00\x41\x00\x0B\x01x".as_slice();
+    modules_of(&rt, alloc, &[past]).refuse(&rt, alloc, WFault::SegmentOutside);
 }

@@ -216,7 +216,8 @@ fn start<'a>(
 /// Links the modules, the first of which is `link`: it answers the others' imports from `link`, and the host answers `put`
 /// and `stop` from `host`. Its `run` is then about to be executed. `Unlinked` (83) where there is no module, no function
 /// without parameters and results exported as `run` by the first, or an import that is missing or of another type;
-/// `SegmentOutside` (84) where a segment reaches outside its table or memory.
+/// `SegmentOutside` (84) where a segment reaches outside its table or memory; `NoMemory` (90) where a request for memory
+/// was refused.
 #[tactic(auto, unfolding(wasm_tree::specs::Linking::link))]
 pub fn link<'a>(alloc: Global, modules: &'a [WModule]) -> Result<Config<'a>, WFault>
     ensures { Gives (λ c. config_of c) result (link modules.now) }

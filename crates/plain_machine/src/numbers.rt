@@ -14,26 +14,29 @@ pub fn truth(holds: bool) -> u32
     u32::from(holds)
 }
 
-/// Whether the first of two numbers of 32 bits is less, both signed: a negative one has the upper bit.
-fn is_less_32(n: u32, m: u32) -> bool
-    ensures { result ≡ is_less w32 n m }
+/// Whether a number of 64 bits is negative, if it is signed: it has the upper bit.
+fn is_negative(n: u64) -> bool
+    ensures { result ≡ is_negative (cast_signed w64 n) }
 {
-    if n / 2_147_483_648 == m / 2_147_483_648 {
-        n < m
-    } else {
-        m < n
-    }
+    n >= 9_223_372_036_854_775_808
 }
 
-/// The same of numbers of 64 bits.
+/// Whether the first of two signed numbers is less.
 fn is_less_64(n: u64, m: u64) -> bool
     ensures { result ≡ is_less w64 n m }
 {
-    if n / 9_223_372_036_854_775_808 == m / 9_223_372_036_854_775_808 {
+    if is_negative(n) == is_negative(m) {
         n < m
     } else {
-        m < n
+        is_negative(n)
     }
+}
+
+/// The same of numbers of 32 bits.
+fn is_less_32(n: u32, m: u32) -> bool
+    ensures { result ≡ is_less w32 n m }
+{
+    is_less_64(extended(n), extended(m))
 }
 
 /// Whether two numbers of 32 bits compare so.
@@ -117,12 +120,6 @@ fn shifted_right(n: u64, m: u64) -> u64
     n / power_of_2(m % 64)
 }
 
-fn is_negative(n: u64) -> bool
-    ensures { result ≡ is_negative (cast_signed w64 n) }
-{
-    n >= 9_223_372_036_854_775_808
-}
-
 /// How far a signed number is from 0.
 fn distance(n: u64) -> u64
     ensures value { result ≡ unsigned_abs (cast_signed w64 n) }
@@ -147,7 +144,7 @@ fn on_side(negative: bool, distance: u64) -> u64
     }
 }
 
-/// Rounded towards 0.
+/// The quotient of signed numbers, rounded towards 0.
 fn quotient(n: u64, m: u64) -> u64
     requires { m ≢ 0 }
     ensures { result ≡ cast_unsigned w64 (int_div (cast_signed w64 n) (cast_signed w64 m)) }
@@ -156,7 +153,7 @@ fn quotient(n: u64, m: u64) -> u64
     on_side(negative, distance(n) / distance(m))
 }
 
-/// With the sign of the first.
+/// The remainder of signed numbers, with the sign of the first.
 fn rest_of(n: u64, m: u64) -> u64
     requires { m ≢ 0 }
     ensures { result ≡ cast_unsigned w64 (int_rem (cast_signed w64 n) (cast_signed w64 m)) }

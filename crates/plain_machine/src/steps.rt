@@ -39,7 +39,8 @@ fn settled<'a>(step: Step, machine: Machine<'a>) -> (Config<'a>, Option<u8>)
     }
 }
 
-/// One reduction: where it leads, and the byte that it prints, if any. A run that is over or that trapped stays so.
+/// One reduction: where it leads, and the byte that it prints, if any. A run that is over or that trapped stays so. An
+/// error where a request for memory was refused.
 #[tactic(auto, unfolding(wasm_tree::specs::Machine::reduce))]
 pub fn reduce<'a>(
     alloc: Global,
@@ -59,7 +60,7 @@ pub fn reduce<'a>(
     }
 }
 
-/// So many reductions: where they lead, and the bytes that they print.
+/// So many reductions: where they lead, and the bytes that they print. An error where a request for memory was refused.
 pub fn run<'a>(
     alloc: Global,
     modules: &'a [WModule],
