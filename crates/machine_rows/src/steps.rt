@@ -2,7 +2,8 @@
 //! are in the same state.
 
 use crate::engine::make_screen;
-use plain_machine::{Config, link, run};
+use plain_link::link;
+use plain_machine::{Config, run};
 use sqlite_items::Items;
 use std::alloc::Global;
 use std::process::Abort;

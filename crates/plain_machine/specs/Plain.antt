@@ -1,7 +1,6 @@
 -- What the plain machine's values stand for.
 use Rattle.std.specs.Prelude.{ℕ, Bool, true, false, List, [], ◌∷◌, ◌++◌, length, map, Option, Some, None}
 use Rattle.std.specs.Borrow.{Bor}
-use Rattle.std.specs.Global.{Vec}
 use Rattle.wasm_tree.specs.declared.kinds.FuncType.{FuncType}
 use Rattle.wasm_tree.specs.declared.store.Memory.{Memory}
 use Rattle.wasm_tree.specs.declared.store.Store.{Store}
@@ -15,8 +14,6 @@ use Rattle.plain_machine.specs.declared.config.Config.{Config}
 use Rattle.plain_machine.specs.declared.config.Config.TheVariants as config
 use Rattle.plain_machine.specs.declared.config.Step.{Step}
 use Rattle.plain_machine.specs.declared.config.Step.TheVariants as step
-use Rattle.wasm_tree.specs.Linking.{Linked}
-use Rattle.plain_machine.specs.declared.stores.Linking.{Linking}
 use Rattle.plain_machine.specs.declared.places.TypedFunction.{TypedFunction}
 
 abbrev pub label_of : Label → machine.Label
@@ -86,10 +83,3 @@ if_kept left true = Some left
 abbrev pub called_typed : Store → machine.Activation → List machine.Activation → (m : ℕ) → Typed → Progress
 called_typed st now callers m t =
     machine.or_trap (machine.split_end (length t.type.params) now.stack) (λ p. (machine.Going st (machine.entered m t p.1) (callers ++ record now { stack = p.0 } ∷ []), []))
-
-abbrev pub linked : Linking → Linked
-linked l = record { store = l.store; instance = l.instance }
-
-abbrev pub items_of : {A : Type 0} → Option (Vec A) → Option (List A)
-items_of None = None
-items_of (Some v) = Some v.items

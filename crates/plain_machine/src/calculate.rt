@@ -5,9 +5,9 @@ ghost use Rattle.wasm_tree.specs.Machine.{or_trap, pushed, calculated};
 ghost use Rattle.plain_machine.specs.Plain.{activation, callers_of, progress, taken};
 
 use crate::config::{Machine, Step};
-use crate::numbers::{compares_32, compares_64, extended, operated, truth};
 use crate::operands::{pop_i32, pop_i64};
 use crate::variables::push;
+use plain_numbers::{compares_32, compares_64, extended, operated, truth};
 use sqlite_items::Items;
 use std::alloc::AllocError;
 use wasm_tree::{Numeric, Operation, Relation, Value};

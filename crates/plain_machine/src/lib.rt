@@ -3,22 +3,18 @@
 #![tactic(auto)]
 
 mod blocks;
-mod bytes;
 mod calculate;
 mod calls;
 mod config;
-mod imports;
 mod instructions;
-mod linking;
 mod memory;
-mod numbers;
 mod operands;
 mod places;
-mod segments;
 mod steps;
-mod stores;
 mod variables;
 
+pub use calls::entered;
 pub use config::{Activation, Config, Label, Machine};
-pub use linking::link;
+pub use memory::pasted;
+pub use places::{TypedFunction, agrees, are_same, callee_at, is_same_value_type, own_function};
 pub use steps::{reduce, run};

@@ -6,14 +6,33 @@ ghost use Rattle.wasm_tree.specs.Machine.{or_trap, top_i32, top_i64, pushed, mem
 ghost use Rattle.wasm_tree.specs.Numbers.{load_size, loaded, stored};
 ghost use Rattle.plain_machine.specs.Plain.{activation, callers_of, progress, bytes_seen};
 
-use crate::bytes::{load_size, loaded, stored};
 use crate::config::{Machine, Step};
 use crate::operands::{pop_i32, pop_i64};
 use crate::places::memory_of;
-use crate::segments::pasted;
 use crate::variables::push;
+use plain_numbers::{load_size, loaded, stored};
+use sqlite_items::Items;
 use std::alloc::{AllocError, Global};
 use wasm_tree::{Load, Memory, Store, StoreWidth, Value};
+
+/// The list with others from a place on.
+pub fn pasted<T: Copy>(
+    alloc: Global,
+    items: &[T],
+    place: usize,
+    others: &[T],
+) -> Result<Items<T>, AllocError>
+    requires { place + length others.now ≤ length items.now }
+    ensures { IfOk result (λ it. it ≡ pasted items.now place others.now) }
+{
+    let (before, rest) = items.split_at(place);
+    let (_, after) = rest.split_at(others.len());
+    let mut all = Vec::new(alloc);
+    all.extend_from_slice(before)?;
+    all.extend_from_slice(others)?;
+    all.extend_from_slice(after)?;
+    Ok(Items::from_vec(all))
+}
 
 /// So many bytes from a place on, where they are there.
 fn bytes_at(bytes: &[u8], place: u32, size: usize) -> Option<&[u8]>

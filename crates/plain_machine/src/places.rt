@@ -67,6 +67,7 @@ pub fn type_at(modules: &[WModule], number: usize, index: u32) -> Option<&FuncTy
     at(at(modules, number)?.types.as_slice(), index as usize)
 }
 
+/// Whether two types of values are the same.
 pub fn is_same_value_type(x: ValueType, y: ValueType) -> bool
     ensures { result ≡ is_same_value_type x y }
 {
@@ -76,6 +77,7 @@ pub fn is_same_value_type(x: ValueType, y: ValueType) -> bool
     }
 }
 
+/// Whether two lists of types are the same.
 pub fn are_same(xs: &[ValueType], ys: &[ValueType]) -> bool
     ensures { result ≡ are_same xs.now ys.now }
 {
