@@ -8,4 +8,4 @@ mod store;
 mod types;
 
 pub use link::{linked_all, run_of};
-pub use types::{TypedFunction, has_types, is_same_type, own_function, type_at};
+pub use types::{TypedFunction, has_types, is_same_type, own_function};

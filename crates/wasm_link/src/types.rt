@@ -1,7 +1,7 @@
 //! Functions of modules and their types (Core 1.0, section 3.3.2).
 
 ghost use Rattle.std.specs.Prelude.{◌≡◌, ◌&&◌};
-ghost use Rattle.wasm_tree.specs.Machine.{is_same_value_type, are_same, is_same_type, callee_type, own_function, type_at, agree, Typed};
+ghost use Rattle.wasm_tree.specs.Machine.{is_same_value_type, are_same, is_same_type, callee_type, own_function, agree, Typed};
 ghost use Rattle.wasm_link.specs.Placed.{typed_of, type_of_ref};
 
 use sqlite_items::at;
@@ -67,16 +67,6 @@ pub fn own_function(
         func_type,
         function,
     })
-}
-
-/// The type of this index in the module of that number.
-pub fn type_at(modules: &[ValidModule], number: usize, index: u32) -> Option<&FuncType>
-    ensures { type_of_ref result ≡ type_at modules.now number index }
-{
-    at(
-        at(modules, number)?.module().types.as_slice(),
-        index as usize,
-    )
 }
 
 /// Whether the function can be called as one of the type asked for.
