@@ -1,8 +1,8 @@
 // The whole: workers on threads of their own, and the gatherer.
-ghost use Rattle.std.specs.Prelude.{◌≡◌, ◌≢◌, ◌++◌, [], ℕ, ◌<◌, ◌≤◌, ◌↔◌, length, map, All, IfOk, IfSome, Err};
+ghost use Rattle.std.specs.Prelude.{◌≡◌, ◌≢◌, ◌++◌, [], ℕ, ◌<◌, ◌≤◌, ◌↔◌, length, map, All, IfOk, MatchResult, Err};
 ghost use Rattle.once_cell.specs.Once.{cell_name};
 ghost use Rattle.m2_board.specs.Seats.{IsAllSeats, all_had};
-ghost use Rattle.m2_worker.specs.Results.{all_jobs, AreResults, IsRan};
+ghost use Rattle.m2_worker.specs.Results.{all_jobs, AreResults, IsRan, IsMade};
 ghost use Rattle.m2_pool.specs.Tallied.{IsTally};
 
 use crate::gather::{gathered, placed};
@@ -162,14 +162,14 @@ fn all_work<R: Threads + Sync, W: Work, G: Gate>(
 ) -> Result<Vec<Result<Member<W>, AllocError>>, AllocError>
     requires seats { All (λ m. (m.seat.board ≡ shop.now.board.now.id) × (m.seat.had ≡ []) × (m.ran.items ≡ [])) members.items }
     ensures count { IfOk result (λ v. length v.items ≡ length members.items) }
-    ensures each { IfOk result (λ v. All (λ e. IfOk e (λ m. (m.seat.board ≡ shop.now.board.now.id) × (map (λ r. r.job) m.ran.items ≡ m.seat.had) × All (λ r. IfSome r.note (λ n. IsRan (map cell_name shop.now.cells.now) shop.now.graph.now (W.defines shop.now.work.now) r.job n.cell n.known (map (λ u. u.cell) r.used.items) (map (λ u. u.known) r.used.items))) m.ran.items)) v.items) }
+    ensures each { IfOk result (λ v. All (λ e. IfOk e (λ m. (m.seat.board ≡ shop.now.board.now.id) × (map (λ r. r.job) m.ran.items ≡ m.seat.had) × All (λ r. MatchResult r.kept (λ n. IsRan (map cell_name shop.now.cells.now) shop.now.graph.now (W.defines shop.now.work.now) r.job n.cell n.known (map (λ u. u.cell) r.used.items) (map (λ u. u.known) r.used.items)) (λ b. IsMade (map cell_name shop.now.cells.now) shop.now.graph.now (W.defines shop.now.work.now) r.job b.value (map (λ u. u.cell) r.used.items) (map (λ u. u.known) r.used.items))) m.ran.items)) v.items) }
 {
     thread::map_vec(
         rt,
         members,
         &|member: Member<W>| -> Result<Member<W>, AllocError>
             requires { (member.seat.board ≡ shop.now.board.now.id) × (member.seat.had ≡ []) × (member.ran.items ≡ []) }
-            ensures { IfOk result (λ m. (m.seat.board ≡ shop.entry.now.board.now.id) × (map (λ r. r.job) m.ran.items ≡ m.seat.had) × All (λ r. IfSome r.note (λ n. IsRan (map cell_name shop.entry.now.cells.now) shop.entry.now.graph.now (W.defines shop.entry.now.work.now) r.job n.cell n.known (map (λ u. u.cell) r.used.items) (map (λ u. u.known) r.used.items))) m.ran.items) }
+            ensures { IfOk result (λ m. (m.seat.board ≡ shop.entry.now.board.now.id) × (map (λ r. r.job) m.ran.items ≡ m.seat.had) × All (λ r. MatchResult r.kept (λ n. IsRan (map cell_name shop.entry.now.cells.now) shop.entry.now.graph.now (W.defines shop.entry.now.work.now) r.job n.cell n.known (map (λ u. u.cell) r.used.items) (map (λ u. u.known) r.used.items)) (λ b. IsMade (map cell_name shop.entry.now.cells.now) shop.entry.now.graph.now (W.defines shop.entry.now.work.now) r.job b.value (map (λ u. u.cell) r.used.items) (map (λ u. u.known) r.used.items))) m.ran.items) }
         { work_on(alloc, shop, member) },
     )
 }
@@ -180,11 +180,11 @@ fn returned<W: Work, G: Gate>(
     shop: &Shop<'_, W, G>,
     ended: Vec<Result<Member<W>, AllocError>>,
 ) -> Result<(Vec<BoardSeat>, Vec<Ran<W>>), AllocError>
-    requires { All (λ e. IfOk e (λ m. (m.seat.board ≡ shop.now.board.now.id) × (map (λ r. r.job) m.ran.items ≡ m.seat.had) × All (λ r. IfSome r.note (λ n. IsRan (map cell_name shop.now.cells.now) shop.now.graph.now (W.defines shop.now.work.now) r.job n.cell n.known (map (λ u. u.cell) r.used.items) (map (λ u. u.known) r.used.items))) m.ran.items)) ended.items }
+    requires { All (λ e. IfOk e (λ m. (m.seat.board ≡ shop.now.board.now.id) × (map (λ r. r.job) m.ran.items ≡ m.seat.had) × All (λ r. MatchResult r.kept (λ n. IsRan (map cell_name shop.now.cells.now) shop.now.graph.now (W.defines shop.now.work.now) r.job n.cell n.known (map (λ u. u.cell) r.used.items) (map (λ u. u.known) r.used.items)) (λ b. IsMade (map cell_name shop.now.cells.now) shop.now.graph.now (W.defines shop.now.work.now) r.job b.value (map (λ u. u.cell) r.used.items) (map (λ u. u.known) r.used.items))) m.ran.items)) ended.items }
     ensures count { IfOk result (λ r. length r.0.items ≡ length ended.items) }
     ensures seats { IfOk result (λ r. All (λ s. s.board ≡ shop.now.board.now.id) r.0.items) }
     ensures ran { IfOk result (λ r. map (λ a. a.job) r.1.items ≡ all_had r.0.items) }
-    ensures stands { IfOk result (λ o. All (λ r. IfSome r.note (λ n. IsRan (map cell_name shop.now.cells.now) shop.now.graph.now (W.defines shop.now.work.now) r.job n.cell n.known (map (λ u. u.cell) r.used.items) (map (λ u. u.known) r.used.items))) o.1.items) }
+    ensures stands { IfOk result (λ o. All (λ r. MatchResult r.kept (λ n. IsRan (map cell_name shop.now.cells.now) shop.now.graph.now (W.defines shop.now.work.now) r.job n.cell n.known (map (λ u. u.cell) r.used.items) (map (λ u. u.known) r.used.items)) (λ b. IsMade (map cell_name shop.now.cells.now) shop.now.graph.now (W.defines shop.now.work.now) r.job b.value (map (λ u. u.cell) r.used.items) (map (λ u. u.known) r.used.items))) o.1.items) }
 {
     let mut seats = Vec::with_capacity(alloc, ended.len())?;
     let mut all = Vec::new(alloc);
