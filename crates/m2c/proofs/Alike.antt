@@ -8,10 +8,10 @@ use Rattle.m2_graph.specs.declared.error.GraphError.TheVariants as graph_error
 use Rattle.m2_graph.specs.Files.{numbered}
 use Rattle.m2_graph.specs.Graph.{IsGraph, IsRefusal}
 use Rattle.m2_graph.specs.Told.{Told as Tale, told as tale}
-use Rattle.m2_once.specs.Once.{SameRows}
-use Rattle.m2_once.proofs.Once.{one_graph, one_refusal, graph_or_refusal}
-use Rattle.m2_emit.specs.Program.{Program}
-use Rattle.m2_emit.specs.Scheme.{link_module}
+use Rattle.m2_graph_laws.specs.Once.{SameRows}
+use Rattle.m2_graph_laws.proofs.Once.{one_graph, one_refusal, graph_or_refusal}
+use Rattle.m2_meaning.specs.Program.{Program}
+use Rattle.m2_scheme.specs.Scheme.{link_module}
 use Rattle.m2_read.specs.declared.file.SourceFile.{SourceFile}
 use Rattle.m2c.specs.declared.files.Outcome.{Outcome}
 use Rattle.m2c.specs.declared.files.Outcome.TheVariants as outcome

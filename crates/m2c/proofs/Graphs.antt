@@ -8,14 +8,15 @@ use Rattle.m2_tree.specs.declared.decl.Module.{Module}
 use Rattle.wasm_binary.specs.Binary.{module_spelling}
 use Rattle.m2_graph.specs.Files.{File, given_of}
 use Rattle.m2_graph.specs.Graph.{IsGraph}
-use Rattle.m2_started.specs.Started.{AreStarted}
-use Rattle.m2_started.proofs.Started.{are_started}
+use Rattle.m2_graph_laws.specs.Started.{AreStarted}
+use Rattle.m2_graph_laws.proofs.Started.{are_started}
 use Rattle.m2_emit.specs.declared.source.Source.{Source}
-use Rattle.m2_emit.specs.Program.{Program, names}
-use Rattle.m2_emit.specs.Scheme.{body, program, link_module}
-use Rattle.m2_emit.specs.Suits.{IsName, AreBytes}
-use Rattle.m2_emit.specs.Headline.{Keeps}
-use Rattle.m2_emit.proofs.Kept.{body_bytes, scheme_keeps}
+use Rattle.m2_meaning.specs.Program.{Program, names}
+use Rattle.m2_scheme.specs.Scheme.{link_module}
+use Rattle.m2_emit.specs.Sources.{body, program}
+use Rattle.m2_headline.specs.Suits.{IsName, AreBytes}
+use Rattle.m2_headline.specs.Headline.{Keeps}
+use Rattle.m2_headline.proofs.Kept.{body_bytes, scheme_keeps}
 use Rattle.m2_read.specs.declared.file.SourceFile.{SourceFile}
 use Rattle.m2_check.specs.Jobs.{is_compiled}
 use Rattle.m2c.specs.Modules.{program_at}

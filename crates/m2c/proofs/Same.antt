@@ -17,7 +17,7 @@ use Rattle.m2_check.specs.declared.jobs.Done.{Done}
 use Rattle.m2_check.specs.declared.jobs.Done.TheVariants.{Known, Unknown, Blocked}
 use Rattle.m2_check.specs.Jobs.{is_known, is_compiled, defined, done_all}
 use Rattle.graph_walk.specs.Links.{has}
-use Rattle.m2_once.specs.Once.{SameRows}
+use Rattle.m2_graph_laws.specs.Once.{SameRows}
 use Rattle.m2c.specs.Build.{told_at, refused_in, refused_of, tree_in, trees_of, each_two, AreTrees, modules, unknown_of, unknown}
 
 -- ---- texts

@@ -5,8 +5,8 @@ ghost use Rattle.std.specs.List.{flat_map, list_any};
 ghost use Rattle.std.specs.Str.{bytes_eq};
 ghost use Rattle.m2_graph.specs.Imports.{definition_of, defines, first_that, imported, is_definition, named_by};
 ghost use Rattle.m2_graph.specs.Refused.{is_console};
-ghost use Rattle.m2_emit.specs.Scheme.{program};
-ghost use Rattle.m2_started.specs.Started.{all_imported, definition_imported};
+ghost use Rattle.m2_emit.specs.Sources.{program};
+ghost use Rattle.m2_graph_laws.specs.Started.{all_imported, definition_imported};
 ghost use Rattle.m2c.specs.Modules.{body_in, each_once, program_at, with_name};
 ghost use Rattle.m2_check.specs.Lent.{modules_lent};
 
