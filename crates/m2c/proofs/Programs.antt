@@ -20,7 +20,7 @@ use Rattle.m2_meaning.specs.Program.{Program, Body, Put, names}
 use Rattle.m2_emit.specs.Sources.{body, program}
 use Rattle.m2_headline.specs.Suits.{IsName, IsByte, AreBytes, IsAmong, Suits}
 use Rattle.m2_check.specs.Fragment.{most, is_word, has_size, is_bare, suits, few, printed, printed_held, printed_of, statements}
-use Rattle.m2_check.specs.Jobs.{is_compiled}
+use Rattle.m2_jobs.specs.Jobs.{is_compiled}
 use Rattle.m2c.specs.Modules.{with_name, each_once, program_at}
 use Rattle.m2c.proofs.Fragments.{word_is_name}
 

@@ -13,9 +13,10 @@ use Rattle.m2_read.specs.declared.reading.Read.{Read}
 use Rattle.m2_read.specs.declared.reading.Read.TheVariants.{Parsed, Refused}
 use Rattle.m2_read.specs.Reading.{AreRead, AreSame}
 use Rattle.m2_read.proofs.Once.{one_read}
-use Rattle.m2_check.specs.declared.jobs.Done.{Done}
-use Rattle.m2_check.specs.declared.jobs.Done.TheVariants.{Known, Unknown, Blocked}
-use Rattle.m2_check.specs.Jobs.{is_known, is_compiled, defined, done_all}
+use Rattle.m2_check.specs.declared.done.Done.{Done}
+use Rattle.m2_check.specs.declared.done.Done.TheVariants.{Known, Unknown, Blocked}
+use Rattle.m2_check.specs.Dones.{is_known}
+use Rattle.m2_jobs.specs.Jobs.{is_compiled, defined, done_all}
 use Rattle.graph_walk.specs.Links.{has}
 use Rattle.m2_graph_laws.specs.Once.{SameRows}
 use Rattle.m2c.specs.Build.{told_at, refused_in, refused_of, tree_in, trees_of, each_two, AreTrees, modules, unknown_of, unknown}

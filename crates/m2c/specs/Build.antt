@@ -17,11 +17,11 @@ use Rattle.m2c.specs.declared.files.Outcome.{Outcome}
 use Rattle.m2c.specs.declared.files.Outcome.TheVariants as outcome
 use Rattle.m2_read.specs.declared.reading.Read.{Read}
 use Rattle.m2_read.specs.declared.reading.Read.TheVariants as read
-use Rattle.m2_check.specs.declared.jobs.Done.{Done}
-use Rattle.m2_check.specs.declared.jobs.Done.TheVariants as jobs
+use Rattle.m2_check.specs.declared.done.Done.{Done}
+use Rattle.m2_check.specs.declared.done.Done.TheVariants as jobs
 use Rattle.m2c.specs.Order.{AreInOrder}
 use Rattle.m2_read.specs.Reading.{AreRead}
-use Rattle.m2_check.specs.Jobs.{done_all}
+use Rattle.m2_jobs.specs.Jobs.{done_all}
 use Rattle.m2c.specs.Modules.{program_at}
 
 -- ---- what is told

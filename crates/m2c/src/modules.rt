@@ -8,7 +8,7 @@ ghost use Rattle.m2_graph.specs.Refused.{is_console};
 ghost use Rattle.m2_emit.specs.Sources.{program};
 ghost use Rattle.m2_graph_laws.specs.Started.{all_imported, definition_imported};
 ghost use Rattle.m2c.specs.Modules.{body_in, each_once, program_at, with_name};
-ghost use Rattle.m2_check.specs.Lent.{modules_lent};
+ghost use Rattle.m2_jobs.specs.Lent.{modules_lent};
 
 use m2_check::printed_of;
 use m2_emit::Source;

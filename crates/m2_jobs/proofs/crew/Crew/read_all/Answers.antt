@@ -1,12 +1,12 @@
 use denote.Exit.{no}
 use denote.Param.Send.{param_send, param_sync, arg_send, arg_sync}
-use Rattle.m2_read.proofs.Crossing.{Read-send, Read-sync}
+use Rattle.m2_jobs.proofs.Crossing.{Read-send, Read-sync}
 use Rattle.std.proofs.Common.{List, ℕ, map, length, ◌∙◌, ap, ◌≡◌}
 use Rattle.std.specs.Global.{Vec}
 use Rattle.std.proofs.lemmas.Result.{IfOk-weaker}
 use Rattle.m2_read.specs.Reading.{AreRead}
-use Rattle.m2c.proofs.Rounds.{pool_takes_free, all_read, read_count}
-use Rattle.m2c.proofs.crew.Crew.read_all.Goals as goal
+use Rattle.m2_jobs.proofs.Rounds.{pool_takes_free, all_read, read_count}
+use Rattle.m2_jobs.proofs.crew.Crew.read_all.Goals as goal
 
 pub graph_of-requires : goal.graph_of-requires
 graph_of-requires g c = pool_takes_free c.args.files.now (map (λ row. row.items) c.deref.result.now) (ap (λ (rows : List (Vec ℕ)). map (λ row. row.items) rows) c.deref.ensures.value ∙ c.in_ok-rows.ensures)

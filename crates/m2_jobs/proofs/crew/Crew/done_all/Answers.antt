@@ -1,16 +1,16 @@
 use denote.Param.Send.{sendable}
-use Rattle.m2c.proofs.Crossing.{crosses}
+use Rattle.m2_jobs.proofs.CrossingJobs.{crosses}
 use Rattle.std.proofs.Common.{List, ℕ, map, ◌∙◌, ap, sym, subst, ◌≡◌}
 use Rattle.std.specs.Borrow.{Bor}
 use Rattle.std.specs.Global.{Vec}
 use Rattle.m2_board.specs.Graph.{IsJobGraph}
 use Rattle.m2_tree.specs.declared.decl.Module.{Module}
-use Rattle.m2_check.specs.declared.jobs.Done.{Done}
-use Rattle.m2_check.specs.Jobs.{done_all}
-use Rattle.m2_check.specs.Lent.{modules_lent}
+use Rattle.m2_check.specs.declared.done.Done.{Done}
+use Rattle.m2_jobs.specs.Jobs.{done_all}
+use Rattle.m2_jobs.specs.Lent.{modules_lent}
 use Rattle.std.proofs.lemmas.Result.{IfOk-weaker}
-use Rattle.m2c.proofs.Rounds.{all_done}
-use Rattle.m2c.proofs.crew.Crew.done_all.Goals as goal
+use Rattle.m2_jobs.proofs.Rounds.{all_done}
+use Rattle.m2_jobs.proofs.crew.Crew.done_all.Goals as goal
 
 pub run-requires-send-W : goal.run-requires-send-W
 run-requires-send-W g c κs within = search (crosses, sendable) depth 20

@@ -12,8 +12,8 @@ use Rattle.std.specs.contracts.alloc.Global
 use Rattle.std.specs.contracts.impls.GlobalAllocator.TheImpl.{ghosts}
 use Rattle.std.specs.contracts.vec.Vec
 use Rattle.m2_tree.specs.contracts.decl.Module
-use Rattle.m2_read.proofs.Crossing.{Module-sync}
-use Rattle.m2_check.specs.contracts.jobs.Checks
+use Rattle.m2_jobs.proofs.Crossing.{Module-sync}
+use Rattle.m2_jobs.specs.contracts.checks.Checks
 
 numbers_sync : IsSync (Vec.the_row builtin.usize Global.the_row ghosts)
 numbers_sync = Vec-sync builtin.usize (search sendable)

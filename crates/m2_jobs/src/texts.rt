@@ -3,8 +3,7 @@
 ghost use Rattle.std.specs.Prelude.{[], map};
 ghost use Rattle.m2_read.specs.Reading.{IsReadAt};
 
-use crate::file::SourceFile;
-use crate::reading::{Read, read_text};
+use m2_read::{Read, SourceFile, read_text};
 use m2_worker::Work;
 use std::alloc::{AllocError, Global};
 

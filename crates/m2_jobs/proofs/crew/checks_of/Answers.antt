@@ -1,8 +1,8 @@
 use Rattle.std.proofs.Common.{List, ℕ, length, map, sym, ap, ◌∙◌}
 use Rattle.std.specs.Global.{Vec}
 use Rattle.std.proofs.lemmas.List.{length-map}
-use Rattle.m2c.proofs.Graphs.{jobs_count}
-use Rattle.m2c.proofs.crew.checks_of.Goals as goal
+use Rattle.m2_jobs.proofs.Rounds.{jobs_count}
+use Rattle.m2_jobs.proofs.crew.checks_of.Goals as goal
 
 abbrev items_of : Vec ℕ → List ℕ
 items_of v = v.items

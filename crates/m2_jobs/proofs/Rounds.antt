@@ -6,6 +6,9 @@ use Rattle.m2_board.specs.Graph.{prerequisites_of, IsJobGraph}
 use Rattle.m2_board.specs.Lists.{times}
 use Rattle.graph_walk.specs.Links.{has, targets}
 use Rattle.graph_walk.specs.Links.{times as often}
+use Rattle.std.specs.List.{AllZip}
+use Rattle.m2_graph.specs.Files.{File, given_of}
+use Rattle.m2_graph.specs.Graph.{IsGraph}
 use Rattle.m2_graph.specs.Jobs.{AreJobs}
 use Rattle.m2_worker.specs.Results.{AreResults, all_jobs}
 use Rattle.m2_worker.proofs.Resulting.{as_defined, without_prerequisites, job_at, all_long}
@@ -14,8 +17,8 @@ use Rattle.m2_read.specs.declared.reading.Read.{Read}
 use Rattle.m2_read.specs.Reading.{AreRead, IsReadAt}
 use Rattle.m2_read.proofs.All.{are_read}
 use Rattle.m2_tree.specs.declared.decl.Module.{Module}
-use Rattle.m2_check.specs.declared.jobs.Done.{Done}
-use Rattle.m2_check.specs.Jobs.{defined, done_all}
+use Rattle.m2_check.specs.declared.done.Done.{Done}
+use Rattle.m2_jobs.specs.Jobs.{defined, done_all}
 
 -- ---- rows
 
@@ -51,6 +54,18 @@ pub pool_takes_free : (files : List SourceFile) (rows : List (List ℕ)) → row
 pool_takes_free files rows e job p l =
     let none : times p (prerequisites_of rows job) ≡ 0 = ap (λ (rs : List (List ℕ)). times p (prerequisites_of rs job)) e ∙ ap (times p) (no_rows files job) in
     ((λ some. absurd (omega (arith, none, some))), omega (arith, none))
+
+zip_length : {A B : Type 0} (R : A → B → Type 0) (xs : List A) (ys : List B) → AllZip R xs ys → length xs ≡ length ys
+zip_length R [] [] h = refl
+zip_length R [] (y ∷ ys) h = absurd h
+zip_length R (x ∷ xs) [] h = absurd h
+zip_length R (x ∷ xs) (y ∷ ys) h = ap suc (zip_length R xs ys h.1)
+
+-- each job has a file
+pub jobs_count : (given : List File) (numbers : List ℕ) (jobs : List (List ℕ)) (starts : List ℕ) → IsGraph given numbers jobs starts → length numbers ≡ length jobs
+jobs_count given numbers jobs starts g =
+    let j = g.2.is_jobs in
+    ap length j.compiled ∙ length-map j.order (given_of g.0) ∙ zip_length _ j.order jobs j.needs
 
 -- ---- results
 

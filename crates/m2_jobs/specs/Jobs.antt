@@ -1,25 +1,15 @@
 -- What becomes of the jobs of a graph: whether the module of each is compiled so far.
-use Rattle.std.specs.Prelude.{ℕ, Bool, true, false, List, slice_get, if◌then◌else◌, slice_index_or}
-use Rattle.std.specs.List.{list_all}
+use Rattle.std.specs.Prelude.{ℕ, Bool, List, slice_get, slice_index_or}
 use Rattle.std.specs.Option.{is_some, option_and_then}
 use Rattle.m2_tree.specs.declared.decl.Module.{Module}
 use Rattle.m2_worker.specs.Results.{results}
-use Rattle.m2_check.specs.declared.jobs.Done.{Done}
-use Rattle.m2_check.specs.declared.jobs.Done.TheVariants.{Known, Unknown, Blocked}
+use Rattle.m2_check.specs.declared.done.Done.{Done}
+use Rattle.m2_check.specs.Dones.{done}
 use Rattle.m2_check.specs.Fragment.{printed_of}
-
-abbrev pub is_known : Done → Bool
-is_known Known = true
-is_known Unknown = false
-is_known Blocked = false
 
 -- the module in this place is compiled so far
 abbrev pub is_compiled : List Module → ℕ → Bool
 is_compiled trees file = is_some (option_and_then printed_of (slice_get trees file))
-
--- A job is blocked where one that it needs is not known.
-abbrev pub done : (compiled : Bool) → List Done → Done
-done compiled needed = if list_all is_known needed then (if compiled then Known else Unknown) else Blocked
 
 -- what becomes of a job, where the file of each job is given by its place
 abbrev pub defined : List Module → (files : List ℕ) → ℕ → List Done → Done

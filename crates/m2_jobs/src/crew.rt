@@ -3,18 +3,20 @@
 ghost use Rattle.std.specs.Prelude.{◌≡◌, ◌≢◌, ◌≤◌, Err, IfOk, Ok, [], length, map};
 ghost use Rattle.m2_board.specs.Graph.{IsJobGraph};
 ghost use Rattle.m2_board.specs.declared.board.Tally.{Tally as Records};
-ghost use Rattle.m2_check.specs.Jobs.{done_all};
-ghost use Rattle.m2_check.specs.Lent.{lent, modules_lent};
+ghost use Rattle.m2_jobs.specs.Jobs.{done_all};
+ghost use Rattle.m2_jobs.specs.Lent.{lent, modules_lent};
 ghost use Rattle.m2_graph.specs.Files.{numbered};
 ghost use Rattle.m2_graph.specs.Graph.{IsGraph};
 ghost use Rattle.m2_read.specs.Reading.{AreRead};
 ghost use Rattle.m2_worker.specs.Results.{AreResults, all_jobs};
 
+use crate::checks::Checks;
+use crate::texts::Texts;
 use m2_board::{JobGraph, PoolRefusal, Tally};
-use m2_check::{Checks, Done};
+use m2_check::Done;
 use m2_graph::Graph;
 use m2_pool::run_jobs;
-use m2_read::{Read, SourceFile, Texts};
+use m2_read::{Read, SourceFile};
 use m2_tree::Module;
 use m2_worker::{Gate, Work};
 use std::alloc::{AllocError, Global};
