@@ -1,0 +1,4 @@
+pub mod Bytes
+pub mod Helpers
+pub mod Divides
+pub mod Example

@@ -1,0 +1,17 @@
+//! What calls of the helpers do: copy, fill, check, div and mod, and calls through the table. There is no code here but
+//! what names the laws, which `specs/Called` states.
+#![tactic(auto)]
+
+ghost use Rattle.m2_helpers.specs.Called.{CopyRuns, FillRuns, CopyCalled, FillCalled, CheckCalled, DivCalled, ModCalled, TableCalled};
+
+/// What the helpers' code does, and calls of it.
+pub fn helper_laws()
+    ensures copy_runs { CopyRuns }
+    ensures fill_runs { FillRuns }
+    ensures copy_called { CopyCalled }
+    ensures fill_called { FillCalled }
+    ensures check_called { CheckCalled }
+    ensures div_called { DivCalled }
+    ensures mod_called { ModCalled }
+    ensures table_called { TableCalled }
+{}

@@ -1,0 +1,6 @@
+pub mod Reaching
+pub mod Plain
+pub mod Ways
+pub mod Follows
+pub mod Steps
+pub mod Whole
