@@ -23,8 +23,9 @@ use Rattle.wasm_tree.specs.Numbers.{truth, is_less, compares, load_size, loaded,
 use Rattle.wasm_tree.specs.Machine.{Typed, type_at, agree, pasted, bytes_at, callee_at, own_function}
 use Rattle.wasm_effect.specs.Effect.{Fixed, State, store_of, Effect, FellThrough, Branched, Ended, Traps, Does, Calling, then_run, out_of, turn, turns, back, effect, calling}
 use Rattle.m2_scheme.specs.Helpers.{raise, copy_raises, copy_turn, copy_code, fill_raises, fill_turn, fill_code, check_tests, check_code, helper}
-use Rattle.m2_helpers.specs.Called.{byte, copied_bytes, cleared_bytes, HasMemory, stopped_by, CopyRuns, FillRuns, CopyCalled, FillCalled, CheckCalled, TableCalled}
-use Rattle.m2_helpers.proofs.Bytes.{length-pasted, small_pasted, same_byte, one_byte}
+use Rattle.m2_helpers.specs.Called.{HasMemory, stopped_by, CopyRuns, FillRuns, CopyCalled, FillCalled, CheckCalled, TableCalled}
+use Rattle.wasm_effect.specs.Bytes.{byte, copied_bytes, cleared_bytes}
+use Rattle.wasm_effect.proofs.Bytes.{length-pasted, small_pasted, same_byte, one_byte}
 use Rattle.wasm_effect.proofs.Steps.{◌▹◌, one_32, two_32, two_64, split_end_at, runs, block_runs, loop_runs, br_runs, br_if_runs, get_runs, set_runs, i32_runs, i64_runs, number_runs, load_runs, store_runs, own_runs, stop_runs, global_runs, indirect_runs, own_does}
 
 is_not_zero : (k : ℕ) → nat_eq (suc k) 0 ≡ false

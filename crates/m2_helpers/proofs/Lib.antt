@@ -1,4 +1,3 @@
-pub mod Bytes
 pub mod Helpers
 pub mod Divides
 pub mod Example

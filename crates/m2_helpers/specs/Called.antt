@@ -11,22 +11,10 @@ use Rattle.wasm_tree.specs.declared.store.Callee.TheVariants.{Stop, Own}
 use Rattle.wasm_tree.specs.Numbers.{truth, is_less}
 use Rattle.wasm_tree.specs.Machine.{Typed, pasted, callee_at, callee_in, global_at, memory_of, own_function, type_at, agree}
 use Rattle.m2_scheme.specs.Helpers.{copy_code, fill_code, check_typed, divisor_checked, div_rest, mod_typed, helper}
+use Rattle.wasm_effect.specs.Bytes.{byte, copied_bytes, cleared_bytes}
 use Rattle.wasm_effect.specs.Effect.{Fixed, State, store_of, Effect, FellThrough, Ended, Traps, Calling, effect, calling, then_run, back}
 
--- ---- bytes
-
-abbrev pub byte : ℕ → List ℕ → ℕ
-byte a bytes = slice_index_or bytes a 0
-
--- the memory after so many bytes are copied one by one
-unfoldable pub copied_bytes : (k to from : ℕ) → List ℕ → List ℕ
-copied_bytes zero to from m = m
-copied_bytes (suc k) to from m = copied_bytes k (to + 1) (from + 1) (pasted m to (byte from m ∷ []))
-
--- the memory after so many bytes are set to 0
-unfoldable pub cleared_bytes : (k to : ℕ) → List ℕ → List ℕ
-cleared_bytes zero to m = m
-cleared_bytes (suc k) to m = cleared_bytes k (to + 1) (pasted m to (0 ∷ []))
+-- ---- answers
 
 -- their answers
 abbrev pub remainder : (x y : ℕ) → ℕ

@@ -4,3 +4,4 @@ pub mod Ways
 pub mod Follows
 pub mod Steps
 pub mod Whole
+pub mod Bytes
