@@ -1,5 +1,5 @@
 -- Frames: fresh variables, and what stands in the hidden room.
-use Rattle.std.proofs.Common.{◌≡◌, ℕ, zero, suc, ◌+◌, ◌^◌, ◌<◌, ◌≤◌, pos, List, [], ◌∷◌, ◌++◌, length, take, drop, get_or, nat_le, if◌then◌else◌, true, Option, Some, None, refl, sym, ap, ◌∙◌, subst, arith, suc-ne-zero}
+use Rattle.std.proofs.Common.{◌≡◌, ℕ, zero, suc, ◌+◌, ◌^◌, ◌<◌, ◌≤◌, pos, List, [], ◌∷◌, ◌++◌, length, take, drop, get_or, nat_le, if◌then◌else◌, true, Option, Some, None, option_map, refl, sym, ap, ◌∙◌, subst, arith, suc-ne-zero}
 use Rattle.std.proofs.lemmas.Option.{none-some}
 use Rattle.std.proofs.lemmas.Int.{ints}
 use Rattle.std.proofs.lemmas.Bool.{le-leb}
@@ -13,7 +13,7 @@ use Rattle.wasm_effect.proofs.Bytes.{pasted_only, byte_pasted, length-pasted, sm
 use Rattle.m2_meaning.specs.Types.{Ty, Scalar, Natural, Integer, Between, Cell, Hidden, row, frame_of, component, IsFit, IsOf, IsScalar, first}
 use Rattle.m2_meaning.specs.Store.{Location, Store, placed, fresh, first_in}
 use Rattle.m2_cells.specs.Sizes.{Four, size, offset, width, value_of}
-use Rattle.m2_cells.specs.Cells.{number, load_of, raised, stored_in}
+use Rattle.m2_cells.specs.Cells.{number, load_of, raised, fetched, stored_in}
 use Rattle.m2_cells.specs.Relation.{Says, Shows, Hides, Holds, Keeps}
 use Rattle.m2_cells.proofs.Places.{inside, component_append, offset_append}
 use Rattle.m2_cells.proofs.Keeps.{number_moved, shows_written, hides_written}
@@ -133,3 +133,37 @@ module _ (world : List Ty) (x : Location → ℕ → ℕ) (s : Store) (m : List 
       let o = offset_append (row world) (frame_of vars) (root ∷ []) (0 ∷ 0 ∷ []) there in
       let p = holds_link (root ∷ 0 ∷ 0 ∷ []) n e keeps small in
       (p.0, ap (λ a. bytes_at 8 a m) (omega arith) ∙ p.1, p.2)
+
+module _ (world : List Ty) (x : Location → ℕ → ℕ) (s : Store) (m : List ℕ) (h : Holds world x s m) where
+  -- the same as what is loaded there
+  pub address_is : (l : Location) (n : ℕ) → component (row world) l ≡ Some (Hidden 4) → Keeps x l (stored_in Four n) → n < 2 ^ 32 → fetched (Natural 4294967295) (offset (row world) l) m ≡ Some n
+  address_is l n there keeps small =
+      let p = alias_parts world x s m h l n there keeps small in
+      ap (λ o. option_map (λ bytes. raised (Natural 4294967295) (loaded (load_of (Natural 4294967295)) bytes)) o) p.1 ∙ ap Some p.2
+
+-- ---- a memory of zeros
+
+no_cell : (t : Ty) (c : Scalar) → component (row (t ∷ [])) [] ≡ Some (Cell c) → ⊥
+unfolding component hidden_in
+no_cell t c e = cc e
+
+fit_row : (t : Ty) → IsFit t → IsFit (row (t ∷ []))
+unfolding component
+fit_row t fit = record { scalars = scalars }
+  where
+    none_there : (i : ℕ) (p : List ℕ) (c : Scalar) → component (row []) (i ∷ p) ≡ Some (Cell c) → ⊥
+    none_there i p c e = none-some (Cell c) e
+
+    scalars : (r : List ℕ) (c : Scalar) → component (row (t ∷ [])) r ≡ Some (Cell c) → IsScalar c
+    scalars [] c e = absurd (no_cell t c e)
+    scalars (zero ∷ p) c e = fit.scalars p c e
+    scalars (suc i ∷ p) c e = absurd (none_there i p c e)
+
+pub zeros_hold : (t : Ty) (m : List ℕ) → IsFit t → size t ≤ length m → ((a : ℕ) → get_or m a 0 ≡ 0) → Holds (t ∷ []) (λ l k. 0) (λ l. fresh (row (t ∷ [])) l) m
+unfolding size
+zeros_hold t m fit room none = record {
+  bytes = λ a. let e = none a in omega arith;
+  room = omega (arith, room);
+  cells = zero_shows (row (t ∷ [])) 0 m (fit_row t fit) (λ j l. none (0 + j));
+  hidden = zero_hides (row (t ∷ [])) 0 m (λ j l. none (0 + j));
+}

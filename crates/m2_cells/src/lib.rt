@@ -6,7 +6,7 @@
 //! - `specs/Laws` says what holds after a read, a write, a copy, a call's begin and its end.
 #![tactic(auto)]
 
-ghost use Rattle.m2_cells.specs.Laws.{Assigns, Begins, Copies, Ends, Reads};
+ghost use Rattle.m2_cells.specs.Laws.{Assigns, Begins, Copies, CopiesArgument, Ends, Reads, ReadsAddress, ReadsLink, Starts, WritesHidden};
 
 /// Cells, whole copies, new instances and their ends.
 pub fn cell_laws()
@@ -20,4 +20,17 @@ pub fn cell_laws()
     ensures begins { Begins }
     // The last instances end.
     ensures ends { Ends }
+{}
+
+/// Room in which no variable stands, copies of arguments, and where all begins.
+pub fn room_laws()
+    // An argument's copy is an instance of its own.
+    ensures copies_argument { CopiesArgument }
+    // Addresses, HIGH and links are written beside the variables,
+    ensures writes_hidden { WritesHidden }
+    // and read as they were written.
+    ensures reads_address { ReadsAddress }
+    ensures reads_link { ReadsLink }
+    // A memory of zeros holds fresh variables.
+    ensures starts { Starts }
 {}

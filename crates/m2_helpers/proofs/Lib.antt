@@ -1,3 +1,4 @@
 pub mod Helpers
 pub mod Divides
+pub mod Bodies
 pub mod Example

@@ -1,5 +1,5 @@
 -- What the helpers do: equations of their calls.
-use Rattle.std.specs.Prelude.{◌≡◌, true, ℕ, zero, suc, ◌+◌, ◌-◌, ◌*◌, ◌%◌, ◌<◌, ◌≤◌, ◌^◌, int_div, int_rem, ◌&&◌, List, [], ◌∷◌, ◌++◌, length, Some, None, slice_index_or, nat_le, if◌then◌else◌}
+use Rattle.std.specs.Prelude.{◌≡◌, ℤ, pos, negsuc, ◌+ℤ◌, ◌*ℤ◌, ◌≤ℤ◌, ◌<ℤ◌, true, ℕ, zero, suc, ◌+◌, ◌-◌, ◌*◌, ◌%◌, ◌<◌, ◌≤◌, ◌^◌, int_div, int_rem, ◌&&◌, List, [], ◌∷◌, ◌++◌, length, Some, None, slice_index_or, nat_le, if◌then◌else◌}
 use Rattle.std.specs.Int.{w64, cast_signed, cast_unsigned}
 use Rattle.wasm_tree.specs.declared.kinds.ValueType.TheVariants as types
 use Rattle.wasm_tree.specs.declared.instr.Instr.{Instr}
@@ -117,3 +117,14 @@ TableCalled =
     → (s : List Value) (rest : List Instr)
     → effect modules fx n calls m (instr.I32Const top ∷ instr.GlobalGet g ∷ instr.CallIndirect type ∷ rest) st s
     ≡ then_run (back (length t.type.results) st.locals s (calls own f t (I32 top ∷ []) st.bytes st.out)) (effect modules fx n calls m rest)
+
+-- the quotient is rounded down, and the remainder is from 0 up to the divisor: as the language divides
+pub record Divides (x y q r : ℤ) : Type 0 where
+  pub sum : x ≡ q *ℤ y +ℤ r
+  pub least : pos 0 ≤ℤ r
+  pub below : r <ℤ y
+
+abbrev pub DividesDown : Type 0
+DividesDown =
+    (x y : ℤ) → negsuc (2 ^ 62) ≤ℤ x → x ≤ℤ pos (2 ^ 62) → pos 1 ≤ℤ y → y ≤ℤ pos 4294967295
+    → Divides x y (cast_signed w64 (divided_down (cast_unsigned w64 x) (cast_unsigned w64 y))) (cast_signed w64 (modulo (cast_unsigned w64 x) (cast_unsigned w64 y)))

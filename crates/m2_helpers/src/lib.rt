@@ -2,6 +2,7 @@
 //! what names the laws, which `specs/Called` states.
 #![tactic(auto)]
 
+ghost use Rattle.m2_helpers.specs.Bodies.{BodiesCalled, ProgramRuns};
 ghost use Rattle.m2_helpers.specs.Called.{CopyRuns, FillRuns, CopyCalled, FillCalled, CheckCalled, DivCalled, ModCalled, TableCalled};
 
 /// What the helpers' code does, and calls of it.
@@ -14,4 +15,10 @@ pub fn helper_laws()
     ensures div_called { DivCalled }
     ensures mod_called { ModCalled }
     ensures table_called { TableCalled }
+{}
+
+/// What the run of a whole program does: the bodies, one after another.
+pub fn program_laws()
+    ensures bodies_called { BodiesCalled }
+    ensures program_runs { ProgramRuns }
 {}
