@@ -3,7 +3,7 @@
 #![tactic(auto)]
 
 ghost use Rattle.m2_helpers.specs.Bodies.{BodiesCalled, ProgramRuns};
-ghost use Rattle.m2_helpers.specs.Called.{CopyRuns, FillRuns, CopyCalled, FillCalled, CheckCalled, DivCalled, ModCalled, TableCalled};
+ghost use Rattle.m2_helpers.specs.Called.{CopyRuns, FillRuns, CopyCalled, FillCalled, CheckCalled, DivCalled, DividesDown, ModCalled, TableCalled};
 
 /// What the helpers' code does, and calls of it.
 pub fn helper_laws()
@@ -14,6 +14,8 @@ pub fn helper_laws()
     ensures check_called { CheckCalled }
     ensures div_called { DivCalled }
     ensures mod_called { ModCalled }
+    // What div and mod leave is the quotient rounded down, and the remainder from 0 up.
+    ensures divides_down { DividesDown }
     ensures table_called { TableCalled }
 {}
 

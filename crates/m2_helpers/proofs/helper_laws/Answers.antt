@@ -1,3 +1,4 @@
+use Rattle.m2_helpers.proofs.Rounding.{divides_down}
 use Rattle.m2_helpers.proofs.Helpers.{copy_runs, fill_runs, copy_called, fill_called, check_called, table_called}
 use Rattle.m2_helpers.proofs.Divides.{div_called, mod_called}
 use Rattle.m2_helpers.proofs.helper_laws.Goals as goal
@@ -31,3 +32,6 @@ returns-clause-mod_called k modules fx extra n d loops m g own f index c check_i
 pub returns-clause-table_called : goal.returns-clause-table_called
 returns-clause-table_called k modules fx n calls m top g slot type own f t st at_g at_slot is same shape s rest =
     table_called modules fx n calls m top g slot type own f t st at_g at_slot is same shape s rest
+
+pub returns-clause-divides_down : goal.returns-clause-divides_down
+returns-clause-divides_down c x y lx hx ly hy = divides_down x y lx hx ly hy
