@@ -47,7 +47,7 @@ CopiesArgument =
     (world : List Ty) (x : Location → ℕ → ℕ) (s : Store) (m : List ℕ) → Holds world x s m → (from : Location) (t : Ty) → IsPlain t → component (row world) from ≡ Some t
     → size (row world) + size t ≤ length m
     → Holds (world ++ t ∷ []) (placed (length world ∷ []) (λ r k. 0) x) (placed (length world ∷ []) (λ r. s (from ++ r)) s)
-      (copied_bytes (size t) (size (row world)) (offset (row world) from) m)
+    (copied_bytes (size t) (size (row world)) (offset (row world) from) m)
 
 -- bytes are written into room in which no variable stands: all variables are as they were
 abbrev pub WritesHidden : Type 0

@@ -6,3 +6,4 @@ pub mod Links
 pub mod Placed
 pub mod Runs
 pub mod Kept
+pub mod Example

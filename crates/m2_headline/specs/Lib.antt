@@ -1,2 +1,3 @@
 pub mod Suits
 pub mod Headline
+pub mod Example

@@ -64,4 +64,4 @@ abbrev pub ProgramRuns : Type 0
 ProgramRuns =
     (modules : List WModule) (fx : Fixed) (extra : (k f : ℕ) → ℕ) (n m f index top type : ℕ) (bs : List BodyAt) → AreThere modules fx m type bs → (bytes : List ℕ)
     → RunLeads modules n 0 (Going (store_of fx bytes) (entered m (run_typed index top type bs) []) [])
-      (bodies_do (calling modules fx extra n n) top bs (record { locals = []; bytes = bytes; out = [] }) [])
+    (bodies_do (calling modules fx extra n n) top bs (record { locals = []; bytes = bytes; out = [] }) [])

@@ -11,7 +11,6 @@ use Rattle.wasm_tree.specs.declared.instr.Load.TheVariants as load
 use Rattle.wasm_tree.specs.declared.instr.StoreWidth.TheVariants as width
 use Rattle.wasm_tree.specs.Machine.{Typed}
 
-
 -- raises a local by so much
 abbrev pub raise : (x by : ℕ) → List Instr → List Instr
 raise x by rest = instr.LocalGet x ∷ instr.I32Const by ∷ instr.Numeric numeric.I32Add ∷ instr.LocalSet x ∷ rest
