@@ -1,6 +1,6 @@
 //! Values with a binary format, and lists of them.
 
-ghost use Rattle.std.specs.Prelude.{◌≡◌, ◌++◌, List, ℕ, OnOk};
+ghost use Rattle.std.specs.Prelude.{◌≡◌, ◌≢◌, Err, ◌++◌, List, ℕ, OnOk};
 ghost use Rattle.wasm_tree.specs.Format.{Format, Gives};
 ghost use Rattle.wasm_bytes.specs.Number.{unsigned};
 ghost use Rattle.wasm_bytes.specs.Parts.{many, vector, entries, section};
@@ -29,7 +29,10 @@ pub trait Binary: Drop {
 impl Binary for u32 {
     ghost format = { unsigned };
 
-    fn read(_alloc: Global, bytes: &[u8]) -> Result<(u32, &[u8]), WFault> {
+    fn read(_alloc: Global, bytes: &[u8]) -> Result<(u32, &[u8]), WFault>
+        ensures gives { Gives (λ x. (x.0, x.1.now)) result (unsigned.reading bytes.now) }
+        ensures memory { result ≢ Err WFault.NoMemory }
+    {
         unsigned_at(bytes)
     }
 

@@ -1,6 +1,6 @@
 //! Whole modules in bytes (Core 1.0, section 5.5.15).
 
-ghost use Rattle.std.specs.Prelude.{◌≡◌, ◌++◌, List, ℕ, true, [], map, OnOk, IfOk, Ok, MatchResult, ◌⊎◌};
+ghost use Rattle.std.specs.Prelude.{◌≡◌, ◌≢◌, Err, IsOk, ◌++◌, List, ℕ, true, [], map, OnOk, IfOk, Ok, MatchResult, ◌⊎◌};
 ghost use Rattle.wasm_tree.specs.Format.{Format, Gives};
 ghost use Rattle.wasm_binary.specs.Binary.{header, skip_all, bodies, code_entries, code_content, code_section, at_end, module_at, types_of, bodies_spelling, code_spelling, first_sections, middle_sections, last_sections, module_spelling, module_fits, Spells, IsOnlySpelling};
 ghost use Rattle.wasm_tree.specs.declared.fault.WFault.TheVariants.{NoMemory};
@@ -17,7 +17,8 @@ const HEADER: [u8; 8] = [0x00, 0x61, 0x73, 0x6D, 0x01, 0x00, 0x00, 0x00];
 
 /// The bytes behind all of these.
 fn skip_all_at<'a>(expected: &[u8], bytes: &'a [u8]) -> Result<&'a [u8], WFault>
-    ensures { Gives (λ x. x.now) result (skip_all expected.now bytes.now) }
+    ensures gives { Gives (λ x. x.now) result (skip_all expected.now bytes.now) }
+    ensures memory { result ≢ Err WFault.NoMemory }
 {
     let mut rest = bytes;
     for byte in expected {
@@ -98,7 +99,8 @@ fn code_section_at<'a>(
 
 /// Nothing may follow the last section.
 fn at_end(bytes: &[u8]) -> Result<(), WFault>
-    ensures { Gives (λ _. tt) result (at_end bytes.now) }
+    ensures gives { Gives (λ _. tt) result (at_end bytes.now) }
+    ensures memory { result ≢ Err WFault.NoMemory }
 {
     if bytes.is_empty() {
         Ok(())
@@ -109,7 +111,8 @@ fn at_end(bytes: &[u8]) -> Result<(), WFault>
 
 #[tactic(auto, unfolding(crate::specs::Binary::module_at))]
 fn module_at(alloc: Global, bytes: &[u8]) -> Result<WModule, WFault>
-    ensures { Gives (λ m. (m, [])) result (module_at bytes.now) }
+    ensures gives { Gives (λ m. (m, [])) result (module_at bytes.now) }
+    ensures memory { result ≡ Err WFault.NoMemory → IsOk (skip_all header bytes.now) }
 {
     let rest = skip_all_at(&HEADER, bytes)?;
     let (types, rest) = section(alloc, 1, rest)?;
@@ -143,6 +146,8 @@ pub fn read_module(alloc: Global, bytes: &[u8]) -> Result<WModule, WFault>
     ensures decided { MatchResult result (λ m. Spells bytes.now m) (λ e. (e ≡ NoMemory) ⊎ ((m : WModule) → ¬ (Spells bytes.now m))) }
     // Which fault it is.
     ensures exact { Gives (λ m. (m, [])) result (module_at bytes.now) }
+    // No memory is asked for before the header is there.
+    ensures memory { result ≡ Err WFault.NoMemory → IsOk (skip_all header bytes.now) }
 {
     module_at(alloc, bytes)
 }

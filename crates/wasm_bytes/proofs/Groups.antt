@@ -1,10 +1,8 @@
 -- Numbers in groups, as a loop writes them.
-use Rattle.std.proofs.Common.{◌≡◌, ℕ, suc, ◌+◌, ◌-◌, ◌/◌, ◌%◌, ◌<◌, ◌≤◌, List, [], ◌∷◌, ◌++◌, refl, sym, ap, ◌∙◌, append_assoc, arith, Result}
-use Rattle.std.specs.Prelude.{OnOk}
+use Rattle.std.proofs.Common.{◌≡◌, ℕ, suc, ◌+◌, ◌-◌, ◌/◌, ◌%◌, ◌<◌, ◌≤◌, List, [], ◌∷◌, ◌++◌, refl, sym, ap, ◌∙◌, append_assoc, arith}
 use Rattle.std.proofs.lemmas.List.{append-nil}
 use Rattle.std.proofs.lemmas.Bool.{lt-ltb, le-ltb}
 use Rattle.std.proofs.lemmas.Bool.Decides.{nat_tests}
-use Rattle.std.proofs.lemmas.Result.{on_ok_weaker}
 use Rattle.wasm_bytes.specs.Number.{groups, signed_groups, shifted}
 
 one_less : (k most : ℕ) → k < most → most - k ≡ suc (most - (k + 1))
@@ -39,8 +37,8 @@ unfolding signed_groups
 signed_none most k top n h = let none : most - k ≡ 0 = omega arith in rw none refl
 
 -- a last piece was appended
-pub ends : {E : Type 0} (r : Result (Unit {0}) E) (new out old : List ℕ) (last piece all : List ℕ) → OnOk r (new ≡ out ++ last) → piece ≡ last → out ++ piece ≡ old ++ all → OnOk r (new ≡ old ++ all)
-ends r new out old last piece all h e so_far = on_ok_weaker r (λ (x : new ≡ out ++ last). x ∙ ap (λ (p : List ℕ). out ++ p) (sym e) ∙ so_far) h
+pub ends : (new out old last piece all : List ℕ) → new ≡ out ++ last → piece ≡ last → out ++ piece ≡ old ++ all → new ≡ old ++ all
+ends new out old last piece all h e so_far = h ∙ ap (λ (p : List ℕ). out ++ p) (sym e) ∙ so_far
 
 -- one more was appended
 pub goes_on : (new out old : List ℕ) (one : ℕ) (piece rest all : List ℕ) → new ≡ out ++ one ∷ [] → piece ≡ one ∷ rest → out ++ piece ≡ old ++ all → new ++ rest ≡ old ++ all

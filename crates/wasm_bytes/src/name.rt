@@ -1,6 +1,6 @@
 //! Names in bytes (Core 1.0, section 5.2.4).
 
-ghost use Rattle.std.specs.Prelude.{◌≡◌, ◌++◌, OnOk};
+ghost use Rattle.std.specs.Prelude.{◌≡◌, ◌++◌, Err, IsOk, OnErr, OnOk};
 ghost use Rattle.std.specs.Str.{is_utf8};
 ghost use Rattle.wasm_tree.specs.Format.{Gives};
 ghost use Rattle.wasm_bytes.specs.Parts.{name};
@@ -21,7 +21,9 @@ fn is_utf8(text: &[u8]) -> bool
 /// A name in UTF-8.
 #[tactic(auto, unfolding(crate::specs::Parts::name))]
 pub fn name_at(alloc: Global, bytes: &[u8]) -> Result<(Items<u8>, &[u8]), WFault>
-    ensures { Gives (λ x. (x.0, x.1.now)) result (name.reading bytes.now) }
+    ensures gives { Gives (λ x. (x.0, x.1.now)) result (name.reading bytes.now) }
+    // Memory is asked for only where there is a name.
+    ensures memory { result ≡ Err WFault.NoMemory → IsOk (name.reading bytes.now) }
 {
     let (size, rest) = unsigned_at(bytes)?;
     let text = front(rest, size);
@@ -32,10 +34,11 @@ pub fn name_at(alloc: Global, bytes: &[u8]) -> Result<(Items<u8>, &[u8]), WFault
     Ok((Items::from_slice(alloc, text)?, rest))
 }
 
-/// Appends a name.
+/// Appends a name; nothing where memory is refused.
 #[tactic(auto, unfolding(crate::specs::Parts::name))]
 pub fn write_name(out: &mut Writer, text: &[u8]) -> Result<(), AllocError>
-    ensures { OnOk result (out.new ≡ out.old ++ name.spelling text.now) }
+    ensures ok { OnOk result (out.new ≡ out.old ++ name.spelling text.now) }
+    ensures err { OnErr result (out.new ≡ out.old) }
 {
     out.sized(text)
 }

@@ -1,13 +1,14 @@
 //! Numbers in groups of seven bits (Core 1.0, section 5.2.2), in their shortest spelling alone.
 
-ghost use Rattle.std.specs.Prelude.{◌≡◌, ◌+◌, ◌*◌, ◌%◌, ◌<◌, ◌≤◌, ◌^◌, ◌-◌, ◌/◌, IfOk};
+ghost use Rattle.std.specs.Prelude.{◌≡◌, ◌+◌, ◌*◌, ◌%◌, ◌<◌, ◌≤◌, ◌^◌, ◌-◌, ◌/◌, ◌≢◌, IfOk, Err};
 ghost use Rattle.wasm_tree.specs.Format.{Format, Gives};
 ghost use Rattle.wasm_bytes.specs.Number.{unsigned, groups_at, joined, signed32, signed64, signed_groups_at, signed_joined};
 
 use wasm_tree::WFault;
 
 fn joined(low: u8, high: u32, rest: &[u8]) -> Result<(u32, &[u8]), WFault>
-    ensures { Gives (λ x. (x.0, x.1.now)) result (joined low high rest.now) }
+    ensures gives { Gives (λ x. (x.0, x.1.now)) result (joined low high rest.now) }
+    ensures memory { result ≢ Err WFault.NoMemory }
 {
     if high == 0 {
         return Err(WFault::Malformed);
@@ -21,7 +22,8 @@ fn joined(low: u8, high: u32, rest: &[u8]) -> Result<(u32, &[u8]), WFault>
 
 #[tactic(auto, unfolding(crate::specs::Number::groups_at))]
 fn groups_at(most: u8, bytes: &[u8]) -> Result<(u32, &[u8]), WFault>
-    ensures { Gives (λ x. (x.0, x.1.now)) result (groups_at most bytes.now) }
+    ensures gives { Gives (λ x. (x.0, x.1.now)) result (groups_at most bytes.now) }
+    ensures memory { result ≢ Err WFault.NoMemory }
 {
     if most == 0 {
         return Err(WFault::Malformed);
@@ -40,7 +42,8 @@ fn groups_at(most: u8, bytes: &[u8]) -> Result<(u32, &[u8]), WFault>
 #[inline(always)]
 #[tactic(auto, unfolding(crate::specs::Number::groups_at))]
 pub fn unsigned_at(bytes: &[u8]) -> Result<(u32, &[u8]), WFault>
-    ensures { Gives (λ x. (x.0, x.1.now)) result (unsigned.reading bytes.now) }
+    ensures gives { Gives (λ x. (x.0, x.1.now)) result (unsigned.reading bytes.now) }
+    ensures memory { result ≢ Err WFault.NoMemory }
 {
     match bytes {
         [byte, rest @ ..] if *byte < 128 => Ok((u32::from(*byte), rest)),
@@ -53,6 +56,7 @@ fn signed_joined(top: u64, low: u8, high: u64, rest: &[u8]) -> Result<(u64, &[u8
     requires low { low < 128 }
     requires high { high ≤ top }
     ensures gives { Gives (λ x. (x.0, x.1.now)) result (signed_joined top low high rest.now) }
+    ensures memory { result ≢ Err WFault.NoMemory }
     ensures within { IfOk result (λ x. x.0 ≤ top) }
 {
     if high <= top / 256 {
@@ -76,6 +80,7 @@ fn signed_joined(top: u64, low: u8, high: u64, rest: &[u8]) -> Result<(u64, &[u8
 fn signed_at(most: u8, top: u64, bytes: &[u8]) -> Result<(u64, &[u8]), WFault>
     requires { top % 256 ≡ 255 }
     ensures gives { Gives (λ x. (x.0, x.1.now)) result (signed_groups_at most top bytes.now) }
+    ensures memory { result ≢ Err WFault.NoMemory }
     ensures within { IfOk result (λ x. x.0 ≤ top) }
 {
     if most == 0 {
@@ -96,7 +101,8 @@ fn signed_at(most: u8, top: u64, bytes: &[u8]) -> Result<(u64, &[u8]), WFault>
 #[inline(always)]
 #[tactic(auto, unfolding(crate::specs::Number::signed_groups_at))]
 pub fn signed32_at(bytes: &[u8]) -> Result<(u32, &[u8]), WFault>
-    ensures { Gives (λ x. (x.0, x.1.now)) result (signed32.reading bytes.now) }
+    ensures gives { Gives (λ x. (x.0, x.1.now)) result (signed32.reading bytes.now) }
+    ensures memory { result ≢ Err WFault.NoMemory }
 {
     match bytes {
         [byte, rest @ ..] if *byte < 64 => Ok((u32::from(*byte), rest)),
@@ -105,7 +111,8 @@ pub fn signed32_at(bytes: &[u8]) -> Result<(u32, &[u8]), WFault>
 }
 
 fn long_signed32_at(bytes: &[u8]) -> Result<(u32, &[u8]), WFault>
-    ensures { Gives (λ x. (x.0, x.1.now)) result (signed32.reading bytes.now) }
+    ensures gives { Gives (λ x. (x.0, x.1.now)) result (signed32.reading bytes.now) }
+    ensures memory { result ≢ Err WFault.NoMemory }
 {
     let (bits, rest) = signed_at(5, u64::from(u32::MAX), bytes)?;
     Ok((bits as u32, rest))
@@ -115,7 +122,8 @@ fn long_signed32_at(bytes: &[u8]) -> Result<(u32, &[u8]), WFault>
 #[inline(always)]
 #[tactic(auto, unfolding(crate::specs::Number::signed_groups_at))]
 pub fn signed64_at(bytes: &[u8]) -> Result<(u64, &[u8]), WFault>
-    ensures { Gives (λ x. (x.0, x.1.now)) result (signed64.reading bytes.now) }
+    ensures gives { Gives (λ x. (x.0, x.1.now)) result (signed64.reading bytes.now) }
+    ensures memory { result ≢ Err WFault.NoMemory }
 {
     match bytes {
         [byte, rest @ ..] if *byte < 64 => Ok((u64::from(*byte), rest)),

@@ -1,6 +1,6 @@
 //! Parts of a module whose number of bytes stands before them.
 
-ghost use Rattle.std.specs.Prelude.{◌≡◌, take};
+ghost use Rattle.std.specs.Prelude.{◌≡◌, ◌≢◌, take, Err};
 ghost use Rattle.wasm_tree.specs.Format.{Gives, skip, byte_at};
 ghost use Rattle.wasm_bytes.specs.Parts.{closed};
 
@@ -20,7 +20,8 @@ pub fn front(bytes: &[u8], size: u32) -> &[u8]
 
 /// The bytes behind a part of so many bytes, of which these are left. `Malformed` where some are, or some are missing.
 pub fn closed<'a>(size: u32, bytes: &'a [u8], left: &[u8]) -> Result<&'a [u8], WFault>
-    ensures { Gives (λ x. x.now) result (closed size bytes.now left.now) }
+    ensures gives { Gives (λ x. x.now) result (closed size bytes.now left.now) }
+    ensures memory { result ≢ Err WFault.NoMemory }
 {
     let size = size as usize;
     if left.is_empty() && size <= bytes.len() {
@@ -32,7 +33,8 @@ pub fn closed<'a>(size: u32, bytes: &'a [u8], left: &[u8]) -> Result<&'a [u8], W
 
 /// The bytes behind this one. `Malformed` where another one or the end stands.
 pub fn skip(byte: u8, bytes: &[u8]) -> Result<&[u8], WFault>
-    ensures { Gives (λ x. (tt, x.now)) result (skip byte bytes.now) }
+    ensures gives { Gives (λ x. (tt, x.now)) result (skip byte bytes.now) }
+    ensures memory { result ≢ Err WFault.NoMemory }
 {
     match bytes {
         [first, rest @ ..] if *first == byte => Ok(rest),
@@ -42,7 +44,8 @@ pub fn skip(byte: u8, bytes: &[u8]) -> Result<&[u8], WFault>
 
 /// The first byte and those behind it. `Malformed` at the end.
 pub fn byte_at(bytes: &[u8]) -> Result<(u8, &[u8]), WFault>
-    ensures { Gives (λ x. (x.0, x.1.now)) result (byte_at bytes.now) }
+    ensures gives { Gives (λ x. (x.0, x.1.now)) result (byte_at bytes.now) }
+    ensures memory { result ≢ Err WFault.NoMemory }
 {
     match bytes {
         [first, rest @ ..] => Ok((*first, rest)),

@@ -1,13 +1,17 @@
 //! A buffer that bytes are appended to.
 
-ghost use Rattle.std.specs.Prelude.{◌≡◌, ◌++◌, ◌∷◌, [], ◌+◌, ◌-◌, ◌*◌, ◌/◌, ◌%◌, ◌^◌, ◌<◌, ◌≤◌, length, OnOk, IsTrue, ◌↔◌};
+ghost use Rattle.std.specs.Prelude.{◌≡◌, ◌++◌, ◌∷◌, [], ◌+◌, ◌-◌, ◌*◌, ◌/◌, ◌%◌, ◌^◌, ◌<◌, ◌≤◌, length, vec_len, vec_capacity, OnOk, OnErr, IsTrue, ◌↔◌};
 ghost use Rattle.wasm_tree.specs.Format.{Format};
 ghost use Rattle.wasm_bytes.specs.Number.{unsigned, groups, signed32, signed64, signed_groups, shifted};
 
 use std::alloc::{AllocError, Global};
 use std::marker::Model;
 
-/// Bytes of the binary format, in the order in which they are written. Contracts see the list of them.
+/// The most bytes that a number takes.
+const LONGEST: u8 = 10;
+
+/// Bytes of the binary format, in the order in which they are written. Contracts see the list of them. Where memory is
+/// refused, nothing is appended.
 #[derive(Debug, Drop)]
 pub struct Writer {
     bytes: Vec<u8>,
@@ -54,7 +58,8 @@ impl Writer {
 
     /// Appends one byte.
     pub fn byte(&mut self, byte: u8) -> Result<(), AllocError>
-        ensures { OnOk result (self.new ≡ self.old ++ byte ∷ []) }
+        ensures ok { OnOk result (self.new ≡ self.old ++ byte ∷ []) }
+        ensures err { OnErr result (self.new ≡ self.old) }
     {
         self.bytes.push(byte)?;
         Ok(())
@@ -62,71 +67,50 @@ impl Writer {
 
     /// Appends these bytes.
     pub fn bytes(&mut self, bytes: &[u8]) -> Result<(), AllocError>
-        ensures { OnOk result (self.new ≡ self.old ++ bytes.now) }
+        ensures ok { OnOk result (self.new ≡ self.old ++ bytes.now) }
+        ensures err { OnErr result (self.new ≡ self.old) }
     {
         self.bytes.extend_from_slice(bytes)
     }
 
     /// Appends an index, a count or a size (Core 1.0, section 5.2.2).
     pub fn unsigned(&mut self, number: u64) -> Result<(), AllocError>
-        ensures { OnOk result (self.new ≡ self.old ++ unsigned.spelling number) }
+        ensures ok { OnOk result (self.new ≡ self.old ++ unsigned.spelling number) }
+        ensures err { OnErr result (self.new ≡ self.old) }
     {
-        self.groups(10, number)
-    }
-
-    fn groups(&mut self, most: u8, number: u64) -> Result<(), AllocError>
-        ensures { OnOk result (self.new ≡ self.old ++ groups most number) }
-    {
-        let mut rest = number;
-        for _ in 0..most {
-            if rest < 128 {
-                return self.byte(rest as u8);
-            }
-            self.byte((128 + rest % 128) as u8)?;
-            rest /= 128;
-        }
-        Ok(())
-    }
-
-    fn signed(&mut self, most: u8, top: u64, bits: u64) -> Result<(), AllocError>
-        requires wide { top % 256 ≡ 255 }
-        requires within { bits ≤ top }
-        ensures { OnOk result (self.new ≡ self.old ++ signed_groups most top bits) }
-    {
-        let mut rest = bits;
-        for _ in 0..most {
-            if rest < 64 {
-                return self.byte(rest as u8);
-            }
-            if top - 64 < rest {
-                return self.byte((127 - (top - rest)) as u8);
-            }
-            self.byte((128 + rest % 128) as u8)?;
-            rest = shifted(top, rest);
-        }
+        self.bytes.reserve(usize::from(LONGEST))?;
+        push_groups(&mut self.bytes, LONGEST, number);
         Ok(())
     }
 
     /// Appends a constant of 32 bits, given by its bits, as the signed number that they stand for.
     pub fn signed32(&mut self, bits: u32) -> Result<(), AllocError>
-        ensures { OnOk result (self.new ≡ self.old ++ signed32.spelling bits) }
+        ensures ok { OnOk result (self.new ≡ self.old ++ signed32.spelling bits) }
+        ensures err { OnErr result (self.new ≡ self.old) }
     {
-        self.signed(5, u64::from(u32::MAX), u64::from(bits))
+        self.bytes.reserve(usize::from(LONGEST))?;
+        push_signed(&mut self.bytes, 5, u64::from(u32::MAX), u64::from(bits));
+        Ok(())
     }
 
     /// Appends a constant of 64 bits, given by its bits, as the signed number that they stand for.
     pub fn signed64(&mut self, bits: u64) -> Result<(), AllocError>
-        ensures { OnOk result (self.new ≡ self.old ++ signed64.spelling bits) }
+        ensures ok { OnOk result (self.new ≡ self.old ++ signed64.spelling bits) }
+        ensures err { OnErr result (self.new ≡ self.old) }
     {
-        self.signed(10, u64::MAX, bits)
+        self.bytes.reserve(usize::from(LONGEST))?;
+        push_signed(&mut self.bytes, LONGEST, u64::MAX, bits);
+        Ok(())
     }
 
     /// Appends a part behind the number of its bytes: a section's content, a body or a name.
     pub fn sized(&mut self, part: &[u8]) -> Result<(), AllocError>
-        ensures { OnOk result (self.new ≡ self.old ++ (unsigned.spelling (length part.now) ++ part.now)) }
+        ensures ok { OnOk result (self.new ≡ self.old ++ (unsigned.spelling (length part.now) ++ part.now)) }
+        ensures err { OnErr result (self.new ≡ self.old) }
     {
-        self.unsigned(part.len() as u64)?;
-        self.bytes(part)
+        self.bytes.reserve(usize::from(LONGEST) + part.len())?;
+        push_groups(&mut self.bytes, LONGEST, part.len() as u64);
+        self.bytes.extend_from_slice(part)
     }
 
     /// What was written.
@@ -142,6 +126,46 @@ impl Writer {
     {
         let Writer { bytes } = self;
         bytes
+    }
+}
+
+/// Appends the groups of a number, for which there is room.
+fn push_groups(bytes: &mut Vec<u8>, most: u8, number: u64)
+    requires { vec_len bytes.old + most ≤ vec_capacity bytes.old }
+    ensures items { bytes.new.items ≡ bytes.old.items ++ groups most number }
+    ensures within { vec_len bytes.new ≤ vec_len bytes.old + most }
+    ensures capacity { vec_capacity bytes.new ≡ vec_capacity bytes.old }
+{
+    let mut rest = number;
+    for _ in 0..most {
+        if rest < 128 {
+            bytes.push_reserved(rest as u8);
+            return;
+        }
+        bytes.push_reserved((128 + rest % 128) as u8);
+        rest /= 128;
+    }
+}
+
+/// Appends the groups of a signed number, for which there is room.
+fn push_signed(bytes: &mut Vec<u8>, most: u8, top: u64, bits: u64)
+    requires room { vec_len bytes.old + most ≤ vec_capacity bytes.old }
+    requires wide { top % 256 ≡ 255 }
+    requires within { bits ≤ top }
+    ensures { bytes.new.items ≡ bytes.old.items ++ signed_groups most top bits }
+{
+    let mut rest = bits;
+    for _ in 0..most {
+        if rest < 64 {
+            bytes.push_reserved(rest as u8);
+            return;
+        }
+        if top - 64 < rest {
+            bytes.push_reserved((127 - (top - rest)) as u8);
+            return;
+        }
+        bytes.push_reserved((128 + rest % 128) as u8);
+        rest = shifted(top, rest);
     }
 }
 

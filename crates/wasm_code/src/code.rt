@@ -1,6 +1,6 @@
 //! Instructions in bytes (Core 1.0, section 5.4).
 
-ghost use Rattle.std.specs.Prelude.{◌≡◌, ◌+◌, ◌-◌, ◌<◌, ◌≤◌, true, Ok, [], ◌∷◌, ◌++◌, OnOk, IfOk, MatchOption, length, map, slice_set};
+ghost use Rattle.std.specs.Prelude.{◌≡◌, ◌≢◌, Err, ◌+◌, ◌-◌, ◌<◌, ◌≤◌, true, Ok, [], ◌∷◌, ◌++◌, OnOk, IfOk, MatchOption, length, map, slice_set};
 ghost use Rattle.std.specs.List.{flat_map};
 ghost use Rattle.wasm_tree.specs.Code.{tree, head, behind, label_of};
 ghost use Rattle.wasm_tree.specs.Format.{Format, Gives};
@@ -47,7 +47,8 @@ fn opens(opcode: u8) -> bool
 
 /// The two bytes of zero behind a load or a store: its hint and its offset.
 fn no_offset(bytes: &[u8]) -> Result<&[u8], WFault>
-    ensures { Gives (λ x. x.now) result (no_offset bytes.now) }
+    ensures gives { Gives (λ x. x.now) result (no_offset bytes.now) }
+    ensures memory { result ≢ Err WFault.NoMemory }
 {
     let rest = skip(0x00, bytes)?;
     skip(0x00, rest)
@@ -221,7 +222,8 @@ fn plain_onto<'a>(
 /// The type of a block.
 #[tactic(auto, unfolding(crate::specs::Instructions::block_type))]
 fn block_type_at(bytes: &[u8]) -> Result<(Option<ValueType>, &[u8]), WFault>
-    ensures { Gives (λ x. (x.0, x.1.now)) result (block_type.reading bytes.now) }
+    ensures gives { Gives (λ x. (x.0, x.1.now)) result (block_type.reading bytes.now) }
+    ensures memory { result ≢ Err WFault.NoMemory }
 {
     match byte_at(bytes)? {
         (0x40, rest) => Ok((None, rest)),

@@ -12,15 +12,17 @@ use Rattle.wasm_tree.specs.declared.code.Op.TheVariants as op
 use Rattle.wasm_tree.specs.Code.{tree, head, behind}
 use Rattle.wasm_tree.proofs.Flat.{tree_front, tree_none}
 use Rattle.wasm_tree.specs.declared.store.Store.{Store}
-use Rattle.wasm_tree.specs.Machine.{Activation, Going, split_last}
+use Rattle.wasm_tree.specs.Machine.{Activation, Going, Over, Trapped, split_last}
 use Rattle.wasm_sound.specs.Ready.{IsReady, IsReadyToEnd}
 use Rattle.wasm_tree.specs.Machine.{Config, run, reduce, next, begun, ended}
 use Rattle.wasm_tree.specs.Linking.{link}
 use Rattle.wasm_tree.specs.Validity.{IsValid}
 use Rattle.wasm_sound.proofs.Linked.{link_is_sound}
-use Rattle.wasm_sound.proofs.Soundness.{run_is_sound, is_ready_to_begin, is_ready_to_end}
+use Rattle.wasm_sound.proofs.Soundness.{run_is_sound, is_ready, is_ready_to_begin, is_ready_to_end}
+use Rattle.wasm_sound.proofs.Traps.{traps_by_rule, no_trap_at_end}
 use Rattle.std.specs.Prelude.{Result, IfOk, Err, is_err}
 use Rattle.wasm_engine.specs.Well.{IsWell}
+use Rattle.wasm_engine.specs.Safe.{IsSafe, StaysSafe}
 use Rattle.wasm_engine.specs.Instances.{modules_of, config_of, Runs}
 use Rattle.wasm_engine.specs.declared.engine.End.{End}
 use Rattle.wasm_engine.specs.declared.engine.RunFault.{RunFault}
@@ -50,6 +52,20 @@ pub well_after : {S : Type 0} (told : S → Option (List ℕ)) (failed : S → �
 well_after told failed steps old new before after (Ok e) broken is h same w =
     ∥∥₁_map (well_run (modules_of old) steps (config_of old) (config_of new) w h.config) (λ x _. subst (λ (m : List WModule). IsWell m (config_of new)) (sym same) x)
 well_after told failed steps old new before after (Err e) broken is h same w = merely (λ g. absurd (grind (arith, is, g)))
+
+-- what such a configuration needs is there, and it traps only as the standard says
+is_safe : (modules : List WModule) (c : Config) → IsWell modules c → IsSafe modules c
+is_safe modules (Going st now callers) h = record {
+  begins = is_ready modules h.valid st now callers h.sound;
+  ends = is_ready_to_end modules h.valid st now callers h.sound;
+  traps = λ i rest. traps_by_rule modules st now callers i rest h.valid h.sound;
+  no_trap_at_end = no_trap_at_end modules st now callers h.valid h.sound;
+}
+is_safe modules (Over k) h = tt
+is_safe modules Trapped h = tt
+
+pub stays_safe : (i : Instances) → i.is_broken ≡ false → StaysSafe (modules_of i) (config_of i)
+stays_safe i e n = ∥∥₁_map (well_before i e) (λ w. is_safe (modules_of i) (run (modules_of i) n (config_of i)).0 (ran (modules_of i) n (config_of i) w))
 
 -- each module up to a place, and the one there
 abbrev pub AreValid : ℕ → List WModule → Type 0

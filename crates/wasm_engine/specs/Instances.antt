@@ -1,5 +1,5 @@
 -- What linked modules are, and what a call of run makes of them.
-use Rattle.std.specs.Prelude.{◌≡◌, ℕ, ◌≤◌, ◌+◌, ◌⊎◌, Option, Bool, List}
+use Rattle.std.specs.Prelude.{◌≡◌, ℕ, ◌≤◌, ◌+◌, ◌⊎◌, Option, Some, None, Bool, List}
 use Rattle.wasm_tree.specs.declared.module.WModule.{WModule}
 use Rattle.wasm_tree.specs.Machine.{Config, Going, Over, Trapped, run}
 use Rattle.wasm_engine.specs.Going.{going, progress}
@@ -30,6 +30,17 @@ IsEnd Trap c = c ≡ Trapped
 IsEnd StillRunning (Going st now callers) = Unit {0}
 IsEnd StillRunning (Over k) = ⊥
 IsEnd StillRunning Trapped = ⊥
+
+-- how a run is over, where it is
+abbrev pub end_of : Config → Option End
+end_of (Over k) = Some (Done k)
+end_of Trapped = Some Trap
+end_of (Going st now callers) = None
+
+-- nothing was done
+pub record IsIdle {S : Type 0} (told : S → Option (List ℕ)) (old new : Instances) (before after : S) : Type 0 where
+  pub config : config_of new ≡ config_of old
+  pub bytes : told after ≡ told before
 
 -- so many reductions were made, and what they printed was taken
 pub record Made {S : Type 0} (told : S → Option (List ℕ)) (failed : S → ℕ) (n : ℕ) (old new : Instances) (before after : S) : Type 0 where

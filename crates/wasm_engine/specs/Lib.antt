@@ -4,4 +4,5 @@ pub mod Going
 pub mod Instances
 pub mod Ends
 pub mod Well
+pub mod Safe
 pub mod There

@@ -1,6 +1,6 @@
 //! Linked modules and their run (Core 1.0, sections 4.5.4 and 4.5.5).
 
-ghost use Rattle.std.specs.Prelude.{◌≡◌, ◌≢◌, ◌↔◌, ◌+◌, ◌<◌, ◌≤◌, ◌^◌, ◌++◌, ◌∷◌, [], ℕ, List, true, false, IfOk, IfErr, OnErr, MatchResult, Err, Ok, slice_get, IsTrue, map, All};
+ghost use Rattle.std.specs.Prelude.{◌≡◌, ◌≢◌, ◌↔◌, ◌+◌, ◌<◌, ◌≤◌, ◌^◌, ◌++◌, ◌∷◌, [], ℕ, List, true, false, IfOk, IfErr, OnOk, OnErr, MatchResult, Err, Ok, Some, slice_get, IsTrue, map, All};
 ghost use Rattle.wasm_tree.specs.Format.{Gives};
 ghost use Rattle.wasm_tree.specs.Machine.{Config, Typed, own_function, callee_at, run, entered};
 ghost use Rattle.wasm_tree.specs.Linking.{link, start, started};
@@ -9,6 +9,7 @@ ghost use Rattle.wasm_tree.specs.Validity.{IsValid};
 ghost use Rattle.wasm_engine.specs.Going.{activation, going, progress, memory_from};
 ghost use Rattle.wasm_engine.specs.Ends.{config_at};
 ghost use Rattle.wasm_engine.specs.Well.{IsWell};
+ghost use Rattle.wasm_engine.specs.Safe.{StaysSafe};
 ghost use Rattle.wasm_engine.specs.Told.{with_bytes};
 
 use crate::call::entered;
@@ -157,7 +158,7 @@ fn started<'a>(
 }
 
 impl<'a> Instances<'a> {
-    ghost use Rattle.wasm_engine.specs.Instances.{config_of, modules_of, has_failed, Made, Settles, Stops, Breaks, Runs, RunsPart};
+    ghost use Rattle.wasm_engine.specs.Instances.{config_of, modules_of, has_failed, end_of, IsIdle, Made, Settles, Stops, Breaks, Runs, RunsPart};
 
     /// Links the modules, the first of which is `link`: it answers the others' imports from `link`, and the host answers
     /// `put` and `stop` from `host`. Its `run` is then about to be executed. `Unlinked` (83) where there is no module, no
@@ -179,22 +180,30 @@ impl<'a> Instances<'a> {
     }
 
     /// Executes link's `run` for so many further reductions, or up to its end if that comes first, and hands each printed
-    /// byte to `out`. After an end each later call answers the same. `Write` (91) exactly where `out` failed, `NoMemory`
-    /// (90) where memory was refused; each later call then answers `Ended` (92) and does nothing.
+    /// byte to `out`. After an end each later call answers the same, and asks for no memory. `Write` (91) exactly where `out`
+    /// failed, `NoMemory` (90) where memory was refused; each later call then answers `Ended` (92) and does nothing.
     pub fn run<S: Sink>(&mut self, steps: u64, out: &mut S) -> Result<End, RunFault>
         requires { S.failed out.old + 1 < 2 ^ 64 }
         // Without a fault: exactly these reductions, the bytes that they print, and where the run is then.
         ensures ok { IfOk result (λ e. Runs S.told S.failed steps e self.old self.new out.old out.new) }
+        ensures unbroken { OnOk result (has_failed self.new ≡ false) }
         // With one: the bytes of the reductions before it.
         ensures err { OnErr result (RunsPart S.told steps self.old out.old out.new × (has_failed self.new ≡ true)) }
         ensures write { (result ≡ Err RunFault.Write) ↔ (S.failed out.new ≡ S.failed out.old + 1) }
         ensures others { (result ≡ Err RunFault.Write → ⊥) → S.failed out.new ≡ S.failed out.old }
         ensures ended { (result ≡ Err RunFault.Ended) ↔ (has_failed self.old ≡ true) }
-        ensures nothing { result ≡ Err RunFault.Ended → (S.told out.new ≡ S.told out.old) × (config_of self.new ≡ config_of self.old) }
+        ensures nothing { result ≡ Err RunFault.Ended → IsIdle S.told self.old self.new out.old out.new }
+        // After an end nothing is done, and the answer is the same.
+        ensures over { has_failed self.old ≡ false → (e : End) → end_of (config_of self.old) ≡ Some e → (result ≡ Ok e) × IsIdle S.told self.old self.new out.old out.new }
         ensures modules { modules_of self.new ≡ modules_of self.old }
+        // Each reduction finds what it needs, and traps only by a rule of the standard.
+        ensures safe { has_failed self.old ≡ false → StaysSafe (modules_of self.old) (config_of self.old) }
     {
         if self.is_broken {
             return Err(RunFault::Ended);
+        }
+        if self.end != End::StillRunning {
+            return Ok(self.end);
         }
         self.is_broken = true;
         let answer = self.go_on(steps, out);

@@ -1,6 +1,6 @@
 //! What is known of the operands in a place of the code, and what instructions do to them (Core 1.0, section 3.3 and appendix 7.3).
 
-ghost use Rattle.std.specs.Prelude.{◌≡◌, ◌↔◌, ◌++◌, ◌∷◌, [], false, IsTrue};
+ghost use Rattle.std.specs.Prelude.{◌≢◌, Err, ◌≡◌, ◌↔◌, ◌++◌, ◌∷◌, [], false, IsTrue};
 ghost use Rattle.wasm_tree.specs.Validity.{Are, result_types};
 ghost use Rattle.wasm_typing.specs.Typing.{Judges, Stands, TakesIf, Takes, Puts, Steps, Rule, seen, Leaves, Drops};
 
@@ -113,7 +113,8 @@ fn take_all(operands: &mut Operands, wanted: &[ValueType]) -> bool
 
 /// Takes any operand.
 fn drop_one(operands: &mut Operands) -> Result<(), WFault>
-    ensures { Steps result (Rule Drops) operands.old operands.new }
+    ensures steps { Steps result (Rule Drops) operands.old operands.new }
+    ensures memory { result ≢ Err WFault.NoMemory }
 {
     match operands.known.pop() {
         Some(_) => Ok(()),
@@ -200,7 +201,8 @@ fn leave(
     first: Option<ValueType>,
     second: Option<ValueType>,
 ) -> Result<(), WFault>
-    ensures { Steps result (Rule (Leaves (result_types first ++ result_types second))) operands.old operands.new }
+    ensures steps { Steps result (Rule (Leaves (result_types first ++ result_types second))) operands.old operands.new }
+    ensures memory { result ≢ Err WFault.NoMemory }
 {
     if !take_given(operands, second) {
         return Err(WFault::Invalid);

@@ -1,6 +1,6 @@
 //! Which operands code takes and gives (Core 1.0, section 3.3).
 
-ghost use Rattle.std.specs.Prelude.{◌≡◌, ◌++◌, ◌∷◌, [], List, map, true, All, IsTrue, OnOk, MatchOption, ◌↔◌, slice_get};
+ghost use Rattle.std.specs.Prelude.{◌≢◌, Err, ◌≡◌, ◌++◌, ◌∷◌, [], List, map, true, All, IsTrue, OnOk, MatchOption, ◌↔◌, slice_get};
 ghost use Rattle.wasm_tree.specs.declared.code.Op.{Op};
 ghost use Rattle.wasm_tree.specs.Code.{tree, behind, label_of};
 ghost use Rattle.wasm_tree.specs.Validity.{Leads, is_constant, IsConstant, IsConstantOf, result_types, within};
@@ -33,7 +33,8 @@ fn step(
 }
 
 fn check_labels(blocks: &[Option<ValueType>], branches: &[Op], last: u32) -> Result<(), WFault>
-    ensures { Decides result (All (λ l. slice_get (labels_of blocks.now) l ≡ slice_get (labels_of blocks.now) last) (map label_of branches.now)) }
+    ensures same { Decides result (All (λ l. slice_get (labels_of blocks.now) l ≡ slice_get (labels_of blocks.now) last) (map label_of branches.now)) }
+    ensures memory { result ≢ Err WFault.NoMemory }
 {
     if are_same_labels(blocks, branches, last) {
         Ok(())
@@ -44,7 +45,8 @@ fn check_labels(blocks: &[Option<ValueType>], branches: &[Op], last: u32) -> Res
 
 /// Whether the operands may be these alone.
 fn check_last(operands: &mut Operands, wanted: Option<ValueType>) -> Result<(), WFault>
-    ensures { Decides result (Stands operands.old (result_types wanted)) }
+    ensures fits { Decides result (Stands operands.old (result_types wanted)) }
+    ensures memory { result ≢ Err WFault.NoMemory }
 {
     if may_be(operands, types_of(&wanted)) {
         Ok(())

@@ -1,6 +1,6 @@
 //! Valid modules (Core 1.0, section 3.4).
 
-ghost use Rattle.std.specs.Prelude.{List, ℕ, not, cond, true, ◌≡◌, ◌<◌, ◌^◌, ◌↔◌, ◌⊎◌, All, IsTrue, OnOk, IfOk, MatchResult, map, length};
+ghost use Rattle.std.specs.Prelude.{◌≢◌, Err, List, ℕ, not, cond, true, ◌≡◌, ◌<◌, ◌^◌, ◌↔◌, ◌⊎◌, All, IsTrue, OnOk, IfOk, MatchResult, map, length};
 ghost use Rattle.wasm_tree.specs.Validity.{context, AreLimits, IsFuncType, IsImport, IsFunction, IsGlobal, IsExport, IsElement, IsData, AreDistinct, AreKinds, AreBodies, IsValid};
 ghost use Rattle.wasm_typing.specs.Scope.{scope_of};
 ghost use Rattle.std.specs.Str.{bytes_eq};
@@ -202,7 +202,8 @@ fn are_exports(scope: Scope<'_>, exports: &[Export]) -> bool
 }
 
 fn check_kinds(scope: Scope<'_>, tree: &WModule) -> Result<(), WFault>
-    ensures { Decides result (AreKinds (scope_of scope.entry) tree.now) }
+    ensures kinds { Decides result (AreKinds (scope_of scope.entry) tree.now) }
+    ensures memory { result ≢ Err WFault.NoMemory }
 {
     if !are_func_types(tree.types.as_slice()) {
         return Err(WFault::Invalid);

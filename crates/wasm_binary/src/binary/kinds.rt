@@ -1,6 +1,6 @@
 //! Types in bytes (Core 1.0, section 5.3).
 
-ghost use Rattle.std.specs.Prelude.{◌≡◌, ◌++◌, OnOk};
+ghost use Rattle.std.specs.Prelude.{◌≡◌, ◌≢◌, Err, ◌++◌, OnOk};
 ghost use Rattle.wasm_tree.specs.Format.{Format, Gives};
 ghost use Rattle.wasm_code.specs.Instructions.{value_type};
 ghost use Rattle.wasm_binary.specs.Binary.{func_type, limits, table_type, memory_type};
@@ -14,7 +14,10 @@ use wasm_tree::{FuncType, Limits, MemoryType, TableType, ValueType, WFault};
 impl Binary for ValueType {
     ghost format = { value_type };
 
-    fn read(_alloc: Global, bytes: &[u8]) -> Result<(ValueType, &[u8]), WFault> {
+    fn read(_alloc: Global, bytes: &[u8]) -> Result<(ValueType, &[u8]), WFault>
+        ensures gives { Gives (λ x. (x.0, x.1.now)) result (value_type.reading bytes.now) }
+        ensures memory { result ≢ Err WFault.NoMemory }
+    {
         match byte_at(bytes)? {
             (0x7F, rest) => Ok((ValueType::I32, rest)),
             (0x7E, rest) => Ok((ValueType::I64, rest)),
@@ -52,7 +55,10 @@ impl Binary for FuncType {
 impl Binary for Limits {
     ghost format = { limits };
 
-    fn read(_alloc: Global, bytes: &[u8]) -> Result<(Limits, &[u8]), WFault> {
+    fn read(_alloc: Global, bytes: &[u8]) -> Result<(Limits, &[u8]), WFault>
+        ensures gives { Gives (λ x. (x.0, x.1.now)) result (limits.reading bytes.now) }
+        ensures memory { result ≢ Err WFault.NoMemory }
+    {
         let (flag, rest) = byte_at(bytes)?;
         match flag {
             0x00 => {
@@ -88,7 +94,10 @@ impl Binary for Limits {
 impl Binary for TableType {
     ghost format = { table_type };
 
-    fn read(alloc: Global, bytes: &[u8]) -> Result<(TableType, &[u8]), WFault> {
+    fn read(alloc: Global, bytes: &[u8]) -> Result<(TableType, &[u8]), WFault>
+        ensures gives { Gives (λ x. (x.0, x.1.now)) result (table_type.reading bytes.now) }
+        ensures memory { result ≢ Err WFault.NoMemory }
+    {
         let rest = skip(0x70, bytes)?;
         let (limits, rest) = Limits::read(alloc, rest)?;
         Ok((TableType { limits }, rest))
@@ -104,7 +113,10 @@ impl Binary for TableType {
 impl Binary for MemoryType {
     ghost format = { memory_type };
 
-    fn read(alloc: Global, bytes: &[u8]) -> Result<(MemoryType, &[u8]), WFault> {
+    fn read(alloc: Global, bytes: &[u8]) -> Result<(MemoryType, &[u8]), WFault>
+        ensures gives { Gives (λ x. (x.0, x.1.now)) result (memory_type.reading bytes.now) }
+        ensures memory { result ≢ Err WFault.NoMemory }
+    {
         let (limits, rest) = Limits::read(alloc, bytes)?;
         Ok((MemoryType { limits }, rest))
     }

@@ -1,6 +1,6 @@
 //! The entries of the sections in bytes (Core 1.0, section 5.5).
 
-ghost use Rattle.std.specs.Prelude.{◌≡◌, ◌++◌, OnOk};
+ghost use Rattle.std.specs.Prelude.{◌≡◌, ◌≢◌, Err, ◌++◌, OnOk};
 ghost use Rattle.wasm_tree.specs.Format.{Format, Gives};
 ghost use Rattle.wasm_binary.specs.Binary.{import_kind, import, global, export_kind, export, element, data_segment};
 
@@ -18,7 +18,10 @@ use wasm_tree::{
 impl Binary for ImportKind {
     ghost format = { import_kind };
 
-    fn read(alloc: Global, bytes: &[u8]) -> Result<(ImportKind, &[u8]), WFault> {
+    fn read(alloc: Global, bytes: &[u8]) -> Result<(ImportKind, &[u8]), WFault>
+        ensures gives { Gives (λ x. (x.0, x.1.now)) result (import_kind.reading bytes.now) }
+        ensures memory { result ≢ Err WFault.NoMemory }
+    {
         let (kind, rest) = byte_at(bytes)?;
         match kind {
             0x00 => {
@@ -112,7 +115,10 @@ impl Binary for Constant {
 impl Binary for ExportKind {
     ghost format = { export_kind };
 
-    fn read(_alloc: Global, bytes: &[u8]) -> Result<(ExportKind, &[u8]), WFault> {
+    fn read(_alloc: Global, bytes: &[u8]) -> Result<(ExportKind, &[u8]), WFault>
+        ensures gives { Gives (λ x. (x.0, x.1.now)) result (export_kind.reading bytes.now) }
+        ensures memory { result ≢ Err WFault.NoMemory }
+    {
         let (kind, rest) = byte_at(bytes)?;
         match kind {
             0x00 => {

@@ -11,12 +11,12 @@ pub code_in-returns-in_err-opcode : goal.code_in-returns-in_err-opcode
 code_in-returns-in_err-opcode t c =
     let p = err_from_is_err_and c.from_residual.result c.from_residual.ensures.1 in
     rw (p.1, p.2) (fails_onto c.in_err-opcode.field-0.0 c.loop.pile.items _ _
-    (sequence_cut (opened c.args.levels) (length c.args.bytes.now) c.loop.counter c.loop.rest.now c.in_err-opcode.field-0.0 c.loop-test.true c.in_err-opcode.ensures) c.loop.invariant)
+    (sequence_cut (opened c.args.levels) (length c.args.bytes.now) c.loop.counter c.loop.rest.now c.in_err-opcode.field-0.0 c.loop-test.true c.in_err-opcode.ensures.gives) c.loop.invariant)
 
 pub code_in-returns-in-Some : goal.code_in-returns-in-Some
 code_in-returns-in-Some t c =
     ends_onto c.loop.pile.items c.in-Some.ending c.in_ok-opcode.after.now _ _
-    (sequence_end (opened c.args.levels) (length c.args.bytes.now) c.loop.counter c.loop.rest.now c.in_ok-opcode.opcode c.in_ok-opcode.after.now c.in-Some.ending c.loop-test.true c.in_ok-opcode.ensures (sym c.in-Some.ensures)) c.loop.invariant
+    (sequence_end (opened c.args.levels) (length c.args.bytes.now) c.loop.counter c.loop.rest.now c.in_ok-opcode.opcode c.in_ok-opcode.after.now c.in-Some.ending c.loop-test.true c.in_ok-opcode.ensures.gives (sym c.in-Some.ensures)) c.loop.invariant
 
 pub code_in-returns : goal.code_in-returns
 code_in-returns t c = fails_onto Malformed c.loop.pile.items _ _ (sequence_none (opened c.args.levels) (length c.args.bytes.now) c.loop.counter c.loop.rest.now c.loop-test.false) c.loop.invariant
@@ -25,13 +25,13 @@ pub code_in-returns-in_err-rest : goal.code_in-returns-in_err-rest
 code_in-returns-in_err-rest t c =
     let p = err_from_is_err_and c.from_residual-in_err-rest.result c.from_residual-in_err-rest.ensures.1 in
     rw (p.1, p.2) (fails_onto c.in_err-rest.field-0.0 c.loop.pile.items _ _
-    (sequence_fail (opened c.args.levels) (length c.args.bytes.now) c.loop.counter c.loop.rest.now c.in_ok-opcode.opcode c.in_ok-opcode.after.now c.in_err-rest.field-0.0 c.loop-test.true c.in_ok-opcode.ensures (sym c.in_default.ensures) (faults c.in_err-rest.field-0.0 (instr_of (opened c.args.levels) c.in_ok-opcode.opcode c.in_ok-opcode.after.now) _ c.in_err-rest.ensures)) c.loop.invariant)
+    (sequence_fail (opened c.args.levels) (length c.args.bytes.now) c.loop.counter c.loop.rest.now c.in_ok-opcode.opcode c.in_ok-opcode.after.now c.in_err-rest.field-0.0 c.loop-test.true c.in_ok-opcode.ensures.gives (sym c.in_default.ensures) (faults c.in_err-rest.field-0.0 (instr_of (opened c.args.levels) c.in_ok-opcode.opcode c.in_ok-opcode.after.now) _ c.in_err-rest.ensures)) c.loop.invariant)
 
 pub code_in-loop-preserved : goal.code_in-loop-preserved
 code_in-loop-preserved t c =
     let put = instr_onto c.loop.pile.items c.instr_onto.new.pile.items (instr_of (opened c.args.levels) c.in_ok-opcode.opcode c.in_ok-opcode.after.now) c.in_ok-rest.rest.now c.in_ok-rest.ensures in
     sym (goes_on_onto c.loop.pile.items c.instr_onto.new.pile.items put.0 _ _ put.2
-    (sequence_more (opened c.args.levels) (length c.args.bytes.now) c.loop.counter c.loop.rest.now c.in_ok-opcode.opcode c.in_ok-opcode.after.now put.0 c.in_ok-rest.rest.now c.loop-test.true c.in_ok-opcode.ensures (sym c.in_default.ensures) put.1)) ∙ c.loop.invariant
+    (sequence_more (opened c.args.levels) (length c.args.bytes.now) c.loop.counter c.loop.rest.now c.in_ok-opcode.opcode c.in_ok-opcode.after.now put.0 c.in_ok-rest.rest.now c.loop-test.true c.in_ok-opcode.ensures.gives (sym c.in_default.ensures) put.1)) ∙ c.loop.invariant
 
 pub sides_onto-returns-in_ok-close_one-in-End : goal.sides_onto-returns-in_ok-close_one-in-End
 sides_onto-returns-in_ok-close_one-in-End t c =

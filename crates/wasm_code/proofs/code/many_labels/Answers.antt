@@ -7,12 +7,12 @@ pub returns-in_err-label : goal.returns-in_err-label
 returns-in_err-label c =
     let p = err_from_is_err_and c.from_residual.result c.from_residual.ensures.1 in
     rw (p.1, p.2) (fails c.in_err-label.field-0.0 c.loop.labels _ _
-    (many_fail unsigned c.args.count c.loop.counter c.loop.rest.now c.in_err-label.field-0.0 c.loop-test.true c.in_err-label.ensures) c.loop.invariant)
+    (many_fail unsigned c.args.count c.loop.counter c.loop.rest.now c.in_err-label.field-0.0 c.loop-test.true c.in_err-label.ensures.gives) c.loop.invariant)
 
 pub loop-preserved : goal.loop-preserved
 loop-preserved c =
     rw c.in_ok-push.ensures.ok (goes_on c.loop.labels c.in_ok-label.label _ _ _
-    (many_more unsigned c.args.count c.loop.counter c.loop.rest.now c.in_ok-label.label c.in_ok-label.after.now c.loop-test.true c.in_ok-label.ensures) c.loop.invariant)
+    (many_more unsigned c.args.count c.loop.counter c.loop.rest.now c.in_ok-label.label c.in_ok-label.after.now c.loop-test.true c.in_ok-label.ensures.gives) c.loop.invariant)
 
 pub returns : goal.returns
 returns c =

@@ -18,7 +18,7 @@ check_code-returns-in_err-step-clause-fits t c =
     exit c.from_residual-in_err-step.result p.0 _ _ _ p.1 p.2 (exit_halts c.args.frame c.args.blocks.now c.as_slice.result.now (tree c.args.code.now) c.ops.rest.now c.in-Some.op c.in-Some.others.now c.ops.operands (result_types c.args.given) _ (c.as_slice.ensures ∙ c.in_ok-check_inside.ensures.blocks ∙ c.ops.invariant.same) c.in-Some.ensures c.ops.invariant.on (c.in_err-step.ensures c.in-Some.others.now))
 
 pub check_code-returns-clause-fits : goal.check_code-returns-clause-fits
-check_code-returns-clause-fits t c = decides_end c.check_last-decided.result (frame_context c.args.frame c.args.blocks.now) (tree c.args.code.now) c.ops.rest.now c.ops.operands (result_types c.args.given) c.in_default.ensures c.ops.invariant.on c.check_last-decided.ensures
+check_code-returns-clause-fits t c = decides_end c.check_last-decided.result (frame_context c.args.frame c.args.blocks.now) (tree c.args.code.now) c.ops.rest.now c.ops.operands (result_types c.args.given) c.in_default.ensures c.ops.invariant.on c.check_last-decided.ensures.fits
 
 pub check_code-ops-preserved : goal.check_code-ops-preserved
 check_code-ops-preserved t c =

@@ -1,7 +1,9 @@
-use Rattle.std.proofs.Common.{sym, ◌∙◌, ap, arith}
+use Rattle.std.proofs.Common.{◌≢◌, sym, ◌∙◌, ap, arith, rules}
 use Rattle.wasm_engine.specs.Told.{with_bytes}
 use Rattle.wasm_engine.specs.Instances.{config_of, modules_of}
-use Rattle.wasm_engine.proofs.WellKept.{well_before, well_after}
+use Rattle.wasm_engine.specs.declared.engine.End.TheVariants.{StillRunning}
+use Rattle.wasm_engine.proofs.WellKept.{well_before, well_after, stays_safe}
+use Rattle.wasm_engine.proofs.GoesOn.{at_first, over_early}
 use Rattle.wasm_engine.proofs.Runs.{run-zero, with_bytes-nil}
 use Rattle.wasm_engine.proofs.engine.Instances.run.Goals as goal
 
@@ -18,3 +20,14 @@ invariant_of-self-2 g c =
       sound = well_after g.S.Sink.told g.S.Sink.failed c.args.steps _ c.go_on-answer.new.self c.args.out.now c.go_on-answer.new.out c.go_on-answer.result c.is_err-self.result c.is_err-self.ensures.value c.go_on-answer.ensures.ok c.go_on-answer.ensures.keeps.0
           (well_before c.args.self.now c.if-self.false);
     }
+
+pub returns-then-ne-clause-ok : goal.returns-then-ne-clause-ok
+returns-then-ne-clause-ok g c =
+    let stopped : c.args.self.now.end ≢ StillRunning = search rules in
+    over_early g.S.Sink.told g.S.Sink.failed c.args.self.now c.args.out.now 0 c.args.steps c.args.self.now c.args.out.now (omega arith) stopped (at_first g.S.Sink.told g.S.Sink.failed c.args.self.now c.args.out.now)
+
+pub returns-then-ne-clause-safe : goal.returns-then-ne-clause-safe
+returns-then-ne-clause-safe g c = stays_safe c.args.self.now
+
+pub returns-clause-safe : goal.returns-clause-safe
+returns-clause-safe g c = stays_safe c.args.self.now
