@@ -1,4 +1,4 @@
-//! Tests of the parts of the compiler: of `m2_tree`, `m2_scan`, `plain_scan`, `m2_graph` and `m2_board`, in a crate of
+//! Tests of the parts of the compiler: of `m2_tree`, `m2_scan`, `m2_graph` and `m2_board`, in a crate of
 //! their own, so that these libraries are proved once.
 #![tactic(auto)]
 
@@ -6,8 +6,6 @@
 mod board;
 #[cfg(test)]
 mod graph;
-#[cfg(test)]
-mod plain;
 #[cfg(test)]
 mod scan;
 #[cfg(test)]
