@@ -47,7 +47,7 @@ fn add_name(names: &mut Items<Name>, ident: &Ident) -> Result<(), AllocError>
     if is_console(name) || is_among(names.as_slice(), name) {
         return Ok(());
     }
-    names.push(ident.name)?;
+    names.push(ident.name.clone()?)?;
     Ok(())
 }
 
@@ -145,7 +145,7 @@ fn add_body(
         Some(printed) => {
             let imported = all_imported(alloc, trees, tree)?;
             sources.push(Source {
-                name: tree.name.name,
+                name: tree.name.name.clone()?,
                 imported,
                 printed,
             })?;

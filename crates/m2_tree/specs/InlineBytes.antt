@@ -1,15 +1,15 @@
--- The 64 bytes in which a name is kept.
+-- The 14 bytes in which a short list is kept.
 use Rattle.std.specs.Prelude.{◌≡◌, ◌≤◌, ℕ, ◌-◌, List, ◌++◌, length, take, replicate}
 use Rattle.std.proofs.Common.{ap, arith}
 use Rattle.std.proofs.lemmas.List.{length-take-le}
-use Rattle.m2_tree.specs.declared.name.Name.TheInside.{Inside}
+use Rattle.m2_tree.specs.declared.bytes.Inline.TheInside.{Inside}
 
--- the name, and zeros behind it
+-- the list, and zeros behind it
 abbrev pub filled : List ℕ → List ℕ
-filled name = name ++ replicate (64 - length name) 0
+filled list = list ++ replicate (14 - length list) 0
 
--- The length of the name and the name with its zeros are all that is kept.
-pub kept_whole : (n : Inside) → (n.len ≤ 64) × (length n.bytes ≡ 64) × (n.bytes ≡ filled (take n.len n.bytes)) →
+-- Its length, and the list with its zeros, are all that is kept.
+pub kept_whole : (n : Inside) → (n.len ≤ 14) × (length n.bytes ≡ 14) × (n.bytes ≡ filled (take n.len n.bytes)) →
     record { len = length (take n.len n.bytes); bytes = filled (take n.len n.bytes) } ≡ n
 kept_whole n h =
     let fits : n.len ≤ length n.bytes = omega (arith, h.1) in
