@@ -3,6 +3,7 @@
 
 mod dictionary;
 mod meaning;
+mod reached;
 mod shape;
 mod shared;
 mod table;
@@ -10,6 +11,7 @@ mod types;
 
 pub use dictionary::Dictionary;
 pub use meaning::{Meaning, Procedure, ScalarValue, Standard, Value, Variable};
+pub use reached::Reached;
 pub use shape::{Formal, Made, Scalar, Shape, Signature};
 pub use shared::Shared;
 pub use table::{ModuleTypes, Table};

@@ -32,7 +32,7 @@ pub enum Value {
 /// A variable of a module: its number among those that the module declares.
 #[derive(Clone, Copy, Debug, PartialEq, Eq)]
 pub struct Variable {
-    pub module: u32,
+    pub home: u32,
     pub number: usize,
     pub of: TypeNo,
 }
@@ -40,7 +40,7 @@ pub struct Variable {
 /// A procedure of a module: its number among those that the module declares, and its heading as a procedure type.
 #[derive(Clone, Copy, Debug, PartialEq, Eq)]
 pub struct Procedure {
-    pub module: u32,
+    pub home: u32,
     pub number: usize,
     pub heading: TypeNo,
 }

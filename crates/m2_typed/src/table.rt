@@ -9,7 +9,7 @@ use m2_tree::{Items, Name};
 /// The types that a module makes, by their numbers.
 #[derive(Drop)]
 pub struct ModuleTypes {
-    pub module: u32,
+    pub number: u32,
     pub made: Shared<Items<Made>>,
 }
 
