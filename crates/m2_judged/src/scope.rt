@@ -4,7 +4,7 @@ ghost use Rattle.std.specs.Prelude.{◌≡◌, Ok, IfOk, OnOk, Option};
 ghost use Rattle.std.specs.List.{fold};
 ghost use Rattle.std.specs.Option.{option_copied};
 ghost use Rattle.m2_judged.specs.Judged.{least};
-ghost use Rattle.m2_judged.specs.Scopes.{known_outside, known, means_as, looked_up, is_free, with_known, declared, begun, is_begun, finished, is_one_origin, is_again, imported, marked};
+ghost use Rattle.m2_judged.specs.Scopes.{or_outside, known_outside, known, means_as, looked_up, is_free, with_known, declared, begun, is_begun, finished, is_one_origin, is_again, imported, marked};
 
 use crate::fault::{Fault, Judged, told};
 use crate::known::{Known, Origin};
@@ -29,6 +29,18 @@ pub struct Scope<T> {
     pub outer: Items<Dictionary<Known<T>>>,
 }
 
+fn or_outside<'a>(
+    near: Option<&'a Known<Fault>>,
+    far: Option<&'a Known<Fault>>,
+) -> Option<&'a Known<Fault>>
+    ensures { option_copied result ≡ or_outside (option_copied near.entry) (option_copied far.entry) }
+{
+    match near {
+        Some(known) => Some(known),
+        None => far,
+    }
+}
+
 fn known_outside<'a>(
     outer: &'a [Dictionary<Known<Fault>>],
     name: &[u8],
@@ -37,9 +49,7 @@ fn known_outside<'a>(
 {
     let mut known = None;
     for block in outer {
-        if let Some(nearer) = block.find(name) {
-            known = Some(nearer);
-        }
+        known = or_outside(block.find(name), known);
     }
     known
 }
@@ -48,14 +58,11 @@ fn known_outside<'a>(
 pub fn known_in<'a>(scope: &'a Scope<Fault>, name: &[u8]) -> Option<&'a Known<Fault>>
     ensures { option_copied result ≡ known name.now scope.now }
 {
-    match scope.own.find(name) {
-        Some(known) => Some(known),
-        None => known_outside(scope.outer.as_slice(), name),
-    }
+    or_outside(scope.own.find(name), known_outside(scope.outer.as_slice(), name))
 }
 
 fn means_as(at: Pos, known: Option<&Known<Fault>>) -> Result<Judged<Meaning>, AllocError>
-    ensures { IfOk result (λ m. m ≡ means_as least at (option_copied known)) }
+    ensures { IfOk result (λ m. m ≡ means_as least at (option_copied known.entry)) }
 {
     match known {
         None => Ok(told(at, 30)),
@@ -78,7 +85,7 @@ pub fn looked_up(scope: &Scope<Fault>, name: &Ident) -> Result<Judged<Meaning>, 
 }
 
 fn is_free(known: Option<&Known<Fault>>) -> bool
-    ensures { result ≡ is_free (option_copied known) }
+    ensures { result ≡ is_free (option_copied known.entry) }
 {
     match known {
         None => true,
@@ -132,7 +139,7 @@ pub fn begin(
 }
 
 fn is_begun(known: Option<&Known<Fault>>) -> bool
-    ensures { result ≡ is_begun (option_copied known) }
+    ensures { result ≡ is_begun (option_copied known.entry) }
 {
     match known {
         None => false,
@@ -175,7 +182,7 @@ fn is_one_origin(first: Origin, second: Origin) -> bool
 }
 
 fn is_again(known: Option<&Known<Fault>>, origin: Origin) -> bool
-    ensures { result ≡ is_again (option_copied known) origin }
+    ensures { result ≡ is_again (option_copied known.entry) origin }
 {
     match known {
         None => false,

@@ -68,7 +68,7 @@ fn predeclared_scalar(number: u32) -> Option<Scalar>
 }
 
 fn scalar_made(made: Option<&Made>) -> Option<Scalar>
-    ensures { result ≡ scalar_made (option_copied made) }
+    ensures { result ≡ scalar_made (option_copied made.entry) }
 {
     match made {
         None => None,
@@ -104,7 +104,7 @@ pub fn cells_of(types: &Types, t: TypeNo) -> u32
 }
 
 fn is_result_made(made: Option<&Made>) -> bool
-    ensures { result ≡ is_result_made (option_copied made) }
+    ensures { result ≡ is_result_made (option_copied made.entry) }
 {
     match made {
         None => false,
