@@ -12,3 +12,4 @@ pub mod Given
 pub mod Starting
 pub mod Reached
 pub mod Started
+pub mod Defined
