@@ -11,7 +11,6 @@ use Rattle.m2_graph.specs.Files.{File, is_before, AreInOrder, trees, given_of}
 use Rattle.m2_graph.specs.Order.{IsJob}
 use Rattle.m2_graph.specs.Told.{told, IsTold}
 use Rattle.m2_graph.specs.Graph.{bodies_of, IsJobs, IsStarts, IsGraphOf, IsGraph, IsRefusal}
-use Rattle.m2_graph_laws.specs.Once.{SameRows}
 use Rattle.m2_graph_laws.proofs.Sorting.{one_stable_sort, by_key}
 use Rattle.m2_graph_laws.proofs.Walking.{one_start_order}
 use Rattle.m2_graph_laws.proofs.Circling.{one_told}
@@ -21,8 +20,8 @@ use Rattle.m2_graph_laws.proofs.Rows.{one_job_order, one_rows}
 pub one_order : (given xs ys : List File) → AreInOrder given xs → AreInOrder given ys → xs ≡ ys
 one_order given xs ys a b = one_stable_sort is_before (by_key (λ (f : File). f.name)) given xs ys a.sorted a.stable b.sorted b.stable
 
--- The files of the jobs are determined, and the jobs but for the order in a row.
-pub one_jobs : (ordered : List File) (fs gs : List ℕ) (js ks : List (List ℕ)) → IsJobs ordered fs js → IsJobs ordered gs ks → (fs ≡ gs) × SameRows js ks
+-- The files of the jobs are determined, and the jobs.
+pub one_jobs : (ordered : List File) (fs gs : List ℕ) (js ks : List (List ℕ)) → IsJobs ordered fs js → IsJobs ordered gs ks → (fs ≡ gs) × (js ≡ ks)
 one_jobs ordered fs gs js ks a b =
     let ms = trees ordered in
     let e : a.order ≡ b.order = one_job_order (links ms) ms a.order b.order a.is_order b.is_order in
@@ -36,11 +35,11 @@ one_starts ordered ss ts a b =
     let w : a.walk ≡ b.walk = one_start_order (walks ms) a.program a.walk b.walk a.is_walk (subst (λ (p : ℕ). IsStartOrder (walks ms) p b.walk) e b.is_walk) in
     a.started ∙ ap (λ (walk : List ℕ). map (given_of ordered) (bodies_of ms walk)) w ∙ sym b.started
 
-one_graph_of : (ordered : List File) (fs gs : List ℕ) (js ks : List (List ℕ)) (ss ts : List ℕ) → IsGraphOf ordered fs js ss → IsGraphOf ordered gs ks ts → (fs ≡ gs) × SameRows js ks × (ss ≡ ts)
+one_graph_of : (ordered : List File) (fs gs : List ℕ) (js ks : List (List ℕ)) (ss ts : List ℕ) → IsGraphOf ordered fs js ss → IsGraphOf ordered gs ks ts → (fs ≡ gs) × (js ≡ ks) × (ss ≡ ts)
 one_graph_of ordered fs gs js ks ss ts a b = let j = one_jobs ordered fs gs js ks a.is_jobs b.is_jobs in (j.0, j.1, one_starts ordered ss ts a.is_starts b.is_starts)
 
--- Files have at most one graph, but for the order in a row of its jobs.
-pub one_graph : (given : List File) (fs gs : List ℕ) (js ks : List (List ℕ)) (ss ts : List ℕ) → IsGraph given fs js ss → IsGraph given gs ks ts → (fs ≡ gs) × SameRows js ks × (ss ≡ ts)
+-- Files have at most one graph.
+pub one_graph : (given : List File) (fs gs : List ℕ) (js ks : List (List ℕ)) (ss ts : List ℕ) → IsGraph given fs js ss → IsGraph given gs ks ts → (fs ≡ gs) × (js ≡ ks) × (ss ≡ ts)
 one_graph given fs gs js ks ss ts a b =
     let e : b.0 ≡ a.0 = one_order given b.0 a.0 b.1 a.1 in
     one_graph_of a.0 fs gs js ks ss ts a.2 (subst (λ (ordered : List File). IsGraphOf ordered gs ks ts) e b.2)
