@@ -26,17 +26,17 @@ pub struct File {
     pub tree: Module,
 }
 
-fn ident(text: &str) -> Ident {
+fn ident(alloc: Global, text: &str) -> Result<Ident, AllocError> {
     let bytes = text.as_bytes();
     let short = if bytes.len() <= MAX_NAME {
         bytes
     } else {
         b"".as_slice()
     };
-    Ident {
-        name: Name::new(short),
+    Ok(Ident {
+        name: Name::new(alloc, short)?,
         pos: Pos { line: 1, col: 1 },
-    }
+    })
 }
 
 /// Names in order.
@@ -44,7 +44,7 @@ fn names_of(alloc: Global, count: usize) -> Result<Vec<Ident>, AllocError> {
     let mut names = Vec::new(alloc);
     for number in 0..count {
         let text = format!(in alloc; "M{number:06}")?;
-        names.push(ident(&text))?;
+        names.push(ident(alloc, &text)?)?;
     }
     Ok(names)
 }
@@ -70,8 +70,11 @@ fn last_of(names: &[Ident], most: usize) -> &[Ident]
 }
 
 fn import_of(alloc: Global, names: &[Ident]) -> Result<Import, AllocError> {
-    let names = Items::from_slice(alloc, names)?;
-    Ok(Import { from: None, names })
+    let names = Vec::from_clones(alloc, names)?;
+    Ok(Import {
+        from: None,
+        names: Items::from_vec(names),
+    })
 }
 
 /// The imports of two lists of names.
@@ -127,7 +130,7 @@ pub fn definitions(alloc: Global, count: usize, shape: Shape) -> Result<Vec<File
         let contents = Contents::Definition(Items::new(alloc));
         let name = format!(in alloc; "M{number:06}.def")?;
         let tree = Module {
-            name: names[number],
+            name: names[number].clone()?,
             imports,
             contents,
         };
@@ -153,7 +156,7 @@ fn add_bodies(alloc: Global, names: &[Ident], files: &mut Vec<File>) -> Result<(
         let contents = Contents::Implementation(body(alloc));
         let name = format!(in alloc; "M{number:06}.mod")?;
         let tree = Module {
-            name: names[number],
+            name: names[number].clone()?,
             imports,
             contents,
         };
@@ -170,7 +173,7 @@ pub fn whole(alloc: Global, count: usize) -> Result<Vec<File>, AllocError> {
     let imports = imports_of(alloc, last_of(&names, IMPORTS), &[])?;
     let name = String::from_str(alloc, "P.mod")?;
     let tree = Module {
-        name: ident("P"),
+        name: ident(alloc, "P")?,
         imports,
         contents: Contents::Program(body(alloc)),
     };

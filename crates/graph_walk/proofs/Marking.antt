@@ -1,8 +1,8 @@
 -- Marks on nodes, and what they leave to be done.
-use Rattle.std.proofs.Common.{◌≡◌, ◌<◌, ◌≤◌, ℕ, zero, suc, ◌+◌, Bool, true, false, cond, not, ◌&&◌, ◌||◌, ◌==◌, List, [], ◌∷◌, ◌++◌, length, take, set, get_or, replicate, refl, sym, ap, subst, ◌∙◌, inl, inr, arith, eq-eqb}
-use Rattle.std.proofs.lemmas.Bool.{cases_eq, cases_lt, ne_eqb, or_left, or_right, or_from, false≢true}
-use Rattle.std.proofs.lemmas.List.{get_or-set_same, get_or-set_other, get_or-replicate, get_or_past, length-set, length-replicate, length_push, take_more, take_all}
-use Rattle.graph_walk.specs.Links.{has, times, AreEachOnce, flag, targets}
+use Rattle.std.proofs.Common.{◌≡◌, ◌<◌, ◌≤◌, ℕ, zero, suc, ◌+◌, Bool, true, false, cond, not, ◌&&◌, ◌||◌, ◌==◌, List, [], ◌∷◌, ◌++◌, length, take, set, get_or, replicate, append_assoc, refl, sym, ap, ap₂, subst, ◌∙◌, inl, inr, arith, eq-eqb}
+use Rattle.std.proofs.lemmas.Bool.{eqb-true, cases_eq, cases_lt, ne_eqb, or_left, or_right, or_from, false≢true}
+use Rattle.std.proofs.lemmas.List.{get_or-set_same, get_or-set_other, get_or-replicate, append-nil, get_or_past, length-set, length-replicate, length_push, take_more, take_all}
+use Rattle.graph_walk.specs.Links.{has, times, unless, AreEachOnce, flag, targets}
 use Rattle.graph_walk.specs.Marks.{Marks, Unmarks, AreUnmarked, weight}
 
 pub or_assoc : (a b c : Bool) → ((a || b) || c) ≡ (a || (b || c))
@@ -63,6 +63,86 @@ weight_set (t ∷ ts) (true ∷ bs) zero l e = absurd (false≢true (sym e))
 weight_set (t ∷ ts) (false ∷ bs) zero l e = omega arith
 weight_set (t ∷ ts) (b ∷ bs) (suc n) l e = let h = weight_set ts bs n (omega arith) e in omega (arith, h)
 
+-- ---- numbers without marks, in order
+
+pub one_left : (n : ℕ) (marked : ℕ → Bool) → marked n ≡ false → unless marked (n ∷ []) ≡ n ∷ []
+one_left n marked e = rw e refl
+
+pub none_left : (n : ℕ) (marked : ℕ → Bool) → marked n ≡ true → unless marked (n ∷ []) ≡ []
+none_left n marked e = rw e refl
+
+-- a number at the end, unless it is marked
+abbrev last_left : Bool → ℕ → List ℕ
+last_left b x = cond b [] (x ∷ [])
+
+pub unless_same : (m n : ℕ → Bool) (xs : List ℕ) → ((k : ℕ) → m k ≡ n k) → unless m xs ≡ unless n xs
+unless_same m n [] same = refl
+unless_same m n (x ∷ xs) same = by (n x) (same x) (unless_same m n xs same) (unless_same (λ k. m k || (x == k)) (λ k. n k || (x == k)) xs (λ k. ap (λ b. b || (x == k)) (same k)))
+  where
+    by : (b : Bool) → m x ≡ b → unless m xs ≡ unless n xs → unless (λ k. m k || (x == k)) xs ≡ unless (λ k. n k || (x == k)) xs
+        → cond (m x) (unless m xs) (x ∷ unless (λ k. m k || (x == k)) xs) ≡ cond b (unless n xs) (x ∷ unless (λ k. n k || (x == k)) xs)
+    by true e here there = rw e here
+    by false e here there = rw e (ap (λ ys. x ∷ ys) there)
+
+or_again : (m n : Bool) (h : Bool) → (n ≡ true → m ≡ true) → (m || h) ≡ (m || (n || h))
+or_again true n h f = refl
+or_again false true h f = absurd (false≢true (f refl))
+or_again false false h f = refl
+
+unless_more : (m : ℕ → Bool) (xs : List ℕ) (x : ℕ) → unless m (xs ++ x ∷ []) ≡ unless m xs ++ last_left (m x || has xs x) x
+unless_more m [] x = by (m x)
+  where
+    by : (b : Bool) → cond b [] (x ∷ []) ≡ last_left (b || false) x
+    by true = refl
+    by false = refl
+unless_more m (y ∷ ys) x = by (m y) refl (unless_more m ys x) (unless_more (λ k. m k || (y == k)) ys x)
+  where
+    same_mark : m y ≡ true → (y == x) ≡ true → m x ≡ true
+    same_mark e is = subst (λ (k : ℕ). m k ≡ true) (eqb-true y x is) e
+
+    by : (b : Bool) → m y ≡ b → unless m (ys ++ x ∷ []) ≡ unless m ys ++ last_left (m x || has ys x) x
+        → unless (λ k. m k || (y == k)) (ys ++ x ∷ []) ≡ unless (λ k. m k || (y == k)) ys ++ last_left ((m x || (y == x)) || has ys x) x
+        → cond (m y) (unless m (ys ++ x ∷ [])) (y ∷ unless (λ k. m k || (y == k)) (ys ++ x ∷ [])) ≡ cond (m y) (unless m ys) (y ∷ unless (λ k. m k || (y == k)) ys) ++ last_left (m x || ((y == x) || has ys x)) x
+    by true e here there = rw e (here ∙ ap (λ b. unless m ys ++ last_left b x) (or_again (m x) (y == x) (has ys x) (same_mark e)))
+    by false e here there = rw e (ap (λ zs. y ∷ zs) (there ∙ ap (λ b. unless (λ k. m k || (y == k)) ys ++ last_left b x) (or_assoc (m x) (y == x) (has ys x))))
+
+unless_marked : (f f1 : List Bool) (x : ℕ) (xs : List ℕ) → ((k : ℕ) → flag f1 k ≡ (flag f k || has xs k)) → unless (flag f1) (x ∷ []) ≡ last_left (flag f x || has xs x) x
+unless_marked f f1 x xs marked = ap (λ b. last_left b x) (marked x)
+
+-- how often a number stands there
+pub times_unless : (m : ℕ → Bool) (xs : List ℕ) (k : ℕ) → times (unless m xs) k ≡ cond (has xs k && not (m k)) 1 0
+times_unless m [] k = refl
+times_unless m (x ∷ xs) k = by (m x) refl (x == k) refl (times_unless m xs k) (times_unless (λ j. m j || (x == j)) xs k)
+  where
+    none : (b : Bool) → ◌≡◌ {A = ℕ} (cond (b && false) 1 0) 0
+    none true = refl
+    none false = refl
+
+    marked_too : m x ≡ true → (x == k) ≡ true → m k ≡ true
+    marked_too e is = subst (λ (j : ℕ). m j ≡ true) (eqb-true x k is) e
+
+    unmarked_too : m x ≡ false → (x == k) ≡ true → m k ≡ false
+    unmarked_too e is = subst (λ (j : ℕ). m j ≡ false) (eqb-true x k is) e
+
+    by : (b : Bool) → m x ≡ b → (c : Bool) → (x == k) ≡ c → times (unless m xs) k ≡ cond (has xs k && not (m k)) 1 0 → times (unless (λ j. m j || (x == j)) xs) k ≡ cond (has xs k && not (m k || (x == k))) 1 0
+        → times (cond (m x) (unless m xs) (x ∷ unless (λ j. m j || (x == j)) xs)) k ≡ cond (((x == k) || has xs k) && not (m k)) 1 0
+    by true e true is here there = rw (e, is) (here ∙ ap (λ (d : Bool). cond (has xs k && not d) 1 0) (marked_too e is) ∙ none (has xs k) ∙ sym (ap (λ (d : Bool). cond (not d) 1 0) (marked_too e is)))
+    by true e false is here there = rw (e, is) here
+    by false e true is here there =
+        let zero : times (unless (λ j. m j || (x == j)) xs) k ≡ 0 = there ∙ ap (λ (d : Bool). cond (has xs k && not (m k || d)) 1 0) is ∙ ap (λ (d : Bool). cond (has xs k && not (d || true)) 1 0) (unmarked_too e is) ∙ none (has xs k) in
+        let one : ◌≡◌ {A = ℕ} (cond (not (m k)) 1 0) 1 = ap (λ (d : Bool). cond (not d) 1 0) (unmarked_too e is) in
+        rw (e, is) (omega (arith, zero, one))
+    by false e false is here there =
+        let rest : times (unless (λ j. m j || (x == j)) xs) k ≡ cond (has xs k && not (m k)) 1 0 = there ∙ ap (λ (d : Bool). cond (has xs k && not (m k || d)) 1 0) is ∙ ap (λ (d : Bool). cond (has xs k && not d) 1 0) (sym (or_none (m k) false refl)) in
+        rw (e, is) (omega (arith, rest))
+
+pub times_once_each : (once all : List ℕ) → AreEachOnce once all → (k : ℕ) → times once k ≡ cond (has all k) 1 0
+times_once_each once all e k = ap (λ xs. times xs k) e ∙ times_unless (λ j. false) all k ∙ plain (has all k)
+  where
+    plain : (b : Bool) → ◌≡◌ {A = ℕ} (cond (b && true) 1 0) (cond b 1 0)
+    plain true = refl
+    plain false = refl
+
 -- ---- one mark after another
 
 added_one : (n k : ℕ) (flags : List Bool) → flag flags n ≡ false → has (n ∷ []) k ≡ (has (n ∷ []) k && not (flag flags k))
@@ -74,6 +154,7 @@ marks_one n flags todo l e = record {
   marked = λ k. flag_set flags n k l;
   added = λ k. has-append todo (n ∷ []) k ∙ ap (λ b. has todo k || b) (added_one n k flags e);
   once = λ k. times-append todo (n ∷ []) k ∙ times_one (n == k) (has (n ∷ []) k && not (flag flags k)) (times todo k) (added_one n k flags e);
+  order = ap (λ xs. todo ++ xs) (sym (one_left n (flag flags) e));
   lighter = omega (arith, weight_set [] flags n l e, length_push todo n);
 }
 
@@ -93,6 +174,7 @@ marks_again n flags todo e = record {
   marked = λ k. already n k flags e;
   added = λ k. or_none (has todo k) (has (n ∷ []) k && not (flag flags k)) (none_added n k flags e);
   once = λ k. none_once (times todo k) (has (n ∷ []) k && not (flag flags k)) (none_added n k flags e);
+  order = sym (append-nil todo) ∙ ap (λ xs. todo ++ xs) (sym (none_left n (flag flags) e));
   lighter = omega arith;
 }
 
@@ -102,6 +184,7 @@ marks_none flags todo = record {
   marked = λ k. or_none (flag flags k) false refl;
   added = λ k. or_none (has todo k) false refl;
   once = λ k. none_once (times todo k) false refl;
+  order = sym (append-nil todo);
   lighter = omega arith;
 }
 
@@ -140,6 +223,7 @@ marks_more xs x f f1 f2 t t1 t2 m n = record {
       let b = both_once (has xs k) (has (x ∷ []) k) (flag f k) in
       let g : cond ((has xs k || has (x ∷ []) k) && not (flag f k)) 1 0 ≡ cond (has (xs ++ x ∷ []) k && not (flag f k)) 1 0 = ap (λ b. cond (b && not (flag f k)) 1 0) (sym (has-append xs (x ∷ []) k)) in
       sums (times t2 k) (times t1 k) (times t k) (cond (has xs k && not (flag f k)) 1 0) (cond (has (x ∷ []) k && not (flag f1 k)) 1 0) (cond (has (x ∷ []) k && not (flag f k || has xs k)) 1 0) (cond ((has xs k || has (x ∷ []) k) && not (flag f k)) 1 0) (cond (has (xs ++ x ∷ []) k && not (flag f k)) 1 0) (n.once k) (m.once k) e b g;
+  order = n.order ∙ ap₂ (λ (us vs : List ℕ). us ++ vs) m.order (unless_marked f f1 x xs m.marked) ∙ append_assoc t (unless (flag f) xs) (last_left (flag f x || has xs x) x) ∙ ap (λ ys. t ++ ys) (sym (unless_more (flag f) xs x));
   lighter = omega (arith, m.lighter, n.lighter);
 }
 
@@ -195,12 +279,7 @@ pub unmarks_all : (nodes : List ℕ) (i : ℕ) (flags now : List Bool) → lengt
 unmarks_all nodes i flags now g u = subst (λ (xs : List ℕ). Unmarks xs flags now) (take_all i nodes g) u
 
 pub once_from_unmarked : (nodes : List ℕ) (flags now : List Bool) (before once : List ℕ) → AreUnmarked flags → before ≡ [] → Marks nodes flags before now once → AreEachOnce once nodes
-once_from_unmarked nodes flags now before once u e m = λ k. m.once k ∙ fresh (has nodes k) (flag flags k) (times before k) (u k) (ap (λ (xs : List ℕ). times xs k) e)
-  where
-    fresh : (b f : Bool) (t : ℕ) → f ≡ false → t ≡ 0 → t + cond (b && not f) 1 0 ≡ cond b 1 0
-    fresh b true t e h = absurd (false≢true (sym e))
-    fresh true false t e h = omega arith
-    fresh false false t e h = omega arith
+once_from_unmarked nodes flags now before once u e m = m.order ∙ ap (λ (xs : List ℕ). xs ++ unless (flag flags) nodes) e ∙ unless_same (flag flags) (λ k. false) nodes u
 
 pub unmarked_again : (nodes : List ℕ) (flags now later : List Bool) (before once : List ℕ) → AreUnmarked flags → Marks nodes flags before now once → Unmarks nodes now later → AreUnmarked later
 unmarked_again nodes flags now later before once u m g k = g.left k ∙ ap (λ b. b && not (has nodes k)) (m.marked k) ∙ none (flag flags k) (has nodes k) (u k)

@@ -13,9 +13,14 @@ abbrev pub times : List ℕ → ℕ → ℕ
 times [] k = 0
 times (x ∷ xs) k = cond (x == k) 1 0 + times xs k
 
--- the numbers of the one list are those of the other, each once
+-- the numbers that have no mark, each at its first place
+abbrev pub unless : (marked : ℕ → Bool) → List ℕ → List ℕ
+unless marked [] = []
+unless marked (x ∷ xs) = cond (marked x) (unless marked xs) (x ∷ unless (λ k. marked k || (x == k)) xs)
+
+-- the one list has the numbers of the other, each once, in the order in which they first stand there
 abbrev pub AreEachOnce : List ℕ → List ℕ → Type 0
-AreEachOnce once all = (k : ℕ) → times once k ≡ cond (has all k) 1 0
+AreEachOnce once all = once ≡ unless (λ k. false) all
 
 -- the nodes to which a pair goes from this one
 abbrev pub targets : List (List ℕ) → ℕ → List ℕ

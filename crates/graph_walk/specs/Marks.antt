@@ -1,6 +1,6 @@
 -- What it means to mark nodes.
-use Rattle.std.specs.Prelude.{◌≡◌, ◌≤◌, ℕ, ◌+◌, Bool, false, not, ◌&&◌, ◌||◌, List, [], ◌∷◌, length, cond}
-use Rattle.graph_walk.specs.Links.{has, times, flag}
+use Rattle.std.specs.Prelude.{◌≡◌, ◌≤◌, ℕ, ◌+◌, Bool, false, not, ◌&&◌, ◌||◌, List, [], ◌∷◌, ◌++◌, length, cond}
+use Rattle.graph_walk.specs.Links.{has, times, flag, unless}
 
 -- what is left of a walk: for each node that is not marked, its pairs and two
 abbrev pub weight : List (List ℕ) → List Bool → ℕ
@@ -14,6 +14,7 @@ pub record Marks (nodes : List ℕ) (flags : List Bool) (todo : List ℕ) (flags
   pub marked : (k : ℕ) → flag flags' k ≡ (flag flags k || has nodes k)
   pub added : (k : ℕ) → has todo' k ≡ (has todo k || (has nodes k && not (flag flags k)))
   pub once : (k : ℕ) → times todo' k ≡ times todo k + cond (has nodes k && not (flag flags k)) 1 0
+  pub order : todo' ≡ todo ++ unless (flag flags) nodes
   pub lighter : weight [] flags' + length todo' ≤ weight [] flags + length todo
 
 -- These nodes lose their marks.

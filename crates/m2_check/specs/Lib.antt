@@ -1,3 +1,2 @@
 pub mod Fragment
-pub mod Jobs
-pub mod Lent
+pub mod Dones

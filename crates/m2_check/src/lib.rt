@@ -1,8 +1,8 @@
-//! Which modules are compiled so far, and what becomes of the jobs of a graph of modules.
+//! Which modules are compiled so far, and what becomes of those that need others.
 #![tactic(auto)]
 
+mod done;
 mod fragment;
-mod jobs;
 
+pub use done::{Done, done_with};
 pub use fragment::printed_of;
-pub use jobs::{Checks, Done};

@@ -1,4 +1,1 @@
-pub mod Program
-pub mod Scheme
-pub mod Suits
-pub mod Headline
+pub mod Sources

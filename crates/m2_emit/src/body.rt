@@ -1,8 +1,9 @@
 //! The module of a body.
 
 ghost use Rattle.std.specs.Prelude.{◌≡◌, ◌<◌, ◌++◌, ◌∷◌, [], All, IfOk, OnOk, map};
-ghost use Rattle.m2_emit.specs.Program.{Put};
-ghost use Rattle.m2_emit.specs.Scheme.{base_name, body, body_code, body_imports, body_locals, body_module, body_types, from_host, from_link, host_imports, imported_globals, own_imports, tab_name};
+ghost use Rattle.m2_meaning.specs.Program.{Put};
+ghost use Rattle.m2_scheme.specs.Scheme.{base_name, body_code, body_imports, body_locals, body_module, body_types, from_host, from_link, host_imports, imported_globals, own_imports, tab_name};
+ghost use Rattle.m2_emit.specs.Sources.{body};
 
 use crate::code::{body_code, global_code};
 use crate::parts::{AT_LEAST_ONE, joined, one, type_from};

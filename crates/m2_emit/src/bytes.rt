@@ -2,7 +2,8 @@
 
 ghost use Rattle.std.specs.Prelude.{◌≡◌, ◌≤◌, ◌<◌, All, IfOk, OnOk, length};
 ghost use Rattle.wasm_binary.specs.Binary.{module_spelling};
-ghost use Rattle.m2_emit.specs.Scheme.{body, body_module, link_module, program};
+ghost use Rattle.m2_scheme.specs.Scheme.{body_module, link_module};
+ghost use Rattle.m2_emit.specs.Sources.{body, program};
 
 use crate::body::body_module;
 use crate::link::link_module;

@@ -1,8 +1,9 @@
 //! The code of bodies, and of the function that calls them.
 
 ghost use Rattle.std.specs.Prelude.{◌≡◌, ◌≤◌, ◌<◌, ◌++◌, ◌∷◌, [], All, IfOk, OnOk, length, map};
-ghost use Rattle.m2_emit.specs.Program.{Put};
-ghost use Rattle.m2_emit.specs.Scheme.{body_calls, body_code, program, stack_begin};
+ghost use Rattle.m2_meaning.specs.Program.{Put};
+ghost use Rattle.m2_scheme.specs.Scheme.{body_calls, body_code, stack_begin};
+ghost use Rattle.m2_emit.specs.Sources.{program};
 ghost use Rattle.wasm_tree.specs.declared.code.Op.TheVariants as op;
 ghost use Rattle.wasm_tree.specs.declared.instr.Instr.TheVariants.{GlobalGet, I32Const};
 

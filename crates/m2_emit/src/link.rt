@@ -3,7 +3,8 @@
 ghost use Rattle.std.specs.Prelude.{◌≡◌, ◌≤◌, ◌+◌, ◌*◌, ◌<◌, ◌^◌, ◌++◌, ◌∷◌, [], IfOk, OnOk, Some, length};
 ghost use Rattle.wasm_tree.specs.declared.kinds.ValueType.TheVariants as types;
 ghost use Rattle.wasm_tree.specs.declared.module.ExportKind.TheVariants as exported;
-ghost use Rattle.m2_emit.specs.Scheme.{base_name, body_calls, constant_global, exported_as, link_exports, link_globals, link_module, module_exports, module_globals, program, tab_name, text_name, type_from};
+ghost use Rattle.m2_scheme.specs.Scheme.{base_name, body_calls, constant_global, exported_as, link_exports, link_globals, link_module, module_exports, module_globals, tab_name, text_name, type_from};
+ghost use Rattle.m2_emit.specs.Sources.{program};
 
 use crate::code::body_calls;
 use crate::parts::{constant_global, exported_as, joined, one, type_from};

@@ -14,21 +14,21 @@ use Rattle.m2_graph.specs.Jobs.{number_of, numbers_of, AreJobs}
 use Rattle.graph_walk.specs.Numbering.{IsNumbering}
 use Rattle.m2_graph.specs.Order.{body_numbers, IsJob, needs}
 use Rattle.m2_graph.proofs.Importing.{first_within}
-use Rattle.graph_walk.proofs.Marking.{has-append, marked_within}
+use Rattle.graph_walk.proofs.Marking.{has-append, marked_within, times_once_each}
 use Rattle.graph_walk.proofs.Chains.{or_true, times_has, has_at, done_before}
 use Rattle.m2_graph.proofs.Circles.{passes}
 
 -- ---- lists of numbers
 
 pub times_once : (once all : List ℕ) (k : ℕ) → AreEachOnce once all → times once k ≤ 1
-times_once once all k h = subst (λ (n : ℕ). n ≤ 1) (sym (h k)) (small (has all k))
+times_once once all k h = subst (λ (n : ℕ). n ≤ 1) (sym (times_once_each once all h k)) (small (has all k))
   where
     small : (b : Bool) → cond b 1 0 ≤ 1
     small true = omega arith
     small false = omega arith
 
 pub once_among : (once all : List ℕ) (k : ℕ) → AreEachOnce once all → has once k ≡ true → has all k ≡ true
-once_among once all k h e = some (has all k) (subst (λ (n : ℕ). 1 ≤ n) (h k) (times_has once k e))
+once_among once all k h e = some (has all k) (subst (λ (n : ℕ). 1 ≤ n) (times_once_each once all h k) (times_has once k e))
   where
     some : (b : Bool) → 1 ≤ cond b 1 0 → b ≡ true
     some true l = refl

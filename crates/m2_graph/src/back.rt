@@ -13,6 +13,7 @@ use graph_walk::{first_on_circle, is_marked, led_to};
 use m2_tree::{Ident, Import, Module, Pos};
 use sqlite_items::Items;
 use std::alloc::{AllocError, Global};
+use std::slice::from_ref;
 
 /// Whether an import leads back to a node. `leading` marks the nodes that lead to it.
 fn leads_back(program: &Program<'_>, leading: &[bool], node: usize, ident: &Ident) -> bool
@@ -56,7 +57,7 @@ fn back_in_import(
     ensures { IsFirstBack (modules_of program.now) node (named_by import.now.from import.now.names) result }
 {
     match &import.from {
-        Some(from) => back_in_names(program, leading, node, [*from].as_slice()),
+        Some(from) => back_in_names(program, leading, node, from_ref(from)),
         None => back_in_names(program, leading, node, import.names.as_slice()),
     }
 }

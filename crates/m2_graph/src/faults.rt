@@ -188,16 +188,16 @@ fn file_fault(program: &Program<'_>, number: usize, given: usize, tree: &Module)
     requires within { number < length (modules_of program.now) }
     ensures { result ≡ least_of (faults_of (modules_of program.now) (take number (modules_of program.now)) given tree.now) }
 {
-    let name = tree.name;
+    let pos = tree.name.pos;
     let repeated = is_repeated(program, number, tree);
     let second = is_second_program(program, number, tree);
     let without = is_without_program(program, number);
     let lone = is_lone(program, tree);
     let imports = import_fault(program, tree);
-    let repeats = with_fault(imports, repeated, name.pos, 21);
-    let programs = with_fault(repeats, second, name.pos, 23);
+    let repeats = with_fault(imports, repeated, pos, 21);
+    let programs = with_fault(repeats, second, pos, 23);
     let without_program = with_fault(programs, without, FIRST_PLACE, 23);
-    let lonely = with_fault(without_program, lone, name.pos, 24);
+    let lonely = with_fault(without_program, lone, pos, 24);
     with_fault(lonely, given == MAX_FILES, FIRST_PLACE, 25)
 }
 

@@ -22,7 +22,7 @@ ghost use Rattle.m2_grammar.specs.Reading.{
 
 use crate::begins::{begins_simple, begins_type, kind_of};
 use m2_grammar::{Fault, Kind, ParseRefusal, Stop};
-use m2_tree::{Expr, Ident, Lexeme, Pos, Quoted, Symbol, Token};
+use m2_tree::{Expr, Ident, Lexeme, Pos, Symbol, Token};
 use std::alloc::Global;
 use std::marker::Model;
 
@@ -169,9 +169,10 @@ impl<'a> Cursor<'a> {
         };
         match &token.lexeme {
             Lexeme::Name(name) => {
+                let name = name.clone()?;
                 self.rest = rest;
                 Ok(Ident {
-                    name: *name,
+                    name,
                     pos: token.pos,
                 })
             }
@@ -194,9 +195,7 @@ impl<'a> Cursor<'a> {
         let value = match &token.lexeme {
             Lexeme::Number(number) => Expr::Number(token.pos, *number),
             Lexeme::Char(code) => Expr::Char(token.pos, *code),
-            Lexeme::Text(text) => {
-                Expr::Text(token.pos, Quoted::new(self.alloc, text.as_bytes())?)
-            }
+            Lexeme::Text(text) => Expr::Text(token.pos, text.clone()?),
             Lexeme::Name(_) | Lexeme::Symbol(_) | Lexeme::End => {
                 return Err(Stop::Refused(Fault::Unfit));
             }

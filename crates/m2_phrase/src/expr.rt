@@ -80,12 +80,12 @@ fn product_of(
 fn push_indexes(
     found: &mut Items<Selector>,
     bracket: Pos,
-    mut indexes: Items<Expr>,
+    indexes: Items<Expr>,
 ) -> Result<(), AllocError>
     ensures { OnOk result (found.new ≡ found.old ++ map (Selector.Index bracket) indexes) }
 {
-    while !indexes.is_empty() {
-        found.push(Selector::Index(bracket, indexes.remove(0)))?;
+    for index in indexes.into_vec() {
+        found.push(Selector::Index(bracket, index))?;
     }
     Ok(())
 }
@@ -220,7 +220,8 @@ impl Cursor<'_> {
         let selectors = self.selectors(room)?;
         if self.sees(Symbol::LeftParen) {
             let args = self.args(room)?;
-            return Ok(Expr::Use(Designator { name, selectors }, Some(args)));
+            let boxed = Boxed::new(self.alloc, args)?;
+            return Ok(Expr::Use(Designator { name, selectors }, Some(boxed)));
         }
         Ok(Expr::Use(Designator { name, selectors }, None))
     }

@@ -1,6 +1,6 @@
 //! Types and names in them.
 
-ghost use Rattle.std.specs.Prelude.{◌≡◌, [], ◌∷◌, map, option_to_list};
+ghost use Rattle.std.specs.Prelude.{◌≡◌, [], ◌∷◌, map, option_to_list, IfOk};
 ghost use Rattle.m2_tree.specs.declared.token.Symbol.TheVariants.{Array, LeftParen, Of, RightParen};
 ghost use Rattle.m2_grammar.specs.Rule.{
   dims_rule,
@@ -47,14 +47,15 @@ use m2_tree::{
     Boxed, Expr, Field, FormalType, Ident, Items, Parameter, Pos, Qualified, Simple, Symbol,
     TypeExpr,
 };
+use std::alloc::{AllocError, Global};
 
 /// The formals of a procedure type, and its result.
 type Signature = (Items<Parameter>, Option<Qualified>);
 
-fn qualified_pos(name: Qualified) -> Pos
-    ensures { result ≡ qualified_pos name }
+fn qualified_pos(name: &Qualified) -> Pos
+    ensures { result ≡ qualified_pos name.now }
 {
-    match name.module {
+    match &name.module {
         None => name.name.pos,
         Some(module) => module.pos,
     }
@@ -65,11 +66,22 @@ fn simple_pos(simple: &Simple) -> Pos
     ensures { result ≡ simple_pos simple.now }
 {
     match simple {
-        Simple::Named(name) => qualified_pos(*name),
+        Simple::Named(name) => qualified_pos(name),
         Simple::Enumeration(pos, _) => *pos,
         Simple::Subrange(None, pos, _, _) => *pos,
-        Simple::Subrange(Some(base), _, _, _) => qualified_pos(*base),
+        Simple::Subrange(Some(base), _, _, _) => qualified_pos(base),
     }
+}
+
+/// Two expressions, each in a box.
+fn boxed_pair(
+    alloc: Global,
+    first: Expr,
+    second: Expr,
+) -> Result<(Boxed<Expr>, Boxed<Expr>), AllocError>
+    ensures { IfOk result (λ pair. pair ≡ (first, second)) }
+{
+    Ok((Boxed::new(alloc, first)?, Boxed::new(alloc, second)?))
 }
 
 impl Cursor<'_> {
@@ -193,7 +205,7 @@ impl Cursor<'_> {
     }
 
     /// The place of the bracket, and the bounds.
-    fn range(&mut self, room: usize) -> Result<(Pos, (Expr, Expr)), Stop>
+    fn range(&mut self, room: usize) -> Result<(Pos, (Boxed<Expr>, Boxed<Expr>)), Stop>
         ensures { ReadsAs (λ p. (p.0.pos, p.1)) (read range room self.old) result self.new }
     {
         let pos = self.expect(Symbol::LeftBracket)?;
@@ -201,7 +213,8 @@ impl Cursor<'_> {
         self.expect(Symbol::DotDot)?;
         let high = self.expr(room)?;
         self.expect(Symbol::RightBracket)?;
-        Ok((pos, (low, high)))
+        let bounds = boxed_pair(self.alloc, low, high)?;
+        Ok((pos, bounds))
     }
 
     /// A type that begins with its name.

@@ -1,3 +1,2 @@
 pub mod Once
 pub mod All
-pub mod Crossing

@@ -1,10 +1,8 @@
-//! Source files to trees: what is read of a text, and the work of reading files.
+//! Texts to trees: what is read of a text.
 #![tactic(auto)]
 
 mod file;
 mod reading;
-mod texts;
 
 pub use file::SourceFile;
 pub use reading::{Read, read_text};
-pub use texts::Texts;

@@ -37,19 +37,24 @@ pub fn refused(pos: Pos, fault: Fault) -> ScanError
     ScanError::Refused(ScanRefusal { pos, fault })
 }
 
-/// The reserved word or the name that letters and digits are.
-fn named(run: &[u8]) -> Lexeme
+/// The reserved word or the name that letters and digits are. The only error is that memory ran out.
+fn named(alloc: Global, run: &[u8]) -> Result<Lexeme, AllocError>
     requires letter { IsRun class.Letter run.now }
     requires short { length run.now ≤ 64 }
-    ensures { Spells run.now result }
+    ensures { IfOk result (Spells run.now) }
 {
     match word_of(run) {
-        Some(symbol) => Lexeme::Symbol(symbol),
-        None => Lexeme::Name(Name::new(run)),
+        Some(symbol) => Ok(Lexeme::Symbol(symbol)),
+        None => Ok(Lexeme::Name(Name::new(alloc, run)?)),
     }
 }
 
-fn cut_name<'a>(text: &'a [u8], pos: Pos, tokens: &mut Vec<Token>) -> Result<Cut<'a>, ScanError>
+fn cut_name<'a>(
+    alloc: Global,
+    text: &'a [u8],
+    pos: Pos,
+    tokens: &mut Vec<Token>,
+) -> Result<Cut<'a>, ScanError>
     requires begins { Begins class.Letter text.now }
     requires room { HasRoom pos text.now }
     ensures taken { IfOk result (λ cut. Adds text.now pos cut.rest.now cut.pos tokens.old.items tokens.new.items) }
@@ -60,7 +65,8 @@ fn cut_name<'a>(text: &'a [u8], pos: Pos, tokens: &mut Vec<Token>) -> Result<Cut
         return Err(refused(pos, Fault::LongName));
     }
     let (run, rest) = text.split_at(len);
-    put(tokens, named(run), pos)?;
+    let lexeme = named(alloc, run)?;
+    put(tokens, lexeme, pos)?;
     Ok(Cut {
         rest,
         pos: right(pos, len),
@@ -227,7 +233,7 @@ pub fn next_cut<'a>(
 {
     match class_of(text[0]) {
         Class::Space => Ok(cut_space(text, pos)),
-        Class::Letter => cut_name(text, pos, tokens),
+        Class::Letter => cut_name(alloc, text, pos, tokens),
         Class::Digit => cut_number(text, pos, tokens),
         Class::Quote => cut_string(alloc, text, pos, tokens),
         Class::Other if opens_comment(text) => cut_comment(text, pos),

@@ -1,6 +1,6 @@
 //! Statements.
 
-ghost use Rattle.std.specs.Prelude.{◌≡◌, ◌∷◌, option_to_list};
+ghost use Rattle.std.specs.Prelude.{◌≡◌, ◌∷◌, option_to_list, IfOk};
 ghost use Rattle.std.proofs.Common.{inl};
 ghost use Rattle.m2_tree.specs.declared.token.Symbol.TheVariants.{By};
 ghost use Rattle.m2_grammar.specs.Rule.{arm_rule, rest_rule, stmt_rule, stmts_rule};
@@ -42,7 +42,8 @@ ghost use Rattle.m2_grammar.specs.Reading.{is_among, read, read_rule, Reads, Rea
 
 use m2_grammar::{Kind, Stop};
 use m2_phrase::{Cursor, begins_expr};
-use m2_tree::{Arm, Boxed, Expr, Items, Rest, Stmt, Symbol};
+use m2_tree::{Arm, Boxed, Expr, Ident, Items, Rest, Stmt, Symbol};
+use std::alloc::{AllocError, Global};
 
 /// Whether a statement can begin so.
 #[tactic(auto, using(m2_grammar::proofs::Truth::symbols), unfolding(m2_grammar::specs::Kinds::same_kind))]
@@ -104,6 +105,25 @@ fn step(cursor: &mut Cursor, room: usize) -> Result<Option<Expr>, Stop>
     }
     let value = cursor.expr(room)?;
     Ok(Some(value))
+}
+
+/// A FOR of its parts. The only error is that memory ran out.
+fn for_of(
+    alloc: Global,
+    variable: Ident,
+    (start, limit): (Expr, Expr),
+    step: Option<Expr>,
+    body: Items<Stmt>,
+) -> Result<Stmt, AllocError>
+    ensures { IfOk result (λ s. s ≡ Stmt.For variable start limit step body) }
+{
+    let step = match step {
+        None => None,
+        Some(value) => Some(Boxed::new(alloc, value)?),
+    };
+    let start = Boxed::new(alloc, start)?;
+    let limit = Boxed::new(alloc, limit)?;
+    Ok(Stmt::For(variable, start, limit, step, body))
 }
 
 /// Statements, with so many levels of nesting left. An empty one leaves no trace.
@@ -352,7 +372,7 @@ fn for_stmt(cursor: &mut Cursor, room: usize) -> Result<Stmt, Stop>
     cursor.expect(Symbol::Do)?;
     let body = stmts(cursor, inner)?;
     cursor.expect(Symbol::End)?;
-    Ok(Stmt::For(variable, start, limit, step, body))
+    Ok(for_of(cursor.alloc, variable, (start, limit), step, body)?)
 }
 
 #[cycle(stmt)]

@@ -1,4 +1,5 @@
-pub mod NameBytes
+pub mod InlineBytes
+pub mod PlacedBytes
 pub mod Sound
 pub mod SoundExpr
 pub mod SoundLeaves

@@ -14,7 +14,7 @@ pub enum Simple {
     /// The place of the bracket, and the constants.
     Enumeration(Pos, Items<Ident>),
     /// The base, if it is named, the place of the bracket, and the bounds.
-    Subrange(Option<Qualified>, Pos, Expr, Expr),
+    Subrange(Option<Qualified>, Pos, Boxed<Expr>, Boxed<Expr>),
 }
 
 /// A type.
@@ -40,7 +40,7 @@ pub struct Field {
 }
 
 /// The type of a formal.
-#[derive(Clone, Copy, Debug, PartialEq, Eq)]
+#[derive(Clone, Debug, PartialEq, Eq, Drop)]
 pub struct FormalType {
     /// Whether ARRAY OF stands before the name.
     pub is_open: bool,
@@ -48,7 +48,7 @@ pub struct FormalType {
 }
 
 /// A formal of a procedure type.
-#[derive(Clone, Copy, Debug, PartialEq, Eq)]
+#[derive(Clone, Debug, PartialEq, Eq, Drop)]
 pub struct Parameter {
     /// Whether VAR stands before it.
     pub is_var: bool,

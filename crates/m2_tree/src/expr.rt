@@ -51,7 +51,7 @@ pub struct Operator<O> {
 }
 
 /// A name, or a name of a module.
-#[derive(Clone, Copy, Debug, PartialEq, Eq)]
+#[derive(Clone, Debug, PartialEq, Eq, Drop)]
 pub struct Qualified {
     /// The module that is named before the point, if one is.
     pub module: Option<Ident>,
@@ -74,7 +74,7 @@ pub enum Expr {
     /// The place of the bracket, and what stands inside.
     Bracketed(Pos, Boxed<Expr>),
     /// A variable, a constant, a procedure or, with arguments, a call.
-    Use(Designator, Option<Items<Expr>>),
+    Use(Designator, Option<Boxed<Items<Expr>>>),
     /// The first of two or more factors, and the others.
     Term(Boxed<Expr>, Items<(Operator<MulOp>, Expr)>),
     /// A sign, the first term, and the others.

@@ -41,6 +41,14 @@ impl<T> Items<T> {
         Items { items }
     }
 
+    /// The elements as a vector.
+    pub fn into_vec(self) -> Vec<T>
+        ensures { result.items ≡ self }
+    {
+        let Items { items } = self;
+        items
+    }
+
     /// The elements.
     pub fn as_slice(&self) -> &[T]
         ensures { result.now ≡ self.now }
@@ -70,11 +78,12 @@ impl<T> Items<T> {
         self.items.get(at)
     }
 
-    /// Moves the elements of another list to the end. The only error is that memory ran out.
+    /// Moves the elements of another list to the end. The only error is that memory ran out; the list is then as it was.
     pub fn append(&mut self, more: Items<T>) -> Result<(), AllocError>
     where
         T: Drop,
-        ensures { OnOk result (self.new ≡ self.old ++ more) }
+        ensures ok { OnOk result (self.new ≡ self.old ++ more) }
+        ensures err { OnErr result (self.new ≡ self.old) }
     {
         let Items { mut items } = more;
         self.items.append(&mut items)
@@ -121,7 +130,10 @@ impl<T: Drop> Items<T> {
         ensures ok { OnOk result (self.new ≡ self.old ++ item ∷ []) }
         ensures err { OnErr result (self.new ≡ self.old) }
     {
-        self.items.push(item)?;
+        if self.items.len() == self.items.capacity() {
+            self.items.reserve_exact(self.items.len() / 2 + 1)?;
+        }
+        self.items.push_reserved(item);
         Ok(())
     }
 }

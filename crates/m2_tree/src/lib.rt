@@ -5,6 +5,7 @@
 #![tactic(auto)]
 
 mod boxed;
+mod bytes;
 mod decl;
 mod exact;
 mod expr;

@@ -1,52 +1,42 @@
 //! Names.
 
-ghost use Rattle.std.specs.Prelude.{◌≡◌, ◌≤◌, length, nat_eq};
+ghost use Rattle.std.specs.Prelude.{◌≡◌, ◌≤◌, length, nat_eq, IfOk};
 ghost use Rattle.std.specs.Cmp.Lexicographic.{pointwise};
 ghost use Rattle.std.specs.Cmp.Rules.{comparing};
 ghost use Rattle.std.proofs.Common.{rules};
 
+use crate::bytes::Bytes;
 use crate::pos::Pos;
+use std::alloc::{AllocError, Global};
 use std::marker::Model;
 
 /// The bytes of the longest name.
 pub const MAX_NAME: usize = 64;
 
 /// A name of at most 64 bytes. Contracts see it as the list of its bytes.
-#[derive(Clone, Copy, Debug)]
+#[derive(Debug, Drop)]
 pub struct Name {
-    len: usize,
-    bytes: [u8; 64],
+    bytes: Bytes,
 }
 
 impl Model for Name {
-    ghost use Rattle.std.specs.Prelude.{◌≡◌, ◌≤◌, ◌-◌, ◌++◌, ℕ, List, length, take, replicate};
-    ghost use Rattle.m2_tree.specs.NameBytes.{filled, kept_whole};
+    ghost use Rattle.std.specs.Prelude.{◌≤◌, ℕ, List, length};
 
     ghost Value = { List ℕ };
 
-    ghost view = { λ n. take n.len n.bytes };
+    ghost view = { λ n. n.bytes };
 
-    ghost invariant = { λ n. (n.len ≤ 64) × (length n.bytes ≡ 64) × (n.bytes ≡ filled (take n.len n.bytes)) };
-
-    ghost inverse = { λ name. record { len = length name; bytes = filled name } };
-
-    ghost inverse_ok = { kept_whole };
+    ghost invariant = { λ n. length n.bytes ≤ 64 };
 }
 
 impl Name {
-    /// The name of these bytes.
-    pub fn new(text: &[u8]) -> Name
+    /// The name of these bytes. The only error is that memory ran out.
+    pub fn new(alloc: Global, text: &[u8]) -> Result<Name, AllocError>
         requires { length text.now ≤ 64 }
-        ensures { result ≡ text.now }
+        ensures { IfOk result (λ name. name ≡ text.now) }
     {
-        let mut bytes = [0; 64];
-        for (i, byte) in text.iter().enumerate() {
-            bytes[i] = *byte;
-        }
-        Name {
-            len: text.len(),
-            bytes,
-        }
+        let bytes = Bytes::new(alloc, text)?;
+        Ok(Name { bytes })
     }
 
     /// The bytes of the name.
@@ -54,7 +44,16 @@ impl Name {
         ensures value { result.now ≡ self.now }
         ensures short { length result.now ≤ 64 }
     {
-        &self.bytes[..self.len]
+        self.bytes.as_slice()
+    }
+}
+
+impl Clone for Name {
+    ghost is_clone = { λ name copy. copy ≡ name };
+
+    fn clone(&self) -> Result<Name, AllocError> {
+        let bytes = self.bytes.clone()?;
+        Ok(Name { bytes })
     }
 }
 
@@ -73,7 +72,7 @@ impl Eq for Name {
 }
 
 /// A name where it is written.
-#[derive(Clone, Copy, Debug, PartialEq, Eq)]
+#[derive(Clone, Debug, PartialEq, Eq, Drop)]
 pub struct Ident {
     /// The name.
     pub name: Name,

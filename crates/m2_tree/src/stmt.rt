@@ -26,7 +26,7 @@ pub enum Stmt {
     /// The place of the RETURN, and the value.
     Return(Pos, Option<Expr>),
     /// The control variable, its start, its limit, the step, and what is repeated.
-    For(Ident, Expr, Expr, Option<Expr>, Items<Stmt>),
+    For(Ident, Boxed<Expr>, Boxed<Expr>, Option<Boxed<Expr>>, Items<Stmt>),
     /// The record, and the statements in which its fields stand for themselves.
     With(Designator, Items<Stmt>),
 }

@@ -5,13 +5,14 @@ ghost use Rattle.std.specs.Cmp.Lexicographic.{pointwise};
 ghost use Rattle.std.specs.Cmp.Rules.{comparing};
 ghost use Rattle.std.proofs.Common.{rules};
 
+use crate::bytes::Bytes;
 use std::alloc::{AllocError, Global};
 use std::marker::Model;
 
 /// The bytes between the quotes of a string. Contracts see it as their list.
 #[derive(Debug, Drop)]
 pub struct Quoted {
-    bytes: Vec<u8>,
+    bytes: Bytes,
 }
 
 impl Model for Quoted {
@@ -19,7 +20,7 @@ impl Model for Quoted {
 
     ghost Value = { List ℕ };
 
-    ghost view = { λ q. q.bytes.items };
+    ghost view = { λ q. q.bytes };
 }
 
 impl Quoted {
@@ -27,9 +28,8 @@ impl Quoted {
     pub fn new(alloc: Global, bytes: &[u8]) -> Result<Quoted, AllocError>
         ensures { IfOk result (λ quoted. quoted ≡ bytes.now) }
     {
-        Ok(Quoted {
-            bytes: Vec::from_slice(alloc, bytes)?,
-        })
+        let bytes = Bytes::new(alloc, bytes)?;
+        Ok(Quoted { bytes })
     }
 
     /// The bytes between the quotes.
@@ -37,6 +37,15 @@ impl Quoted {
         ensures { result.now ≡ self.now }
     {
         self.bytes.as_slice()
+    }
+}
+
+impl Clone for Quoted {
+    ghost is_clone = { λ quoted copy. copy ≡ quoted };
+
+    fn clone(&self) -> Result<Quoted, AllocError> {
+        let bytes = self.bytes.clone()?;
+        Ok(Quoted { bytes })
     }
 }
 

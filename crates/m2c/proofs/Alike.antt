@@ -8,16 +8,15 @@ use Rattle.m2_graph.specs.declared.error.GraphError.TheVariants as graph_error
 use Rattle.m2_graph.specs.Files.{numbered}
 use Rattle.m2_graph.specs.Graph.{IsGraph, IsRefusal}
 use Rattle.m2_graph.specs.Told.{Told as Tale, told as tale}
-use Rattle.m2_once.specs.Once.{SameRows}
-use Rattle.m2_once.proofs.Once.{one_graph, one_refusal, graph_or_refusal}
-use Rattle.m2_emit.specs.Program.{Program}
-use Rattle.m2_emit.specs.Scheme.{link_module}
+use Rattle.m2_graph_laws.proofs.Once.{one_graph, one_refusal, graph_or_refusal}
+use Rattle.m2_meaning.specs.Program.{Program}
+use Rattle.m2_scheme.specs.Scheme.{link_module}
 use Rattle.m2_read.specs.declared.file.SourceFile.{SourceFile}
 use Rattle.m2c.specs.declared.files.Outcome.{Outcome}
 use Rattle.m2c.specs.declared.files.Outcome.TheVariants as outcome
 use Rattle.m2c.specs.Modules.{program_at}
 use Rattle.m2c.specs.Build.{Told, told, told_at, AreTold, refused_of, modules, unknown, built_of, named, AreUnread, AreUngraphed, AreUncompiled, HaveGraph, IsProgram, IsBuilt, AreAlike}
-use Rattle.m2c.proofs.Same.{same_refused, one_trees, trees_or_refused, same_unknown}
+use Rattle.m2c.proofs.Same.{same_refused, one_trees, trees_or_refused}
 use Rattle.m2c.proofs.Ranks.{one_order}
 
 -- ---- graphs
@@ -25,7 +24,7 @@ use Rattle.m2c.proofs.Ranks.{one_order}
 record Same (t u : List (List ℕ × Module)) (n m : List ℕ) (j k : List (List ℕ)) (s r : List ℕ) : Type 0 where
   trees : t ≡ u
   numbers : n ≡ m
-  rows : SameRows j k
+  rows : j ≡ k
   starts : s ≡ r
 
 module _ (files : List SourceFile) (t u : List (List ℕ × Module)) (n m : List ℕ) (j k : List (List ℕ)) (s r : List ℕ) where
@@ -38,7 +37,7 @@ module _ (files : List SourceFile) (t u : List (List ℕ × Module)) (n m : List
   untold_same : HaveGraph files t n j s → HaveGraph files u m k r → unknown t n j ≡ unknown u m k
   untold_same h g =
       let w = have_same h g in
-      ap (λ (x : List (List ℕ × Module)). unknown x n j) w.trees ∙ ap (λ (x : List ℕ). unknown u x j) w.numbers ∙ same_unknown u m j k w.rows
+      ap (λ (x : List (List ℕ × Module)). unknown x n j) w.trees ∙ ap (λ (x : List ℕ). unknown u x j) w.numbers ∙ ap (unknown u m) w.rows
 
   programs_same : HaveGraph files t n j s → HaveGraph files u m k r → program_at (modules t) s ≡ program_at (modules u) r
   programs_same h g =

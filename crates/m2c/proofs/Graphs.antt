@@ -8,33 +8,23 @@ use Rattle.m2_tree.specs.declared.decl.Module.{Module}
 use Rattle.wasm_binary.specs.Binary.{module_spelling}
 use Rattle.m2_graph.specs.Files.{File, given_of}
 use Rattle.m2_graph.specs.Graph.{IsGraph}
-use Rattle.m2_started.specs.Started.{AreStarted}
-use Rattle.m2_started.proofs.Started.{are_started}
+use Rattle.m2_graph_laws.specs.Started.{AreStarted}
+use Rattle.m2_graph_laws.proofs.Started.{are_started}
 use Rattle.m2_emit.specs.declared.source.Source.{Source}
-use Rattle.m2_emit.specs.Program.{Program, names}
-use Rattle.m2_emit.specs.Scheme.{body, program, link_module}
-use Rattle.m2_emit.specs.Suits.{IsName, AreBytes}
-use Rattle.m2_emit.specs.Headline.{Keeps}
-use Rattle.m2_emit.proofs.Kept.{body_bytes, scheme_keeps}
+use Rattle.m2_meaning.specs.Program.{Program, names}
+use Rattle.m2_scheme.specs.Scheme.{link_module}
+use Rattle.m2_emit.specs.Sources.{body, program}
+use Rattle.m2_headline.specs.Suits.{IsName, AreBytes}
+use Rattle.m2_headline.specs.Headline.{Keeps}
+use Rattle.m2_headline.proofs.Kept.{body_bytes, scheme_keeps}
 use Rattle.m2_read.specs.declared.file.SourceFile.{SourceFile}
-use Rattle.m2_check.specs.Jobs.{is_compiled}
+use Rattle.m2_jobs.specs.Jobs.{is_compiled}
+use Rattle.m2_jobs.proofs.Rounds.{jobs_count}
 use Rattle.m2c.specs.Modules.{program_at}
-use Rattle.m2_check.specs.Lent.{lent, modules_lent}
+use Rattle.m2_jobs.specs.Lent.{lent, modules_lent}
 use Rattle.m2c.specs.Build.{built_of, modules, unknown, HaveGraph, IsProgram}
 use Rattle.m2c.proofs.Known.{compiled_all}
 use Rattle.m2c.proofs.Programs.{IsFit, IsSmall, count_all, fits_all, suits_all, small_bytes, source_names}
-
-zip_length : {A B : Type 0} (R : A → B → Type 0) (xs : List A) (ys : List B) → AllZip R xs ys → length xs ≡ length ys
-zip_length R [] [] h = refl
-zip_length R [] (y ∷ ys) h = absurd h
-zip_length R (x ∷ xs) [] h = absurd h
-zip_length R (x ∷ xs) (y ∷ ys) h = ap suc (zip_length R xs ys h.1)
-
--- each job has a file
-pub jobs_count : (given : List File) (numbers : List ℕ) (jobs : List (List ℕ)) (starts : List ℕ) → IsGraph given numbers jobs starts → length numbers ≡ length jobs
-jobs_count given numbers jobs starts g =
-    let j = g.2.is_jobs in
-    ap length j.compiled ∙ length-map j.order (given_of g.0) ∙ zip_length _ j.order jobs j.needs
 
 pub same_modules : (trees : List (Bor (List ℕ) × Bor Module)) → modules_lent trees ≡ modules (lent trees)
 same_modules [] = refl

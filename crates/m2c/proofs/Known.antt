@@ -11,9 +11,10 @@ use Rattle.m2_worker.specs.Results.{results_below, picked, with_item}
 use Rattle.m2_worker.proofs.Resulting.{results-length}
 use Rattle.m2_graph.specs.Files.{numbered}
 use Rattle.m2_graph.specs.Graph.{CompileEach}
-use Rattle.m2_check.specs.declared.jobs.Done.{Done}
-use Rattle.m2_check.specs.declared.jobs.Done.TheVariants.{Known, Unknown, Blocked}
-use Rattle.m2_check.specs.Jobs.{is_known, is_compiled, done, defined, done_all}
+use Rattle.m2_check.specs.declared.done.Done.{Done}
+use Rattle.m2_check.specs.declared.done.Done.TheVariants.{Known, Unknown, Blocked}
+use Rattle.m2_check.specs.Dones.{is_known, done}
+use Rattle.m2_jobs.specs.Jobs.{is_compiled, defined, done_all}
 use Rattle.m2c.specs.Build.{unknown_in, unknown_of, name_in, unknown, modules}
 
 -- ---- all jobs are known

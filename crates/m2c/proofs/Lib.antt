@@ -6,6 +6,4 @@ pub mod Programs
 pub mod Graphs
 pub mod Same
 pub mod Ranks
-pub mod Rounds
 pub mod Alike
-pub mod Crossing

@@ -14,13 +14,13 @@ use Rattle.m2_tree.specs.declared.decl.Contents.TheVariants as held
 use Rattle.wasm_tree.specs.Validity.{AreDistinct}
 use Rattle.m2_graph.specs.Imports.{imported, definition_of}
 use Rattle.m2_graph.specs.Refused.{is_console}
-use Rattle.m2_started.specs.Started.{at_places, names_of, AreApart, imported_by, definition_imported, all_imported, AreStarted}
+use Rattle.m2_graph_laws.specs.Started.{at_places, names_of, AreApart, imported_by, definition_imported, all_imported, AreStarted}
 use Rattle.m2_emit.specs.declared.source.Source.{Source}
-use Rattle.m2_emit.specs.Program.{Program, Body, Put, names}
-use Rattle.m2_emit.specs.Scheme.{body, program}
-use Rattle.m2_emit.specs.Suits.{IsName, IsByte, AreBytes, IsAmong, Suits}
+use Rattle.m2_meaning.specs.Program.{Program, Body, Put, names}
+use Rattle.m2_emit.specs.Sources.{body, program}
+use Rattle.m2_headline.specs.Suits.{IsName, IsByte, AreBytes, IsAmong, Suits}
 use Rattle.m2_check.specs.Fragment.{most, is_word, has_size, is_bare, suits, few, printed, printed_held, printed_of, statements}
-use Rattle.m2_check.specs.Jobs.{is_compiled}
+use Rattle.m2_jobs.specs.Jobs.{is_compiled}
 use Rattle.m2c.specs.Modules.{with_name, each_once, program_at}
 use Rattle.m2c.proofs.Fragments.{word_is_name}
 

@@ -9,19 +9,19 @@ use Rattle.wasm_binary.specs.Binary.{module_spelling}
 use Rattle.m2_graph.specs.declared.error.GraphError.TheVariants as graph_error
 use Rattle.m2_graph.specs.Files.{numbered}
 use Rattle.m2_graph.specs.Graph.{CompileEach, IsGraph, IsRefusal}
-use Rattle.m2_emit.specs.Program.{Program, Body}
-use Rattle.m2_emit.specs.Scheme.{link_module, body_module}
-use Rattle.m2_emit.specs.Headline.{Keeps}
+use Rattle.m2_meaning.specs.Program.{Program, Body}
+use Rattle.m2_scheme.specs.Scheme.{link_module, body_module}
+use Rattle.m2_headline.specs.Headline.{Keeps}
 use Rattle.m2_read.specs.declared.file.SourceFile.{SourceFile}
 use Rattle.m2c.specs.declared.files.Outcome.{Outcome}
 use Rattle.m2c.specs.declared.files.Outcome.TheVariants as outcome
 use Rattle.m2_read.specs.declared.reading.Read.{Read}
 use Rattle.m2_read.specs.declared.reading.Read.TheVariants as read
-use Rattle.m2_check.specs.declared.jobs.Done.{Done}
-use Rattle.m2_check.specs.declared.jobs.Done.TheVariants as jobs
+use Rattle.m2_check.specs.declared.done.Done.{Done}
+use Rattle.m2_check.specs.declared.done.Done.TheVariants as jobs
 use Rattle.m2c.specs.Order.{AreInOrder}
 use Rattle.m2_read.specs.Reading.{AreRead}
-use Rattle.m2_check.specs.Jobs.{done_all}
+use Rattle.m2_jobs.specs.Jobs.{done_all}
 use Rattle.m2c.specs.Modules.{program_at}
 
 -- ---- what is told

@@ -5,8 +5,8 @@ use Rattle.std.specs.Str.{bytes_eq}
 use Rattle.m2_tree.specs.declared.name.Ident.{Ident}
 use Rattle.m2_tree.specs.declared.decl.Module.{Module}
 use Rattle.m2_graph.specs.Refused.{is_console}
-use Rattle.m2_started.specs.Started.{all_imported}
-use Rattle.m2_emit.specs.Program.{Program, Body, Put}
+use Rattle.m2_graph_laws.specs.Started.{all_imported}
+use Rattle.m2_meaning.specs.Program.{Program, Body, Put}
 use Rattle.m2_check.specs.Fragment.{printed_of}
 
 -- ---- what a module imports

@@ -3,7 +3,7 @@
 ghost use Rattle.std.specs.Prelude.{◌≡◌, ◌<◌, ◌≤◌, ◌⊎◌, ◌↔◌, IfOk, IsErrOf};
 ghost use Rattle.m2c.specs.Build.{AreAlike, IsBuilt};
 
-use crate::crew::Crew;
+use m2_jobs::Crew;
 use crate::outcome::outcome_of;
 use m2_read::SourceFile;
 use m2_tree::Refusal;

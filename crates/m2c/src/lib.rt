@@ -1,7 +1,6 @@
 //! The compiler: program texts to modules.
 #![tactic(auto)]
 
-mod crew;
 mod files;
 mod modules;
 mod order;

@@ -5,10 +5,10 @@ ghost use Rattle.std.specs.List.{flat_map, list_any};
 ghost use Rattle.std.specs.Str.{bytes_eq};
 ghost use Rattle.m2_graph.specs.Imports.{definition_of, defines, first_that, imported, is_definition, named_by};
 ghost use Rattle.m2_graph.specs.Refused.{is_console};
-ghost use Rattle.m2_emit.specs.Scheme.{program};
-ghost use Rattle.m2_started.specs.Started.{all_imported, definition_imported};
+ghost use Rattle.m2_emit.specs.Sources.{program};
+ghost use Rattle.m2_graph_laws.specs.Started.{all_imported, definition_imported};
 ghost use Rattle.m2c.specs.Modules.{body_in, each_once, program_at, with_name};
-ghost use Rattle.m2_check.specs.Lent.{modules_lent};
+ghost use Rattle.m2_jobs.specs.Lent.{modules_lent};
 
 use m2_check::printed_of;
 use m2_emit::Source;
@@ -47,7 +47,7 @@ fn add_name(names: &mut Items<Name>, ident: &Ident) -> Result<(), AllocError>
     if is_console(name) || is_among(names.as_slice(), name) {
         return Ok(());
     }
-    names.push(ident.name)?;
+    names.push(ident.name.clone()?)?;
     Ok(())
 }
 
@@ -145,7 +145,7 @@ fn add_body(
         Some(printed) => {
             let imported = all_imported(alloc, trees, tree)?;
             sources.push(Source {
-                name: tree.name.name,
+                name: tree.name.name.clone()?,
                 imported,
                 printed,
             })?;

@@ -5,13 +5,14 @@ ghost use Rattle.std.specs.String.{string_bytes};
 ghost use Rattle.wasm_binary.specs.Binary.{module_spelling};
 ghost use Rattle.m2_graph.specs.Files.{numbered};
 ghost use Rattle.m2_graph.specs.Graph.{IsGraph};
-ghost use Rattle.m2_emit.specs.Scheme.{body, body_module, program};
-ghost use Rattle.m2_emit.specs.Suits.{IsName};
+ghost use Rattle.m2_scheme.specs.Scheme.{body_module};
+ghost use Rattle.m2_emit.specs.Sources.{body, program};
+ghost use Rattle.m2_headline.specs.Suits.{IsName};
 ghost use Rattle.m2c.specs.Build.{built_of, named, told, refused_of, trees_of, unknown, AreTrees, HaveGraph, IsBuilt};
-ghost use Rattle.m2_check.specs.Lent.{lent};
+ghost use Rattle.m2_jobs.specs.Lent.{lent};
 ghost use Rattle.m2_read.specs.Reading.{AreRead};
 
-use crate::crew::Crew;
+use m2_jobs::Crew;
 use crate::files::Outcome;
 use crate::modules::program_at;
 use crate::order::in_order;

@@ -3,7 +3,7 @@
 ghost use Rattle.std.specs.Prelude.{◌≡◌, ◌++◌, IfOk, OnOk, length, map};
 ghost use Rattle.std.specs.String.{string_bytes};
 ghost use Rattle.m2c.specs.Build.{told, told_at, refused_in, refused_of, name_in, unknown_in, unknown_of};
-ghost use Rattle.m2_check.specs.Lent.{lent};
+ghost use Rattle.m2_jobs.specs.Lent.{lent};
 ghost use Rattle.std.specs.Prelude.{slice_get};
 
 use m2_check::Done;

@@ -3,7 +3,7 @@
 ghost use Rattle.std.specs.Prelude.{◌≡◌, ◌++◌, IfOk, OnOk, length};
 ghost use Rattle.std.specs.String.{string_bytes};
 ghost use Rattle.m2c.specs.Build.{tree_in, trees_of};
-ghost use Rattle.m2_check.specs.Lent.{lent};
+ghost use Rattle.m2_jobs.specs.Lent.{lent};
 
 use m2_read::{Read, SourceFile};
 use m2_tree::Module;

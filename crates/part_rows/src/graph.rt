@@ -31,22 +31,22 @@ fn make_row<'a>(file: &'a str, part: Part, name: &'a str, import: &'a str) -> Ro
     }
 }
 
-fn ident(name: &str, col: u32) -> Ident {
+fn ident(alloc: Global, name: &str, col: u32) -> Result<Ident, AllocError> {
     let bytes = name.as_bytes();
     let short = if bytes.len() <= 64 {
         bytes
     } else {
         b"".as_slice()
     };
-    Ident {
-        name: Name::new(short),
+    Ok(Ident {
+        name: Name::new(alloc, short)?,
         pos: Pos { line: 1, col },
-    }
+    })
 }
 
 fn imports_of(alloc: Global, import: &str) -> Result<Items<Import>, AllocError> {
     let mut names = Items::new(alloc);
-    names.push(ident(import, 20))?;
+    names.push(ident(alloc, import, 20)?)?;
     let mut all = Items::new(alloc);
     if !import.is_empty() {
         all.push(Import { from: None, names })?;
@@ -69,7 +69,7 @@ fn contents_of(alloc: Global, part: Part) -> Contents {
 fn tree_of(alloc: Global, row: Row<'_>) -> Result<Module, AllocError> {
     let imports = imports_of(alloc, row.import)?;
     Ok(Module {
-        name: ident(row.name, 8),
+        name: ident(alloc, row.name, 8)?,
         imports,
         contents: contents_of(alloc, row.part),
     })

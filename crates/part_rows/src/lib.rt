@@ -1,13 +1,13 @@
-//! Tests of the parts of the compiler: of `m2_tree`, `m2_scan`, `plain_scan`, `m2_graph` and `m2_board`, in a crate of
+//! Tests of the parts of the compiler: of `m2_tree`, `m2_scan`, `m2_graph` and `m2_board`, in a crate of
 //! their own, so that these libraries are proved once.
 #![tactic(auto)]
 
 #[cfg(test)]
 mod board;
 #[cfg(test)]
-mod graph;
+mod division;
 #[cfg(test)]
-mod plain;
+mod graph;
 #[cfg(test)]
 mod scan;
 #[cfg(test)]

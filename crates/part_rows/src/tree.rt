@@ -1,5 +1,8 @@
-use m2_tree::{Boxed, Expr, Ident, Import, Item, Items, Name, Pos, Quoted, Refusal, are_equal};
+use m2_tree::{
+    Boxed, Expr, Ident, Import, Item, Items, Name, Pos, Quoted, Refusal, Token, are_equal,
+};
 use std::alloc::{AllocError, Global};
+use std::mem::size_of;
 use std::test::Fail;
 
 #[test]
@@ -27,14 +30,30 @@ fn orders_places(rt: HostRuntime) {
 #[test]
 fn keeps_bytes(rt: HostRuntime) -> Result<(), Fail> {
     let longest = [b'x'; 64];
-    assert_eq!(rt; Name::new(&longest).as_bytes(), longest.as_slice());
-    assert_eq!(rt; Name::new(b"").as_bytes(), b"".as_slice());
-    assert_eq!(rt; Name::new(b"Put") == Name::new(b"Put"), true);
-    assert_eq!(rt; Name::new(b"Put") == Name::new(b"Puts"), false);
+    let name = Name::new(rt.alloc(), &longest)?;
+    assert_eq!(rt; name.as_bytes(), longest.as_slice());
+    assert_eq!(rt; name.clone()? == name, true);
+    assert_eq!(rt; Name::new(rt.alloc(), &longest)? == name, true);
+    assert_eq!(rt; Name::new(rt.alloc(), &longest[..63])? == name, false);
+    assert_eq!(rt; Name::new(rt.alloc(), b"")?.as_bytes(), b"".as_slice());
+    let put = Name::new(rt.alloc(), b"Put")?;
+    assert_eq!(rt; put.clone()? == put, true);
+    assert_eq!(rt; put == Name::new(rt.alloc(), b"Puts")?, false);
     let quoted = Quoted::new(rt.alloc(), b"a'b")?;
     assert_eq!(rt; quoted.as_bytes(), b"a'b".as_slice());
+    assert_eq!(rt; quoted.clone()? == quoted, true);
     assert_eq!(rt; quoted == Quoted::new(rt.alloc(), b"a'c")?, false);
+    let long = Quoted::new(rt.alloc(), &[b'"'; 1000])?;
+    assert_eq!(rt; long.as_bytes(), [b'"'; 1000].as_slice());
+    assert_eq!(rt; long.clone()? == long, true);
     Ok(())
+}
+
+#[test]
+fn has_small_tokens_and_trees(rt: HostRuntime) {
+    assert!(rt; size_of::<Name>() <= 24);
+    assert!(rt; size_of::<Token>() <= 32);
+    assert!(rt; size_of::<Expr>() <= 72);
 }
 
 /// The set `{1, 2, .., count}`, negated, at 1:1.
@@ -60,27 +79,34 @@ fn compares_trees(rt: HostRuntime) -> Result<(), Fail> {
     Ok(())
 }
 
+/// The list of this name.
+fn only(alloc: Global, name: Ident) -> Result<Items<Ident>, AllocError> {
+    let mut names = Items::new(alloc);
+    names.push(name)?;
+    Ok(names)
+}
+
 #[test]
 fn compares_imports(rt: HostRuntime) -> Result<(), Fail> {
     let pos = Pos { line: 2, col: 3 };
     let put = Ident {
-        name: Name::new(b"Put"),
+        name: Name::new(rt.alloc(), b"Put")?,
         pos,
     };
     let plain = Import {
         from: None,
-        names: Items::from_slice(rt.alloc(), &[put])?,
+        names: only(rt.alloc(), put.clone()?)?,
     };
     let from = Import {
-        from: Some(put),
-        names: Items::from_slice(rt.alloc(), &[put])?,
+        from: Some(put.clone()?),
+        names: only(rt.alloc(), put.clone()?)?,
     };
     assert_eq!(rt; plain == from, false);
     assert_eq!(rt;
         plain,
         Import {
             from: None,
-            names: Items::from_vec(vec![in rt.alloc(); put; 1]?)
+            names: only(rt.alloc(), put)?
         }
     );
     Ok(())

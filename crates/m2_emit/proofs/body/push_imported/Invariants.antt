@@ -1,5 +1,5 @@
 use Rattle.std.proofs.Common.{◌≡◌, ◌++◌, take}
-use Rattle.m2_emit.specs.Scheme.{imported_globals}
+use Rattle.m2_scheme.specs.Scheme.{imported_globals}
 use Rattle.m2_emit.proofs.body.push_imported.Given as goal
 
 abbrev pub invariant-loop-name : goal.invariant-loop-name

@@ -2,7 +2,7 @@ use Rattle.std.proofs.Common.{◌≡◌, ◌++◌, List, [], sym, ap, ◌∙◌,
 use Rattle.std.proofs.lemmas.List.{drop_all, append-nil}
 use Rattle.wasm_tree.specs.declared.code.Op.{Op}
 use Rattle.wasm_tree.specs.Code.{tree}
-use Rattle.m2_emit.specs.Scheme.{program}
+use Rattle.m2_emit.specs.Sources.{program}
 use Rattle.m2_emit.proofs.Lists.{call_ops, calls}
 use Rattle.m2_emit.proofs.code.body_calls.Goals as goal
 

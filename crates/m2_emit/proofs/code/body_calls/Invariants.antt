@@ -1,5 +1,5 @@
 use Rattle.std.proofs.Common.{◌≡◌, ◌+◌, ◌*◌, ◌++◌, drop}
-use Rattle.m2_emit.specs.Scheme.{program}
+use Rattle.m2_emit.specs.Sources.{program}
 use Rattle.m2_emit.proofs.Lists.{call_ops}
 use Rattle.m2_emit.proofs.code.body_calls.Given as goal
 

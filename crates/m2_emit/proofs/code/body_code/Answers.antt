@@ -3,8 +3,8 @@ use Rattle.std.proofs.lemmas.List.{take_all, get_or_default}
 use Rattle.std.proofs.lemmas.List.Folds.{flat_map-map}
 use Rattle.wasm_tree.specs.Code.{tree}
 use Rattle.m2_emit.proofs.Lists.{put_ops, puts}
-use Rattle.m2_emit.specs.Program.{Put}
-use Rattle.m2_emit.specs.Scheme.{stmt_code}
+use Rattle.m2_meaning.specs.Program.{Put}
+use Rattle.m2_scheme.specs.Scheme.{stmt_code}
 use Rattle.m2_emit.proofs.code.body_code.Goals as goal
 
 pub returns-clause-code : goal.returns-clause-code

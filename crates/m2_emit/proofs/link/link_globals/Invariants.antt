@@ -1,5 +1,6 @@
 use Rattle.std.proofs.Common.{◌≡◌, ◌+◌, ◌++◌, drop}
-use Rattle.m2_emit.specs.Scheme.{link_globals, module_globals, program}
+use Rattle.m2_scheme.specs.Scheme.{link_globals, module_globals}
+use Rattle.m2_emit.specs.Sources.{program}
 use Rattle.m2_emit.proofs.link.link_globals.Given as goal
 
 abbrev pub invariant-loop : goal.invariant-loop

@@ -1,5 +1,6 @@
 use Rattle.std.proofs.Common.{◌≡◌, ◌+◌, ◌*◌, ◌++◌, drop}
-use Rattle.m2_emit.specs.Scheme.{module_exports, program}
+use Rattle.m2_scheme.specs.Scheme.{module_exports}
+use Rattle.m2_emit.specs.Sources.{program}
 use Rattle.m2_emit.proofs.link.push_modules.Given as goal
 
 abbrev pub invariant-loop-source : goal.invariant-loop-source

@@ -14,4 +14,4 @@ named-requires-clause-letter c =
 pub returns-clause-taken : goal.returns-clause-taken
 returns-clause-taken c =
     let front = run_front Letter c.args.text.now c.split_at.result.0.now c.split_at.result.1.now c.run_len-len.result refl c.requires.begins c.run_len-len.ensures.value c.split_at.ensures.front c.split_at.ensures.back in
-    (Some c.named.result, name_taken c.args.text.now c.split_at.result.0.now c.split_at.result.1.now c.run_len-len.result c.args.pos c.right.result c.named.result front c.named.ensures c.right.ensures.line c.right.ensures.col, c.in_ok-put.ensures)
+    (Some c.in_ok-lexeme.lexeme, name_taken c.args.text.now c.split_at.result.0.now c.split_at.result.1.now c.run_len-len.result c.args.pos c.right.result c.in_ok-lexeme.lexeme front c.in_ok-lexeme.ensures c.right.ensures.line c.right.ensures.col, c.in_ok-put.ensures)

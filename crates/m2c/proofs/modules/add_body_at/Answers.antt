@@ -5,8 +5,8 @@ use Rattle.std.specs.Borrow.{Bor}
 use Rattle.std.proofs.lemmas.List.{append-nil}
 use Rattle.std.proofs.lemmas.Option.{slice_get-map}
 use Rattle.m2_tree.specs.declared.decl.Module.{Module}
-use Rattle.m2_emit.specs.Scheme.{program}
-use Rattle.m2_check.specs.Lent.{modules_lent}
+use Rattle.m2_emit.specs.Sources.{program}
+use Rattle.m2_jobs.specs.Lent.{modules_lent}
 use Rattle.m2c.proofs.modules.add_body_at.Goals as goal
 
 abbrev tree_of : Bor (List ℕ) × Bor Module → Module

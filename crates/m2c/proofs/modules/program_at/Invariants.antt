@@ -1,7 +1,7 @@
 use Rattle.std.proofs.Common.{◌≡◌, take}
-use Rattle.m2_emit.specs.Scheme.{program}
+use Rattle.m2_emit.specs.Sources.{program}
 use Rattle.m2c.specs.Modules.{program_at}
-use Rattle.m2_check.specs.Lent.{modules_lent}
+use Rattle.m2_jobs.specs.Lent.{modules_lent}
 use Rattle.m2c.proofs.modules.program_at.Given as goal
 
 abbrev pub invariant-loop-place : goal.invariant-loop-place

@@ -4,9 +4,10 @@ use Rattle.std.specs.Global.{Vec}
 use Rattle.m2_tree.specs.declared.decl.Module.{Module}
 use Rattle.wasm_binary.specs.Binary.{module_spelling}
 use Rattle.m2_emit.specs.declared.source.Source.{Source}
-use Rattle.m2_emit.specs.Scheme.{program, link_module}
-use Rattle.m2_emit.specs.Suits.{IsName}
-use Rattle.m2_check.specs.Lent.{lent}
+use Rattle.m2_scheme.specs.Scheme.{link_module}
+use Rattle.m2_emit.specs.Sources.{program}
+use Rattle.m2_headline.specs.Suits.{IsName}
+use Rattle.m2_jobs.specs.Lent.{lent}
 use Rattle.m2c.specs.Build.{built_of, named}
 use Rattle.m2c.specs.Modules.{program_at}
 use Rattle.m2c.proofs.Graphs.{same_modules, sources_count, sources_named, is_program}

@@ -1,6 +1,6 @@
 use Rattle.std.proofs.Common.{◌≡◌, ◌<◌, take, map}
 use Rattle.std.specs.Prelude.{All}
-use Rattle.m2_emit.specs.Scheme.{program}
+use Rattle.m2_emit.specs.Sources.{program}
 use Rattle.m2c.specs.Build.{built_of, named}
 use Rattle.m2c.proofs.outcome.emit_all.Given as goal
 

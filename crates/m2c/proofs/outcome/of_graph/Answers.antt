@@ -1,7 +1,7 @@
 use Rattle.std.proofs.Common.{◌≡◌, true, List, [], length, map, vec_len, inr, ap, ◌∙◌, arith}
 use Rattle.std.proofs.lemmas.Bool.{eq-eqb}
 use Rattle.m2_tree.specs.declared.refusal.Refusal.{Refusal}
-use Rattle.m2_check.specs.Lent.{lent}
+use Rattle.m2_jobs.specs.Lent.{lent}
 use Rattle.m2c.proofs.Two.{none_told}
 use Rattle.m2c.proofs.outcome.of_graph.Goals as goal
 

@@ -2,9 +2,9 @@ use Rattle.std.proofs.Common.{◌≡◌, ℕ, List, length, map, sym, ap, ◌∙
 use Rattle.std.specs.Global.{Vec}
 use Rattle.std.proofs.lemmas.Result.{IfOk-weaker}
 use Rattle.m2_tree.specs.declared.decl.Module.{Module}
-use Rattle.m2_check.specs.declared.jobs.Done.{Done}
-use Rattle.m2_check.specs.Jobs.{done_all}
-use Rattle.m2_check.specs.Lent.{lent, modules_lent}
+use Rattle.m2_check.specs.declared.done.Done.{Done}
+use Rattle.m2_jobs.specs.Jobs.{done_all}
+use Rattle.m2_jobs.specs.Lent.{lent, modules_lent}
 use Rattle.m2c.specs.Build.{told, unknown_of, unknown}
 use Rattle.m2c.proofs.Graphs.{jobs_count, same_modules}
 use Rattle.m2c.proofs.Known.{done_count}

@@ -1,7 +1,7 @@
 use Rattle.std.proofs.Common.{◌≡◌, ◌++◌, drop}
 use Rattle.std.specs.Prelude.{map}
 use Rattle.m2c.specs.Build.{told, unknown_of}
-use Rattle.m2_check.specs.Lent.{lent}
+use Rattle.m2_jobs.specs.Lent.{lent}
 use Rattle.m2c.proofs.refusals.unknown_of.Given as goal
 
 abbrev pub invariant-loop-job : goal.invariant-loop-job

@@ -141,7 +141,7 @@ named-returns-then-sees t c =
 pub named-returns-then-sees-2 : goal.named-returns-then-sees-2
 named-returns-then-sees-2 t c =
     let w = c.in_ok-name.ensures in
-    ((w.0, inr (c.in_ok-selectors.selectors, Some c.in_ok-args.args)), first_of (search rules, grind (arith, common_steps)), rw w.2 refl)
+    ((w.0, inr (c.in_ok-selectors.selectors, Some c.in_ok-args.args)), first_of (search rules, grind (arith, common_steps)), rw (c.in_ok-boxed.ensures, w.2) refl)
 
 pub named-returns : goal.named-returns
 named-returns t c =

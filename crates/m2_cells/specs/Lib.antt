@@ -1,0 +1,4 @@
+pub mod Sizes
+pub mod Cells
+pub mod Relation
+pub mod Laws

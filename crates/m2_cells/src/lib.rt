@@ -1,0 +1,36 @@
+//! Memory that holds a store: where the variables that live stand, and what reading and writing their cells does. There is
+//! no code here but what names the laws.
+//!
+//! - `specs/Sizes` has the sizes of types and the offsets of components, `specs/Cells` what code does with a cell.
+//! - `specs/Relation` says when a memory holds a store: the instances that live stand one after another from address 0.
+//! - `specs/Laws` says what holds after a read, a write, a copy, a call's begin and its end.
+#![tactic(auto)]
+
+ghost use Rattle.m2_cells.specs.Laws.{Assigns, Begins, Copies, CopiesArgument, Ends, Reads, ReadsAddress, ReadsLink, Starts, WritesHidden};
+
+/// Cells, whole copies, new instances and their ends.
+pub fn cell_laws()
+    // A variable is read from its cell,
+    ensures reads { Reads }
+    // and written to it, where all others stay as they were.
+    ensures assigns { Assigns }
+    // A whole array or record is copied byte by byte, also onto itself.
+    ensures copies { Copies }
+    // An activation's variables are fresh in cleared bytes.
+    ensures begins { Begins }
+    // The last instances end.
+    ensures ends { Ends }
+{}
+
+/// Room in which no variable stands, copies of arguments, and where all begins.
+pub fn room_laws()
+    // An argument's copy is an instance of its own.
+    ensures copies_argument { CopiesArgument }
+    // Addresses, HIGH and links are written beside the variables,
+    ensures writes_hidden { WritesHidden }
+    // and read as they were written.
+    ensures reads_address { ReadsAddress }
+    ensures reads_link { ReadsLink }
+    // A memory of zeros holds fresh variables.
+    ensures starts { Starts }
+{}

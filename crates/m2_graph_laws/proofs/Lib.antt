@@ -1,0 +1,15 @@
+pub mod Sorting
+pub mod Walking
+pub mod Numbered
+pub mod Circling
+pub mod Rows
+pub mod Once
+pub mod Lists
+pub mod StartWalking
+pub mod Passing
+pub mod Fine
+pub mod Given
+pub mod Starting
+pub mod Reached
+pub mod Started
+pub mod Defined

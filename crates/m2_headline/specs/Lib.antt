@@ -1,0 +1,3 @@
+pub mod Suits
+pub mod Headline
+pub mod Example

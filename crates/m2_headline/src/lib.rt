@@ -1,0 +1,15 @@
+//! Why the code keeps the meaning. There is no code here, only definitions and proofs.
+//!
+//! - `specs/Headline` says when bytes spell valid modules that link and do what a program does.
+//! - `specs/Suits` says which programs the compiler takes.
+//! - `proofs/Kept` proves that the scheme's modules of each such program do what it does.
+//! - `specs/Example` is a small module whose run goes through the store and its memory (`m2_cells`), the effect of code
+//!   (`wasm_effect`) and a helper's loop (`m2_helpers`).
+#![tactic(auto)]
+
+ghost use Rattle.m2_headline.specs.Example.{Prints};
+
+/// The example prints what its store holds.
+pub fn example_law()
+    ensures { Prints }
+{}

@@ -1,0 +1,27 @@
+//! What is known of a name.
+
+use m2_typed::Meaning;
+
+/// Where a name of a block comes from.
+#[derive(Clone, Copy, Debug, PartialEq, Eq)]
+pub enum Origin {
+    /// It is declared in the block.
+    Here,
+    /// It is a module, by the place of its table.
+    Module(usize),
+    /// It is imported: the place of the table, and the name's place in it.
+    Export(usize, usize),
+}
+
+/// What is known of a name of a block.
+#[derive(Drop)]
+pub enum Known<T> {
+    /// It is declared later in the block.
+    Later,
+    /// It is a procedure whose heading stands later in the block.
+    Ahead,
+    /// Its declaration has begun.
+    Begun,
+    /// What it means, or what is told of its declaration.
+    Declared(Origin, Result<Meaning, T>),
+}

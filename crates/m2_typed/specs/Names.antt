@@ -1,0 +1,20 @@
+-- Lists of names with what each stands for.
+use Rattle.std.specs.Prelude.{ℕ, Bool, cond, nat_eq, List, [], ◌∷◌, Option, Some, None, map}
+use Rattle.std.specs.List.{position}
+use Rattle.std.specs.Cmp.Lexicographic.{pointwise}
+
+abbrev pub same_name : List ℕ → List ℕ → Bool
+same_name a b = pointwise nat_eq a b
+
+module _ {V : Type 0} where
+  abbrev pub found : List ℕ → List (List ℕ × V) → Option V
+  found name [] = None
+  found name (e ∷ es) = cond (same_name name e.0) (Some e.1) (found name es)
+
+  abbrev pub place_of : List ℕ → List (List ℕ × V) → Option ℕ
+  place_of name es = position (λ e. same_name name e.0) es
+
+  -- a new name goes to the end, and one that is there keeps its place
+  abbrev pub entered : List ℕ → V → List (List ℕ × V) → List (List ℕ × V)
+  entered name value [] = (name, value) ∷ []
+  entered name value (e ∷ es) = cond (same_name name e.0) ((e.0, value) ∷ es) (e ∷ entered name value es)

@@ -1,0 +1,113 @@
+//! What names mean.
+
+ghost use Rattle.std.specs.Prelude.{◌≡◌, IfOk};
+
+use crate::shared::Shared;
+use crate::types::TypeNo;
+use m2_tree::Quoted;
+use std::alloc::AllocError;
+
+/// A constant of a scalar type.
+#[derive(Clone, Copy, Debug, PartialEq, Eq)]
+pub struct ScalarValue {
+    pub of: TypeNo,
+    /// What its type computes in.
+    pub base: TypeNo,
+    /// The value's ordinal number.
+    pub number: i64,
+}
+
+/// A constant.
+#[derive(Drop)]
+pub enum Value {
+    /// One made of number literals alone, which takes the type that its place asks for.
+    Number(i64),
+    Scalar(ScalarValue),
+    /// Element k is there where bit k is 1.
+    Set(u32),
+    /// A string. One of length 1 is a character where no array is asked for.
+    Text(Shared<Quoted>),
+}
+
+/// A variable of a module: its number among those that the module declares.
+#[derive(Clone, Copy, Debug, PartialEq, Eq)]
+pub struct Variable {
+    pub home: u32,
+    pub number: usize,
+    pub of: TypeNo,
+}
+
+/// A procedure of a module: its number among those that the module declares, and its heading as a procedure type.
+#[derive(Clone, Copy, Debug, PartialEq, Eq)]
+pub struct Procedure {
+    pub home: u32,
+    pub number: usize,
+    pub heading: TypeNo,
+}
+
+/// A standard procedure.
+#[derive(Clone, Copy, Debug, PartialEq, Eq)]
+pub enum Standard {
+    Abs,
+    Cap,
+    Chr,
+    High,
+    Max,
+    Min,
+    Odd,
+    Ord,
+    Val,
+    Inc,
+    Dec,
+    Incl,
+    Excl,
+    Halt,
+    /// `Console.Put`.
+    Put,
+}
+
+/// What a name means.
+#[derive(Drop)]
+pub enum Meaning {
+    Constant(Value),
+    /// A type, and how many constants of an enumeration are declared with it; these follow it in their module.
+    Type(TypeNo, usize),
+    Variable(Variable),
+    Procedure(Procedure),
+    /// A procedure of the block, before its heading.
+    Ahead,
+    Standard(Standard),
+    /// A module, by the place of its table among those that are given.
+    Module(usize),
+}
+
+impl Value {
+    /// The same constant once more.
+    pub fn copy(&self) -> Result<Value, AllocError>
+        ensures { IfOk result (λ v. v ≡ self.now) }
+    {
+        match self {
+            Value::Number(n) => Ok(Value::Number(*n)),
+            Value::Scalar(scalar) => Ok(Value::Scalar(*scalar)),
+            Value::Set(bits) => Ok(Value::Set(*bits)),
+            Value::Text(text) => Ok(Value::Text(text.share()?)),
+        }
+    }
+}
+
+impl Meaning {
+    /// The same meaning once more.
+    pub fn copy(&self) -> Result<Meaning, AllocError>
+        ensures { IfOk result (λ m. m ≡ self.now) }
+    {
+        match self {
+            Meaning::Constant(value) => Ok(Meaning::Constant(value.copy()?)),
+            Meaning::Type(t, constants) => Ok(Meaning::Type(*t, *constants)),
+            Meaning::Variable(variable) => Ok(Meaning::Variable(*variable)),
+            Meaning::Procedure(procedure) => Ok(Meaning::Procedure(*procedure)),
+            Meaning::Ahead => Ok(Meaning::Ahead),
+            Meaning::Standard(standard) => Ok(Meaning::Standard(*standard)),
+            Meaning::Module(place) => Ok(Meaning::Module(*place)),
+        }
+    }
+}

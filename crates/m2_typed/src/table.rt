@@ -1,0 +1,28 @@
+//! Tables of definitions.
+
+use crate::dictionary::Dictionary;
+use crate::meaning::Meaning;
+use crate::shape::Made;
+use crate::shared::Shared;
+use m2_tree::{Items, Name};
+
+/// The types that a module makes, by their numbers.
+#[derive(Drop)]
+pub struct ModuleTypes {
+    pub number: u32,
+    pub made: Shared<Items<Made>>,
+}
+
+/// What a definition gives to those who import it.
+#[derive(Drop)]
+pub struct Table {
+    /// The number of the module, by which its types are known.
+    pub number: u32,
+    pub name: Name,
+    /// The modules that it imports, in order, each once.
+    pub imports: Items<Name>,
+    /// What it exports, in order.
+    pub exported: Dictionary<Meaning>,
+    /// The types of each module whose types can be met through it, its own first.
+    pub reached: Items<ModuleTypes>,
+}

@@ -1,0 +1,7 @@
+pub mod Operators
+pub mod Operands
+pub mod Numbers
+pub mod Common
+pub mod Sets
+pub mod Operate
+pub mod Standards

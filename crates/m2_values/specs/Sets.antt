@@ -1,0 +1,113 @@
+-- Sets: element k is there where bit k is 1.
+use Rattle.std.specs.Prelude.{ℕ, ◌-◌, ◌/◌, ◌%◌, ◌^◌, ◌==◌, ℤ, pos, negsuc, Bool, true, false, not, cond, nat_lt, int_lt, bit_and, bit_or, bit_xor, Option, Some, None, Result, Ok}
+use Rattle.m2_tree.specs.declared.pos.Pos.{Pos}
+use Rattle.m2_tree.specs.declared.expr.RelOp.{RelOp}
+use Rattle.m2_tree.specs.declared.expr.RelOp.TheVariants as rel
+use Rattle.m2_typed.specs.declared.types.TypeNo.{TypeNo}
+use Rattle.m2_typed.specs.declared.meaning.Value.{Value}
+use Rattle.m2_typed.specs.declared.meaning.Value.TheVariants as value
+use Rattle.m2_judged.specs.Judged.{Gathers, told, told_where, both, beside, ◌▷◌}
+use Rattle.m2_values.specs.declared.operand.Ordinal.{Ordinal}
+use Rattle.m2_values.specs.declared.operator.BinaryOp.{BinaryOp}
+use Rattle.m2_values.specs.declared.operator.BinaryOp.TheVariants.{Plus, Minus, Times, Over, Div, Mod, And, Or, Relation}
+use Rattle.m2_values.specs.Operands.{truth, is_number}
+use Rattle.m2_values.specs.Numbers.{is_between}
+use Rattle.m2_values.specs.Standards.{whole_number}
+use Rattle.m2_values.specs.Common.{common}
+
+-- ---- operators
+
+abbrev pub without : ℕ → ℕ → ℕ
+without a b = bit_and a (bit_xor b 4294967295)
+
+abbrev pub set_related : (g : Gathers) → Pos → RelOp → ℕ → ℕ → Result Value g.Told
+set_related g spot rel.Equal a b = Ok (truth (a == b))
+set_related g spot rel.Unequal a b = Ok (truth (not (a == b)))
+set_related g spot rel.Less a b = told g spot 40
+set_related g spot rel.AtMost a b = Ok (truth (without a b == 0))
+set_related g spot rel.Greater a b = told g spot 40
+set_related g spot rel.AtLeast a b = Ok (truth (without b a == 0))
+set_related g spot rel.In a b = told g spot 40
+
+abbrev pub on_sets : (g : Gathers) → BinaryOp → Pos → ℕ → ℕ → Result Value g.Told
+on_sets g Plus spot a b = Ok (value.Set (bit_or a b))
+on_sets g Minus spot a b = Ok (value.Set (without a b))
+on_sets g Times spot a b = Ok (value.Set (bit_and a b))
+on_sets g Over spot a b = Ok (value.Set (bit_xor a b))
+on_sets g Div spot a b = told g spot 40
+on_sets g Mod spot a b = told g spot 40
+on_sets g And spot a b = told g spot 40
+on_sets g Or spot a b = told g spot 40
+on_sets g (Relation r) spot a b = set_related g spot r a b
+
+-- ---- membership
+
+-- the element of this number, 0 where there is none
+abbrev pub place : ℤ → ℕ
+place (pos n) = cond (nat_lt n 32) n 0
+place (negsuc n) = 0
+
+abbrev pub has : ℕ → ℤ → Bool
+has bits n = bits / 2 ^ place n % 2 == 1
+
+abbrev pub member_of : (g : Gathers) → Pos → Pos → Ordinal → ℕ → Result Value g.Told
+member_of g spot at x bits = told_where g (not (is_number x.sort)) spot 40 (told_where g (not (is_between (pos 0) x.number (pos 31))) at 52 (Ok (truth (has bits x.number))))
+
+abbrev pub member : (g : Gathers) → BinaryOp → Pos → Pos → Ordinal → ℕ → Result Value g.Told
+member g Plus spot at x bits = told g spot 40
+member g Minus spot at x bits = told g spot 40
+member g Times spot at x bits = told g spot 40
+member g Over spot at x bits = told g spot 40
+member g Div spot at x bits = told g spot 40
+member g Mod spot at x bits = told g spot 40
+member g And spot at x bits = told g spot 40
+member g Or spot at x bits = told g spot 40
+member g (Relation rel.Equal) spot at x bits = told g spot 40
+member g (Relation rel.Unequal) spot at x bits = told g spot 40
+member g (Relation rel.Less) spot at x bits = told g spot 40
+member g (Relation rel.AtMost) spot at x bits = told g spot 40
+member g (Relation rel.Greater) spot at x bits = told g spot 40
+member g (Relation rel.AtLeast) spot at x bits = told g spot 40
+member g (Relation rel.In) spot at x bits = member_of g spot at x bits
+
+-- ---- elements in braces
+
+-- the elements 0 to n
+abbrev pub up_to : ℕ → ℕ
+up_to n = 4294967295 / 2 ^ (31 - n)
+
+-- the elements from low to high are there as well
+abbrev pub with_span : ℕ → ℤ → ℤ → ℕ
+with_span bits low high = bit_or bits (without (up_to (place high)) (up_to (place low) / 2))
+
+abbrev pub numbered : (g : Gathers) → Pos → Option Ordinal → Result Ordinal g.Told
+numbered g at None = told g at 40
+numbered g at (Some a) = Ok a
+
+abbrev pub element : (g : Gathers) → Pos → Value → Result Ordinal g.Told
+element g at v = numbered g at (whole_number v)
+
+abbrev pub is_element : (g : Gathers) → Pos → Ordinal → Result (Unit {0}) g.Told
+is_element g at a = told_where g (not (is_between (pos 0) a.number (pos 31))) at 52 (Ok tt)
+
+abbrev pub with_element : (g : Gathers) → ℕ → Pos → Value → Result ℕ g.Told
+with_element g bits at v = element g at v ▷ λ a. is_element g at a ▷ λ fine. Ok (with_span bits a.number a.number)
+
+abbrev pub has_none : Option (Option TypeNo) → Bool
+has_none None = true
+has_none (Some sort) = false
+
+-- the bounds may not be an INTEGER and a CARDINAL
+abbrev pub is_unlike : Ordinal → Ordinal → Bool
+is_unlike a b = has_none (common a.sort b.sort)
+
+abbrev pub ordered : (g : Gathers) → Pos → ℤ → ℤ → Result (Unit {0}) g.Told
+ordered g at low high = told_where g (int_lt high low) at 35 (Ok tt)
+
+abbrev pub with_bounds : (g : Gathers) → ℕ → Pos → Ordinal → Pos → Ordinal → Result ℕ g.Told
+with_bounds g bits at a at' b =
+    told_where g (is_unlike a b) at' 40
+    (beside g (ordered g at a.number b.number) (beside g (is_element g at a) (is_element g at' b)) ▷ λ fine. Ok (with_span bits a.number b.number))
+
+abbrev pub with_range : (g : Gathers) → ℕ → Pos → Value → Pos → Value → Result ℕ g.Told
+with_range g bits at low at' high = both g (element g at low) (element g at' high) ▷ λ p. with_bounds g bits at p.0 at' p.1

@@ -1,0 +1,19 @@
+//! What operators and standard procedures make of constants.
+#![tactic(auto)]
+
+mod elements;
+mod number;
+mod operand;
+mod operate;
+mod operator;
+mod sets;
+mod standard;
+
+pub use elements::{with_element, with_range};
+pub use number::fits;
+pub use operand::{Operand, Ordinal, operand_of};
+pub use operate::{combined, negated, signed};
+pub use operator::{BinaryOp, add_op, mul_op};
+pub use standard::{
+    absolute, bound_of, capital, character, converted, is_odd, ordinal_of, whole_number,
+};
