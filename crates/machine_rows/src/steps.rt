@@ -456,43 +456,43 @@ fn operations(rt: HostRuntime) {
 }
 
 /// The operands, the relation, and whether it holds of all their bits, and of the lower half.
-const RELATIONS: [(u64, u64, Relation, [u8; 2]); 30] = [
-    (0x1_0000_0000, 0, Relation::Eq, [0, 1]),
-    (65, 65, Relation::Eq, [1, 1]),
-    (0x1_0000_0000, 0, Relation::Ne, [1, 0]),
-    (65, 65, Relation::Ne, [0, 0]),
-    (0xFFFF_FFFF_FFFF_FFFE, 1, Relation::LtS, [1, 1]),
-    (0x8000_0000, 1, Relation::LtS, [0, 1]),
-    (65, 65, Relation::LtS, [0, 0]),
-    (0xFFFF_FFFF_FFFF_FFFE, 1, Relation::LtU, [0, 0]),
-    (0x1_0000_0000, 1, Relation::LtU, [0, 1]),
-    (1, 0x8000_0000, Relation::LtU, [1, 1]),
-    (65, 65, Relation::LtU, [0, 0]),
-    (0xFFFF_FFFF_FFFF_FFFE, 1, Relation::GtS, [0, 0]),
-    (0x8000_0000, 1, Relation::GtS, [1, 0]),
-    (65, 65, Relation::GtS, [0, 0]),
-    (0xFFFF_FFFF_FFFF_FFFE, 1, Relation::GtU, [1, 1]),
-    (0x1_0000_0000, 1, Relation::GtU, [1, 0]),
-    (65, 65, Relation::GtU, [0, 0]),
-    (0xFFFF_FFFF_FFFF_FFFE, 1, Relation::LeS, [1, 1]),
-    (0x8000_0000, 1, Relation::LeS, [0, 1]),
-    (65, 65, Relation::LeS, [1, 1]),
-    (0xFFFF_FFFF_FFFF_FFFE, 1, Relation::LeU, [0, 0]),
-    (0x1_0000_0000, 1, Relation::LeU, [0, 1]),
-    (65, 65, Relation::LeU, [1, 1]),
-    (0xFFFF_FFFF_FFFF_FFFE, 1, Relation::GeS, [0, 0]),
-    (0x8000_0000, 1, Relation::GeS, [1, 0]),
-    (65, 65, Relation::GeS, [1, 1]),
-    (0xFFFF_FFFF_FFFF_FFFE, 1, Relation::GeU, [1, 1]),
-    (0x1_0000_0000, 1, Relation::GeU, [1, 0]),
-    (1, 0x8000_0000, Relation::GeU, [0, 0]),
-    (65, 65, Relation::GeU, [1, 1]),
+const RELATIONS: [(u64, u64, Relation, u8, u8); 30] = [
+    (0x1_0000_0000, 0, Relation::Eq, 0, 1),
+    (65, 65, Relation::Eq, 1, 1),
+    (0x1_0000_0000, 0, Relation::Ne, 1, 0),
+    (65, 65, Relation::Ne, 0, 0),
+    (0xFFFF_FFFF_FFFF_FFFE, 1, Relation::LtS, 1, 1),
+    (0x8000_0000, 1, Relation::LtS, 0, 1),
+    (65, 65, Relation::LtS, 0, 0),
+    (0xFFFF_FFFF_FFFF_FFFE, 1, Relation::LtU, 0, 0),
+    (0x1_0000_0000, 1, Relation::LtU, 0, 1),
+    (1, 0x8000_0000, Relation::LtU, 1, 1),
+    (65, 65, Relation::LtU, 0, 0),
+    (0xFFFF_FFFF_FFFF_FFFE, 1, Relation::GtS, 0, 0),
+    (0x8000_0000, 1, Relation::GtS, 1, 0),
+    (65, 65, Relation::GtS, 0, 0),
+    (0xFFFF_FFFF_FFFF_FFFE, 1, Relation::GtU, 1, 1),
+    (0x1_0000_0000, 1, Relation::GtU, 1, 0),
+    (65, 65, Relation::GtU, 0, 0),
+    (0xFFFF_FFFF_FFFF_FFFE, 1, Relation::LeS, 1, 1),
+    (0x8000_0000, 1, Relation::LeS, 0, 1),
+    (65, 65, Relation::LeS, 1, 1),
+    (0xFFFF_FFFF_FFFF_FFFE, 1, Relation::LeU, 0, 0),
+    (0x1_0000_0000, 1, Relation::LeU, 0, 1),
+    (65, 65, Relation::LeU, 1, 1),
+    (0xFFFF_FFFF_FFFF_FFFE, 1, Relation::GeS, 0, 0),
+    (0x8000_0000, 1, Relation::GeS, 1, 0),
+    (65, 65, Relation::GeS, 1, 1),
+    (0xFFFF_FFFF_FFFF_FFFE, 1, Relation::GeU, 1, 1),
+    (0x1_0000_0000, 1, Relation::GeU, 1, 0),
+    (1, 0x8000_0000, Relation::GeU, 0, 0),
+    (65, 65, Relation::GeU, 1, 1),
 ];
 
 #[test]
 fn relations(rt: HostRuntime) {
     let alloc = rt.alloc();
-    for (left, right, relation, holds) in RELATIONS {
+    for (left, right, relation, whole, half) in RELATIONS {
         let code = [
             Op::I64Const(left),
             Op::I64Const(right),
@@ -507,7 +507,7 @@ fn relations(rt: HostRuntime) {
             Op::Numeric(Numeric::I64ExtendI32U),
             Op::Call(0),
         ];
-        expect(&rt, alloc, &code, End::Done(0), &holds);
+        expect(&rt, alloc, &code, End::Done(0), &[whole, half]);
     }
 }
 
