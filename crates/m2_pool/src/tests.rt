@@ -102,7 +102,7 @@ fn lists(alloc: Global, rows: &[&[usize]]) -> Result<Vec<Vec<usize>>, AllocError
 
 // What came of a run: the results, who had which job, and how many jobs were run.
 #[derive(Drop)]
-struct Came {
+struct Ended {
     outs: Vec<u64>,
     tally: Tally,
     runs: usize,
@@ -116,7 +116,7 @@ fn came<R: Threads + Sync, G: Gate>(
     key: u64,
     workers: usize,
     gate: &G,
-) -> Result<Came, PoolRefusal>
+) -> Result<Ended, PoolRefusal>
     requires { map (λ r. r.now) rows.now ≡ graph_of key }
 {
     let graph = graph_of(alloc, rows)?;
@@ -124,7 +124,7 @@ fn came<R: Threads + Sync, G: Gate>(
     let work = Halving { key, runs: &runs };
     let (outs, tally) = run_jobs(rt, alloc, &graph, workers, gate, &work)?;
     let runs = runs.load(SeqCst);
-    Ok(Came { outs, tally, runs })
+    Ok(Ended { outs, tally, runs })
 }
 
 // What comes of four jobs, where the cell of one was set before.
@@ -133,7 +133,7 @@ fn came_strangely<R: Threads + Sync + Abort>(
     alloc: Global,
     job: usize,
     value: u64,
-) -> Result<Came, Fail>
+) -> Result<Ended, Fail>
     requires { job < 4 }
 {
     let graph = graph_of(alloc, &[&[], &[0], &[0], &[1, 2]])?;
@@ -149,7 +149,7 @@ fn came_strangely<R: Threads + Sync + Abort>(
     let cells = cells.as_slice();
     let (outs, tally) = run_on(rt, alloc, board, seats, &graph, cells, &gate, &work)?;
     let runs = runs.load(SeqCst);
-    Ok(Came { outs, tally, runs })
+    Ok(Ended { outs, tally, runs })
 }
 
 #[test]
