@@ -40,24 +40,59 @@ const BODY: [u8; 186] = [
 /// A module of which nothing but the header is left.
 const HEADER: [u8; 8] = [0x00, 0x61, 0x73, 0x6D, 0x01, 0x00, 0x00, 0x00];
 
-/// A folder of two files over memory.
+/// A module link that names M and N, and whose `run` does nothing, encoded by hand.
+const LINK_OF_TWO: [u8; 57] = [
+    0x00, 0x61, 0x73, 0x6D, 0x01, 0x00, 0x00, 0x00, 0x01, 0x04, 0x01, 0x60, 0x00, 0x00, 0x03, 0x02,
+    0x01, 0x00, 0x06, 0x06, 0x01, 0x7F, 0x00, 0x41, 0x00, 0x0B, 0x07, 0x17, 0x03, 0x05, 0x74, 0x61,
+    0x62, 0x2E, 0x4D, 0x03, 0x00, 0x05, 0x74, 0x61, 0x62, 0x2E, 0x4E, 0x03, 0x00, 0x03, 0x72, 0x75,
+    0x6E, 0x00, 0x00, 0x0A, 0x04, 0x01, 0x02, 0x00, 0x0B,
+];
+
+/// The same, but that its `run` leaves a number: so it is not valid.
+const INVALID_LINK: [u8; 59] = [
+    0x00, 0x61, 0x73, 0x6D, 0x01, 0x00, 0x00, 0x00, 0x01, 0x04, 0x01, 0x60, 0x00, 0x00, 0x03, 0x02,
+    0x01, 0x00, 0x06, 0x06, 0x01, 0x7F, 0x00, 0x41, 0x00, 0x0B, 0x07, 0x17, 0x03, 0x05, 0x74, 0x61,
+    0x62, 0x2E, 0x4D, 0x03, 0x00, 0x05, 0x74, 0x61, 0x62, 0x2E, 0x4E, 0x03, 0x00, 0x03, 0x72, 0x75,
+    0x6E, 0x00, 0x00, 0x0A, 0x06, 0x01, 0x04, 0x00, 0x41, 0x00, 0x0B,
+];
+
+/// A module whose one function, of no results, leaves a number.
+const INVALID: [u8; 26] = [
+    0x00, 0x61, 0x73, 0x6D, 0x01, 0x00, 0x00, 0x00, 0x01, 0x04, 0x01, 0x60, 0x00, 0x00, 0x03, 0x02,
+    0x01, 0x00, 0x0A, 0x06, 0x01, 0x04, 0x00, 0x41, 0x00, 0x0B,
+];
+
+/// A folder over memory: the files of link, of M and of N, where they are there. It notes which files it is asked for.
 #[derive(Drop)]
 struct Folder<'a> {
-    link: &'a [u8],
-    body: Option<&'a [u8]>,
+    link: Option<&'a [u8]>,
+    first: Option<&'a [u8]>,
+    second: Option<&'a [u8]>,
+    asked: String,
+}
+
+impl<'a> Folder<'a> {
+    fn file(&self, name: &str) -> Option<&'a [u8]> {
+        if name == "link.wasm" {
+            return self.link;
+        }
+        if name == "M.wasm" {
+            return self.first;
+        }
+        if name == "N.wasm" {
+            return self.second;
+        }
+        None
+    }
 }
 
 impl InDir for Folder<'_> {
     ghost gives = { λ _ _ _. Unit {0} };
 
     fn read(&mut self, alloc: Global, name: &str) -> Option<Vec<u8>> {
-        if name == "link.wasm" {
-            return Vec::from_slice(alloc, self.link).ok();
-        }
-        if name == "M.wasm" {
-            return Vec::from_slice(alloc, self.body?).ok();
-        }
-        None
+        self.asked.push_str(name).ok()?;
+        self.asked.push_str(" ").ok()?;
+        Vec::from_slice(alloc, self.file(name)?).ok()
     }
 }
 
@@ -97,18 +132,26 @@ fn make_screen(alloc: Global, room: usize) -> Screen
     }
 }
 
-/// What comes of these files: the status, and what is on the two streams.
+/// The files of link and of M.
+fn two<'a>(alloc: Global, link: &'a [u8], body: &'a [u8]) -> Folder<'a> {
+    Folder {
+        link: Some(link),
+        first: Some(body),
+        second: None,
+        asked: String::new(alloc),
+    }
+}
+
+/// What comes of a folder: the status, and what is on the two streams.
 fn told(
     alloc: Global,
-    link: &[u8],
-    body: Option<&[u8]>,
+    folder: &mut Folder<'_>,
     steps: u64,
     room: usize,
 ) -> Result<String, AllocError> {
     let mut out = make_screen(alloc, room);
     let mut err = make_screen(alloc, 100);
-    let mut dir = Folder { link, body };
-    let status = execute(alloc, &mut dir, steps, &mut out, &mut err);
+    let status = execute(alloc, folder, steps, &mut out, &mut err);
     let printed = String::from_utf8_lossy(alloc, &out.bytes)?;
     let words = String::from_utf8_lossy(alloc, &err.bytes)?;
     format!(in alloc; "{status}|{printed}|{words}")
@@ -118,14 +161,15 @@ fn told(
 fn executes_the_first_program(rt: HostRuntime) -> Result<(), Fail> {
     let alloc = rt.alloc();
     let rows = [
-        (100, "0|A|"),
-        (7, "0|A|"),
-        (6, "4|A|"),
-        (5, "4|A|"),
-        (4, "4||"),
+        (100, 100, "0|A|"),
+        (7, 100, "0|A|"),
+        (6, 100, "4|A|"),
+        (5, 100, "4|A|"),
+        (4, 100, "4||"),
+        (100, 0, "3||refusal 91\n"),
     ];
-    for (steps, expected) in rows {
-        let text = told(alloc, &LINK, Some(&BODY), steps, 100)?;
+    for (steps, room, expected) in rows {
+        let text = told(alloc, &mut two(alloc, &LINK, &BODY), steps, room)?;
         assert_eq!(rt; text.as_str(), expected, "{steps}");
     }
     Ok(())
@@ -134,25 +178,93 @@ fn executes_the_first_program(rt: HostRuntime) -> Result<(), Fail> {
 #[test]
 fn tells_what_is_wrong_with_files(rt: HostRuntime) -> Result<(), Fail> {
     let alloc = rt.alloc();
-    let cut = &BODY[..185];
-    let text = told(alloc, &LINK, Some(cut), 100, 100)?;
-    assert_eq!(rt; text.as_str(), "3||M: refusal 80\n");
-    let text = told(alloc, &LINK[..133], Some(&BODY), 100, 100)?;
-    assert_eq!(rt; text.as_str(), "3||link: refusal 80\n");
-    let text = told(alloc, &LINK, Some(&HEADER), 100, 100)?;
-    assert_eq!(rt; text.as_str(), "1||trap\n");
-    let text = told(alloc, &HEADER, Some(&BODY), 100, 100)?;
-    assert_eq!(rt; text.as_str(), "3||link: refusal 83\n");
-    let text = told(alloc, &LINK, None, 100, 100)?;
-    assert_eq!(rt; text.as_str(), "3||cannot read M.wasm\n");
+    let rows: [(&[u8], &[u8], &str); 4] = [
+        (&LINK, &BODY[..185], "3||M: refusal 80\n"),
+        (&LINK[..133], &BODY, "3||link: refusal 80\n"),
+        (&LINK, &HEADER, "1||trap\n"),
+        (&HEADER, &BODY, "3||link: refusal 83\n"),
+    ];
+    for (link, body, expected) in rows {
+        let text = told(alloc, &mut two(alloc, link, body), 100, 100)?;
+        assert_eq!(rt; text.as_str(), expected);
+    }
     Ok(())
 }
 
+/// What is told of these files of link, M and N, and which files were asked for.
+fn asked(
+    alloc: Global,
+    link: Option<&[u8]>,
+    first: Option<&[u8]>,
+    second: Option<&[u8]>,
+) -> Result<String, AllocError> {
+    let mut folder = Folder {
+        link,
+        first,
+        second,
+        asked: String::new(alloc),
+    };
+    let text = told(alloc, &mut folder, 100, 100)?;
+    let asked = folder.asked;
+    format!(in alloc; "{text}|{asked}")
+}
+
+/// A file that is at fault ends the reading: so each module is read, decoded and validated before the next.
 #[test]
-fn tells_a_stream_that_failed(rt: HostRuntime) -> Result<(), Fail> {
+fn reads_a_module_after_the_one_before_is_valid(rt: HostRuntime) -> Result<(), Fail> {
     let alloc = rt.alloc();
-    let text = told(alloc, &LINK, Some(&BODY), 100, 0)?;
-    assert_eq!(rt; text.as_str(), "3||refusal 91\n");
+    let good: Option<&[u8]> = Some(&HEADER);
+    let link: Option<&[u8]> = Some(&LINK_OF_TWO);
+    let rows: [(Option<&[u8]>, Option<&[u8]>, Option<&[u8]>, &str); 9] = [
+        (link, good, good, "0|||link.wasm M.wasm N.wasm "),
+        (None, good, good, "3||cannot read link.wasm\n|link.wasm "),
+        (
+            Some(&LINK_OF_TWO[..56]),
+            good,
+            good,
+            "3||link: refusal 80\n|link.wasm ",
+        ),
+        (
+            Some(&INVALID_LINK),
+            good,
+            good,
+            "3||link: refusal 82\n|link.wasm ",
+        ),
+        (
+            link,
+            None,
+            good,
+            "3||cannot read M.wasm\n|link.wasm M.wasm ",
+        ),
+        (
+            link,
+            Some(&HEADER[..7]),
+            good,
+            "3||M: refusal 80\n|link.wasm M.wasm ",
+        ),
+        (
+            link,
+            Some(&INVALID),
+            good,
+            "3||M: refusal 82\n|link.wasm M.wasm ",
+        ),
+        (
+            link,
+            good,
+            None,
+            "3||cannot read N.wasm\n|link.wasm M.wasm N.wasm ",
+        ),
+        (
+            link,
+            good,
+            Some(&INVALID),
+            "3||N: refusal 82\n|link.wasm M.wasm N.wasm ",
+        ),
+    ];
+    for (link, first, second, expected) in rows {
+        let text = asked(alloc, link, first, second)?;
+        assert_eq!(rt; text.as_str(), expected);
+    }
     Ok(())
 }
 

@@ -1,14 +1,14 @@
 -- Runs of linked modules.
-use Rattle.std.proofs.Common.{◌≡◌, ℕ, ◌+◌, ◌↔◌, List, Option, Result, Ok, Err, refl, sym, ap, subst, ◌∙◌}
+use Rattle.std.proofs.Common.{◌≡◌, ℕ, ◌+◌, ◌↔◌, List, Bool, true, false, Option, Result, Ok, Err, refl, sym, ap, subst, ◌∙◌}
 use Rattle.wasm_tree.specs.declared.module.WModule.{WModule}
 use Rattle.wasm_tree.specs.Machine.{run}
 use Rattle.wasm_tree.specs.Linking.{link}
 use Rattle.wasm_engine.specs.declared.engine.End.{End}
 use Rattle.wasm_engine.specs.declared.engine.RunFault.{RunFault}
-use Rattle.wasm_engine.specs.declared.engine.RunFault.TheVariants.{Write}
+use Rattle.wasm_engine.specs.declared.engine.RunFault.TheVariants.{Write, Ended}
 use Rattle.wasm_engine.specs.declared.engine.Instances.{Instances}
 use Rattle.wasm_engine.specs.Told.{with_bytes}
-use Rattle.wasm_engine.specs.Instances.{modules_of, config_of, RunsPart}
+use Rattle.wasm_engine.specs.Instances.{modules_of, config_of, has_failed, RunsPart}
 use Rattle.m2_execute.specs.Told.{IsBroken}
 
 abbrev fault_or : RunFault → Result End RunFault → RunFault
@@ -16,8 +16,9 @@ fault_or other (Ok e) = other
 fault_or other (Err f) = f
 
 module _ {S : Type 0} (told : S → Option (List ℕ)) (failed : S → ℕ) (trees : List WModule) (steps : ℕ) (before after : S) (i : Instances) where
-  pub broken : (fault : RunFault) (answer : Result End RunFault) → answer ≡ Err fault → link trees ≡ Ok (config_of i) → modules_of i ≡ trees → RunsPart told steps i before after → (answer ≡ Err Write) ↔ (failed after ≡ failed before + 1) → IsBroken told failed trees steps fault before after
-  broken fault answer is linked same part write = record {
+  pub broken : (fault : RunFault) (answer : Result End RunFault) → answer ≡ Err fault → link trees ≡ Ok (config_of i) → modules_of i ≡ trees → RunsPart told steps i before after → (answer ≡ Err Write) ↔ (failed after ≡ failed before + 1)
+      → (answer ≡ Err Ended) ↔ (has_failed i ≡ true) → has_failed i ≡ false → IsBroken told failed trees steps fault before after
+  broken fault answer is linked same part write ended fresh = record {
     made = part.0;
     fits = part.1;
     bytes = (run trees part.0 (config_of i)).1;
@@ -25,4 +26,5 @@ module _ {S : Type 0} (told : S → Option (List ℕ)) (failed : S → ℕ) (tre
     has_run = record { first = config_of i; linked = linked; is_run = refl };
     taken = subst (λ (ms : List WModule). told after ≡ with_bytes (told before) (run ms part.0 (config_of i)).1) same part.2;
     write = ((λ e. write.0 (is ∙ ap (λ (f : RunFault). Err f) e)), (λ f. ap (fault_or fault) (sym is ∙ write.1 f)));
+    first = λ e. let both : true ≡ false = sym (ended.0 (is ∙ ap (λ (f : RunFault). Err f) e)) ∙ fresh in cc;
   }

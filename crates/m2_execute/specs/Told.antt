@@ -109,6 +109,8 @@ pub record IsBroken {S : Type 0} (told : S → Option (List ℕ)) (failed : S �
   pub has_run : HasRun trees made bytes config
   pub taken : told after ≡ with_bytes (told before) bytes
   pub write : (fault ≡ Write) ↔ (failed after ≡ failed before + 1)
+  -- nothing broke it off before
+  pub first : ¬ (fault ≡ Ended)
 
 -- what a report says of modules and of the stream on which they print
 abbrev pub IsOf : {S : Type 0} → (S → Option (List ℕ)) → (S → ℕ) → List WModule → (steps : ℕ) → Report → (before after : S) → Type 0

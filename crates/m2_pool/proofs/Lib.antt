@@ -1,3 +1,4 @@
 pub mod Gathering
 pub mod Items
 pub mod Places
+pub mod Tallying

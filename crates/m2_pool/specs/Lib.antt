@@ -1,3 +1,4 @@
 pub mod Halving
 pub mod Results
 pub mod Settled
+pub mod Tallied

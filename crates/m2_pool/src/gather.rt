@@ -1,9 +1,9 @@
 // The gatherer, who works when all workers have ended.
-ghost use Rattle.std.specs.Prelude.{◌≡◌, ℕ, List, ◌<◌, length, map, All, IfOk, IfSome, MatchOption, IsTrue, slice_index_or, slice_set, None, Some, true, false};
+ghost use Rattle.std.specs.Prelude.{◌≡◌, ℕ, List, ◌<◌, length, map, All, IfOk, IfSome, MatchOption, MatchResult, IsTrue, slice_index_or, slice_set, None, Some, true, false};
 ghost use Rattle.once_cell.specs.Once.{cell_name, Agrees};
 ghost use Rattle.m2_board.specs.Lists.{times};
 ghost use Rattle.m2_board.specs.Graph.{prerequisites_of};
-ghost use Rattle.m2_worker.specs.Results.{picked, all_jobs, AreResults, IsResult, IsRan};
+ghost use Rattle.m2_worker.specs.Results.{picked, all_jobs, AreResults, IsResult, IsRan, IsMade};
 ghost use Rattle.m2_pool.specs.Settled.{IsSettled, all_settled};
 
 use m2_worker::{Gate, Ran, Shop, Work};
@@ -16,9 +16,9 @@ pub fn placed<W: Work, G: Gate>(
     shop: &Shop<'_, W, G>,
     all: Vec<Ran<W>>,
 ) -> Result<Vec<Option<Ran<W>>>, AllocError>
-    requires stands { All (λ r. IfSome r.note (λ n. IsRan (map cell_name shop.now.cells.now) shop.now.graph.now (W.defines shop.now.work.now) r.job n.cell n.known (map (λ u. u.cell) r.used.items) (map (λ u. u.known) r.used.items))) all.items }
+    requires stands { All (λ r. MatchResult r.kept (λ n. IsRan (map cell_name shop.now.cells.now) shop.now.graph.now (W.defines shop.now.work.now) r.job n.cell n.known (map (λ u. u.cell) r.used.items) (map (λ u. u.known) r.used.items)) (λ b. IsMade (map cell_name shop.now.cells.now) shop.now.graph.now (W.defines shop.now.work.now) r.job b.value (map (λ u. u.cell) r.used.items) (map (λ u. u.known) r.used.items))) all.items }
     ensures count { IfOk result (λ v. length v.items ≡ length shop.now.graph.now) }
-    ensures each { IfOk result (λ v. (k : ℕ) → k < length shop.now.graph.now → MatchOption (slice_index_or v.items k None) (times k (map (λ r. r.job) all.items) ≡ 0) (λ r. (r.job ≡ k) × IfSome r.note (λ n. IsRan (map cell_name shop.now.cells.now) shop.now.graph.now (W.defines shop.now.work.now) r.job n.cell n.known (map (λ u. u.cell) r.used.items) (map (λ u. u.known) r.used.items)))) }
+    ensures each { IfOk result (λ v. (k : ℕ) → k < length shop.now.graph.now → MatchOption (slice_index_or v.items k None) (times k (map (λ r. r.job) all.items) ≡ 0) (λ r. (r.job ≡ k) × MatchResult r.kept (λ n. IsRan (map cell_name shop.now.cells.now) shop.now.graph.now (W.defines shop.now.work.now) r.job n.cell n.known (map (λ u. u.cell) r.used.items) (map (λ u. u.known) r.used.items)) (λ b. IsMade (map cell_name shop.now.cells.now) shop.now.graph.now (W.defines shop.now.work.now) r.job b.value (map (λ u. u.cell) r.used.items) (map (λ u. u.known) r.used.items)))) }
 {
     let mut places = no_places(alloc, shop.graph.jobs())?;
     for ran in all {
@@ -52,48 +52,59 @@ fn no_places<W: Work>(alloc: Global, jobs: usize) -> Result<Vec<Option<Ran<W>>>,
 /// All results in job order: a copy of what the cell holds for each job that is settled. The others are run here.
 ///
 /// A job is settled where a worker set its cell and all its prerequisites are settled: what the worker used of them are
-/// then their results.
+/// then their results. A result that was handed back, since its cell was set before, is taken where its prerequisites
+/// are settled.
 pub fn gathered<W: Work, G: Gate>(
     alloc: Global,
     shop: &Shop<'_, W, G>,
     places: Vec<Option<Ran<W>>>,
 ) -> Result<Vec<W::Out>, AllocError>
     requires count { length places.items ≡ length shop.now.graph.now }
-    requires places { (k : ℕ) → k < length shop.now.graph.now → IfSome (slice_index_or places.items k None) (λ r. (r.job ≡ k) × IfSome r.note (λ n. IsRan (map cell_name shop.now.cells.now) shop.now.graph.now (W.defines shop.now.work.now) r.job n.cell n.known (map (λ u. u.cell) r.used.items) (map (λ u. u.known) r.used.items))) }
+    requires places { (k : ℕ) → k < length shop.now.graph.now → IfSome (slice_index_or places.items k None) (λ r. (r.job ≡ k) × MatchResult r.kept (λ n. IsRan (map cell_name shop.now.cells.now) shop.now.graph.now (W.defines shop.now.work.now) r.job n.cell n.known (map (λ u. u.cell) r.used.items) (map (λ u. u.known) r.used.items)) (λ b. IsMade (map cell_name shop.now.cells.now) shop.now.graph.now (W.defines shop.now.work.now) r.job b.value (map (λ u. u.cell) r.used.items) (map (λ u. u.known) r.used.items))) }
     ensures { IfOk result (λ v. AreResults shop.now.graph.now (W.defines shop.now.work.now) (all_jobs (length shop.now.graph.now)) v.items) }
 {
     let mut outs = Vec::with_capacity(alloc, shop.graph.jobs())?;
     let mut settled = Vec::with_capacity(alloc, shop.graph.jobs())?;
     for place in places {
         let job = outs.len();
-        let mut note = settle(shop, job, place, &mut settled);
-        let out = one(alloc, shop, job, &mut note, outs.as_slice())?;
+        let kept = settle(shop, job, place, &mut settled);
+        let (out, note) = one(alloc, shop, job, kept, outs.as_slice())?;
         outs.push(out)?;
         settled.push(note)?;
     }
     Ok(outs)
 }
 
-// The note of a job's cell, if the job is settled: it knows a result of the job.
+// What was kept of a job's result, if the job is settled: a note of its cell that knows it, or the result itself.
 fn settle<W: Work, G: Gate>(
     shop: &Shop<'_, W, G>,
     job: usize,
     place: Option<Ran<W>>,
     settled: &mut Vec<Option<Note<W::Out>>>,
-) -> Option<Note<W::Out>>
+) -> Option<Result<Note<W::Out>, Box<W::Out>>>
     requires job { job < length shop.now.graph.now }
-    requires place { IfSome place (λ r. (r.job ≡ job) × IfSome r.note (λ n. IsRan (map cell_name shop.now.cells.now) shop.now.graph.now (W.defines shop.now.work.now) r.job n.cell n.known (map (λ u. u.cell) r.used.items) (map (λ u. u.known) r.used.items))) }
+    requires place { IfSome place (λ r. (r.job ≡ job) × MatchResult r.kept (λ n. IsRan (map cell_name shop.now.cells.now) shop.now.graph.now (W.defines shop.now.work.now) r.job n.cell n.known (map (λ u. u.cell) r.used.items) (map (λ u. u.known) r.used.items)) (λ b. IsMade (map cell_name shop.now.cells.now) shop.now.graph.now (W.defines shop.now.work.now) r.job b.value (map (λ u. u.cell) r.used.items) (map (λ u. u.known) r.used.items))) }
     requires settled { (p : ℕ) → IfSome (slice_index_or settled.old.items p None) (λ n. IsSettled (map cell_name shop.now.cells.now) shop.now.graph.now (W.defines shop.now.work.now) p n.cell n.known) }
     ensures same { settled.new.items ≡ settled.old.items }
-    ensures note { IfSome result (λ n. IsSettled (map cell_name shop.now.cells.now) shop.now.graph.now (W.defines shop.now.work.now) job n.cell n.known) }
-    ensures all { IfSome place (λ r. IsTrue (all_settled settled.old.items (prerequisites_of shop.now.graph.now job)) → result ≡ r.note) }
+    ensures kept { IfSome result (λ k. MatchResult k (λ n. IsSettled (map cell_name shop.now.cells.now) shop.now.graph.now (W.defines shop.now.work.now) job n.cell n.known) (λ b. IsResult shop.now.graph.now (W.defines shop.now.work.now) job b.value)) }
+    ensures all { IfSome place (λ r. IsTrue (all_settled settled.old.items (prerequisites_of shop.now.graph.now job)) → result ≡ Some r.kept) }
 {
-    let Ran { job: _, note, used } = place?;
-    let note = note?;
-    if agree(shop, job, used, settled) {
-        Some(note)
-    } else {
-        None
+    let Ran { job: _, kept, used } = place?;
+    match kept {
+        Ok(note) => {
+            if agree(shop, job, used, settled) {
+                Some(Ok(note))
+            } else {
+                None
+            }
+        }
+        Err(out) => {
+            if agree(shop, job, used, settled) {
+                Some(Err(out))
+            } else {
+                None
+            }
+        }
     }
 }
 
@@ -151,23 +162,28 @@ fn compared<T>(own: &mut Option<Note<T>>, used: Note<T>) -> bool
     }
 }
 
-// The result of one job, given those of all jobs before it.
+// The result of one job, given what was kept of it and the results of all jobs before it. With it comes the note of the
+// job's cell, if the result is there.
 fn one<W: Work, G: Gate>(
     alloc: Global,
     shop: &Shop<'_, W, G>,
     job: usize,
-    note: &mut Option<Note<W::Out>>,
+    kept: Option<Result<Note<W::Out>, Box<W::Out>>>,
     before: &[W::Out],
-) -> Result<W::Out, AllocError>
+) -> Result<(W::Out, Option<Note<W::Out>>), AllocError>
     requires job { job < length shop.now.graph.now }
-    requires note { IfSome note.old (λ n. IsSettled (map cell_name shop.now.cells.now) shop.now.graph.now (W.defines shop.now.work.now) job n.cell n.known) }
+    requires kept { IfSome kept (λ k. MatchResult k (λ n. IsSettled (map cell_name shop.now.cells.now) shop.now.graph.now (W.defines shop.now.work.now) job n.cell n.known) (λ b. IsResult shop.now.graph.now (W.defines shop.now.work.now) job b.value)) }
     requires before { AreResults shop.now.graph.now (W.defines shop.now.work.now) (all_jobs job) before.now }
-    ensures same { note.new ≡ note.old }
-    ensures out { IfOk result (λ x. IsResult shop.now.graph.now (W.defines shop.now.work.now) job x) }
+    ensures out { IfOk result (λ r. IsResult shop.now.graph.now (W.defines shop.now.work.now) job r.0) }
+    ensures note { IfOk result (λ r. IfSome r.1 (λ n. IsSettled (map cell_name shop.now.cells.now) shop.now.graph.now (W.defines shop.now.work.now) job n.cell n.known)) }
 {
-    match note {
-        Some(note) => copied(shop, job, note),
-        None => run_here(alloc, shop, job, before),
+    match kept {
+        Some(Ok(mut note)) => {
+            let out = copied(shop, job, &mut note)?;
+            Ok((out, Some(note)))
+        }
+        Some(Err(out)) => Ok((Box::into_inner(out), None)),
+        None => Ok((run_here(alloc, shop, job, before)?, None)),
     }
 }
 

@@ -1,9 +1,9 @@
 // The whole: workers on threads of their own, and the gatherer.
-ghost use Rattle.std.specs.Prelude.{◌≡◌, ◌≢◌, ◌++◌, [], ℕ, ◌<◌, ◌≤◌, ◌↔◌, length, map, All, IfOk, IfSome, Err};
+ghost use Rattle.std.specs.Prelude.{◌≡◌, ◌≢◌, ◌++◌, [], ℕ, ◌<◌, ◌≤◌, ◌↔◌, length, map, All, IfOk, MatchResult, Err};
 ghost use Rattle.once_cell.specs.Once.{cell_name};
-ghost use Rattle.m2_board.specs.Lists.{times, listed};
 ghost use Rattle.m2_board.specs.Seats.{IsAllSeats, all_had};
-ghost use Rattle.m2_worker.specs.Results.{all_jobs, AreResults, IsRan};
+ghost use Rattle.m2_worker.specs.Results.{all_jobs, AreResults, IsRan, IsMade};
+ghost use Rattle.m2_pool.specs.Tallied.{IsTally};
 
 use crate::gather::{gathered, placed};
 use crossbeam_deque::{Stealer, Worker};
@@ -16,9 +16,10 @@ use std::thread::Threads;
 
 /// Results of the work's own graph, in job order, and who had which job.
 ///
-/// Each result is one that the work's definition gives for its job, from results of its prerequisites, and the tally has
-/// each job exactly once, for every number of workers, every gate and every schedule. The refusal is `Workers` exactly
-/// where there are not 1 to 64 workers, and else `NoMemory`.
+/// Each result is one that the work's definition gives for its job, from results of its prerequisites. The tally lists what
+/// each seat had and what none had: together each job exactly once, and nothing else. So it is for every number of
+/// workers, every gate and every schedule. The refusal is `Workers` exactly where there are not 1 to 64 workers, and else
+/// `NoMemory`.
 ///
 /// The j-th job without prerequisites is dealt to worker j modulo the number of workers. A worker takes jobs from its
 /// own deque, first in first out, and else steals; where it sees the results of a job's prerequisites, the gate lets it
@@ -40,7 +41,8 @@ pub fn run_jobs<R: Threads + Sync, W: Work, G: Gate>(
     ensures graph { result ≢ Err PoolRefusal.Prerequisite }
     ensures results { IfOk result (λ r. AreResults (W.graph work.now) (W.defines work.now) (all_jobs (length (W.graph work.now))) r.0.items) }
     ensures seats { IfOk result (λ r. length r.1.seats.items ≡ workers) }
-    ensures tally { IfOk result (λ r. (job : ℕ) → job < length graph.now → times job (listed (map (λ l. l.items) r.1.seats.items) ++ r.1.gatherer.items) ≡ 1) }
+    // Each list is what that seat had; all together are the jobs, each once.
+    ensures tally { IfOk result (λ r. IsTally graph.now workers (map (λ l. l.items) r.1.seats.items) r.1.gatherer.items) }
 {
     let (board, seats) = Board::open(alloc, graph, workers)?;
     let cells = empty_cells(alloc, graph.jobs())?;
@@ -64,7 +66,7 @@ pub fn run_on<R: Threads + Sync, W: Work, G: Gate>(
     requires new { All (λ s. s.had ≡ []) seats.items }
     ensures results { IfOk result (λ r. AreResults (W.graph work.now) (W.defines work.now) (all_jobs (length (W.graph work.now))) r.0.items) }
     ensures seats { IfOk result (λ r. length r.1.seats.items ≡ board.workers) }
-    ensures tally { IfOk result (λ r. (job : ℕ) → job < length graph.now → times job (listed (map (λ l. l.items) r.1.seats.items) ++ r.1.gatherer.items) ≡ 1) }
+    ensures tally { IfOk result (λ r. IsTally graph.now board.workers (map (λ l. l.items) r.1.seats.items) r.1.gatherer.items) }
 {
     let owns = dealt(alloc, graph, seats.len())?;
     let stealers = stealers_of(alloc, owns.as_slice())?;
@@ -160,14 +162,14 @@ fn all_work<R: Threads + Sync, W: Work, G: Gate>(
 ) -> Result<Vec<Result<Member<W>, AllocError>>, AllocError>
     requires seats { All (λ m. (m.seat.board ≡ shop.now.board.now.id) × (m.seat.had ≡ []) × (m.ran.items ≡ [])) members.items }
     ensures count { IfOk result (λ v. length v.items ≡ length members.items) }
-    ensures each { IfOk result (λ v. All (λ e. IfOk e (λ m. (m.seat.board ≡ shop.now.board.now.id) × (map (λ r. r.job) m.ran.items ≡ m.seat.had) × All (λ r. IfSome r.note (λ n. IsRan (map cell_name shop.now.cells.now) shop.now.graph.now (W.defines shop.now.work.now) r.job n.cell n.known (map (λ u. u.cell) r.used.items) (map (λ u. u.known) r.used.items))) m.ran.items)) v.items) }
+    ensures each { IfOk result (λ v. All (λ e. IfOk e (λ m. (m.seat.board ≡ shop.now.board.now.id) × (map (λ r. r.job) m.ran.items ≡ m.seat.had) × All (λ r. MatchResult r.kept (λ n. IsRan (map cell_name shop.now.cells.now) shop.now.graph.now (W.defines shop.now.work.now) r.job n.cell n.known (map (λ u. u.cell) r.used.items) (map (λ u. u.known) r.used.items)) (λ b. IsMade (map cell_name shop.now.cells.now) shop.now.graph.now (W.defines shop.now.work.now) r.job b.value (map (λ u. u.cell) r.used.items) (map (λ u. u.known) r.used.items))) m.ran.items)) v.items) }
 {
     thread::map_vec(
         rt,
         members,
         &|member: Member<W>| -> Result<Member<W>, AllocError>
             requires { (member.seat.board ≡ shop.now.board.now.id) × (member.seat.had ≡ []) × (member.ran.items ≡ []) }
-            ensures { IfOk result (λ m. (m.seat.board ≡ shop.entry.now.board.now.id) × (map (λ r. r.job) m.ran.items ≡ m.seat.had) × All (λ r. IfSome r.note (λ n. IsRan (map cell_name shop.entry.now.cells.now) shop.entry.now.graph.now (W.defines shop.entry.now.work.now) r.job n.cell n.known (map (λ u. u.cell) r.used.items) (map (λ u. u.known) r.used.items))) m.ran.items) }
+            ensures { IfOk result (λ m. (m.seat.board ≡ shop.entry.now.board.now.id) × (map (λ r. r.job) m.ran.items ≡ m.seat.had) × All (λ r. MatchResult r.kept (λ n. IsRan (map cell_name shop.entry.now.cells.now) shop.entry.now.graph.now (W.defines shop.entry.now.work.now) r.job n.cell n.known (map (λ u. u.cell) r.used.items) (map (λ u. u.known) r.used.items)) (λ b. IsMade (map cell_name shop.entry.now.cells.now) shop.entry.now.graph.now (W.defines shop.entry.now.work.now) r.job b.value (map (λ u. u.cell) r.used.items) (map (λ u. u.known) r.used.items))) m.ran.items) }
         { work_on(alloc, shop, member) },
     )
 }
@@ -178,11 +180,11 @@ fn returned<W: Work, G: Gate>(
     shop: &Shop<'_, W, G>,
     ended: Vec<Result<Member<W>, AllocError>>,
 ) -> Result<(Vec<BoardSeat>, Vec<Ran<W>>), AllocError>
-    requires { All (λ e. IfOk e (λ m. (m.seat.board ≡ shop.now.board.now.id) × (map (λ r. r.job) m.ran.items ≡ m.seat.had) × All (λ r. IfSome r.note (λ n. IsRan (map cell_name shop.now.cells.now) shop.now.graph.now (W.defines shop.now.work.now) r.job n.cell n.known (map (λ u. u.cell) r.used.items) (map (λ u. u.known) r.used.items))) m.ran.items)) ended.items }
+    requires { All (λ e. IfOk e (λ m. (m.seat.board ≡ shop.now.board.now.id) × (map (λ r. r.job) m.ran.items ≡ m.seat.had) × All (λ r. MatchResult r.kept (λ n. IsRan (map cell_name shop.now.cells.now) shop.now.graph.now (W.defines shop.now.work.now) r.job n.cell n.known (map (λ u. u.cell) r.used.items) (map (λ u. u.known) r.used.items)) (λ b. IsMade (map cell_name shop.now.cells.now) shop.now.graph.now (W.defines shop.now.work.now) r.job b.value (map (λ u. u.cell) r.used.items) (map (λ u. u.known) r.used.items))) m.ran.items)) ended.items }
     ensures count { IfOk result (λ r. length r.0.items ≡ length ended.items) }
     ensures seats { IfOk result (λ r. All (λ s. s.board ≡ shop.now.board.now.id) r.0.items) }
     ensures ran { IfOk result (λ r. map (λ a. a.job) r.1.items ≡ all_had r.0.items) }
-    ensures stands { IfOk result (λ o. All (λ r. IfSome r.note (λ n. IsRan (map cell_name shop.now.cells.now) shop.now.graph.now (W.defines shop.now.work.now) r.job n.cell n.known (map (λ u. u.cell) r.used.items) (map (λ u. u.known) r.used.items))) o.1.items) }
+    ensures stands { IfOk result (λ o. All (λ r. MatchResult r.kept (λ n. IsRan (map cell_name shop.now.cells.now) shop.now.graph.now (W.defines shop.now.work.now) r.job n.cell n.known (map (λ u. u.cell) r.used.items) (map (λ u. u.known) r.used.items)) (λ b. IsMade (map cell_name shop.now.cells.now) shop.now.graph.now (W.defines shop.now.work.now) r.job b.value (map (λ u. u.cell) r.used.items) (map (λ u. u.known) r.used.items))) o.1.items) }
 {
     let mut seats = Vec::with_capacity(alloc, ended.len())?;
     let mut all = Vec::new(alloc);

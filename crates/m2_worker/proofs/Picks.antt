@@ -1,7 +1,7 @@
 -- Results picked one by one, and edges counted one by one.
 use Rattle.std.proofs.Common.{◌≡◌, ℕ, eqb, ◌&&◌, zero, suc, ◌+◌, ◌<◌, ◌≤◌, List, [], ◌∷◌, ◌++◌, length, get_or, take, map, refl, sym, ap, ◌∙◌, subst, ⊎_elim, arith, Some, None, Option}
 use Rattle.std.proofs.lemmas.List.{take_more}
-use Rattle.std.specs.Prelude.{slice_get, IfSome}
+use Rattle.std.specs.Prelude.{slice_get, MatchResult, Result, Ok, Err}
 use mathlib.Core.List.{map-append}
 use Rattle.m2_board.specs.Graph.{prerequisites_of}
 use Rattle.m2_board.specs.declared.rule.Counted.{Counted}
@@ -9,7 +9,7 @@ use Rattle.m2_board.specs.Rule.{counted}
 use Rattle.m2_board.specs.Steps.{count_of}
 use Rattle.m2_board.proofs.Weights.{weigh-push}
 use Rattle.m2_board.proofs.Consistent.{bit, one_if_both}
-use Rattle.m2_worker.specs.Results.{with_item, picked, IsRan}
+use Rattle.m2_worker.specs.Results.{with_item, picked, IsRan, IsMade}
 
 pub picked_push : {X : Type 0} (xs : List X) (ps : List ℕ) (p : ℕ) (x : X) → slice_get xs p ≡ Some x → picked xs (ps ++ p ∷ []) ≡ picked xs ps ++ x ∷ []
 picked_push xs [] p x is = ap (λ o. with_item o []) is
@@ -74,9 +74,9 @@ pub in_some : {A B : Type 0} (f : A → B) (xs : List A) → map (λ x. Some (f 
 in_some f [] = refl
 in_some f (x ∷ xs) = ap (λ l. Some (f x) ∷ l) (in_some f xs)
 
-pub if_some : {A : Type 0} (o : Option A) (P Q : A → Type 0) → ((x : A) → P x → Q x) → IfSome o P → IfSome o Q
-if_some None P Q f p = tt
-if_some (Some x) P Q f p = f x p
+pub each_result : {A B : Type 0} (r : Result A B) (P P' : A → Type 0) (Q Q' : B → Type 0) → ((x : A) → P x → P' x) → ((y : B) → Q y → Q' y) → MatchResult r P Q → MatchResult r P' Q'
+each_result (Ok x) P P' Q Q' f g p = f x p
+each_result (Err y) P P' Q Q' f g q = g y q
 
 -- what was published of a job that was run
 pub ran_is : {X : Type 0} (names : List ℕ) (graph : List (List ℕ)) (defines : ℕ → List X → X → Type 0) (job job' cell : ℕ) (known : Option X) (used : List ℕ) (used_known : List (Option X)) (outs : List X) (x : X) → job' ≡ job
@@ -86,3 +86,13 @@ ran_is names graph defines job job' cell known used used_known outs x same cell_
     let here : IsRan names graph defines job cell known used used_known = record { cell_is = cell_is; used_are = used_are; outs = outs; x = x; outs_are = outs_are; x_is = x_is; defined = defined } in
     let P : ℕ → Type 0 = λ j. IsRan names graph defines j cell known used used_known in
     subst P (sym same) here
+
+-- and where it was handed back
+pub made_is : {X : Type 0} (names : List ℕ) (graph : List (List ℕ)) (defines : ℕ → List X → X → Type 0) (job job' : ℕ) (x out : X) (used : List ℕ) (used_known : List (Option X)) (outs : List X) → job' ≡ job → x ≡ out
+    → used ≡ picked names (prerequisites_of graph job) → used_known ≡ map Some outs → defines job outs out
+    → IsMade names graph defines job' x used used_known
+made_is {X} names graph defines job job' x out used used_known outs same x_is used_are outs_are defined =
+    let here : IsMade names graph defines job out used used_known = record { used_are = used_are; outs = outs; outs_are = outs_are; defined = defined } in
+    let P : ℕ → Type 0 = λ j. IsMade names graph defines j x used used_known in
+    let Q : X → Type 0 = λ y. IsMade names graph defines job y used used_known in
+    subst P (sym same) (subst Q (sym x_is) here)

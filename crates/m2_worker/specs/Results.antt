@@ -47,3 +47,10 @@ pub record IsRan {X : Type 0} (names : List ℕ) (graph : List (List ℕ)) (defi
   pub outs_are : used_known ≡ map Some outs
   pub x_is : known ≡ Some x
   pub defined : defines job outs x
+
+-- x may come of the job from what is known of the prerequisites' cells, whose names these are.
+pub record IsMade {X : Type 0} (names : List ℕ) (graph : List (List ℕ)) (defines : ℕ → List X → X → Type 0) (job : ℕ) (x : X) (used : List ℕ) (used_known : List (Option X)) : Type 0 where
+  pub used_are : used ≡ picked names (prerequisites_of graph job)
+  pub outs : List X
+  pub outs_are : used_known ≡ map Some outs
+  pub defined : defines job outs x

@@ -1,4 +1,4 @@
-use Rattle.std.proofs.Common.{◌≡◌, suc, [], ◌∷◌, ◌++◌, length, map, None, sym, ap, ◌∙◌, subst, arith, append_assoc, length-append}
+use Rattle.std.proofs.Common.{◌≡◌, suc, [], ◌∷◌, ◌++◌, length, map, None, refl, sym, ap, ◌∙◌, subst, arith, append_assoc, length-append}
 use Rattle.std.proofs.lemmas.Grind.{common_steps}
 use Rattle.once_cell.specs.Once.{cell_name}
 use Rattle.m2_worker.specs.Results.{AreResults, NoJobs}
@@ -18,14 +18,14 @@ loop-place-init g c =
       outs_are = subst (AreResults shop.graph.now defines []) (sym c.in_ok-outs.ensures.items) NoJobs;
     }
 
-pub settle-note-requires-clause-job : goal.settle-note-requires-clause-job
-settle-note-requires-clause-job g c κs within =
+pub settle-kept-requires-clause-job : goal.settle-kept-requires-clause-job
+settle-kept-requires-clause-job g c κs within =
     let at = next_in c.loop-place.yielded _ _ c.args.places.items c.in-Some.place c.loop-place.invariant.rest_is c.in-Some.ensures.steps.0 in
     let long = all_so_far c.args.shop.now.graph.now (g.W.Work.defines c.args.shop.now.work.now) (length c.loop-place.yielded) c.loop-place.outs.items c.loop-place.invariant.outs_are in
     omega (arith, at.0, long, c.requires.count, c.loop-place.outs.ok.0)
 
-pub settle-note-requires-clause-place : goal.settle-note-requires-clause-place
-settle-note-requires-clause-place g c κs within =
+pub settle-kept-requires-clause-place : goal.settle-kept-requires-clause-place
+settle-kept-requires-clause-place g c κs within =
     let at = next_in c.loop-place.yielded _ _ c.args.places.items c.in-Some.place c.loop-place.invariant.rest_is c.in-Some.ensures.steps.0 in
     let long = all_so_far c.args.shop.now.graph.now (g.W.Work.defines c.args.shop.now.work.now) (length c.loop-place.yielded) c.loop-place.outs.items c.loop-place.invariant.outs_are in
     let n : c.len-job.result ≡ length c.loop-place.yielded = omega (arith, long, c.loop-place.outs.ok.0) in
@@ -53,8 +53,8 @@ loop-place-preserved g c =
     record {
       rest_is = append_assoc c.loop-place.yielded (c.in-Some.place ∷ []) _ ∙ (ap (λ l. c.loop-place.yielded ++ l) (sym c.in-Some.ensures.steps.0) ∙ c.loop-place.invariant.rest_is);
       length_is = grind (arith, common_steps);
-      count_is = omega (arith, ap (λ l. length l) c.in_ok-push-2.ensures.items, length-append c.settle-note.new.settled.items (c.one.new.note ∷ []), ap (λ l. length l) c.settle-note.ensures.same, c.loop-place.invariant.count_is);
-      settled_are = places_more (Settles (λ n. n.cell) (λ n. n.known) (map cell_name shop.cells.now) shop.graph.now defines) c.loop-place.settled.items c.settle-note.new.settled.items _ c.settle-note.result c.one.new.note c.len-job.result
-          c.settle-note.ensures.same c.in_ok-push-2.ensures.items c.one.ensures.same (n ∙ sym c.loop-place.invariant.count_is) c.loop-place.invariant.settled_are c.settle-note.ensures.note;
+      count_is = omega (arith, ap (λ l. length l) c.in_ok-push-2.ensures.items, length-append c.settle-kept.new.settled.items (c.in_ok-out.note ∷ []), ap (λ l. length l) c.settle-kept.ensures.same, c.loop-place.invariant.count_is);
+      settled_are = places_more (Settles (λ n. n.cell) (λ n. n.known) (map cell_name shop.cells.now) shop.graph.now defines) c.loop-place.settled.items c.settle-kept.new.settled.items _ c.in_ok-out.note c.in_ok-out.note c.len-job.result
+          c.settle-kept.ensures.same c.in_ok-push-2.ensures.items refl (n ∙ sym c.loop-place.invariant.count_is) c.loop-place.invariant.settled_are c.in_ok-out.ensures.note;
       outs_are = next_result shop.graph.now defines (length c.loop-place.yielded) _ c.len-job.result c.loop-place.outs.items _ c.in_ok-out.out one_more n c.in_ok-push.ensures.items c.loop-place.invariant.outs_are c.in_ok-out.ensures.out;
     }

@@ -1,11 +1,11 @@
 use Rattle.std.proofs.Common.{◌≡◌, List, [], ◌∷◌, ◌++◌, length, map, sym, ap, ◌∙◌, arith, append_assoc, length-append}
-use Rattle.std.specs.Prelude.{IfSome}
+use Rattle.std.specs.Prelude.{MatchResult}
 use Rattle.std.proofs.lemmas.Grind.{common_steps}
 use Rattle.std.proofs.lemmas.List.Elements.{All-push, All-append}
 use Rattle.once_cell.specs.Once.{cell_name}
 use mathlib.Core.List.{map-append}
 use Rattle.m2_board.specs.Seats.{SeatState, all_had}
-use Rattle.m2_worker.specs.Results.{IsRan}
+use Rattle.m2_worker.specs.Results.{IsRan, IsMade}
 use Rattle.m2_pool.proofs.Items.{next_in, together_push}
 use Rattle.m2_pool.proofs.run.returned.Goals as goal
 
@@ -33,6 +33,6 @@ loop-one-preserved g c =
           ∙ (ap (λ l. l ++ map (λ r. r.job) ran) before.ran_is
           ∙ (ap (λ l. all_had seats ++ l) facts.1
           ∙ (sym (together_push (λ (s : SeatState). s.had) seats seat) ∙ ap all_had (sym pushed)))));
-      stands = rw joined (All-append (λ r. IfSome r.note (λ n. IsRan (map cell_name c.args.shop.now.cells.now) c.args.shop.now.graph.now (g.W.Work.defines c.args.shop.now.work.now) r.job n.cell n.known (map (λ u. u.cell) r.used.items) (map (λ u. u.known) r.used.items)))
+      stands = rw joined (All-append (λ r. MatchResult r.kept (λ n. IsRan (map cell_name c.args.shop.now.cells.now) c.args.shop.now.graph.now (g.W.Work.defines c.args.shop.now.work.now) r.job n.cell n.known (map (λ u. u.cell) r.used.items) (map (λ u. u.known) r.used.items)) (λ b. IsMade (map cell_name c.args.shop.now.cells.now) c.args.shop.now.graph.now (g.W.Work.defines c.args.shop.now.work.now) r.job b.value (map (λ u. u.cell) r.used.items) (map (λ u. u.known) r.used.items)))
           c.loop-one.all.items ran before.stands facts.2);
     }

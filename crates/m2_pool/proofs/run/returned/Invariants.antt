@@ -1,9 +1,9 @@
 use Rattle.std.proofs.Common.{◌≡◌, ◌++◌, map, length, All}
-use Rattle.std.specs.Prelude.{IfSome}
+use Rattle.std.specs.Prelude.{MatchResult}
 use Rattle.std.specs.Vec.Iter.{into_iter_items, into_iter_len}
 use Rattle.once_cell.specs.Once.{cell_name}
 use Rattle.m2_board.specs.Seats.{SeatState, all_had}
-use Rattle.m2_worker.specs.Results.{IsRan}
+use Rattle.m2_worker.specs.Results.{IsRan, IsMade}
 use Rattle.m2_pool.proofs.run.returned.Given as goal
 
 abbrev pub invariant-loop-one : goal.invariant-loop-one
@@ -13,5 +13,5 @@ invariant-loop-one g l = record {
   count_is : length l.seats.items ≡ length l.yielded;
   seats_are : All (λ (s : SeatState). s.board ≡ l.shop.board.now.id) l.seats.items;
   ran_is : map (λ r. r.job) l.all.items ≡ all_had l.seats.items;
-  stands : All (λ r. IfSome r.note (λ n. IsRan (map cell_name l.shop.cells.now) l.shop.graph.now (g.W.Work.defines l.shop.work.now) r.job n.cell n.known (map (λ u. u.cell) r.used.items) (map (λ u. u.known) r.used.items))) l.all.items;
+  stands : All (λ r. MatchResult r.kept (λ n. IsRan (map cell_name l.shop.cells.now) l.shop.graph.now (g.W.Work.defines l.shop.work.now) r.job n.cell n.known (map (λ u. u.cell) r.used.items) (map (λ u. u.known) r.used.items)) (λ b. IsMade (map cell_name l.shop.cells.now) l.shop.graph.now (g.W.Work.defines l.shop.work.now) r.job b.value (map (λ u. u.cell) r.used.items) (map (λ u. u.known) r.used.items))) l.all.items;
 }

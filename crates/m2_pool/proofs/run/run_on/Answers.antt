@@ -1,7 +1,9 @@
-use Rattle.std.proofs.Common.{◌≡◌, ℕ, ◌<◌, List, length, map, get_or, zero, suc, [], ◌∷◌, None, refl, sym, ap, ◌∙◌, arith}
+use Rattle.std.proofs.Common.{◌≡◌, ℕ, ◌<◌, List, length, map, get_or, zero, suc, [], ◌∷◌, ◌++◌, None, refl, sym, ap, ◌∙◌}
 use Rattle.std.proofs.lemmas.List.{length-map}
+use Rattle.m2_board.specs.Lists.{times, listed}
 use Rattle.m2_board.specs.Seats.{SeatState}
 use Rattle.m2_pool.proofs.Places.{match_some}
+use Rattle.m2_pool.proofs.Tallying.{is_tally}
 use Rattle.m2_pool.proofs.run.run_on.Goals as goal
 
 -- the items, seen by f
@@ -46,4 +48,13 @@ returns-clause-seats g c =
     ∙ (sym (length-map members (λ m. m.seat)) ∙ (ap (λ (l : List SeatState). length l) c.in_ok-members.ensures.seats ∙ c.requires.seats.0.count_is))))
 
 pub returns-clause-tally : goal.returns-clause-tally
-returns-clause-tally g c = λ job low. c.close-tally.ensures.each job (let same = ap (λ (h : List (List ℕ)). length h) c.requires.graph.1 in omega arith)
+returns-clause-tally g c =
+    let lists = map (λ l. l.items) c.close-tally.result.seats.items in
+    let each : (job : ℕ) → job < length c.args.board.graph → times job (listed lists ++ c.close-tally.result.gatherer.items) ≡ 1 = c.close-tally.ensures.each in
+    let members = c.in_ok-members.members.items in
+    let count : length c.in_ok-seats.seats.items ≡ c.args.board.workers =
+    c.in_ok-seats.ensures.count
+    ∙ (c.in_ok-ended.ensures.count
+    ∙ (sym (length-map members (λ m. m.seat)) ∙ (ap (λ (l : List SeatState). length l) c.in_ok-members.ensures.seats ∙ c.requires.seats.0.count_is))) in
+    rw c.requires.graph.1 (is_tally c.args.board.graph c.in_ok-seats.seats.items lists c.close-tally.result.gatherer.items c.close-tally.ensures.seats c.close-tally.ensures.gatherer each c.close-tally.ensures.consistent
+    c.args.board.workers count c.close-tally.ensures.sources)
