@@ -2,7 +2,7 @@
 
 ghost use Rattle.std.specs.Prelude.{◌≡◌};
 ghost use Rattle.m2_judged.specs.Judged.{least, ◌▷◌};
-ghost use Rattle.m2_constants.specs.Calls.{Sort, sort_of, scalar_type, type_part, type_argument, unary_of, unary, bound_by, bound, converted_by};
+ghost use Rattle.m2_constants.specs.Calls.{sort_of, scalar_type, type_part, type_argument, unary_of, unary, bound_by, bound, converted_by};
 
 use crate::denoted::Denoted;
 use m2_judged::{Judged, Types, both, scalar_of, told};

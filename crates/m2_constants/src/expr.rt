@@ -5,14 +5,16 @@ ghost use Rattle.std.specs.List.{fold};
 ghost use Rattle.m2_judged.specs.Judged.{least, ◌▷◌};
 ghost use Rattle.m2_typed.specs.declared.meaning.Value.TheVariants as value;
 ghost use Rattle.m2_constants.specs.Calls.{sort_of};
-ghost use Rattle.m2_constants.specs.Parts.{part, pick, head, item, constant, factor_in, term_in, pick_in, item_in, adds_in, one, type_only, conversion, called_as, called, used, sign_place, signed_first, field_of, set_place, set_type, set_of, joined_bits, value_at, named, member_of, by_sort, single_of, element_of};
+ghost use Rattle.m2_constants.specs.Denote.{component};
+ghost use Rattle.m2_constants.specs.Parts.{related, part, pick, head, item, constant, factor_in, term_in, pick_in, item_in, one, type_only, conversion, called_as, called, sign_place, signed_first, field_of, set_place, set_type, set_of, joined_bits, value_at, named, member_of, by_sort, single_of, element_of};
 
 use crate::call::{Sort, bound, converted_by, sort_of, type_argument, unary};
 use crate::denoted::{Denoted, component, constant_by, denoted_by, is_bitset, of_value};
-use crate::member::member;
+use crate::qualified::member;
 use m2_judged::{Fault, Judged, Scope, both, looked_up, told};
 use m2_tree::{
-    AddOp, Designator, Expr, Ident, Item, Items, MulOp, Operator, Pos, Quoted, Selector, Sign,
+    AddOp, Designator, Expr, Ident, Item, MulOp, Operator, Pos, Quoted, RelOp, Selector,
+    Sign,
 };
 use m2_typed::{CHAR, Scalar, Shared, Standard, TypeNo, Value};
 use m2_values::{
@@ -84,6 +86,19 @@ fn text_of(alloc: Global, bytes: &[u8]) -> Result<Value, AllocError>
     Ok(Value::Text(Shared::new(alloc, text)?))
 }
 
+fn related(
+    operator: &Operator<RelOp>,
+    at: Pos,
+    left: Judged<Value>,
+    other_at: Pos,
+    right: Judged<Value>,
+) -> Judged<Denoted>
+    ensures { result ≡ related least operator.now at left other_at right }
+{
+    let relation = BinaryOp::Relation(operator.op);
+    of_value(combined(relation, operator.pos, at, left, other_at, right))
+}
+
 /// The place of an expression's first token.
 #[tactic(auto, using(crate::proofs::Variants::variants))]
 pub fn place_of(e: &Expr) -> Pos
@@ -152,6 +167,29 @@ fn field_of(
     }
 }
 
+fn field_in(
+    scope: &Scope<Fault>,
+    at: Pos,
+    name: &Ident,
+    from: Judged<Denoted>,
+) -> Result<Judged<Denoted>, AllocError>
+    ensures { IfOk result (λ d. d ≡ (from ▷ field_of least scope.now at name.now)) }
+{
+    match from {
+        Err(fault) => Ok(Err(fault)),
+        Ok(denoted) => field_of(scope, at, name, denoted),
+    }
+}
+
+fn component_in(at: Pos, from: Judged<Denoted>) -> Judged<Denoted>
+    ensures { result ≡ from ▷ component least at }
+{
+    match from {
+        Err(fault) => Err(fault),
+        Ok(denoted) => component(at, denoted),
+    }
+}
+
 /// What a selector picks.
 #[tactic(auto, using(crate::proofs::Variants::variants))]
 fn pick(
@@ -161,23 +199,9 @@ fn pick(
 ) -> Result<Judged<Denoted>, AllocError>
     ensures { IfOk result (λ d. d ≡ pick least selector.now scope.now from) }
 {
-    match from {
-        Err(fault) => Ok(Err(fault)),
-        Ok(denoted) => picked_of(scope, denoted, selector),
-    }
-}
-
-#[tactic(auto, using(crate::proofs::Variants::variants))]
-fn picked_of(
-    scope: &Scope<Fault>,
-    denoted: Denoted,
-    selector: &Selector,
-) -> Result<Judged<Denoted>, AllocError>
-    ensures { IfOk result (λ d. d ≡ pick least selector.now scope.now (Ok denoted)) }
-{
     match selector {
-        Selector::Field(at, name) => field_of(scope, *at, name, denoted),
-        Selector::Index(at, _) => Ok(component(*at, denoted)),
+        Selector::Field(at, name) => field_in(scope, *at, name, from),
+        Selector::Index(at, _) => Ok(component_in(*at, from)),
     }
 }
 
@@ -228,7 +252,14 @@ fn denotes(alloc: Global, scope: &Scope<Fault>, e: &Expr) -> Result<Judged<Denot
             Ok(of_value(negated(*at, value)))
         }
         Expr::Bracketed(_, inner) => Ok(of_value(constant_of(alloc, scope, inner.get())?)),
-        Expr::Use(designator, args) => used(alloc, scope, designator, args),
+        Expr::Use(designator, args) => match args {
+            None => designated(scope, designator),
+            Some(args) => {
+                let callee = designated(scope, designator)?;
+                let at = first_of(designator);
+                Ok(of_value(called(alloc, scope, at, callee, args.as_slice())?))
+            }
+        },
         Expr::Term(first, rest) => {
             let left = constant_of(alloc, scope, first.get())?;
             let at = place_of(first.get());
@@ -243,14 +274,8 @@ fn denotes(alloc: Global, scope: &Scope<Fault>, e: &Expr) -> Result<Judged<Denot
         Expr::Relation(first, operator, second) => {
             let left = constant_of(alloc, scope, first.get())?;
             let right = constant_of(alloc, scope, second.get())?;
-            Ok(of_value(combined(
-                BinaryOp::Relation(operator.op),
-                operator.pos,
-                place_of(first.get()),
-                left,
-                place_of(second.get()),
-                right,
-            )))
+            let at = place_of(first.get());
+            Ok(related(operator, at, left, place_of(second.get()), right))
         }
     }
 }
@@ -266,31 +291,6 @@ pub fn constant_of(
 {
     let denoted = denotes(alloc, scope, e)?;
     Ok(constant_by(place_of(e), denoted))
-}
-
-/// A name or a call.
-#[cycle(expr)]
-fn used(
-    alloc: Global,
-    scope: &Scope<Fault>,
-    designator: &Designator,
-    args: &Option<Items<Expr>>,
-) -> Result<Judged<Denoted>, AllocError>
-    ensures { IfOk result (λ d. d ≡ used least scope.now (head least designator.now) args.now) }
-{
-    match args {
-        None => designated(scope, designator),
-        Some(args) => {
-            let callee = designated(scope, designator)?;
-            Ok(of_value(called(
-                alloc,
-                scope,
-                first_of(designator),
-                callee,
-                args.as_slice(),
-            )?))
-        }
-    }
 }
 
 /// A call.
@@ -479,18 +479,18 @@ fn elements(
 /// One element or a range of elements.
 #[cycle(expr)]
 #[tactic(auto, using(crate::proofs::Variants::variants))]
-fn added(alloc: Global, scope: &Scope<Fault>, item: &Item) -> Result<Judged<u32>, AllocError>
-    ensures { IfOk result (λ b. b ≡ item least item.now scope.now) }
+fn added(alloc: Global, scope: &Scope<Fault>, element: &Item) -> Result<Judged<u32>, AllocError>
+    ensures { IfOk result (λ b. b ≡ item least element.now scope.now) }
 {
-    match &item.high {
+    match &element.high {
         None => {
-            let value = constant_of(alloc, scope, &item.low)?;
-            Ok(single_of(place_of(&item.low), value))
+            let value = constant_of(alloc, scope, &element.low)?;
+            Ok(single_of(place_of(&element.low), value))
         }
         Some(high) => {
-            let low = constant_of(alloc, scope, &item.low)?;
+            let low = constant_of(alloc, scope, &element.low)?;
             let last = constant_of(alloc, scope, high)?;
-            let at = place_of(&item.low);
+            let at = place_of(&element.low);
             let high_at = place_of(high);
             Ok(spanned(at, element_of(at, low), high_at, element_of(high_at, last)))
         }

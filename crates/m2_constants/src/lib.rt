@@ -4,8 +4,8 @@
 mod call;
 mod denoted;
 mod expr;
-mod member;
+mod qualified;
 
 pub use denoted::Denoted;
 pub use expr::{constant_of, place_of};
-pub use member::member;
+pub use qualified::member;
