@@ -10,7 +10,7 @@ use crate::fault::{Fault, Judged, told};
 use crate::known::{Known, Origin};
 use crate::types::Types;
 use m2_tree::{Ident, Items, Pos};
-use m2_typed::{Dictionary, Meaning, Shared, Table};
+use m2_typed::{Dictionary, Meaning, Shared, Table, TypeNo};
 use std::alloc::{AllocError, Global};
 
 /// What is known at a place of a module.
@@ -19,10 +19,10 @@ pub struct Scope<T> {
     /// The tables of the definitions that the module imports.
     pub tables: Items<Shared<Table>>,
     pub types: Types,
-    /// How many variables the module has declared so far.
-    pub variables: usize,
-    /// How many procedures the module has declared so far.
-    pub procedures: usize,
+    /// The types of the variables that the module has declared so far.
+    pub variables: Items<TypeNo>,
+    /// The headings of the procedures that the module has declared so far.
+    pub procedures: Items<TypeNo>,
     /// The names of the innermost block.
     pub own: Dictionary<Known<T>>,
     /// The names of the blocks around it, the predeclared names first.
@@ -172,10 +172,10 @@ fn is_one_origin(first: Origin, second: Origin) -> bool
         Origin::Here => false,
         Origin::Module(m) => match second {
             Origin::Module(n) => m == n,
-            Origin::Here | Origin::Export(_, _) => false,
+            Origin::Here | Origin::Export(_) => false,
         },
-        Origin::Export(m, i) => match second {
-            Origin::Export(n, k) => m == n && i == k,
+        Origin::Export(m) => match second {
+            Origin::Export(n) => m == n,
             Origin::Here | Origin::Module(_) => false,
         },
     }

@@ -16,7 +16,7 @@ pub enum Home {
 #[derive(Clone, Copy, Debug, PartialEq, Eq)]
 pub struct TypeNo {
     pub home: Home,
-    pub number: u32,
+    pub number: usize,
 }
 
 pub const INTEGER: TypeNo = TypeNo {
