@@ -13,6 +13,7 @@ use std::alloc::{AllocError, Global};
 /// No text has more of anything.
 const MOST: usize = 1_048_576;
 
+/// Whether two names have the same bytes.
 pub fn is_same(name: &[u8], other: &[u8]) -> bool
     ensures { result ≡ bytes_eq name.now other.now }
 {

@@ -53,7 +53,8 @@ fn with_fault(least: Option<Fault>, holds: bool, pos: Pos, number: u32) -> Optio
     }
 }
 
-fn is_console(name: &Name) -> bool
+/// Whether this is the name of the built in module.
+pub fn is_console(name: &Name) -> bool
     ensures { result ≡ is_console name.now }
 {
     name.as_bytes() == b"Console".as_slice()

@@ -4,23 +4,17 @@ ghost use Rattle.std.specs.Prelude.{◌≡◌, ◌++◌, ◌≤◌, IfOk, OnOk, 
 ghost use Rattle.std.specs.List.{flat_map, list_any};
 ghost use Rattle.std.specs.Str.{bytes_eq};
 ghost use Rattle.m2_graph.specs.Imports.{definition_of, defines, first_that, imported, is_definition, named_by};
-ghost use Rattle.m2_graph.specs.Refused.{is_console};
 ghost use Rattle.m2_emit.specs.Sources.{program};
 ghost use Rattle.m2_graph_laws.specs.Started.{all_imported, definition_imported};
 ghost use Rattle.m2c.specs.Modules.{body_in, each_once, program_at, with_name};
 ghost use Rattle.m2_jobs.specs.Lent.{modules_lent};
 
-use m2_check::printed_of;
+use m2_check::{is_same, printed_of};
+use m2_graph::is_console;
 use m2_emit::Source;
 use m2_tree::{Contents, Ident, Import, Items, Module, Name};
 use sqlite_items::at;
 use std::alloc::{AllocError, Global};
-
-fn is_same(name: &[u8], other: &[u8]) -> bool
-    ensures { result ≡ bytes_eq name.now other.now }
-{
-    name == other
-}
 
 fn is_among(names: &[Name], name: &[u8]) -> bool
     ensures { result ≡ list_any (λ other. bytes_eq other name.now) names.now }
@@ -33,18 +27,12 @@ fn is_among(names: &[Name], name: &[u8]) -> bool
     false
 }
 
-fn is_console(name: &[u8]) -> bool
-    ensures { result ≡ is_console name.now }
-{
-    is_same(name, b"Console")
-}
-
 /// Adds a name, if it is new and not Console's.
 fn add_name(names: &mut Items<Name>, ident: &Ident) -> Result<(), AllocError>
     ensures { OnOk result (names.new ≡ with_name names.old ident.now) }
 {
     let name = ident.name.as_bytes();
-    if is_console(name) || is_among(names.as_slice(), name) {
+    if is_console(&ident.name) || is_among(names.as_slice(), name) {
         return Ok(());
     }
     names.push(ident.name.clone()?)?;
