@@ -3,8 +3,8 @@
 ghost use Rattle.std.specs.Prelude.{◌≡◌, ◌<◌, ◌≤◌, ◌⊎◌, ◌↔◌, IfOk, IsErrOf};
 ghost use Rattle.m2c.specs.Build.{AreAlike, IsBuilt};
 
-use m2_jobs::Crew;
 use crate::outcome::outcome_of;
+use m2_jobs::Crew;
 use m2_read::SourceFile;
 use m2_tree::Refusal;
 use m2_worker::Gate;

@@ -10,8 +10,8 @@ ghost use Rattle.m2c.specs.Modules.{body_in, each_once, program_at, with_name};
 ghost use Rattle.m2_jobs.specs.Lent.{modules_lent};
 
 use m2_check::{is_same, printed_of};
-use m2_graph::is_console;
 use m2_emit::Source;
+use m2_graph::is_console;
 use m2_tree::{Contents, Ident, Import, Items, Module, Name};
 use sqlite_items::at;
 use std::alloc::{AllocError, Global};

@@ -12,7 +12,6 @@ ghost use Rattle.m2c.specs.Build.{built_of, named, told, refused_of, trees_of, u
 ghost use Rattle.m2_jobs.specs.Lent.{lent};
 ghost use Rattle.m2_read.specs.Reading.{AreRead};
 
-use m2_jobs::Crew;
 use crate::files::Outcome;
 use crate::modules::program_at;
 use crate::order::in_order;
@@ -20,6 +19,7 @@ use crate::refusals::{refused_of, unknown_of};
 use crate::texts::trees_of;
 use m2_emit::{Source, emit, emit_link};
 use m2_graph::{Graph, GraphError};
+use m2_jobs::Crew;
 use m2_read::{Read, SourceFile};
 use m2_tree::{Module, Refusal};
 use m2_worker::Gate;
