@@ -318,17 +318,17 @@ fn procedure(cursor: &mut Cursor, room: usize) -> Result<Decl, Stop>
         formals,
         result,
     };
-    Ok(Decl::Procedure(heading, Boxed::new(cursor.alloc, block)?))
+    Ok(Decl::Procedure(heading, block))
 }
 
 /// What stands between the two names of a procedure.
 #[cycle(decl)]
 #[tactic(auto, using(m2_grammar::proofs::Flat::formals_flat))]
-fn contents(cursor: &mut Cursor, room: usize) -> Result<(Formals, Block), Stop>
+fn contents(cursor: &mut Cursor, room: usize) -> Result<(Formals, Boxed<Block>), Stop>
     ensures { Reads (read procedure room cursor.old) result cursor.new }
 {
     let formals = formals(cursor)?;
     cursor.expect(Symbol::Semicolon)?;
     let block = block(cursor, room)?;
-    Ok((formals, block))
+    Ok((formals, Boxed::new(cursor.alloc, block)?))
 }
