@@ -17,33 +17,69 @@ impl Gate for Always {
     }
 }
 
-/// Holds whoever comes first until another has come, for so many turns.
+/// Lets everybody in, and counts how often it was asked.
+#[derive(Drop)]
+pub struct Counting {
+    asked: AtomicUsize,
+}
+
+impl Counting {
+    /// It was not asked.
+    pub fn new() -> Counting {
+        Counting {
+            asked: AtomicUsize::new(0),
+        }
+    }
+
+    /// How often it was asked.
+    pub fn asked(&self) -> usize {
+        self.asked.load(SeqCst)
+    }
+}
+
+impl Gate for Counting {
+    fn enter(&self, _job: usize) -> bool {
+        self.asked.fetch_add(1, SeqCst);
+        true
+    }
+}
+
+/// Lets the first so many in, and holds whoever comes next until another has come, for so many turns.
 #[derive(Drop)]
 pub struct Meeting {
+    first: usize,
     came: AtomicUsize,
     gave_up: AtomicUsize,
 }
 
 impl Meeting {
-    /// Nobody has come.
-    pub fn new() -> Meeting {
+    /// Nobody has come, and so many are let in at once.
+    pub fn after(first: usize) -> Meeting {
         Meeting {
+            first,
             came: AtomicUsize::new(0),
             gave_up: AtomicUsize::new(0),
         }
     }
 
-    /// Whether two came, and nobody waited to the end.
+    /// Whether two came behind the first.
+    fn two_came(&self) -> bool {
+        self.came.load(SeqCst).saturating_sub(self.first) >= 2
+    }
+
+    /// Whether two came behind the first, and nobody waited to the end.
     pub fn met(&self) -> bool {
-        self.came.load(SeqCst) >= 2 && self.gave_up.load(SeqCst) == 0
+        self.two_came() && self.gave_up.load(SeqCst) == 0
     }
 }
 
 impl Gate for Meeting {
     fn enter(&self, _job: usize) -> bool {
-        self.came.fetch_add(1, SeqCst);
+        if self.came.fetch_add(1, SeqCst) < self.first {
+            return true;
+        }
         for _ in 0..TURNS {
-            if self.came.load(SeqCst) >= 2 {
+            if self.two_came() {
                 return true;
             }
             std::hint::spin_loop();

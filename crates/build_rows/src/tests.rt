@@ -1,4 +1,4 @@
-use crate::gates::{Always, Meeting};
+use crate::gates::{Always, Counting, Meeting};
 use m2c::{BuildFault, Options, Outcome, SourceFile, build};
 use std::alloc::{AllocError, Global};
 use std::test::Fail;
@@ -234,7 +234,7 @@ fn compiles_programs_without_statements(rt: HostRuntime) -> Result<(), Fail> {
 fn workers_meet_at_the_gate(rt: HostRuntime) -> Result<(), Fail> {
     let alloc = rt.alloc();
     let files = [file(alloc, "n.mod", EMPTY)?, file(alloc, "m.mod", FIRST)?];
-    let gate = Meeting::new();
+    let gate = Meeting::after(0);
     let Outcome::Refused(refusals) = build(&rt, alloc, &files, options(2), &gate)? else {
         return Err(Fail::from("built"));
     };
@@ -243,6 +243,37 @@ fn workers_meet_at_the_gate(rt: HostRuntime) -> Result<(), Fail> {
         format!(in alloc; "{}", refusals[0])?.as_str(),
         "n.mod:1:8: refusal 23"
     );
+    assert!(rt; gate.met());
+    Ok(())
+}
+
+/// Two definitions that import nothing, their implementations, and a program that imports both: five jobs in each round.
+fn five(alloc: Global) -> Result<[SourceFile; 5], AllocError> {
+    Ok([
+        file(alloc, "A.def", "DEFINITION MODULE A; END A.")?,
+        file(alloc, "A.mod", "IMPLEMENTATION MODULE A; END A.")?,
+        file(alloc, "B.def", "DEFINITION MODULE B; END B.")?,
+        file(alloc, "B.mod", "IMPLEMENTATION MODULE B; END B.")?,
+        file(alloc, "P.mod", "MODULE P; IMPORT A, B; END P.")?,
+    ])
+}
+
+#[test]
+fn each_job_of_both_rounds_comes_to_the_gate(rt: HostRuntime) -> Result<(), Fail> {
+    let alloc = rt.alloc();
+    for workers in [1, 2] {
+        let gate = Counting::new();
+        build(&rt, alloc, &five(alloc)?, options(workers), &gate)?;
+        assert_eq!(rt; gate.asked(), 10, "{workers}");
+    }
+    Ok(())
+}
+
+#[test]
+fn workers_meet_in_the_second_round(rt: HostRuntime) -> Result<(), Fail> {
+    let alloc = rt.alloc();
+    let gate = Meeting::after(5);
+    build(&rt, alloc, &five(alloc)?, options(2), &gate)?;
     assert!(rt; gate.met());
     Ok(())
 }

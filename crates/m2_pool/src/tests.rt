@@ -1,21 +1,25 @@
-ghost use Rattle.std.specs.Prelude.{◌≡◌, map, length, IfOk};
+ghost use Rattle.std.specs.Prelude.{◌≡◌, ◌<◌, map, length, IfOk};
+ghost use Rattle.m2_pool.specs.Halving.{graph_of};
 
 use crate::run::run_on;
-use crate::{Board, BoardSeat, Gate, JobGraph, PoolRefusal, Work, run_jobs};
+use crate::{Board, BoardSeat, Gate, JobGraph, PoolRefusal, Tally, Work, run_jobs};
 use m2_worker::empty_cells;
 use std::alloc::{AllocError, Global};
+use std::process::Abort;
 use std::sync::atomic::AtomicUsize;
 use std::sync::atomic::Ordering::SeqCst;
 use std::test::Fail;
 use std::thread;
+use std::thread::Threads;
 
-// The result of a job is half that of its first prerequisite, or the key.
+// The result of a job is half that of its first prerequisite, or the key. It counts how many jobs are run.
 #[derive(Clone, Copy)]
-struct Halving {
+struct Halving<'a> {
     key: u64,
+    runs: &'a AtomicUsize,
 }
 
-impl Work for Halving {
+impl Work for Halving<'_> {
     ghost use Rattle.m2_pool.specs.Halving.{graph_of, Halves};
 
     type Out = u64;
@@ -25,6 +29,7 @@ impl Work for Halving {
     ghost defines = { λ w. Halves w.key };
 
     fn run(&self, _job: usize, prerequisites: &[&u64]) -> Result<u64, AllocError> {
+        self.runs.fetch_add(1, SeqCst);
         if prerequisites.is_empty() {
             Ok(self.key)
         } else {
@@ -34,32 +39,6 @@ impl Work for Halving {
 
     fn copy(&self, out: &u64) -> Result<u64, AllocError> {
         Ok(*out)
-    }
-}
-
-// Halves, and counts how many jobs are run.
-#[derive(Clone, Copy)]
-struct Counting<'a> {
-    halving: Halving,
-    runs: &'a AtomicUsize,
-}
-
-impl Work for Counting<'_> {
-    ghost use Rattle.m2_pool.specs.Halving.{graph_of, Halves};
-
-    type Out = u64;
-
-    ghost graph = { λ w. graph_of w.halving.key };
-
-    ghost defines = { λ w. Halves w.halving.key };
-
-    fn run(&self, job: usize, prerequisites: &[&u64]) -> Result<u64, AllocError> {
-        self.runs.fetch_add(1, SeqCst);
-        self.halving.run(job, prerequisites)
-    }
-
-    fn copy(&self, out: &u64) -> Result<u64, AllocError> {
-        self.halving.copy(out)
     }
 }
 
@@ -121,132 +100,148 @@ fn lists(alloc: Global, rows: &[&[usize]]) -> Result<Vec<Vec<usize>>, AllocError
     Ok(lists)
 }
 
-#[test]
-fn an_open_gate_leaves_nothing_to_the_gatherer(rt: HostRuntime) -> Result<(), Fail> {
-    let graph = graph_of(rt.alloc(), &[&[], &[0], &[0], &[1, 2]])?;
-    for workers in [1, 8] {
-        let work = Halving { key: 800 };
-        let (outs, tally) = run_jobs(&rt, rt.alloc(), &graph, workers, &Always(true), &work)?;
-        assert!(rt; outs.as_slice() == [800, 400, 400, 200].as_slice());
-        assert!(rt; tally.seats.len() == workers);
-        assert!(rt; tally.gatherer.is_empty());
-    }
-    Ok(())
+// What came of a run: the results, who had which job, and how many jobs were run.
+#[derive(Drop)]
+struct Came {
+    outs: Vec<u64>,
+    tally: Tally,
+    runs: usize,
+}
+
+// What comes of the jobs of these rows.
+fn came<R: Threads + Sync, G: Gate>(
+    rt: &R,
+    alloc: Global,
+    rows: &[&[usize]],
+    key: u64,
+    workers: usize,
+    gate: &G,
+) -> Result<Came, PoolRefusal>
+    requires { map (λ r. r.now) rows.now ≡ graph_of key }
+{
+    let graph = graph_of(alloc, rows)?;
+    let runs = AtomicUsize::new(0);
+    let work = Halving { key, runs: &runs };
+    let (outs, tally) = run_jobs(rt, alloc, &graph, workers, gate, &work)?;
+    let runs = runs.load(SeqCst);
+    Ok(Came { outs, tally, runs })
+}
+
+// What comes of four jobs, where the cell of one was set before.
+fn came_strangely<R: Threads + Sync + Abort>(
+    rt: &R,
+    alloc: Global,
+    job: usize,
+    value: u64,
+) -> Result<Came, Fail>
+    requires { job < 4 }
+{
+    let graph = graph_of(alloc, &[&[], &[0], &[0], &[1, 2]])?;
+    let (board, seats) = Board::open(alloc, &graph, 2)?;
+    let cells = empty_cells(alloc, 4)?;
+    assert!(rt; cells[job].set(Box::new(alloc, value)?).is_ok());
+    let runs = AtomicUsize::new(0);
+    let work = Halving {
+        key: 800,
+        runs: &runs,
+    };
+    let gate = Always(true);
+    let cells = cells.as_slice();
+    let (outs, tally) = run_on(rt, alloc, board, seats, &graph, cells, &gate, &work)?;
+    let runs = runs.load(SeqCst);
+    Ok(Came { outs, tally, runs })
 }
 
 #[test]
-fn each_job_runs_once(rt: HostRuntime) -> Result<(), Fail> {
-    let graph = graph_of(rt.alloc(), &[&[], &[0], &[0], &[1, 2]])?;
+fn an_open_gate_leaves_nothing_to_the_gatherer(rt: HostRuntime) -> Result<(), Fail> {
     for workers in [1, 8] {
-        let runs = AtomicUsize::new(0);
-        let work = Counting {
-            halving: Halving { key: 800 },
-            runs: &runs,
-        };
-        let (outs, _) = run_jobs(&rt, rt.alloc(), &graph, workers, &Always(true), &work)?;
-        assert!(rt; outs.as_slice() == [800, 400, 400, 200].as_slice());
-        assert!(rt; runs.load(SeqCst) == 4);
+        let rows: [&[usize]; 4] = [&[], &[0], &[0], &[1, 2]];
+        let came = came(&rt, rt.alloc(), &rows, 800, workers, &Always(true))?;
+        assert!(rt; came.outs.as_slice() == [800, 400, 400, 200].as_slice());
+        assert!(rt; came.tally.seats.len() == workers && came.tally.gatherer.is_empty());
+        assert!(rt; came.runs == 4);
     }
     Ok(())
 }
 
 #[test]
 fn a_shut_gate_leaves_all_to_the_gatherer(rt: HostRuntime) -> Result<(), Fail> {
-    let graph = graph_of(rt.alloc(), &[&[], &[0], &[0], &[1, 2]])?;
     for workers in [1, 2] {
-        let work = Halving { key: 800 };
-        let (outs, tally) = run_jobs(&rt, rt.alloc(), &graph, workers, &Always(false), &work)?;
-        assert!(rt; outs.as_slice() == [800, 400, 400, 200].as_slice());
-        assert!(rt; tally.gatherer.as_slice() == [0, 1, 2, 3].as_slice());
+        let rows: [&[usize]; 4] = [&[], &[0], &[0], &[1, 2]];
+        let came = came(&rt, rt.alloc(), &rows, 800, workers, &Always(false))?;
+        assert!(rt; came.outs.as_slice() == [800, 400, 400, 200].as_slice());
+        assert!(rt; came.tally.gatherer.as_slice() == [0, 1, 2, 3].as_slice());
     }
     Ok(())
 }
 
 #[test]
 fn what_waits_for_a_barred_job_is_left(rt: HostRuntime) -> Result<(), Fail> {
-    let graph = graph_of(rt.alloc(), &[&[], &[0], &[1]])?;
-    let work = Halving { key: 8 };
-    let (outs, tally) = run_jobs(&rt, rt.alloc(), &graph, 2, &Bars(0), &work)?;
-    assert!(rt; outs.as_slice() == [8, 4, 2].as_slice());
-    assert!(rt; tally.seats.iter().all(|list| list.is_empty()));
-    assert!(rt; tally.gatherer.as_slice() == [0, 1, 2].as_slice());
+    let came = came(&rt, rt.alloc(), &[&[], &[0], &[1]], 8, 2, &Bars(0))?;
+    assert!(rt; came.outs.as_slice() == [8, 4, 2].as_slice());
+    assert!(rt; came.tally.seats.iter().all(|list| list.is_empty()));
+    assert!(rt; came.tally.gatherer.as_slice() == [0, 1, 2].as_slice());
     Ok(())
 }
 
 #[test]
 fn what_does_not_wait_for_a_barred_job_is_run(rt: HostRuntime) -> Result<(), Fail> {
-    let graph = graph_of(rt.alloc(), &[&[], &[], &[0, 1]])?;
-    let work = Halving { key: 9 };
-    let (outs, tally) = run_jobs(&rt, rt.alloc(), &graph, 2, &Bars(0), &work)?;
-    assert!(rt; outs.as_slice() == [9, 9, 4].as_slice());
-    let of_one = tally
+    let came = came(&rt, rt.alloc(), &[&[], &[], &[0, 1]], 9, 2, &Bars(0))?;
+    assert!(rt; came.outs.as_slice() == [9, 9, 4].as_slice());
+    let one = [1];
+    let of_one = came
+        .tally
         .seats
         .iter()
-        .filter(|list| list.as_slice() == [1].as_slice())
-        .count();
-    let of_none = tally.seats.iter().filter(|list| list.is_empty()).count();
-    assert!(rt; of_one == 1 && of_none == 1);
-    assert!(rt; tally.gatherer.as_slice() == [0, 2].as_slice());
+        .any(|l| l.as_slice() == one.as_slice());
+    let of_none = came.tally.seats.iter().any(|l| l.is_empty());
+    assert!(rt; of_one && of_none && came.tally.seats.len() == 2);
+    assert!(rt; came.tally.gatherer.as_slice() == [0, 2].as_slice());
     Ok(())
 }
 
 #[test]
 fn two_jobs_run_at_the_same_time(rt: HostRuntime) -> Result<(), Fail> {
-    let graph = graph_of(rt.alloc(), &[&[], &[]])?;
     let gate = Meeting {
         came: AtomicUsize::new(0),
         limits: AtomicUsize::new(0),
     };
-    let work = Halving { key: 10 };
-    let (outs, tally) = run_jobs(&rt, rt.alloc(), &graph, 2, &gate, &work)?;
-    assert!(rt; outs.as_slice() == [10, 10].as_slice());
+    let came = came(&rt, rt.alloc(), &[&[], &[]], 10, 2, &gate)?;
+    assert!(rt; came.outs.as_slice() == [10, 10].as_slice());
     assert!(rt; gate.came.load(SeqCst) == 2 && gate.limits.load(SeqCst) == 0);
-    assert!(rt; tally.seats.iter().all(|list| list.len() == 1));
-    assert!(rt; tally.gatherer.is_empty());
+    assert!(rt; came.tally.seats.iter().all(|list| list.len() == 1));
+    assert!(rt; came.tally.gatherer.is_empty());
     Ok(())
 }
 
+// All jobs stand on the strange result: that of the first job is taken as it was handed back, the others are run again.
 #[test]
 fn what_stands_on_a_strange_result_is_run_again(rt: HostRuntime) -> Result<(), Fail> {
-    let graph = graph_of(rt.alloc(), &[&[], &[0], &[0], &[1, 2]])?;
-    let (board, seats) = Board::open(rt.alloc(), &graph, 2)?;
-    let cells = empty_cells(rt.alloc(), 4)?;
-    assert!(rt; cells[0].set(Box::new(rt.alloc(), 640)?).is_ok());
-    let work = Halving { key: 800 };
-    let gate = Always(true);
-    let cells = cells.as_slice();
-    let (outs, tally) = run_on(&rt, rt.alloc(), board, seats, &graph, cells, &gate, &work)?;
-    assert!(rt; outs.as_slice() == [800, 400, 400, 200].as_slice());
-    assert!(rt; tally.gatherer.is_empty());
+    let came = came_strangely(&rt, rt.alloc(), 0, 640)?;
+    assert!(rt; came.outs.as_slice() == [800, 400, 400, 200].as_slice());
+    assert!(rt; came.tally.gatherer.is_empty());
+    assert!(rt; came.runs == 7);
     Ok(())
 }
 
+// The last job alone stands on the strange result. The result that was handed back is taken.
 #[test]
 fn a_strange_result_of_a_later_job_is_not_taken(rt: HostRuntime) -> Result<(), Fail> {
-    let graph = graph_of(rt.alloc(), &[&[], &[0], &[0], &[1, 2]])?;
-    let (board, seats) = Board::open(rt.alloc(), &graph, 2)?;
-    let cells = empty_cells(rt.alloc(), 4)?;
-    assert!(rt; cells[2].set(Box::new(rt.alloc(), 7)?).is_ok());
-    let work = Halving { key: 800 };
-    let gate = Always(true);
-    let cells = cells.as_slice();
-    let (outs, tally) = run_on(&rt, rt.alloc(), board, seats, &graph, cells, &gate, &work)?;
-    assert!(rt; outs.as_slice() == [800, 400, 400, 200].as_slice());
-    assert!(rt; tally.gatherer.is_empty());
+    let came = came_strangely(&rt, rt.alloc(), 2, 7)?;
+    assert!(rt; came.outs.as_slice() == [800, 400, 400, 200].as_slice());
+    assert!(rt; came.tally.gatherer.is_empty());
+    assert!(rt; came.runs == 5);
     Ok(())
 }
 
 #[test]
 fn there_are_1_to_64_workers(rt: HostRuntime) -> Result<(), Fail> {
-    let graph = graph_of(rt.alloc(), &[&[], &[]])?;
     for workers in [0, 65] {
-        let work = Halving { key: 10 };
-        let refusal = run_jobs(&rt, rt.alloc(), &graph, workers, &Always(true), &work).err();
+        let refusal = came(&rt, rt.alloc(), &[&[], &[]], 10, workers, &Always(true)).err();
         assert!(rt; refusal.map(|r| r.number()) == Some(70));
     }
-    let work = Halving { key: 10 };
-    let (outs, tally) = run_jobs(&rt, rt.alloc(), &graph, 64, &Always(true), &work)?;
-    assert!(rt; outs.as_slice() == [10, 10].as_slice() && tally.seats.len() == 64);
+    let came = came(&rt, rt.alloc(), &[&[], &[]], 10, 64, &Always(true))?;
+    assert!(rt; came.outs.as_slice() == [10, 10].as_slice() && came.tally.seats.len() == 64);
     Ok(())
 }
 

@@ -1,9 +1,6 @@
-//! The fast machine and the plain one on the same modules: after each number of reductions they have printed the same and
-//! are in the same state.
+//! Code with where the machine is after 60 reductions and what it printed by then, worked out by hand.
 
 use crate::engine::make_screen;
-use plain_link::link;
-use plain_machine::{Config, run};
 use sqlite_items::Items;
 use std::alloc::Global;
 use std::process::Abort;
@@ -49,97 +46,37 @@ fn module_of(rt: &impl Abort, alloc: Global, code: &[Op]) -> WModule {
     tree
 }
 
-/// Where the fast machine is after so many reductions, and what it printed.
-fn fast(rt: &impl Abort, alloc: Global, modules: &[ValidModule], steps: u64) -> (End, Vec<u8>) {
+/// The modules of these bytes.
+fn modules_of(rt: &impl Abort, alloc: Global, sources: &[&[u8]]) -> Vec<ValidModule> {
+    let mut modules = Vec::new(alloc);
+    for source in sources {
+        let tree = read_module(alloc, source).expect(rt, "a module");
+        let module = validate(alloc, tree).expect(rt, "a valid module");
+        modules.push(module).expect(rt, "memory");
+    }
+    modules
+}
+
+/// After 60 reductions the modules are here, and have printed this.
+fn expect_of(rt: &impl Abort, alloc: Global, modules: &[ValidModule], end: End, printed: &[u8]) {
     let mut instances = Instances::link(alloc, modules).expect(rt, "linked");
     let mut out = make_screen(alloc, 1000);
-    let end = instances.run(steps, &mut out).expect(rt, "a run");
-    (end, out.bytes)
+    let answer = instances.run(60, &mut out).expect(rt, "a run");
+    assert_eq!(rt; answer, end);
+    assert_eq!(rt; out.bytes.as_slice(), printed);
 }
 
-/// Where a run of the plain machine is.
-fn end_of(config: &Config) -> End {
-    match config {
-        Config::Going(_) => End::StillRunning,
-        Config::Over(number) => End::Done(*number),
-        Config::Trapped => End::Trap,
-    }
+/// The same of the module above with this code in `run`.
+fn expect(rt: &impl Abort, alloc: Global, code: &[Op], end: End, printed: &[u8]) {
+    let module = validate(alloc, module_of(rt, alloc, code)).expect(rt, "a valid module");
+    let modules = vec![in alloc; module].expect(rt, "memory");
+    expect_of(rt, alloc, &modules, end, printed);
 }
 
-/// The same of the plain machine.
-fn plain(rt: &impl Abort, alloc: Global, modules: &[WModule], steps: u64) -> (End, Vec<u8>) {
-    let config = link(alloc, modules).expect(rt, "linked");
-    let (config, printed) = run(alloc, modules, steps, config).expect(rt, "memory");
-    (end_of(&config), printed)
-}
-
-/// The same modules for both machines.
-#[derive(Drop)]
-struct Pair {
-    valid: Vec<ValidModule>,
-    trees: Vec<WModule>,
-}
-
-impl Pair {
-    /// Adds a module, made twice.
-    fn push(&mut self, rt: &impl Abort, alloc: Global, first: WModule, second: WModule) {
-        let valid = validate(alloc, first).expect(rt, "a valid module");
-        self.valid.push(valid).expect(rt, "memory");
-        self.trees.push(second).expect(rt, "memory");
-    }
-
-    /// Both machines do the same in so many reductions.
-    fn compare_at(&self, rt: &impl Abort, alloc: Global, steps: u64) -> (End, Vec<u8>) {
-        let quick = fast(rt, alloc, &self.valid, steps);
-        let slow = plain(rt, alloc, &self.trees, steps);
-        assert_eq!(rt; slow.0, quick.0);
-        assert_eq!(rt; slow.1.as_slice(), quick.1.as_slice());
-        slow
-    }
-
-    /// Both machines do the same in 0 to 60 reductions, and at last this.
-    fn compare(&self, rt: &impl Abort, alloc: Global, end: End, printed: &[u8]) {
-        for steps in 0..60 {
-            self.compare_at(rt, alloc, steps);
-        }
-        let last = self.compare_at(rt, alloc, 60);
-        assert_eq!(rt; last.0, end);
-        assert_eq!(rt; last.1.as_slice(), printed);
-    }
-
-    /// Neither machine can link the modules, for this reason.
-    fn refuse(&self, rt: &impl Abort, alloc: Global, fault: WFault) {
-        assert!(rt; matches!(Instances::link(alloc, &self.valid), Err(e) if e == fault));
-        assert!(rt; matches!(link(alloc, &self.trees), Err(e) if e == fault));
-    }
-}
-
-/// The modules of these bytes.
-fn modules_of(rt: &impl Abort, alloc: Global, sources: &[&[u8]]) -> Pair {
-    let mut pair = Pair {
-        valid: Vec::new(alloc),
-        trees: Vec::new(alloc),
-    };
-    for source in sources {
-        let first = read_module(alloc, source).expect(rt, "a module");
-        let second = read_module(alloc, source).expect(rt, "a module");
-        pair.push(rt, alloc, first, second);
-    }
-    pair
-}
-
-/// The module above with this code in `run`.
-fn pair_of(rt: &impl Abort, alloc: Global, code: &[Op]) -> Pair {
-    let mut pair = modules_of(rt, alloc, &[]);
-    let first = module_of(rt, alloc, code);
-    let second = module_of(rt, alloc, code);
-    pair.push(rt, alloc, first, second);
-    pair
-}
-
-/// Both machines do the same with this code in 0 to 60 reductions, and at last this.
-fn compare(rt: &impl Abort, alloc: Global, code: &[Op], end: End, printed: &[u8]) {
-    pair_of(rt, alloc, code).compare(rt, alloc, end, printed);
+/// The modules cannot be linked, for this reason.
+fn refuse(rt: &impl Abort, alloc: Global, sources: &[&[u8]], fault: WFault) {
+    let modules = modules_of(rt, alloc, sources);
+    assert!(rt; matches!(Instances::link(alloc, &modules), Err(e) if e == fault));
 }
 
 #[test]
@@ -151,31 +88,31 @@ fn what_the_host_gives(rt: HostRuntime) {
         Op::I64Const(322),
         Op::Call(0),
     ];
-    compare(&rt, alloc, &put, End::Done(0), b"AB");
-    compare(
+    expect(&rt, alloc, &put, End::Done(0), b"AB");
+    expect(
         &rt,
         alloc,
         &[Op::I64Const(3), Op::Call(1)],
         End::Done(3),
         b"",
     );
-    compare(
+    expect(
         &rt,
         alloc,
         &[Op::I64Const(255), Op::Call(1)],
         End::Done(255),
         b"",
     );
-    compare(
+    expect(
         &rt,
         alloc,
         &[Op::I64Const(256), Op::Call(1)],
         End::Trap,
         b"",
     );
-    compare(&rt, alloc, &[Op::I64Const(0), Op::Call(1)], End::Trap, b"");
-    compare(&rt, alloc, &[], End::Done(0), b"");
-    compare(&rt, alloc, &[Op::Unreachable], End::Trap, b"");
+    expect(&rt, alloc, &[Op::I64Const(0), Op::Call(1)], End::Trap, b"");
+    expect(&rt, alloc, &[], End::Done(0), b"");
+    expect(&rt, alloc, &[Op::Unreachable], End::Trap, b"");
 }
 
 #[test]
@@ -189,7 +126,7 @@ fn blocks_and_branches(rt: HostRuntime) {
         Op::I64Const(65),
         Op::Call(0),
     ];
-    compare(&rt, alloc, &out, End::Done(0), b"A");
+    expect(&rt, alloc, &out, End::Done(0), b"A");
     for (condition, printed) in [(1, b"A"), (0, b"B")] {
         let with_result = [
             Op::Block(number, 5),
@@ -200,7 +137,7 @@ fn blocks_and_branches(rt: HostRuntime) {
             Op::I64Const(66),
             Op::Call(0),
         ];
-        compare(&rt, alloc, &with_result, End::Done(0), printed.as_slice());
+        expect(&rt, alloc, &with_result, End::Done(0), printed.as_slice());
         let sides = [
             Op::I32Const(condition),
             Op::IfElse(number, 1, 1),
@@ -208,7 +145,7 @@ fn blocks_and_branches(rt: HostRuntime) {
             Op::I64Const(66),
             Op::Call(0),
         ];
-        compare(&rt, alloc, &sides, End::Done(0), printed.as_slice());
+        expect(&rt, alloc, &sides, End::Done(0), printed.as_slice());
     }
     for (condition, printed) in [(7, b"A".as_slice()), (0, b"".as_slice())] {
         let one_side = [
@@ -217,7 +154,7 @@ fn blocks_and_branches(rt: HostRuntime) {
             Op::I64Const(65),
             Op::Call(0),
         ];
-        compare(&rt, alloc, &one_side, End::Done(0), printed);
+        expect(&rt, alloc, &one_side, End::Done(0), printed);
     }
 }
 
@@ -237,10 +174,10 @@ fn branches_leave_operands_behind(rt: HostRuntime) {
         Op::Numeric(Numeric::I64Operation(Operation::Add)),
         Op::Call(0),
     ];
-    compare(&rt, alloc, &code, End::Done(0), b"B");
+    expect(&rt, alloc, &code, End::Done(0), b"B");
     // A branch out of the function, and a return, with operands left on the stack.
     let out = [Op::I64Const(65), Op::I64Const(66), Op::Call(0), Op::Br(0)];
-    compare(&rt, alloc, &out, End::Done(0), b"B");
+    expect(&rt, alloc, &out, End::Done(0), b"B");
     let back = [
         Op::Block(None, 4),
         Op::I64Const(1),
@@ -248,7 +185,7 @@ fn branches_leave_operands_behind(rt: HostRuntime) {
         Op::Return,
         Op::Unreachable,
     ];
-    compare(&rt, alloc, &back, End::Done(0), b"");
+    expect(&rt, alloc, &back, End::Done(0), b"");
 }
 
 #[test]
@@ -275,7 +212,7 @@ fn tables_of_labels(rt: HostRuntime) {
             Op::I64Const(67),
             Op::Call(0),
         ];
-        compare(&rt, alloc, &code, End::Done(0), printed);
+        expect(&rt, alloc, &code, End::Done(0), printed);
     }
 }
 
@@ -296,23 +233,23 @@ fn loops(rt: HostRuntime) {
         Op::Numeric(Numeric::I32Relation(Relation::Ne)),
         Op::BrIf(0),
     ];
-    compare(&rt, alloc, &code, End::Done(0), &[1, 2, 3]);
+    expect(&rt, alloc, &code, End::Done(0), &[1, 2, 3]);
     let endless = [Op::Loop(None, 1), Op::Br(0)];
-    compare(&rt, alloc, &endless, End::StillRunning, b"");
+    expect(&rt, alloc, &endless, End::StillRunning, b"");
 }
 
 #[test]
 fn calls(rt: HostRuntime) {
     let alloc = rt.alloc();
     let sum = [Op::I64Const(20), Op::I64Const(22), Op::Call(3), Op::Call(0)];
-    compare(&rt, alloc, &sum, End::Done(0), b"*");
+    expect(&rt, alloc, &sum, End::Done(0), b"*");
     let deep = [
         Op::I32Const(3),
         Op::Call(4),
         Op::Numeric(Numeric::I64ExtendI32S),
         Op::Call(0),
     ];
-    compare(&rt, alloc, &deep, End::Done(0), &[7]);
+    expect(&rt, alloc, &deep, End::Done(0), &[7]);
     // Slot 1 has a function of type 3, slot 0 one of another type; slot 2 is empty, and slot 4 is none.
     for (slot, end) in [
         (1, End::Done(0)),
@@ -326,7 +263,7 @@ fn calls(rt: HostRuntime) {
             Op::CallIndirect(3),
             Op::Drop,
         ];
-        compare(&rt, alloc, &code, end, b"");
+        expect(&rt, alloc, &code, end, b"");
     }
     let global = [
         Op::GlobalGet(0),
@@ -334,7 +271,7 @@ fn calls(rt: HostRuntime) {
         Op::LocalGet(1),
         Op::Call(0),
     ];
-    compare(&rt, alloc, &global, End::Done(0), b"F");
+    expect(&rt, alloc, &global, End::Done(0), b"F");
 }
 
 #[test]
@@ -352,7 +289,7 @@ fn loads(rt: HostRuntime) {
         (u32::MAX, Load::I64, End::Trap, b"".as_slice()),
     ] {
         let code = [Op::I32Const(place), Op::Load(kind), Op::Call(0)];
-        compare(&rt, alloc, &code, end, printed);
+        expect(&rt, alloc, &code, end, printed);
     }
 }
 
@@ -377,101 +314,200 @@ fn stores(rt: HostRuntime) {
             Op::Load(Load::I64From8U),
             Op::Call(0),
         ];
-        compare(&rt, alloc, &code, end, printed);
+        expect(&rt, alloc, &code, end, printed);
     }
 }
 
-/// Numbers of 64 bits beside which signs, quotients and shifts change.
-const NUMBERS: [u64; 9] = [
-    0,
-    1,
-    3,
-    65,
-    0x7FFF_FFFF,
-    0x8000_0000,
-    0x7FFF_FFFF_FFFF_FFFF,
-    0x8000_0000_0000_0000,
-    0xFFFF_FFFF_FFFF_FFFE,
+/// The operands, the operation, and what it gives: nothing where it traps.
+const OPERATIONS: [(u64, u64, Operation, Option<u64>); 32] = [
+    (0xFFFF_FFFF_FFFF_FFFE, 3, Operation::Add, Some(1)),
+    (
+        0x7FFF_FFFF_FFFF_FFFF,
+        1,
+        Operation::Add,
+        Some(0x8000_0000_0000_0000),
+    ),
+    (0, 1, Operation::Sub, Some(0xFFFF_FFFF_FFFF_FFFF)),
+    (3, 65, Operation::Sub, Some(0xFFFF_FFFF_FFFF_FFC2)),
+    (
+        0x8000_0000_0000_0000,
+        3,
+        Operation::Mul,
+        Some(0x8000_0000_0000_0000),
+    ),
+    (
+        0xFFFF_FFFF_FFFF_FFFE,
+        3,
+        Operation::Mul,
+        Some(0xFFFF_FFFF_FFFF_FFFA),
+    ),
+    (0xFFFF_FFFF_FFFF_FFFE, 3, Operation::DivS, Some(0)),
+    (
+        65,
+        0xFFFF_FFFF_FFFF_FFFE,
+        Operation::DivS,
+        Some(0xFFFF_FFFF_FFFF_FFE0),
+    ),
+    (
+        0x8000_0000_0000_0000,
+        0xFFFF_FFFF_FFFF_FFFE,
+        Operation::DivS,
+        Some(0x4000_0000_0000_0000),
+    ),
+    (
+        0x8000_0000_0000_0000,
+        0xFFFF_FFFF_FFFF_FFFF,
+        Operation::DivS,
+        None,
+    ),
+    (65, 0, Operation::DivS, None),
+    (
+        0xFFFF_FFFF_FFFF_FFFE,
+        3,
+        Operation::DivU,
+        Some(0x5555_5555_5555_5554),
+    ),
+    (
+        0x8000_0000_0000_0000,
+        0xFFFF_FFFF_FFFF_FFFE,
+        Operation::DivU,
+        Some(0),
+    ),
+    (65, 0, Operation::DivU, None),
+    (
+        0xFFFF_FFFF_FFFF_FFFE,
+        3,
+        Operation::RemS,
+        Some(0xFFFF_FFFF_FFFF_FFFE),
+    ),
+    (65, 0xFFFF_FFFF_FFFF_FFFE, Operation::RemS, Some(1)),
+    (
+        0x8000_0000_0000_0000,
+        3,
+        Operation::RemS,
+        Some(0xFFFF_FFFF_FFFF_FFFE),
+    ),
+    (
+        0x8000_0000_0000_0000,
+        0xFFFF_FFFF_FFFF_FFFF,
+        Operation::RemS,
+        Some(0),
+    ),
+    (65, 0, Operation::RemS, None),
+    (0xFFFF_FFFF_FFFF_FFFE, 3, Operation::RemU, Some(2)),
+    (0x8000_0000_0000_0000, 65, Operation::RemU, Some(8)),
+    (65, 0, Operation::RemU, None),
+    (
+        0x7FFF_FFFF_FFFF_FFFF,
+        0x8000_0001,
+        Operation::And,
+        Some(0x8000_0001),
+    ),
+    (
+        0x8000_0000_0000_0000,
+        65,
+        Operation::Or,
+        Some(0x8000_0000_0000_0041),
+    ),
+    (
+        0xFFFF_FFFF_FFFF_FFFE,
+        0x7FFF_FFFF,
+        Operation::Xor,
+        Some(0xFFFF_FFFF_8000_0001),
+    ),
+    (65, 1, Operation::Shl, Some(130)),
+    (1, 65, Operation::Shl, Some(2)),
+    (3, 63, Operation::Shl, Some(0x8000_0000_0000_0000)),
+    (1, 64, Operation::Shl, Some(1)),
+    (
+        0xFFFF_FFFF_FFFF_FFFE,
+        1,
+        Operation::ShrU,
+        Some(0x7FFF_FFFF_FFFF_FFFF),
+    ),
+    (
+        0x8000_0000_0000_0000,
+        65,
+        Operation::ShrU,
+        Some(0x4000_0000_0000_0000),
+    ),
+    (65, 64, Operation::ShrU, Some(65)),
 ];
-
-/// Both machines do the same with this code, and then print the bytes of local 0.
-fn compare_local(rt: &impl Abort, alloc: Global, code: &[Op]) {
-    let mut all = Vec::from_slice(alloc, code).expect(rt, "memory");
-    for byte in 0..8 {
-        all.push(Op::LocalGet(0)).expect(rt, "memory");
-        all.push(Op::I64Const(8 * byte)).expect(rt, "memory");
-        let shift = Op::Numeric(Numeric::I64Operation(Operation::ShrU));
-        all.push(shift).expect(rt, "memory");
-        all.push(Op::Call(0)).expect(rt, "memory");
-    }
-    pair_of(rt, alloc, &all).compare_at(rt, alloc, 60);
-}
 
 #[test]
 fn operations(rt: HostRuntime) {
     let alloc = rt.alloc();
-    for operation in [
-        Operation::Add,
-        Operation::Sub,
-        Operation::Mul,
-        Operation::DivS,
-        Operation::DivU,
-        Operation::RemS,
-        Operation::RemU,
-        Operation::And,
-        Operation::Or,
-        Operation::Xor,
-        Operation::Shl,
-        Operation::ShrU,
-    ] {
-        for n in NUMBERS {
-            for m in NUMBERS {
-                let code = [
-                    Op::I64Const(n),
-                    Op::I64Const(m),
-                    Op::Numeric(Numeric::I64Operation(operation)),
-                    Op::LocalSet(0),
-                ];
-                compare_local(&rt, alloc, &code);
-            }
+    for (left, right, operation, gives) in OPERATIONS {
+        // 1 is printed where the operation gives that number
+        let code = [
+            Op::I64Const(left),
+            Op::I64Const(right),
+            Op::Numeric(Numeric::I64Operation(operation)),
+            Op::I64Const(gives.unwrap_or(0)),
+            Op::Numeric(Numeric::I64Relation(Relation::Eq)),
+            Op::Numeric(Numeric::I64ExtendI32U),
+            Op::Call(0),
+        ];
+        match gives {
+            Some(_) => expect(&rt, alloc, &code, End::Done(0), b"\x01"),
+            None => expect(&rt, alloc, &code, End::Trap, b""),
         }
     }
 }
 
+/// The operands, the relation, and whether it holds of all their bits, and of the lower half.
+const RELATIONS: [(u64, u64, Relation, [u8; 2]); 30] = [
+    (0x1_0000_0000, 0, Relation::Eq, [0, 1]),
+    (65, 65, Relation::Eq, [1, 1]),
+    (0x1_0000_0000, 0, Relation::Ne, [1, 0]),
+    (65, 65, Relation::Ne, [0, 0]),
+    (0xFFFF_FFFF_FFFF_FFFE, 1, Relation::LtS, [1, 1]),
+    (0x8000_0000, 1, Relation::LtS, [0, 1]),
+    (65, 65, Relation::LtS, [0, 0]),
+    (0xFFFF_FFFF_FFFF_FFFE, 1, Relation::LtU, [0, 0]),
+    (0x1_0000_0000, 1, Relation::LtU, [0, 1]),
+    (1, 0x8000_0000, Relation::LtU, [1, 1]),
+    (65, 65, Relation::LtU, [0, 0]),
+    (0xFFFF_FFFF_FFFF_FFFE, 1, Relation::GtS, [0, 0]),
+    (0x8000_0000, 1, Relation::GtS, [1, 0]),
+    (65, 65, Relation::GtS, [0, 0]),
+    (0xFFFF_FFFF_FFFF_FFFE, 1, Relation::GtU, [1, 1]),
+    (0x1_0000_0000, 1, Relation::GtU, [1, 0]),
+    (65, 65, Relation::GtU, [0, 0]),
+    (0xFFFF_FFFF_FFFF_FFFE, 1, Relation::LeS, [1, 1]),
+    (0x8000_0000, 1, Relation::LeS, [0, 1]),
+    (65, 65, Relation::LeS, [1, 1]),
+    (0xFFFF_FFFF_FFFF_FFFE, 1, Relation::LeU, [0, 0]),
+    (0x1_0000_0000, 1, Relation::LeU, [0, 1]),
+    (65, 65, Relation::LeU, [1, 1]),
+    (0xFFFF_FFFF_FFFF_FFFE, 1, Relation::GeS, [0, 0]),
+    (0x8000_0000, 1, Relation::GeS, [1, 0]),
+    (65, 65, Relation::GeS, [1, 1]),
+    (0xFFFF_FFFF_FFFF_FFFE, 1, Relation::GeU, [1, 1]),
+    (0x1_0000_0000, 1, Relation::GeU, [1, 0]),
+    (1, 0x8000_0000, Relation::GeU, [0, 0]),
+    (65, 65, Relation::GeU, [1, 1]),
+];
+
 #[test]
 fn relations(rt: HostRuntime) {
     let alloc = rt.alloc();
-    for relation in [
-        Relation::Eq,
-        Relation::Ne,
-        Relation::LtS,
-        Relation::LtU,
-        Relation::GtS,
-        Relation::GtU,
-        Relation::LeS,
-        Relation::LeU,
-        Relation::GeS,
-        Relation::GeU,
-    ] {
-        for n in NUMBERS {
-            for m in NUMBERS {
-                let wrap = Op::Numeric(Numeric::I32WrapI64);
-                let code = [
-                    Op::I64Const(n),
-                    Op::I64Const(m),
-                    Op::Numeric(Numeric::I64Relation(relation)),
-                    Op::I64Const(n),
-                    wrap,
-                    Op::I64Const(m),
-                    wrap,
-                    Op::Numeric(Numeric::I32Relation(relation)),
-                    Op::Numeric(Numeric::I32Add),
-                    Op::Numeric(Numeric::I64ExtendI32S),
-                    Op::LocalSet(0),
-                ];
-                compare_local(&rt, alloc, &code);
-            }
-        }
+    for (left, right, relation, holds) in RELATIONS {
+        let code = [
+            Op::I64Const(left),
+            Op::I64Const(right),
+            Op::Numeric(Numeric::I64Relation(relation)),
+            Op::Numeric(Numeric::I64ExtendI32U),
+            Op::Call(0),
+            Op::I64Const(left),
+            Op::Numeric(Numeric::I32WrapI64),
+            Op::I64Const(right),
+            Op::Numeric(Numeric::I32WrapI64),
+            Op::Numeric(Numeric::I32Relation(relation)),
+            Op::Numeric(Numeric::I64ExtendI32U),
+            Op::Call(0),
+        ];
+        expect(&rt, alloc, &code, End::Done(0), &holds);
     }
 }
 
@@ -486,21 +522,21 @@ const FILLS_TABLE: &[u8] =
 #[test]
 fn several_modules(rt: HostRuntime) {
     let alloc = rt.alloc();
-    modules_of(&rt, alloc, &[WITH_TABLE]).compare(&rt, alloc, End::Trap, b"");
+    let alone = modules_of(&rt, alloc, &[WITH_TABLE]);
+    expect_of(&rt, alloc, &alone, End::Trap, b"");
     let both = modules_of(&rt, alloc, &[WITH_TABLE, FILLS_TABLE]);
-    both.compare(&rt, alloc, End::Done(0), b"X");
+    expect_of(&rt, alloc, &both, End::Done(0), b"X");
 }
 
 #[test]
 fn modules_that_cannot_be_linked(rt: HostRuntime) {
     let alloc = rt.alloc();
-    modules_of(&rt, alloc, &[]).refuse(&rt, alloc, WFault::Unlinked);
     let empty = b"\x00asm\x01\x00\x00\x00".as_slice();
-    modules_of(&rt, alloc, &[empty]).refuse(&rt, alloc, WFault::Unlinked);
-    let other_link = modules_of(&rt, alloc, &[AROUND, FILLS_TABLE]);
-    other_link.refuse(&rt, alloc, WFault::Unlinked);
     // `run` beside a data segment of one byte behind the end of a memory of no page
     let past =
         b"\x00asm\x01\x00\x00\x00\x01\x04\x01\x60\x00\x00\x03\x02\x01\x00\x05\x03\x01\x00\x00\x07\x07\x01\x03run\x00\x00\x0A\x04\x01\x02\x00\x0B\x0B\x07\x01\x00\x41\x00\x0B\x01x".as_slice();
-    modules_of(&rt, alloc, &[past]).refuse(&rt, alloc, WFault::SegmentOutside);
+    refuse(&rt, alloc, &[], WFault::Unlinked);
+    refuse(&rt, alloc, &[empty], WFault::Unlinked);
+    refuse(&rt, alloc, &[AROUND, FILLS_TABLE], WFault::Unlinked);
+    refuse(&rt, alloc, &[past], WFault::SegmentOutside);
 }

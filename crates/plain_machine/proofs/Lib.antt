@@ -1,4 +1,0 @@
-pub mod Last
-pub mod Groups
-pub mod Opened
-pub mod Runs

@@ -1,4 +1,0 @@
-pub mod Bounded
-pub mod Scene
-pub mod Opened
-pub mod Search
