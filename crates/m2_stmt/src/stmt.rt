@@ -72,7 +72,8 @@ fn begins_stmt(kind: Kind) -> bool
 
 /// An assignment or a call.
 fn simple_stmt(cursor: &mut Cursor, room: usize) -> Result<Stmt, Stop>
-    ensures { ReadsAs (λ p. assigned_or_called p.0 p.1) (read simple_stmt room cursor.old) result cursor.new }
+    ensures { ReadsAs (λ p. assigned_or_called p.0 p.1) (read simple_stmt room cursor.old) result
+        cursor.new }
 {
     let to = cursor.designator(room)?;
     if cursor.eat(Symbol::Assign) {
@@ -145,7 +146,8 @@ pub fn stmts(cursor: &mut Cursor, room: usize) -> Result<Items<Stmt>, Stop>
 
 #[cycle(stmt)]
 fn maybe_stmt(cursor: &mut Cursor, room: usize, found: &mut Items<Stmt>) -> Result<(), Stop>
-    ensures { ReadsOnto option_to_list (read (opt stmt) room cursor.old) found.old result found.new cursor.new }
+    ensures { ReadsOnto option_to_list (read (opt stmt) room cursor.old) found.old result found.new
+        cursor.new }
 {
     if !begins_stmt(cursor.peek()) {
         return Ok(());
@@ -300,7 +302,8 @@ fn arms(cursor: &mut Cursor, room: usize) -> Result<Items<Arm>, Stop>
 
 #[cycle(stmt)]
 fn maybe_arm(cursor: &mut Cursor, room: usize, found: &mut Items<Arm>) -> Result<(), Stop>
-    ensures { ReadsOnto option_to_list (read (opt arm) room cursor.old) found.old result found.new cursor.new }
+    ensures { ReadsOnto option_to_list (read (opt arm) room cursor.old) found.old result found.new
+        cursor.new }
 {
     if !begins_expr(cursor.peek()) {
         return Ok(());

@@ -49,7 +49,8 @@ fn add_names(names: &mut Items<Name>, idents: &[Ident]) -> Result<(), AllocError
 }
 
 fn add_import(names: &mut Items<Name>, import: &Import) -> Result<(), AllocError>
-    ensures { OnOk result (names.new ≡ fold with_name names.old (named_by import.now.from import.now.names)) }
+    ensures { OnOk result
+        (names.new ≡ fold with_name names.old (named_by import.now.from import.now.names)) }
 {
     match &import.from {
         Some(from) => add_name(names, from),
@@ -58,7 +59,9 @@ fn add_import(names: &mut Items<Name>, import: &Import) -> Result<(), AllocError
 }
 
 fn add_imports(names: &mut Items<Name>, imports: &[Import]) -> Result<(), AllocError>
-    ensures { OnOk result (names.new ≡ fold with_name names.old (flat_map (λ i. named_by i.from i.names) imports.now)) }
+    ensures { OnOk result
+        (names.new
+        ≡ fold with_name names.old (flat_map (λ i. named_by i.from i.names) imports.now)) }
 {
     for import in imports {
         add_import(names, import)?;
@@ -93,7 +96,9 @@ fn add_imported_at(
     trees: &[(&str, &Module)],
     place: Option<usize>,
 ) -> Result<(), AllocError>
-    ensures { OnOk result (names.new ≡ fold with_name names.old (definition_imported (modules_lent trees.now) place)) }
+    ensures { OnOk result
+        (names.new
+        ≡ fold with_name names.old (definition_imported (modules_lent trees.now) place)) }
 {
     match place {
         None => Ok(()),
@@ -126,7 +131,9 @@ fn add_body(
     trees: &[(&str, &Module)],
     tree: &Module,
 ) -> Result<(), AllocError>
-    ensures { OnOk result (program sources.new.items ≡ program sources.old.items ++ body_in (modules_lent trees.now) (Some tree.now)) }
+    ensures { OnOk result
+        (program sources.new.items
+        ≡ program sources.old.items ++ body_in (modules_lent trees.now) (Some tree.now)) }
 {
     match printed_of(alloc, tree)? {
         None => Ok(()),
@@ -148,7 +155,9 @@ fn add_body_at(
     trees: &[(&str, &Module)],
     place: usize,
 ) -> Result<(), AllocError>
-    ensures { OnOk result (program sources.new.items ≡ program sources.old.items ++ body_in (modules_lent trees.now) (slice_get (modules_lent trees.now) place)) }
+    ensures { OnOk result
+        (program sources.new.items ≡ program sources.old.items
+        ++ body_in (modules_lent trees.now) (slice_get (modules_lent trees.now) place)) }
 {
     match at(trees, place) {
         None => Ok(()),
@@ -162,7 +171,8 @@ pub fn program_at(
     trees: &[(&str, &Module)],
     starts: &[usize],
 ) -> Result<Vec<Source>, AllocError>
-    ensures { IfOk result (λ sources. program sources.items ≡ program_at (modules_lent trees.now) starts.now) }
+    ensures { IfOk result
+        (λ sources. program sources.items ≡ program_at (modules_lent trees.now) starts.now) }
 {
     let mut sources = Vec::new(alloc);
     for place in starts {
