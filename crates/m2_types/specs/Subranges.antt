@@ -74,7 +74,11 @@ ordered_if g at a b (Some sort) = ordered g at a.number b.number
 abbrev pub alike_ordered : (g : Gathers) → Pos → Result Ordinal g.Told → Result Ordinal g.Told → Result (Unit {0}) g.Told
 alike_ordered g at low high = both g low high ▷ λ p. ordered_if g at p.0 p.1 (common p.0.sort p.1.sort)
 
+abbrev pub are_bounds : (g : Gathers) → Result Scalar g.Told → Pos → Result Ordinal g.Told → Pos → Result Ordinal g.Told → Result (Unit {0}) g.Told
+are_bounds g of at low at' high = beside g (beside g (bound_in g of at low) (bound_in g of at' high)) (alike_ordered g at low high)
+
+abbrev pub limited : (g : Gathers) → Result (Scalar × (Ordinal × Ordinal)) g.Told → Result (Unit {0}) g.Told → Result Scalar g.Told
+limited g parts fine = both g parts fine ▷ λ p. Ok (record { base = p.0.0.base; low = p.0.1.0.number; high = p.0.1.1.number })
+
 abbrev pub under : (g : Gathers) → Result Scalar g.Told → Pos → Result Ordinal g.Told → Pos → Result Ordinal g.Told → Result Scalar g.Told
-under g of at low at' high =
-    both g (both g of (both g low high)) (beside g (beside g (bound_in g of at low) (bound_in g of at' high)) (alike_ordered g at low high))
-    ▷ λ p. Ok (record { base = p.0.0.base; low = p.0.1.0.number; high = p.0.1.1.number })
+under g of at low at' high = limited g (both g of (both g low high)) (are_bounds g of at low at' high)

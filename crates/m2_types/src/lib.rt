@@ -2,16 +2,15 @@
 #![tactic(auto)]
 
 mod cells;
-mod declare;
-mod definition;
-mod export;
 mod field;
 mod heading;
-mod importing;
 mod made;
-mod marking;
 mod named;
-mod predeclared;
 mod subrange;
 
-pub use definition::compile_definition;
+pub use cells::{MAX_CELLS, array_cells, count_at, is_index, plus};
+pub use field::{Fields, no_fields, with_names};
+pub use heading::{heading_of, procedure_type};
+pub use made::{nothing_of, type_of, with_made};
+pub use named::{first_of, named_type};
+pub use subrange::{bound_of, under, unnamed};

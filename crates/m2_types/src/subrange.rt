@@ -2,7 +2,7 @@
 
 ghost use Rattle.std.specs.Prelude.{◌≡◌};
 ghost use Rattle.m2_judged.specs.Judged.{least, ◌▷◌};
-ghost use Rattle.m2_types.specs.Subranges.{ordinal_in, bound_of, number_base, base_of, fits_at, between, unnamed, ordered, is_of_base, is_of, bound_in, alike_ordered, under};
+ghost use Rattle.m2_types.specs.Subranges.{ordinal_in, bound_of, number_base, base_of, fits_at, between, unnamed, ordered, is_of_base, is_of, bound_in, alike_ordered, are_bounds, limited, under};
 
 use m2_judged::{Judged, beside, both, told};
 use m2_tree::Pos;
@@ -142,6 +142,32 @@ fn alike_ordered(at: Pos, low: Judged<Ordinal>, high: Judged<Ordinal>) -> Judged
     }
 }
 
+fn are_bounds(
+    of: Judged<Scalar>,
+    at: Pos,
+    low: Judged<Ordinal>,
+    high_at: Pos,
+    high: Judged<Ordinal>,
+) -> Judged<()>
+    ensures { result ≡ are_bounds least of at low high_at high }
+{
+    let within = beside(bound_in(of, at, low), bound_in(of, high_at, high));
+    beside(within, alike_ordered(at, low, high))
+}
+
+fn limited(parts: Judged<(Scalar, (Ordinal, Ordinal))>, fine: Judged<()>) -> Judged<Scalar>
+    ensures { result ≡ limited least parts fine }
+{
+    match both(parts, fine) {
+        Err(fault) => Err(fault),
+        Ok(((of, (a, b)), ())) => Ok(Scalar {
+            base: of.base,
+            low: a.number,
+            high: b.number,
+        }),
+    }
+}
+
 /// The subrange between two bounds, under a named type.
 pub fn under(
     of: Judged<Scalar>,
@@ -152,14 +178,6 @@ pub fn under(
 ) -> Judged<Scalar>
     ensures { result ≡ under least of at low high_at high }
 {
-    let within = beside(bound_in(of, at, low), bound_in(of, high_at, high));
-    let fine = beside(within, alike_ordered(at, low, high));
-    match both(both(of, both(low, high)), fine) {
-        Err(fault) => Err(fault),
-        Ok(((of, (a, b)), ())) => Ok(Scalar {
-            base: of.base,
-            low: a.number,
-            high: b.number,
-        }),
-    }
+    let fine = are_bounds(of, at, low, high_at, high);
+    limited(both(of, both(low, high)), fine)
 }
