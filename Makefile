@@ -19,6 +19,8 @@ example: build
 programs: build
 	tools/try_programs
 
-# The gate: every proof from nothing, the tests, the programs and the edits that the prover must refuse.
+# The gate: each edit still fits its file; then every proof from nothing, the tests, the programs and the edits of
+# must-fail/, which the prover must refuse.
 test:
+	tools/try_edits --applies
 	rt ci

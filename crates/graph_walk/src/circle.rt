@@ -27,7 +27,9 @@ fn lead_on(
     requires same { length flags.old ≡ length links.now }
     requires closed { IsClosed links.now flags.old }
     ensures same { OnOk result (length flags.new ≡ length flags.old) }
-    ensures marked { OnOk result ((k : ℕ) → IsTrue (flag flags.new k) ↔ (IsTrue (flag flags.old k) ⊎ Leads links.now from k)) }
+    ensures marked { OnOk result
+        ((k : ℕ)
+        → IsTrue (flag flags.new k) ↔ (IsTrue (flag flags.old k) ⊎ Leads links.now from k)) }
 {
     let mut todo = Items::new(alloc);
     mark_all(targets(links, from), flags, &mut todo)?;
@@ -81,7 +83,8 @@ fn circled(
 ) -> Result<Vec<bool>, AllocError>
     requires nodes { AreNodes links.now }
     requires order { IsCircleOrder links.now order }
-    ensures { IfOk result (λ flags. (k : ℕ) → k < length links.now → IsTrue (flag flags.items k) ↔ Leads links.now k k) }
+    ensures { IfOk result (λ flags.
+        (k : ℕ) → k < length links.now → IsTrue (flag flags.items k) ↔ Leads links.now k k) }
 {
     let mut led = unmarked(alloc, links.len())?;
     let mut flags = unmarked(alloc, links.len())?;
@@ -113,7 +116,11 @@ pub fn first_on_circle(
 ) -> Result<Option<usize>, AllocError>
     requires nodes { AreNodes links.now }
     requires turned { IsTurned links.now back.now }
-    ensures found { IfOk result (λ found. MatchOption found ((k : ℕ) → k < length links.now → ¬ Leads links.now k k) (λ node. (node < length links.now) × Leads links.now node node × ((k : ℕ) → k < node → ¬ Leads links.now k k))) }
+    ensures found { IfOk result (λ found.
+        MatchOption found ((k : ℕ) → k < length links.now → ¬ Leads links.now k k) (λ node.
+        (node < length links.now)
+        × Leads links.now node node
+        × ((k : ℕ) → k < node → ¬ Leads links.now k k))) }
     ensures order { OnOk result (HasCircleOrder links.now) }
 {
     let order = circle_order(alloc, links, back)?;

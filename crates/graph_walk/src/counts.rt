@@ -38,7 +38,9 @@ fn settle(
 ) -> Result<(), AllocError>
     requires within { node < length counts.old }
     requires some { 0 < count_at counts.old node }
-    ensures { OnOk result (Settles definitions.now done.now (node ∷ []) counts.old (held ready.old) counts.new (held ready.new)) }
+    ensures { OnOk result
+        (Settles definitions.now done.now (node ∷ []) counts.old (held ready.old) counts.new
+        (held ready.new)) }
 {
     counts[node] -= 1;
     if counts[node] == 0 && is_open(definitions, done, node) {
@@ -56,7 +58,9 @@ pub fn settle_all(
     ready: &mut Least,
 ) -> Result<(), AllocError>
     requires { (k : ℕ) → times nodes.now k ≤ count_at counts.old k }
-    ensures { OnOk result (Settles definitions.now done.now nodes.now counts.old (held ready.old) counts.new (held ready.new)) }
+    ensures { OnOk result
+        (Settles definitions.now done.now nodes.now counts.old (held ready.old) counts.new
+        (held ready.new)) }
 {
     for node in nodes {
         settle(definitions, done, *node, counts, ready)?;

@@ -31,7 +31,9 @@ impl Least {
 
     /// Adds a number.
     pub fn push(&mut self, number: usize) -> Result<(), AllocError>
-        ensures { OnOk result ((k : ℕ) → times (held self.new) k ≡ times (held self.old) k + cond (number == k) 1 0) }
+        ensures { OnOk result
+            ((k : ℕ)
+            → times (held self.new) k ≡ times (held self.old) k + cond (number == k) 1 0) }
     {
         self.heap.push(Reverse(number))?;
         Ok(())
@@ -39,7 +41,9 @@ impl Least {
 
     /// Takes the least.
     pub fn pop(&mut self) -> Option<usize>
-        ensures taken { MatchOption result (held self.old ≡ []) (λ number. (k : ℕ) → times (held self.old) k ≡ times (held self.new) k + cond (number == k) 1 0) }
+        ensures taken { MatchOption result (held self.old ≡ []) (λ number.
+            (k : ℕ)
+            → times (held self.old) k ≡ times (held self.new) k + cond (number == k) 1 0) }
         ensures least { IfSome result (λ number. (k : ℕ) → has (held self.old) k ≡ true → number ≤ k) }
     {
         let Reverse(number) = self.heap.pop()?;

@@ -19,8 +19,11 @@ pub struct Frame {
 /// Enters a node unless it was entered.
 fn enter(node: usize, entered: &mut [bool], todo: &mut Items<Frame>) -> Result<(), AllocError>
     requires { node < length entered.old }
-    ensures marks { OnOk result (entered.new ≡ cond (flag entered.old node) entered.old (slice_set entered.old node true)) }
-    ensures frames { OnOk result (todo.new ≡ cond (flag entered.old node) todo.old (todo.old ++ entering node ∷ [])) }
+    ensures marks { OnOk result
+        (entered.new
+        ≡ cond (flag entered.old node) entered.old (slice_set entered.old node true)) }
+    ensures frames { OnOk result
+        (todo.new ≡ cond (flag entered.old node) todo.old (todo.old ++ entering node ∷ [])) }
 {
     if is_marked(entered, node) {
         return Ok(());
@@ -41,7 +44,9 @@ fn advance(
     requires nodes { AreNodes imports.now }
     requires within { frame.node < length imports.now }
     requires same { length entered.old ≡ length imports.now }
-    ensures { OnOk result (Advances imports.now entered.old (todo.old ++ frame ∷ []) order.old entered.new todo.new order.new) }
+    ensures { OnOk result
+        (Advances imports.now entered.old (todo.old ++ frame ∷ []) order.old entered.new
+        todo.new order.new) }
 {
     let Frame { node, next } = frame;
     let targets = targets(imports, node);

@@ -36,7 +36,10 @@ impl Model for Board {
 
     ghost view = { λ b. record { id = b.table.shared.table_id; graph = b.graph; workers = b.workers } };
 
-    ghost invariant = { λ b. IsBoard b.graph b.table.shared.key.graph.value b.workers b.table.shared.key.workers b.table.shared.table_id.words b.table.shared.table_id.slots (vec_capacity b.lists) (vec_capacity b.unclaimed) (map (λ l. l.items) b.lists.items) b.unclaimed.items };
+    ghost invariant = { λ b.
+        IsBoard b.graph b.table.shared.key.graph.value b.workers b.table.shared.key.workers
+        b.table.shared.table_id.words b.table.shared.table_id.slots (vec_capacity b.lists)
+        (vec_capacity b.unclaimed) (map (λ l. l.items) b.lists.items) b.unclaimed.items };
 }
 
 /// What one worker has of a board. Contracts see which board it is of, and three lists in the order of the seat's own
@@ -56,7 +59,13 @@ impl Model for BoardSeat {
     ghost use Rattle.std.specs.Prelude.{vec_capacity};
     ghost use Rattle.m2_board.specs.Seats.{IsSeat};
 
-    ghost view = { λ s. record { board = s.seat.table_id; had = s.had.items; met = s.seat.me.0.met; counts = s.seat.me.0.counts } };
+    ghost view = { λ s.
+        record {
+          board = s.seat.table_id;
+          had = s.had.items;
+          met = s.seat.me.0.met;
+          counts = s.seat.me.0.counts;
+        } };
 
     ghost invariant = { λ s. IsSeat s.seat.table_id.words (vec_capacity s.had) s.had.items s.seat.me };
 }
@@ -124,7 +133,9 @@ impl Board {
         ensures board { seat.new.board ≡ seat.old.board }
         ensures had { seat.new.had ≡ seat.old.had }
         ensures met { seat.new.met ≡ seat.old.met }
-        ensures counts { (left : ℕ) × (seat.new.counts ≡ seat.old.counts ++ count_of from edge left ∷ []) × (IsTrue result ↔ (left ≡ 0)) }
+        ensures counts { (left : ℕ)
+            × (seat.new.counts ≡ seat.old.counts ++ count_of from edge left ∷ [])
+            × (IsTrue result ↔ (left ≡ 0)) }
     {
         let target = self.graph.targets(from)[edge];
         let waiting = self.table.word_count() / 2 + target;
@@ -142,8 +153,12 @@ impl Board {
         requires { IsAllSeats self seats.items }
         ensures seats { map (λ l. l.items) result.seats.items ≡ map (λ s. s.had) seats.items }
         ensures gatherer { result.gatherer.items ≡ without (all_had seats.items) (length self.graph) }
-        ensures each { (job : ℕ) → job < length self.graph → times job (listed (map (λ l. l.items) result.seats.items) ++ result.gatherer.items) ≡ 1 }
-        ensures consistent { IsConsistent self.graph (all_had seats.items) (all_met seats.items) (all_counts seats.items) }
+        ensures each { (job : ℕ)
+            → job < length self.graph
+            → times job (listed (map (λ l. l.items) result.seats.items) ++ result.gatherer.items)
+            ≡ 1 }
+        ensures consistent { IsConsistent self.graph (all_had seats.items) (all_met seats.items)
+            (all_counts seats.items) }
         ensures sources { All (λ s. IsSourced s.had s.counts) seats.items }
         ensures apart { NoJobTwice seats.items }
         ensures taken { TakenIsHad seats.items }
@@ -176,9 +191,14 @@ fn count_word<E: Edge>(
     waiting: usize,
 ) -> u64
     requires edge { (from ≡ E.from) × (edge ≡ E.edge) }
-    requires may { Counts shared.now.table_id shared.now.key.graph.value from edge waiting seat.old.table_id seat.old.me.0 }
-    ensures table { (seat.new.table_id ≡ seat.old.table_id) × (seat.new.id ≡ seat.old.id) × (seat.new.me.1 ≡ seat.old.me.1) }
-    ensures count { (left : ℕ) × (result ≡ suc left) × (seat.new.me.0 ≡ with_count seat.old.me.0 (count_of from edge left)) }
+    requires may { Counts shared.now.table_id shared.now.key.graph.value from edge waiting seat.old.table_id
+        seat.old.me.0 }
+    ensures table { (seat.new.table_id ≡ seat.old.table_id)
+        × (seat.new.id ≡ seat.old.id)
+        × (seat.new.me.1 ≡ seat.old.me.1) }
+    ensures count { (left : ℕ)
+        × (result ≡ suc left)
+        × (seat.new.me.0 ≡ with_count seat.old.me.0 (count_of from edge left)) }
 {
     let _ = (from, edge);
     shared.fetch_sub::<Counting<E>>(seat, waiting, 1)
@@ -237,7 +257,8 @@ fn deal(
     jobs: usize,
     workers: usize,
 ) -> Result<Vec<BoardSeat>, AllocError>
-    requires table { (root.table_id ≡ table.now.shared.table_id) × (table.now.shared.table_id.words ≡ suc (jobs + jobs)) }
+    requires table { (root.table_id ≡ table.now.shared.table_id)
+        × (table.now.shared.table_id.words ≡ suc (jobs + jobs)) }
     requires root { root.me ≡ (blank workers, []) }
     ensures { IfOk result (λ v. v.items ≡ replicate workers (new_seat table.now.shared.table_id)) }
 {
@@ -258,9 +279,17 @@ fn join_all(
 ) -> Seat<(), Record>
     requires words { 0 < table.now.shared.table_id.words }
     requires room { (lists.old.items ≡ []) × (length seats.items ≤ vec_capacity lists.old) }
-    requires table { (k : ℕ) (d : SeatState) → k < length seats.items → (slice_index_or seats.items k d).board ≡ table.now.shared.table_id }
+    requires table { (k : ℕ) (d : SeatState)
+        → k < length seats.items
+        → (slice_index_or seats.items k d).board ≡ table.now.shared.table_id }
     ensures lists { map (λ l. l.items) lists.new.items ≡ map (λ s. s.had) seats.items }
-    ensures seat { (result.table_id ≡ table.now.shared.table_id) × (result.me ≡ (record_of (length seats.items) (all_had seats.items) (all_met seats.items) (all_counts seats.items), [])) }
+    ensures seat { (result.table_id ≡ table.now.shared.table_id)
+        × (result.me
+        ≡ (
+          record_of (length seats.items) (all_had seats.items) (all_met seats.items)
+              (all_counts seats.items),
+          [],
+        )) }
     ensures sources { All (λ s. IsSourced s.had s.counts) seats.items }
 {
     let (_, mut whole) = table.shared.load_new_seat::<Sitting>(0);

@@ -21,7 +21,10 @@ impl Model for JobGraph {
 
     ghost view = { λ g. map (λ v. v.items) g.prerequisites.items };
 
-    ghost invariant = { λ g. IsJobGraph (map (λ v. v.items) g.prerequisites.items) × (map (λ v. v.items) g.targets.items ≡ targets_table (map (λ v. v.items) g.prerequisites.items)) };
+    ghost invariant = { λ g.
+        IsJobGraph (map (λ v. v.items) g.prerequisites.items)
+        × (map (λ v. v.items) g.targets.items
+        ≡ targets_table (map (λ v. v.items) g.prerequisites.items)) };
 }
 
 impl JobGraph {
@@ -31,7 +34,8 @@ impl JobGraph {
     /// `NoMemory`.
     pub fn of(alloc: Global, prerequisites: &[Vec<usize>]) -> Result<JobGraph, PoolRefusal>
         ensures ok { IfOk result (λ g. g ≡ map (λ l. l.items) prerequisites.now) }
-        ensures prerequisite { (result ≡ Err PoolRefusal.Prerequisite) ↔ ¬ IsJobGraph (map (λ l. l.items) prerequisites.now) }
+        ensures prerequisite { (result ≡ Err PoolRefusal.Prerequisite)
+            ↔ ¬ IsJobGraph (map (λ l. l.items) prerequisites.now) }
         ensures workers { result ≢ Err PoolRefusal.Workers }
     {
         if !are_sound(alloc, prerequisites) {
@@ -174,7 +178,8 @@ fn is_sound_by_look(list: &[usize], job: usize) -> bool
 // The table of targets: each job stands in the row of each of its prerequisites.
 fn all_targets(alloc: Global, prerequisites: &[Vec<usize>]) -> Result<Vec<Vec<usize>>, AllocError>
     requires { IsJobGraph (map (λ l. l.items) prerequisites.now) }
-    ensures { IfOk result (λ v. map (λ l. l.items) v.items ≡ targets_table (map (λ l. l.items) prerequisites.now)) }
+    ensures { IfOk result
+        (λ v. map (λ l. l.items) v.items ≡ targets_table (map (λ l. l.items) prerequisites.now)) }
 {
     let mut table = no_targets(alloc, prerequisites.len())?;
     for job in 0..prerequisites.len() {
@@ -199,7 +204,12 @@ fn no_targets(alloc: Global, jobs: usize) -> Result<Vec<Vec<usize>>, AllocError>
 fn put_in_all(table: &mut [Vec<usize>], list: &[usize], job: usize) -> Result<(), AllocError>
     requires sound { IsJob list.now job }
     requires count { job ≤ length table.old }
-    ensures { OnOk result ((p : ℕ) → p < length table.old → slice_index_or (map (λ l. l.items) table.new) p [] ≡ slice_index_or (map (λ l. l.items) table.old) p [] ++ naming_from job (list.now ∷ []) p) }
+    ensures { OnOk result
+        ((p : ℕ)
+        → p < length table.old
+        → slice_index_or (map (λ l. l.items) table.new) p []
+        ≡ slice_index_or (map (λ l. l.items) table.old) p []
+        ++ naming_from job (list.now ∷ []) p) }
 {
     for i in 0..list.len() {
         put_last(table, list[i], job)?;
@@ -210,7 +220,9 @@ fn put_in_all(table: &mut [Vec<usize>], list: &[usize], job: usize) -> Result<()
 // Puts a job last in a row.
 fn put_last(table: &mut [Vec<usize>], row: usize, job: usize) -> Result<(), AllocError>
     requires { row < length table.old }
-    ensures { OnOk result (map (λ l. l.items) table.new ≡ slice_set (map (λ l. l.items) table.old) row (slice_index_or (map (λ l. l.items) table.old) row [] ++ job ∷ [])) }
+    ensures { OnOk result
+        (map (λ l. l.items) table.new ≡ slice_set (map (λ l. l.items) table.old) row
+        (slice_index_or (map (λ l. l.items) table.old) row [] ++ job ∷ [])) }
 {
     table[row].push(job)?;
     Ok(())

@@ -43,9 +43,5 @@ pub fn done_with(compiled: bool, needed: &[&Done]) -> Done
     if !are_known(needed) {
         return Done::Blocked;
     }
-    if compiled {
-        Done::Known
-    } else {
-        Done::Unknown
-    }
+    if compiled { Done::Known } else { Done::Unknown }
 }

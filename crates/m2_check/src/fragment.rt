@@ -13,6 +13,7 @@ use std::alloc::{AllocError, Global};
 /// No text has more of anything.
 const MOST: usize = 1_048_576;
 
+/// Whether two names have the same bytes.
 pub fn is_same(name: &[u8], other: &[u8]) -> bool
     ensures { result ≡ bytes_eq name.now other.now }
 {
@@ -222,7 +223,9 @@ fn few(printed: Option<Items<u8>>) -> Option<Items<u8>>
 }
 
 fn printed_in(alloc: Global, tree: &Module, block: &Block) -> Result<Option<Items<u8>>, AllocError>
-    ensures { IfOk result (λ p. p ≡ (if suits tree.now block.now then few (printed (statements block.now.body)) else None)) }
+    ensures { IfOk result (λ p.
+        p ≡ (if suits tree.now block.now then few (printed (statements block.now.body)) else
+        None)) }
 {
     if !suits(tree, block) {
         return Ok(None);

@@ -5,4 +5,4 @@ mod done;
 mod fragment;
 
 pub use done::{Done, done_with};
-pub use fragment::printed_of;
+pub use fragment::{is_same, printed_of};

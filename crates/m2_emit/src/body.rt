@@ -88,7 +88,10 @@ fn own_imports(alloc: Global, name: &[u8]) -> Result<Items<Import>, AllocError>
 
 /// Where the data and the slots of another module begin.
 fn push_globals(alloc: Global, imports: &mut Items<Import>, name: &[u8]) -> Result<(), AllocError>
-    ensures { OnOk result (imports.new ≡ imports.old ++ from_link (base_name name.now) ∷ from_link (tab_name name.now) ∷ []) }
+    ensures { OnOk result
+        (imports.new
+        ≡ imports.old ++ from_link (base_name name.now) ∷ from_link (tab_name name.now)
+        ∷ []) }
 {
     imports.push(from_link(alloc, joined(alloc, b"base.", name)?)?)?;
     imports.push(from_link(alloc, joined(alloc, b"tab.", name)?)?)?;
@@ -126,7 +129,11 @@ fn body_imports(alloc: Global, source: &Source) -> Result<Items<Import>, AllocEr
 }
 
 fn body_function(alloc: Global, printed: &[u8]) -> Result<Function, AllocError>
-    ensures function { IfOk result (λ f. f ≡ record { type_index = 5; body = record { locals = body_locals; code = body_code (map Put printed.now) } }) }
+    ensures function { IfOk result (λ f.
+        f ≡ record {
+          type_index = 5;
+          body = record { locals = body_locals; code = body_code (map Put printed.now) };
+        }) }
     ensures small { OnOk result (All (λ b. b < 256) printed.now) }
 {
     let numbers = Locals {

@@ -26,7 +26,8 @@ pub fn emit(alloc: Global, source: &Source) -> Result<Vec<u8>, AllocError>
 pub fn emit_link(alloc: Global, sources: &[Source], pages: u32) -> Result<Vec<u8>, AllocError>
     requires count { length sources.now ≤ 1024 }
     requires pages { pages ≤ 1024 }
-    ensures { IfOk result (λ bytes. bytes.items ≡ module_spelling (link_module (program sources.now) pages)) }
+    ensures { IfOk result
+        (λ bytes. bytes.items ≡ module_spelling (link_module (program sources.now) pages)) }
 {
     let tree = link_module(alloc, sources, pages)?;
     write_module(alloc, &tree)

@@ -46,7 +46,10 @@ pub fn body_code(alloc: Global, printed: &[u8]) -> Result<Code, AllocError>
 
 /// A call of the body whose slot is in this global.
 fn push_call(ops: &mut Vec<Op>, global: u32) -> Result<(), AllocError>
-    ensures { OnOk result (ops.new.items ≡ ops.old.items ++ op.I32Const stack_begin ∷ op.GlobalGet global ∷ op.CallIndirect 1 ∷ []) }
+    ensures { OnOk result
+        (ops.new.items
+        ≡ ops.old.items ++ op.I32Const stack_begin ∷ op.GlobalGet global
+        ∷ op.CallIndirect 1 ∷ []) }
 {
     ops.push(Op::I32Const(0))?;
     ops.push(Op::GlobalGet(global))?;

@@ -18,7 +18,9 @@ use wasm_tree::{
 
 /// The places of a module's variables and texts, and its slot in the table.
 fn push_globals(alloc: Global, globals: &mut Items<Constant>, slot: u32) -> Result<(), AllocError>
-    ensures { OnOk result (globals.new ≡ globals.old ++ constant_global 0 ∷ constant_global 0 ∷ constant_global slot ∷ []) }
+    ensures { OnOk result
+        (globals.new
+        ≡ globals.old ++ constant_global 0 ∷ constant_global 0 ∷ constant_global slot ∷ []) }
 {
     globals.push(constant_global(alloc, 0)?)?;
     globals.push(constant_global(alloc, 0)?)?;
@@ -68,7 +70,10 @@ fn push_exports(
     global: u32,
 ) -> Result<(), AllocError>
     requires { global + 2 < 2 ^ 32 }
-    ensures { OnOk result (exports.new ≡ exports.old ++ exported_as (base_name name.now) (exported.Global global) ∷ exported_as (text_name name.now) (exported.Global (global + 1)) ∷ exported_as (tab_name name.now) (exported.Global (global + 2)) ∷ []) }
+    ensures { OnOk result
+        (exports.new ≡ exports.old ++ exported_as (base_name name.now) (exported.Global global)
+        ∷ exported_as (text_name name.now) (exported.Global (global + 1))
+        ∷ exported_as (tab_name name.now) (exported.Global (global + 2)) ∷ []) }
 {
     exports.push(exported_global(alloc, b"base.", name, global)?)?;
     exports.push(exported_global(alloc, b"text.", name, global + 1)?)?;
@@ -107,7 +112,11 @@ fn link_exports(alloc: Global, sources: &[Source]) -> Result<Items<Export>, Allo
 /// The function that calls the bodies.
 fn run_function(alloc: Global, sources: &[Source]) -> Result<Function, AllocError>
     requires { length sources.now ≤ 1024 }
-    ensures { IfOk result (λ f. f ≡ record { type_index = 0; body = record { locals = []; code = body_calls 3 (program sources.now) } }) }
+    ensures { IfOk result (λ f.
+        f ≡ record {
+          type_index = 0;
+          body = record { locals = []; code = body_calls 3 (program sources.now) };
+        }) }
 {
     Ok(Function {
         type_index: 0,

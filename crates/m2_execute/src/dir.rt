@@ -11,6 +11,7 @@ pub trait InDir {
 
     /// The bytes of the file of this name. `None` where the file or memory failed.
     fn read(&mut self, alloc: Global, name: &str) -> Option<Vec<u8>>
-        ensures given { MatchOption result (gives self.old name.now None) (λ bytes. gives self.old name.now (Some bytes.items)) }
+        ensures given { MatchOption result (gives self.old name.now None)
+            (λ bytes. gives self.old name.now (Some bytes.items)) }
         ensures stays { (name : List ℕ) (bytes : Option (List ℕ)) → gives self.new name bytes → gives self.old name bytes };
 }

@@ -55,7 +55,10 @@ fn add_module<'n, D: InDir>(
     name: &'n str,
     modules: &mut Vec<ValidModule>,
 ) -> Result<(), Report<'n>>
-    ensures ok { IfOk result (λ _. (tree : WModule) × (modules.new.items ≡ modules.old.items ++ tree ∷ []) × IsModule (D.gives dir.old) name.now tree) }
+    ensures ok { IfOk result (λ _.
+        (tree : WModule)
+        × (modules.new.items ≡ modules.old.items ++ tree ∷ [])
+        × IsModule (D.gives dir.old) name.now tree) }
     ensures err { IfErr result (λ r. IsMissing (D.gives dir.old) name.now r) }
     ensures stays { Stays (D.gives dir.old) (D.gives dir.new) }
 {
@@ -82,7 +85,10 @@ pub fn modules_of<'n, D: InDir>(
     first: Vec<ValidModule>,
     names: &'n [String],
 ) -> Result<Vec<ValidModule>, Report<'n>>
-    ensures ok { IfOk result (λ v. (others : List WModule) × (v.items ≡ first.items ++ others) × AreModules (D.gives dir.old) (map string_bytes names.now) others) }
+    ensures ok { IfOk result (λ v.
+        (others : List WModule)
+        × (v.items ≡ first.items ++ others)
+        × AreModules (D.gives dir.old) (map string_bytes names.now) others) }
     ensures err { IfErr result (λ r. FirstMissing (D.gives dir.old) (map string_bytes names.now) r) }
 {
     let mut modules = first;

@@ -55,7 +55,9 @@ fn module_named(export: &[u8]) -> Option<&[u8]>
 }
 
 fn add_name(alloc: Global, names: &mut Vec<String>, export: &Export) -> Result<(), AllocError>
-    ensures { IfOk result (λ _. map string_bytes names.new.items ≡ map string_bytes names.old.items ++ option_to_list (module_named export.now.name)) }
+    ensures { IfOk result (λ _.
+        map string_bytes names.new.items
+        ≡ map string_bytes names.old.items ++ option_to_list (module_named export.now.name)) }
 {
     if let Some(name) = module_named(export.name.as_slice()) {
         names.push(String::from_utf8_lossy(alloc, name)?)?;

@@ -43,7 +43,8 @@ fn run_named<'n, D: InDir, S: Sink>(
     out: &mut S,
 ) -> Report<'n>
     requires { S.failed out.old + 1 < 2 ^ 64 }
-    ensures { ComesOf S.told S.failed (D.gives dir.old) first.items (map string_bytes names.now) steps result out.old out.new }
+    ensures { ComesOf S.told S.failed (D.gives dir.old) first.items (map string_bytes names.now) steps
+        result out.old out.new }
 {
     match modules_of(alloc, dir, first, names) {
         Ok(modules) => run_all(alloc, &modules, steps, out),
@@ -67,7 +68,8 @@ pub fn execute<D: InDir, S: Sink, E: Sink>(
 ) -> u8
     requires out { S.failed out.old + 1 < 2 ^ 64 }
     requires err { E.failed err.old + 1 < 2 ^ 64 }
-    ensures { Executes S.told S.failed E.told E.failed (D.gives dir.old) steps result out.old out.new err.old err.new }
+    ensures { Executes S.told S.failed E.told E.failed (D.gives dir.old) steps result out.old out.new
+        err.old err.new }
 {
     let link = match module_of(alloc, dir, "link") {
         Ok(link) => link,

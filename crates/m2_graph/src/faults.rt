@@ -53,7 +53,8 @@ fn with_fault(least: Option<Fault>, holds: bool, pos: Pos, number: u32) -> Optio
     }
 }
 
-fn is_console(name: &Name) -> bool
+/// Whether this is the name of the built in module.
+pub fn is_console(name: &Name) -> bool
     ensures { result ≡ is_console name.now }
 {
     name.as_bytes() == b"Console".as_slice()
@@ -168,7 +169,9 @@ fn with_import(
     least: Option<Fault>,
 ) -> Option<Fault>
     requires { IsIndexed program.now }
-    ensures { result ≡ fold lesser least (import_faults (modules_of program.now) tree.now (named_by import.now.from import.now.names)) }
+    ensures { result ≡ fold lesser least
+        (import_faults (modules_of program.now) tree.now
+        (named_by import.now.from import.now.names)) }
 {
     match &import.from {
         Some(from) => {
@@ -186,7 +189,9 @@ fn with_import(
 fn file_fault(program: &Program<'_>, number: usize, given: usize, tree: &Module) -> Option<Fault>
     requires indexed { IsIndexed program.now }
     requires within { number < length (modules_of program.now) }
-    ensures { result ≡ least_of (faults_of (modules_of program.now) (take number (modules_of program.now)) given tree.now) }
+    ensures { result ≡ least_of
+        (faults_of (modules_of program.now) (take number (modules_of program.now)) given
+        tree.now) }
 {
     let pos = tree.name.pos;
     let repeated = is_repeated(program, number, tree);
@@ -221,7 +226,9 @@ pub fn fault_of(
 ) -> Option<Fault>
     requires indexed { IsIndexed program.now }
     requires within { number < length (modules_of program.now) }
-    ensures { result ≡ least_of (faults_of (modules_of program.now) (take number (modules_of program.now)) given tree.now ++ circle_faults circle number) }
+    ensures { result ≡ least_of
+        (faults_of (modules_of program.now) (take number (modules_of program.now)) given
+        tree.now ++ circle_faults circle number) }
 {
     let fault = file_fault(program, number, given, tree);
     with_circle(fault, circle, number)

@@ -60,7 +60,11 @@ fn body_of(program: &Program<'_>, node: usize) -> Option<usize>
 
 fn add_body(program: &Program<'_>, node: usize, bodies: &mut Items<usize>) -> Result<(), AllocError>
     requires { IsIndexed program.now }
-    ensures { OnOk result (bodies.new ≡ bodies.old ++ option_to_list (body_of (modules_of program.now) node (slice_get (modules_of program.now) node))) }
+    ensures { OnOk result
+        (bodies.new ≡ bodies.old
+        ++ option_to_list
+        (body_of (modules_of program.now) node
+        (slice_get (modules_of program.now) node))) }
 {
     if let Some(body) = body_of(program, node) {
         bodies.push(body)?;

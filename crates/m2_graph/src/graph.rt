@@ -41,9 +41,11 @@ fn graph_with(
 ) -> Result<Graph, AllocError>
     requires indexed { IsIndexed program.now }
     requires same { modules_of program.now ≡ trees (map file_of sources.now) }
-    requires numbering { IsNumbering (links (modules_of program.now)) (map is_definition (modules_of program.now)) numbered }
+    requires numbering { IsNumbering (links (modules_of program.now)) (map is_definition (modules_of program.now))
+        numbered }
     requires program { first_that is_program (modules_of program.now) ≡ Some first }
-    ensures jobs { IfOk result (λ g. IsJobs (map file_of sources.now) g.files.items (map (λ job. job.items) g.jobs.items)) }
+    ensures jobs { IfOk result (λ g.
+        IsJobs (map file_of sources.now) g.files.items (map (λ job. job.items) g.jobs.items)) }
     ensures starts { IfOk result (λ g. IsStarts (map file_of sources.now) g.starts.items) }
 {
     let starts = starts_of(alloc, program, sources, first)?;
@@ -63,7 +65,9 @@ fn graph_of(
 ) -> Result<Graph, GraphError>
     requires indexed { IsIndexed program.now }
     requires same { modules_of program.now ≡ trees (map file_of sources.now) }
-    ensures graph { IfOk result (λ g. IsGraphOf (map file_of sources.now) g.files.items (map (λ job. job.items) g.jobs.items) g.starts.items) }
+    ensures graph { IfOk result (λ g.
+        IsGraphOf (map file_of sources.now) g.files.items (map (λ job. job.items) g.jobs.items)
+        g.starts.items) }
     ensures each { IfOk result (λ g. CompileEach (map file_of sources.now) g.files.items) }
     ensures refused { IfErr result (IsRefusalOf (map file_of sources.now)) }
 {
@@ -102,7 +106,9 @@ impl Graph {
     ///
     /// `NoMemory` where a request for memory was refused.
     pub fn of(alloc: Global, files: &[(&str, &Module)]) -> Result<Graph, GraphError>
-        ensures graph { IfOk result (λ g. IsGraph (files_of files.now) g.files.items (map (λ job. job.items) g.jobs.items) g.starts.items) }
+        ensures graph { IfOk result (λ g.
+            IsGraph (files_of files.now) g.files.items (map (λ job. job.items) g.jobs.items)
+            g.starts.items) }
         ensures each { IfOk result (λ g. CompileEach (files_of files.now) g.files.items) }
         ensures refused { IfErr result (IsRefusal (files_of files.now)) }
     {

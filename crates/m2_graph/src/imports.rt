@@ -60,7 +60,9 @@ pub fn add_link(
     targets: &mut Items<usize>,
 ) -> Result<(), AllocError>
     requires { IsIndexed program.now }
-    ensures { OnOk result (targets.new ≡ targets.old ++ option_to_list (definition_of (modules_of program.now) name.now)) }
+    ensures { OnOk result
+        (targets.new
+        ≡ targets.old ++ option_to_list (definition_of (modules_of program.now) name.now)) }
 {
     if let Some(number) = definition_of(program, name) {
         targets.push(number)?;
@@ -75,7 +77,9 @@ fn add_links(
     targets: &mut Items<usize>,
 ) -> Result<(), AllocError>
     requires { IsIndexed program.now }
-    ensures { OnOk result (targets.new ≡ targets.old ++ filter_map (λ i. definition_of (modules_of program.now) i.name) names.now) }
+    ensures { OnOk result
+        (targets.new ≡ targets.old
+        ++ filter_map (λ i. definition_of (modules_of program.now) i.name) names.now) }
 {
     for ident in names {
         add_link(program, &ident.name, targets)?;
@@ -90,7 +94,10 @@ fn add_import(
     targets: &mut Items<usize>,
 ) -> Result<(), AllocError>
     requires { IsIndexed program.now }
-    ensures { OnOk result (targets.new ≡ targets.old ++ filter_map (λ i. definition_of (modules_of program.now) i.name) (named_by import.now.from import.now.names)) }
+    ensures { OnOk result
+        (targets.new ≡ targets.old
+        ++ filter_map (λ i. definition_of (modules_of program.now) i.name)
+        (named_by import.now.from import.now.names)) }
 {
     match &import.from {
         Some(from) => add_link(program, &from.name, targets),

@@ -34,7 +34,9 @@ fn no_places(alloc: Global, count: usize) -> Result<Vec<Option<usize>>, AllocErr
 fn put_place(places: &mut [Option<usize>], node: usize, number: usize)
     requires { node < length places.old }
     ensures len { length places.new ≡ length places.old }
-    ensures places { (k : ℕ) → place_of places.new k ≡ or_first (place_of places.old k) (cond (node == k) (Some number) None) }
+    ensures places { (k : ℕ)
+        → place_of places.new k
+        ≡ or_first (place_of places.old k) (cond (node == k) (Some number) None) }
 {
     if places[node].is_none() {
         places[node] = Some(number);

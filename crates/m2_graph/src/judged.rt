@@ -36,7 +36,9 @@ pub fn judge(
     requires indexed { IsIndexed program.now }
     requires same { modules_of program.now ≡ trees (map file_of sources.now) }
     ensures told { IfOk result (λ j. IsTold (map file_of sources.now) (map told j.refusals.items)) }
-    ensures numbering { IfOk result (λ j. IsNumbering (links (modules_of program.now)) (map is_definition (modules_of program.now)) j.numbered) }
+    ensures numbering { IfOk result (λ j.
+        IsNumbering (links (modules_of program.now))
+        (map is_definition (modules_of program.now)) j.numbered) }
     ensures order { OnOk result (HasCircleOrder (links (modules_of program.now))) }
 {
     let pairs = links(alloc, program)?;

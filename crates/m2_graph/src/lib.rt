@@ -19,4 +19,5 @@ mod sources;
 mod told;
 
 pub use error::GraphError;
+pub use faults::is_console;
 pub use graph::Graph;

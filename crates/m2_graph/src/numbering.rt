@@ -22,7 +22,8 @@ pub fn numbering_of(
 ) -> Result<Items<usize>, AllocError>
     requires links { pairs.now ≡ links (modules_of program.now) }
     requires turned { IsTurned pairs.now back.now }
-    ensures { IfOk result (λ order. IsNumbering pairs.now (map is_definition (modules_of program.now)) order) }
+    ensures { IfOk result
+        (λ order. IsNumbering pairs.now (map is_definition (modules_of program.now)) order) }
 {
     let flags = definition_flags(alloc, program.modules)?;
     let order = definition_order(alloc, pairs, back, &flags)?;

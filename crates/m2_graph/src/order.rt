@@ -76,7 +76,9 @@ pub fn jobs_of(
 ) -> Result<Vec<Vec<usize>>, AllocError>
     requires indexed { IsIndexed program.now }
     requires within { All (λ node. node < length program.now.modules.now) order.now }
-    ensures { IfOk result (λ jobs. AllZip (IsJob (modules_of program.now) order.now) order.now (map (λ job. job.items) jobs.items)) }
+    ensures { IfOk result (λ jobs.
+        AllZip (IsJob (modules_of program.now) order.now) order.now
+        (map (λ job. job.items) jobs.items)) }
 {
     let places = places_of(alloc, program.modules.len(), order)?;
     let mut flags = unmarked(alloc, order.len())?;

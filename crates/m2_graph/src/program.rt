@@ -47,7 +47,10 @@ fn add_first<'a>(
     name: &'a [u8],
     number: usize,
 ) -> Result<(), AllocError>
-    ensures { OnOk result ((other : List ℕ) → number_at table.new other ≡ or_first (number_at table.old other) (cond (same_name other name.now) (Some number) None)) }
+    ensures { OnOk result
+        ((other : List ℕ)
+        → number_at table.new other ≡ or_first (number_at table.old other)
+        (cond (same_name other name.now) (Some number) None)) }
 {
     if table.contains_key(name) {
         return Ok(());
@@ -62,7 +65,10 @@ fn add_module<'a>(
     tree: &'a Module,
     number: usize,
 ) -> Result<(), AllocError>
-    ensures { OnOk result ((name : List ℕ) → number_at table.new name ≡ or_first (number_at table.old name) (cond (bears part name tree.now) (Some number) None)) }
+    ensures { OnOk result
+        ((name : List ℕ)
+        → number_at table.new name ≡ or_first (number_at table.old name)
+        (cond (bears part name tree.now) (Some number) None)) }
 {
     if !is_part(part, tree) {
         return Ok(());
@@ -76,7 +82,9 @@ fn table_of<'a>(
     modules: &[&'a Module],
     part: Part,
 ) -> Result<IndexMap<&'a [u8], usize>, AllocError>
-    ensures { IfOk result (λ table. (name : List ℕ) → number_at table name ≡ first_that (bears part name) (map (λ m. m.now) modules.now)) }
+    ensures { IfOk result (λ table.
+        (name : List ℕ)
+        → number_at table name ≡ first_that (bears part name) (map (λ m. m.now) modules.now)) }
 {
     let mut table = IndexMap::new(alloc);
     for (number, module) in modules.iter().enumerate() {

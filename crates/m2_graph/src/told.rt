@@ -30,7 +30,8 @@ fn add_refusal(
     fault: Option<Fault>,
     refusals: &mut Vec<Refusal>,
 ) -> Result<(), AllocError>
-    ensures { OnOk result (map told refusals.new.items ≡ map told refusals.old.items ++ told_at file.now fault) }
+    ensures { OnOk result
+        (map told refusals.new.items ≡ map told refusals.old.items ++ told_at file.now fault) }
 {
     match fault {
         None => Ok(()),
@@ -50,7 +51,10 @@ fn refused_from(
 ) -> Result<Vec<Refusal>, AllocError>
     requires indexed { IsIndexed program.now }
     requires same { modules_of program.now ≡ trees (map file_of sources.now) }
-    ensures { IfOk result (λ rs. map told rs.items ≡ refused_from (trees (map file_of sources.now)) circle [] (map file_of sources.now)) }
+    ensures { IfOk result (λ rs.
+        map told rs.items
+        ≡ refused_from (trees (map file_of sources.now)) circle []
+        (map file_of sources.now)) }
 {
     let mut refusals = Vec::new(alloc);
     for (number, source) in sources.iter().enumerate() {

@@ -27,6 +27,7 @@ use Rattle.m2_tree.proofs.expr.Expr.TheLaws.TheKnot as exprs
 use Rattle.m2_tree.proofs.stmt.Rest.TheLaws.TheKnot as stmts
 use Rattle.m2_tree.proofs.decl.TypeExpr.TheLaws.TheKnot as types
 use Rattle.m2_tree.proofs.decl.Decl.TheLaws.TheKnot as decls
+use Rattle.m2_tree.specs.contracts.boxed.Boxed
 use Rattle.m2_tree.specs.contracts.items.Items
 use Rattle.m2_tree.specs.contracts.name.Ident
 use Rattle.m2_tree.specs.contracts.expr.AddOp
@@ -55,6 +56,9 @@ use Rattle.m2_read.specs.contracts.reading.Read
 -- ---- `Send`
 option_items_send : (h : RattleType) → IsSend h → IsSend (Option.the_row (Items.the_row h))
 option_items_send h k = option.the_send (Items.the_row h) (items.the_send h k)
+
+option_boxed_items_send : (h : RattleType) → IsSend h → IsSend (Option.the_row (Boxed.the_row (Items.the_row h)))
+option_boxed_items_send h k = option.the_send (Boxed.the_row (Items.the_row h)) (boxed.the_send (Items.the_row h) (items.the_send h k))
 
 factors_send : (h : RattleType) → IsSend h → IsSend (Items.the_row (Tuple (Operator.the_row MulOp.the_row ∷ h ∷ [])))
 factors_send h k = items.the_send (Tuple (Operator.the_row MulOp.the_row ∷ h ∷ [])) (let o = operator.the_send MulOp.the_row mul.the_send in search sendable)
@@ -91,13 +95,13 @@ option_expr_send_of : IsSend (Expr.the_field).row → IsSend (Option.the_field E
 option_expr_send_of k = option.the_field_send Expr.the_row (expr_send_of k)
 
 expr_send' : IsSend (Expr.the_field).row
-expr_send' = exprs.send-Expr pos.the_field_send number_send byte_send quoted.the_send option_ident_send items.the_send boxed.the_send option_items_send factors_send option_sign_send terms_send relation_send ident.the_field_send option.the_send option_expr_send_of
+expr_send' = exprs.send-Expr pos.the_field_send number_send byte_send quoted.the_send option_ident_send items.the_send boxed.the_send option_boxed_items_send factors_send option_sign_send terms_send relation_send ident.the_field_send option.the_send option_expr_send_of
 
 designator_send' : IsSend (Designator.the_field).row
-designator_send' = exprs.send-Designator pos.the_field_send number_send byte_send quoted.the_send option_ident_send items.the_send boxed.the_send option_items_send factors_send option_sign_send terms_send relation_send ident.the_field_send option.the_send option_expr_send_of
+designator_send' = exprs.send-Designator pos.the_field_send number_send byte_send quoted.the_send option_ident_send items.the_send boxed.the_send option_boxed_items_send factors_send option_sign_send terms_send relation_send ident.the_field_send option.the_send option_expr_send_of
 
 item_send' : IsSend (Item.the_field).row
-item_send' = exprs.send-Item pos.the_field_send number_send byte_send quoted.the_send option_ident_send items.the_send boxed.the_send option_items_send factors_send option_sign_send terms_send relation_send ident.the_field_send option.the_send option_expr_send_of
+item_send' = exprs.send-Item pos.the_field_send number_send byte_send quoted.the_send option_ident_send items.the_send boxed.the_send option_boxed_items_send factors_send option_sign_send terms_send relation_send ident.the_field_send option.the_send option_expr_send_of
 
 pub Expr-send : IsSend Expr.the_row
 Expr-send = expr_send_of expr_send'
@@ -115,18 +119,24 @@ option_exprs_send = option.the_field_send (Items.the_row Expr.the_row) (items.th
 option_expr_send : IsSend (Option.the_field Expr.the_row).row
 option_expr_send = option.the_field_send Expr.the_row Expr-send
 
+boxed_expr_send : IsSend (Boxed.the_field Expr.the_row).row
+boxed_expr_send = boxed.the_send Expr.the_row Expr-send
+
+option_boxed_expr_send : IsSend (Option.the_field (Boxed.the_row Expr.the_row)).row
+option_boxed_expr_send = option.the_field_send (Boxed.the_row Expr.the_row) (boxed.the_send Expr.the_row Expr-send)
+
 labels_send : IsSend (Items.the_field Item.the_row).row
 labels_send = items.the_send Item.the_row Item-send
 
 stmt_send' : IsSend (Stmt.the_field).row
-stmt_send' = stmts.send-Stmt expr_send' items.the_send boxed.the_send option_items_send designator_send' option_exprs_send pos.the_field_send option_expr_send ident.the_field_send labels_send
+stmt_send' = stmts.send-Stmt expr_send' items.the_send boxed.the_send option_items_send designator_send' option_exprs_send pos.the_field_send option_expr_send ident.the_field_send boxed_expr_send option_boxed_expr_send labels_send
 
 pub Stmt-send : IsSend Stmt.the_row
 Stmt-send = recorded_send (Stmt.the_field).row _ _ (Stmt.the_type).to_one stmt_send'
 
 -- types
 simple_send' : IsSend (Simple.the_field).row
-simple_send' = enum_send (enum.shape Simple.the_type) ((qualified.the_field_send, tt), ((pos.the_field_send, (idents_send, tt)), ((option_qualified_send, (pos.the_field_send, (expr_send', (expr_send', tt)))), tt)))
+simple_send' = enum_send (enum.shape Simple.the_type) ((qualified.the_field_send, tt), ((pos.the_field_send, (idents_send, tt)), ((option_qualified_send, (pos.the_field_send, (boxed_expr_send, (boxed_expr_send, tt)))), tt)))
 
 parameters_send : IsSend (Items.the_field Parameter.the_row).row
 parameters_send = items.the_send Parameter.the_row parameter.the_send
@@ -197,6 +207,9 @@ Module-send = recorded_send (Module.the_field).row _ _ (Module.the_type).to_one 
 option_items_sync : (h : RattleType) → IsSync h → IsSync (Option.the_row (Items.the_row h))
 option_items_sync h k = option.the_sync (Items.the_row h) (items.the_sync h k)
 
+option_boxed_items_sync : (h : RattleType) → IsSync h → IsSync (Option.the_row (Boxed.the_row (Items.the_row h)))
+option_boxed_items_sync h k = option.the_sync (Boxed.the_row (Items.the_row h)) (boxed.the_sync (Items.the_row h) (items.the_sync h k))
+
 factors_sync : (h : RattleType) → IsSync h → IsSync (Items.the_row (Tuple (Operator.the_row MulOp.the_row ∷ h ∷ [])))
 factors_sync h k = items.the_sync (Tuple (Operator.the_row MulOp.the_row ∷ h ∷ [])) (let o = operator.the_sync MulOp.the_row mul.the_sync in search sendable)
 
@@ -232,13 +245,13 @@ option_expr_sync_of : IsSync (Expr.the_field).row → IsSync (Option.the_field E
 option_expr_sync_of k = option.the_field_sync Expr.the_row (expr_sync_of k)
 
 expr_sync' : IsSync (Expr.the_field).row
-expr_sync' = exprs.sync-Expr pos.the_field_sync number_sync byte_sync quoted.the_sync option_ident_sync items.the_sync boxed.the_sync option_items_sync factors_sync option_sign_sync terms_sync relation_sync ident.the_field_sync option.the_sync option_expr_sync_of
+expr_sync' = exprs.sync-Expr pos.the_field_sync number_sync byte_sync quoted.the_sync option_ident_sync items.the_sync boxed.the_sync option_boxed_items_sync factors_sync option_sign_sync terms_sync relation_sync ident.the_field_sync option.the_sync option_expr_sync_of
 
 designator_sync' : IsSync (Designator.the_field).row
-designator_sync' = exprs.sync-Designator pos.the_field_sync number_sync byte_sync quoted.the_sync option_ident_sync items.the_sync boxed.the_sync option_items_sync factors_sync option_sign_sync terms_sync relation_sync ident.the_field_sync option.the_sync option_expr_sync_of
+designator_sync' = exprs.sync-Designator pos.the_field_sync number_sync byte_sync quoted.the_sync option_ident_sync items.the_sync boxed.the_sync option_boxed_items_sync factors_sync option_sign_sync terms_sync relation_sync ident.the_field_sync option.the_sync option_expr_sync_of
 
 item_sync' : IsSync (Item.the_field).row
-item_sync' = exprs.sync-Item pos.the_field_sync number_sync byte_sync quoted.the_sync option_ident_sync items.the_sync boxed.the_sync option_items_sync factors_sync option_sign_sync terms_sync relation_sync ident.the_field_sync option.the_sync option_expr_sync_of
+item_sync' = exprs.sync-Item pos.the_field_sync number_sync byte_sync quoted.the_sync option_ident_sync items.the_sync boxed.the_sync option_boxed_items_sync factors_sync option_sign_sync terms_sync relation_sync ident.the_field_sync option.the_sync option_expr_sync_of
 
 pub Expr-sync : IsSync Expr.the_row
 Expr-sync = expr_sync_of expr_sync'
@@ -256,18 +269,24 @@ option_exprs_sync = option.the_field_sync (Items.the_row Expr.the_row) (items.th
 option_expr_sync : IsSync (Option.the_field Expr.the_row).row
 option_expr_sync = option.the_field_sync Expr.the_row Expr-sync
 
+boxed_expr_sync : IsSync (Boxed.the_field Expr.the_row).row
+boxed_expr_sync = boxed.the_sync Expr.the_row Expr-sync
+
+option_boxed_expr_sync : IsSync (Option.the_field (Boxed.the_row Expr.the_row)).row
+option_boxed_expr_sync = option.the_field_sync (Boxed.the_row Expr.the_row) (boxed.the_sync Expr.the_row Expr-sync)
+
 labels_sync : IsSync (Items.the_field Item.the_row).row
 labels_sync = items.the_sync Item.the_row Item-sync
 
 stmt_sync' : IsSync (Stmt.the_field).row
-stmt_sync' = stmts.sync-Stmt expr_sync' items.the_sync boxed.the_sync option_items_sync designator_sync' option_exprs_sync pos.the_field_sync option_expr_sync ident.the_field_sync labels_sync
+stmt_sync' = stmts.sync-Stmt expr_sync' items.the_sync boxed.the_sync option_items_sync designator_sync' option_exprs_sync pos.the_field_sync option_expr_sync ident.the_field_sync boxed_expr_sync option_boxed_expr_sync labels_sync
 
 pub Stmt-sync : IsSync Stmt.the_row
 Stmt-sync = recorded_sync (Stmt.the_field).row _ _ (Stmt.the_type).to_one stmt_sync'
 
 -- types
 simple_sync' : IsSync (Simple.the_field).row
-simple_sync' = enum_sync (enum.shape Simple.the_type) ((qualified.the_field_sync, tt), ((pos.the_field_sync, (idents_sync, tt)), ((option_qualified_sync, (pos.the_field_sync, (expr_sync', (expr_sync', tt)))), tt)))
+simple_sync' = enum_sync (enum.shape Simple.the_type) ((qualified.the_field_sync, tt), ((pos.the_field_sync, (idents_sync, tt)), ((option_qualified_sync, (pos.the_field_sync, (boxed_expr_sync, (boxed_expr_sync, tt)))), tt)))
 
 parameters_sync : IsSync (Items.the_field Parameter.the_row).row
 parameters_sync = items.the_sync Parameter.the_row parameter.the_sync

@@ -71,7 +71,8 @@ fn results_of<X>(ran: Result<(Vec<X>, Tally), PoolRefusal>) -> Result<Vec<X>, Al
 
 /// The work of the jobs of a graph.
 fn checks_of<'a>(alloc: Global, trees: &'a [(&'a str, &'a Module)], graph: &'a Graph) -> Checks<'a>
-    requires { IsGraph (numbered 0 (lent trees.now)) graph.now.files.items (map (λ j. j.items) graph.now.jobs.items) graph.now.starts.items }
+    requires { IsGraph (numbered 0 (lent trees.now)) graph.now.files.items
+        (map (λ j. j.items) graph.now.jobs.items) graph.now.starts.items }
     ensures trees { result.trees.now ≡ trees.now }
     ensures files { result.files.now ≡ graph.now.files.items }
     ensures jobs { result.jobs.now ≡ graph.now.jobs.items }
@@ -96,7 +97,9 @@ impl<R: Threads + Sync, G: Gate> Crew<'_, R, G> {
     /// The results of the jobs of a graph.
     fn run<W: Work>(&self, graph: &JobGraph, work: &W) -> Result<Vec<W::Out>, AllocError>
         requires { graph.now ≡ W.graph work.now }
-        ensures { IfOk result (λ outs. AreResults (W.graph work.now) (W.defines work.now) (all_jobs (length (W.graph work.now))) outs.items) }
+        ensures { IfOk result (λ outs.
+            AreResults (W.graph work.now) (W.defines work.now)
+            (all_jobs (length (W.graph work.now))) outs.items) }
     {
         results_of(run_jobs(self.rt, self.alloc, graph, self.workers, self.gate, work))
     }
@@ -118,8 +121,11 @@ impl<R: Threads + Sync, G: Gate> Crew<'_, R, G> {
         trees: &[(&str, &Module)],
         graph: &Graph,
     ) -> Result<Vec<Done>, AllocError>
-        requires { IsGraph (numbered 0 (lent trees.now)) graph.now.files.items (map (λ j. j.items) graph.now.jobs.items) graph.now.starts.items }
-        ensures { IfOk result (λ all. all.items ≡ done_all (modules_lent trees.now) graph.now.files.items (map (λ job. job.items) graph.now.jobs.items)) }
+        requires { IsGraph (numbered 0 (lent trees.now)) graph.now.files.items
+            (map (λ j. j.items) graph.now.jobs.items) graph.now.starts.items }
+        ensures { IfOk result (λ all.
+            all.items ≡ done_all (modules_lent trees.now) graph.now.files.items
+            (map (λ job. job.items) graph.now.jobs.items)) }
     {
         let jobs = pooled(self.alloc, graph)?;
         self.run(&jobs, &checks_of(self.alloc, trees, graph))

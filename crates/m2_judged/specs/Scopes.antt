@@ -1,5 +1,5 @@
 -- Names in scope.
-use Rattle.std.specs.Prelude.{ℕ, Bool, true, false, ◌&&◌, ◌==◌, cond, List, [], ◌∷◌, Option, Some, None, Result, Ok, Err}
+use Rattle.std.specs.Prelude.{ℕ, Bool, true, false, ◌==◌, cond, List, [], ◌∷◌, Option, Some, None, Result, Ok, Err}
 use Rattle.std.specs.List.{fold}
 use Rattle.m2_tree.specs.declared.pos.Pos.{Pos}
 use Rattle.m2_tree.specs.declared.name.Ident.{Ident}
@@ -83,10 +83,10 @@ abbrev pub is_one_origin : Origin → Origin → Bool
 is_one_origin Here o = false
 is_one_origin (Module m) Here = false
 is_one_origin (Module m) (Module n) = m == n
-is_one_origin (Module m) (Export n k) = false
-is_one_origin (Export m i) Here = false
-is_one_origin (Export m i) (Module n) = false
-is_one_origin (Export m i) (Export n k) = m == n && i == k
+is_one_origin (Module m) (Export n) = false
+is_one_origin (Export m) Here = false
+is_one_origin (Export m) (Module n) = false
+is_one_origin (Export m) (Export n) = m == n
 
 abbrev pub is_again : {T : Type 0} → Option (Known T) → Origin → Bool
 is_again None o = false

@@ -9,8 +9,8 @@ pub enum Origin {
     Here,
     /// It is a module, by the place of its table.
     Module(usize),
-    /// It is imported: the place of the table, and the name's place in it.
-    Export(usize, usize),
+    /// It is a name of a module, by the place of the module's table.
+    Export(usize),
 }
 
 /// What is known of a name of a block.

@@ -10,7 +10,7 @@ use crate::fault::{Fault, Judged, told};
 use crate::known::{Known, Origin};
 use crate::types::Types;
 use m2_tree::{Ident, Items, Pos};
-use m2_typed::{Dictionary, Meaning, Shared, Table};
+use m2_typed::{Dictionary, Meaning, Shared, Table, TypeNo};
 use std::alloc::{AllocError, Global};
 
 /// What is known at a place of a module.
@@ -19,10 +19,10 @@ pub struct Scope<T> {
     /// The tables of the definitions that the module imports.
     pub tables: Items<Shared<Table>>,
     pub types: Types,
-    /// How many variables the module has declared so far.
-    pub variables: usize,
-    /// How many procedures the module has declared so far.
-    pub procedures: usize,
+    /// The types of the variables that the module has declared so far.
+    pub variables: Items<TypeNo>,
+    /// The headings of the procedures that the module has declared so far.
+    pub procedures: Items<TypeNo>,
     /// The names of the innermost block.
     pub own: Dictionary<Known<T>>,
     /// The names of the blocks around it, the predeclared names first.
@@ -41,10 +41,7 @@ fn or_outside<'a>(
     }
 }
 
-fn known_outside<'a>(
-    outer: &'a [Dictionary<Known<Fault>>],
-    name: &[u8],
-) -> Option<&'a Known<Fault>>
+fn known_outside<'a>(outer: &'a [Dictionary<Known<Fault>>], name: &[u8]) -> Option<&'a Known<Fault>>
     ensures { option_copied result ≡ known_outside name.now outer.now }
 {
     let mut known = None;
@@ -58,7 +55,10 @@ fn known_outside<'a>(
 pub fn known_in<'a>(scope: &'a Scope<Fault>, name: &[u8]) -> Option<&'a Known<Fault>>
     ensures { option_copied result ≡ known name.now scope.now }
 {
-    or_outside(scope.own.find(name), known_outside(scope.outer.as_slice(), name))
+    or_outside(
+        scope.own.find(name),
+        known_outside(scope.outer.as_slice(), name),
+    )
 }
 
 fn means_as(at: Pos, known: Option<&Known<Fault>>) -> Result<Judged<Meaning>, AllocError>
@@ -119,7 +119,12 @@ pub fn declare(
     if !is_free(scope.own.find(name.name.as_bytes())) {
         return Ok(told(name.pos, 31));
     }
-    with_known(alloc, scope, name.name.as_bytes(), Known::Declared(Origin::Here, means))?;
+    with_known(
+        alloc,
+        scope,
+        name.name.as_bytes(),
+        Known::Declared(Origin::Here, means),
+    )?;
     Ok(Ok(()))
 }
 
@@ -162,7 +167,12 @@ pub fn finish(
     if !is_begun(scope.own.find(name.name.as_bytes())) {
         return Ok(());
     }
-    with_known(alloc, scope, name.name.as_bytes(), Known::Declared(Origin::Here, means))
+    with_known(
+        alloc,
+        scope,
+        name.name.as_bytes(),
+        Known::Declared(Origin::Here, means),
+    )
 }
 
 fn is_one_origin(first: Origin, second: Origin) -> bool
@@ -172,10 +182,10 @@ fn is_one_origin(first: Origin, second: Origin) -> bool
         Origin::Here => false,
         Origin::Module(m) => match second {
             Origin::Module(n) => m == n,
-            Origin::Here | Origin::Export(_, _) => false,
+            Origin::Here | Origin::Export(_) => false,
         },
-        Origin::Export(m, i) => match second {
-            Origin::Export(n, k) => m == n && i == k,
+        Origin::Export(m) => match second {
+            Origin::Export(n) => m == n,
             Origin::Here | Origin::Module(_) => false,
         },
     }

@@ -16,16 +16,15 @@ pub struct Types {
     pub others: Reached,
 }
 
-fn made_in(types: &Types, home: u32, number: u32) -> Option<&Made>
+fn made_in(types: &Types, home: u32, number: usize) -> Option<&Made>
     ensures { option_copied result ≡ made_in types.now home number }
 {
-    let place = usize::try_from(number).ok()?;
     if home == types.home {
-        return types.own.get(place);
+        return types.own.get(number);
     }
     match types.others.find(home) {
         None => None,
-        Some(made) => made.get().get(place),
+        Some(made) => made.get().get(number),
     }
 }
 
@@ -39,7 +38,7 @@ pub fn made_of(types: &Types, t: TypeNo) -> Option<&Made>
     }
 }
 
-fn predeclared_scalar(number: u32) -> Option<Scalar>
+fn predeclared_scalar(number: usize) -> Option<Scalar>
     ensures { result ≡ predeclared_scalar number }
 {
     match number {

@@ -204,7 +204,8 @@ fn formals(cursor: &mut Cursor) -> Result<Formals, Stop>
 /// The heading of a procedure in a definition module.
 #[tactic(auto, using(m2_grammar::proofs::Flat::formals_flat))]
 fn declared_heading(cursor: &mut Cursor) -> Result<Heading, Stop>
-    ensures { ReadsAs (λ p. heading_of p.0 p.1) (read (Procedure ▸ ident · formals ◂ Semicolon) 0 cursor.old) result cursor.new }
+    ensures { ReadsAs (λ p. heading_of p.0 p.1)
+        (read (Procedure ▸ ident · formals ◂ Semicolon) 0 cursor.old) result cursor.new }
 {
     cursor.expect(Symbol::Procedure)?;
     let name = cursor.ident()?;
@@ -305,7 +306,9 @@ fn decl(cursor: &mut Cursor, room: usize) -> Result<Decl, Stop>
 #[cycle(decl)]
 #[tactic(auto, using(m2_grammar::proofs::Rules::procedure_is))]
 fn procedure(cursor: &mut Cursor, room: usize) -> Result<Decl, Stop>
-    ensures { ReadsAs (λ p. Decl.Procedure (heading_of p.0 p.1.0) p.1.1) (read (nest (Procedure ▸ named procedure ◂ Semicolon)) room cursor.old) result cursor.new }
+    ensures { ReadsAs (λ p. Decl.Procedure (heading_of p.0 p.1.0) p.1.1)
+        (read (nest (Procedure ▸ named procedure ◂ Semicolon)) room cursor.old) result
+        cursor.new }
 {
     let inner = cursor.enter(Symbol::Procedure, room)?;
     cursor.expect(Symbol::Procedure)?;
@@ -318,17 +321,17 @@ fn procedure(cursor: &mut Cursor, room: usize) -> Result<Decl, Stop>
         formals,
         result,
     };
-    Ok(Decl::Procedure(heading, Boxed::new(cursor.alloc, block)?))
+    Ok(Decl::Procedure(heading, block))
 }
 
 /// What stands between the two names of a procedure.
 #[cycle(decl)]
 #[tactic(auto, using(m2_grammar::proofs::Flat::formals_flat))]
-fn contents(cursor: &mut Cursor, room: usize) -> Result<(Formals, Block), Stop>
+fn contents(cursor: &mut Cursor, room: usize) -> Result<(Formals, Boxed<Block>), Stop>
     ensures { Reads (read procedure room cursor.old) result cursor.new }
 {
     let formals = formals(cursor)?;
     cursor.expect(Symbol::Semicolon)?;
     let block = block(cursor, room)?;
-    Ok((formals, block))
+    Ok((formals, Boxed::new(cursor.alloc, block)?))
 }

@@ -43,7 +43,8 @@ fn held_by(is_implementation: bool, block: Block) -> Contents
 
 /// The module behind a FROM, if there is one.
 fn source(cursor: &mut Cursor) -> Result<Option<Ident>, Stop>
-    ensures { ReadsAs (option_map ident_of) (read (opt (From ▸ ident)) max_nesting cursor.old) result cursor.new }
+    ensures { ReadsAs (option_map ident_of) (read (opt (From ▸ ident)) max_nesting cursor.old) result
+        cursor.new }
 {
     if !cursor.eat(Symbol::From) {
         return Ok(None);
@@ -105,7 +106,9 @@ fn contents(cursor: &mut Cursor) -> Result<(Items<Import>, Block), Stop>
 }
 
 fn definition_module(cursor: &mut Cursor) -> Result<Module, Stop>
-    ensures { ReadsAs (λ p. module_with p.0 p.1.0 (held.Definition p.1.1)) (read (Definition ▸ Symbol.Module ▸ named definitions ◂ Dot) max_nesting cursor.old) result cursor.new }
+    ensures { ReadsAs (λ p. module_with p.0 p.1.0 (held.Definition p.1.1))
+        (read (Definition ▸ Symbol.Module ▸ named definitions ◂ Dot) max_nesting cursor.old)
+        result cursor.new }
 {
     cursor.expect(Symbol::Definition)?;
     cursor.expect(Symbol::Module)?;
@@ -122,7 +125,9 @@ fn definition_module(cursor: &mut Cursor) -> Result<Module, Stop>
 
 /// An implementation module or a program module.
 fn other_module(cursor: &mut Cursor) -> Result<Module, Stop>
-    ensures { ReadsAs (λ p. module_with p.1.0 p.1.1.0 (held_by (is_there p.0) p.1.1.1)) (read (opt (symbol Implementation) · Symbol.Module ▸ named contents ◂ Dot) max_nesting cursor.old) result cursor.new }
+    ensures { ReadsAs (λ p. module_with p.1.0 p.1.1.0 (held_by (is_there p.0) p.1.1.1))
+        (read (opt (symbol Implementation) · Symbol.Module ▸ named contents ◂ Dot) max_nesting
+        cursor.old) result cursor.new }
 {
     let is_implementation = cursor.has(Symbol::Implementation);
     cursor.expect(Symbol::Module)?;

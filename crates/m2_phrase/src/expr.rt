@@ -187,7 +187,8 @@ impl Cursor<'_> {
 
     #[cycle(expr)]
     fn negation(&mut self, room: usize) -> Result<Expr, Stop>
-        ensures { ReadsAs (λ p. Expr.Not p.0.pos p.1) (read (nest (symbol Not · factor)) room self.old) result self.new }
+        ensures { ReadsAs (λ p. Expr.Not p.0.pos p.1) (read (nest (symbol Not · factor)) room self.old)
+            result self.new }
     {
         let inner = self.enter(Symbol::Not, room)?;
         let pos = self.expect(Symbol::Not)?;
@@ -197,7 +198,8 @@ impl Cursor<'_> {
 
     #[cycle(expr)]
     fn bracketed(&mut self, room: usize) -> Result<Expr, Stop>
-        ensures { ReadsAs (λ p. Expr.Bracketed p.0.pos p.1) (read (nest (symbol LeftParen · expr ◂ RightParen)) room self.old) result self.new }
+        ensures { ReadsAs (λ p. Expr.Bracketed p.0.pos p.1)
+            (read (nest (symbol LeftParen · expr ◂ RightParen)) room self.old) result self.new }
     {
         let inner = self.enter(Symbol::LeftParen, room)?;
         let pos = self.expect(Symbol::LeftParen)?;
@@ -210,7 +212,8 @@ impl Cursor<'_> {
     #[cycle(expr)]
     #[tactic(auto, using(m2_grammar::proofs::Truth::kinds))]
     fn named(&mut self, room: usize) -> Result<Expr, Stop>
-        ensures { ReadsAs (λ p. begun_by (ident_of p.0) p.1) (read (ident · (set ∣ selectors · opt args)) room self.old) result self.new }
+        ensures { ReadsAs (λ p. begun_by (ident_of p.0) p.1)
+            (read (ident · (set ∣ selectors · opt args)) room self.old) result self.new }
     {
         let name = self.ident()?;
         if self.sees(Symbol::LeftBrace) {
@@ -334,7 +337,9 @@ impl Cursor<'_> {
     /// The place of a bracket, and the indexes in it.
     #[cycle(expr)]
     fn subscript(&mut self, room: usize) -> Result<(Pos, Items<Expr>), Stop>
-        ensures { ReadsAs (λ p. (p.0.pos, with_first p.1)) (read (nest (symbol LeftBracket · exprs ◂ RightBracket)) room self.old) result self.new }
+        ensures { ReadsAs (λ p. (p.0.pos, with_first p.1))
+            (read (nest (symbol LeftBracket · exprs ◂ RightBracket)) room self.old) result
+            self.new }
     {
         let inner = self.enter(Symbol::LeftBracket, room)?;
         let bracket = self.expect(Symbol::LeftBracket)?;

@@ -185,7 +185,9 @@ impl Cursor<'_> {
 
     /// What stands in the brackets of a procedure type, and the result.
     fn signature(&mut self) -> Result<Signature, Stop>
-        ensures { ReadsAs formals_of (read (opt (LeftParen ▸ opt parameters · RightParen ▸ result_type)) 0 self.old) result self.new }
+        ensures { ReadsAs formals_of
+            (read (opt (LeftParen ▸ opt parameters · RightParen ▸ result_type)) 0 self.old)
+            result self.new }
     {
         if !self.eat(Symbol::LeftParen) {
             return Ok((Items::new(self.alloc), None));
@@ -197,7 +199,8 @@ impl Cursor<'_> {
     }
 
     fn procedure_type(&mut self) -> Result<TypeExpr, Stop>
-        ensures { ReadsAs (λ p. procedure_type_of p.0.pos (formals_of p.1)) (read procedure_type 0 self.old) result self.new }
+        ensures { ReadsAs (λ p. procedure_type_of p.0.pos (formals_of p.1))
+            (read procedure_type 0 self.old) result self.new }
     {
         let pos = self.expect(Symbol::Procedure)?;
         let (formals, of) = self.signature()?;
@@ -220,7 +223,8 @@ impl Cursor<'_> {
     /// A type that begins with its name.
     #[tactic(auto, using(m2_grammar::proofs::Flat::qual_flat))]
     fn named_simple(&mut self, room: usize) -> Result<Simple, Stop>
-        ensures { ReadsAs (λ p. named_simple p.0 p.1) (read (qual · opt range) room self.old) result self.new }
+        ensures { ReadsAs (λ p. named_simple p.0 p.1) (read (qual · opt range) room self.old) result
+            self.new }
     {
         let name = self.qualified()?;
         if !self.sees(Symbol::LeftBracket) {
@@ -232,7 +236,8 @@ impl Cursor<'_> {
 
     #[tactic(auto, using(m2_grammar::proofs::Flat::idents_flat))]
     fn enumeration(&mut self) -> Result<Simple, Stop>
-        ensures { ReadsAs (λ p. Simple.Enumeration p.0.pos p.1) (read (symbol LeftParen · idents ◂ RightParen) 0 self.old) result self.new }
+        ensures { ReadsAs (λ p. Simple.Enumeration p.0.pos p.1)
+            (read (symbol LeftParen · idents ◂ RightParen) 0 self.old) result self.new }
     {
         let pos = self.expect(Symbol::LeftParen)?;
         let names = self.idents()?;
@@ -316,7 +321,8 @@ impl Cursor<'_> {
     #[cycle(types)]
     #[tactic(auto, using(m2_grammar::proofs::Rules::inner_dims_is))]
     fn inner_array(&mut self, room: usize) -> Result<TypeExpr, Stop>
-        ensures { ReadsAs (λ p. TypeExpr.Array (simple_pos p.0) p.0 p.1) (read (nest dims) room self.old) result self.new }
+        ensures { ReadsAs (λ p. TypeExpr.Array (simple_pos p.0) p.0 p.1) (read (nest dims) room self.old)
+            result self.new }
     {
         let inner = self.enter_inner(room)?;
         let (index, element) = self.dims(inner)?;
@@ -339,7 +345,8 @@ impl Cursor<'_> {
 
     #[cycle(types)]
     fn maybe_field(&mut self, room: usize, found: &mut Items<Field>) -> Result<(), Stop>
-        ensures { ReadsOnto option_to_list (read (opt field) room self.old) found.old result found.new self.new }
+        ensures { ReadsOnto option_to_list (read (opt field) room self.old) found.old result found.new
+            self.new }
     {
         if !self.sees_name() {
             return Ok(());

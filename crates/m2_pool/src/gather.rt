@@ -16,9 +16,30 @@ pub fn placed<W: Work, G: Gate>(
     shop: &Shop<'_, W, G>,
     all: Vec<Ran<W>>,
 ) -> Result<Vec<Option<Ran<W>>>, AllocError>
-    requires stands { All (λ r. MatchResult r.kept (λ n. IsRan (map cell_name shop.now.cells.now) shop.now.graph.now (W.defines shop.now.work.now) r.job n.cell n.known (map (λ u. u.cell) r.used.items) (map (λ u. u.known) r.used.items)) (λ b. IsMade (map cell_name shop.now.cells.now) shop.now.graph.now (W.defines shop.now.work.now) r.job b.value (map (λ u. u.cell) r.used.items) (map (λ u. u.known) r.used.items))) all.items }
+    requires stands { All (λ r.
+        MatchResult r.kept (λ n.
+        IsRan (map cell_name shop.now.cells.now) shop.now.graph.now
+        (W.defines shop.now.work.now) r.job n.cell n.known
+        (map (λ u. u.cell) r.used.items) (map (λ u. u.known) r.used.items)) (λ b.
+        IsMade (map cell_name shop.now.cells.now) shop.now.graph.now
+        (W.defines shop.now.work.now) r.job b.value (map (λ u. u.cell) r.used.items)
+        (map (λ u. u.known) r.used.items))) all.items }
     ensures count { IfOk result (λ v. length v.items ≡ length shop.now.graph.now) }
-    ensures each { IfOk result (λ v. (k : ℕ) → k < length shop.now.graph.now → MatchOption (slice_index_or v.items k None) (times k (map (λ r. r.job) all.items) ≡ 0) (λ r. (r.job ≡ k) × MatchResult r.kept (λ n. IsRan (map cell_name shop.now.cells.now) shop.now.graph.now (W.defines shop.now.work.now) r.job n.cell n.known (map (λ u. u.cell) r.used.items) (map (λ u. u.known) r.used.items)) (λ b. IsMade (map cell_name shop.now.cells.now) shop.now.graph.now (W.defines shop.now.work.now) r.job b.value (map (λ u. u.cell) r.used.items) (map (λ u. u.known) r.used.items)))) }
+    ensures each { IfOk result (λ v.
+        (k : ℕ)
+        → k < length shop.now.graph.now
+        → MatchOption (slice_index_or v.items k None) (times k (map (λ r. r.job) all.items) ≡ 0)
+        (λ r.
+        (r.job ≡ k)
+        × MatchResult r.kept (λ n.
+        IsRan (map cell_name shop.now.cells.now) shop.now.graph.now
+        (W.defines shop.now.work.now) r.job n.cell n.known
+        (map (λ u. u.cell) r.used.items)
+        (map (λ u. u.known) r.used.items)) (λ b.
+        IsMade (map cell_name shop.now.cells.now) shop.now.graph.now
+        (W.defines shop.now.work.now) r.job b.value
+        (map (λ u. u.cell) r.used.items)
+        (map (λ u. u.known) r.used.items)))) }
 {
     let mut places = no_places(alloc, shop.graph.jobs())?;
     for ran in all {
@@ -60,8 +81,22 @@ pub fn gathered<W: Work, G: Gate>(
     places: Vec<Option<Ran<W>>>,
 ) -> Result<Vec<W::Out>, AllocError>
     requires count { length places.items ≡ length shop.now.graph.now }
-    requires places { (k : ℕ) → k < length shop.now.graph.now → IfSome (slice_index_or places.items k None) (λ r. (r.job ≡ k) × MatchResult r.kept (λ n. IsRan (map cell_name shop.now.cells.now) shop.now.graph.now (W.defines shop.now.work.now) r.job n.cell n.known (map (λ u. u.cell) r.used.items) (map (λ u. u.known) r.used.items)) (λ b. IsMade (map cell_name shop.now.cells.now) shop.now.graph.now (W.defines shop.now.work.now) r.job b.value (map (λ u. u.cell) r.used.items) (map (λ u. u.known) r.used.items))) }
-    ensures { IfOk result (λ v. AreResults shop.now.graph.now (W.defines shop.now.work.now) (all_jobs (length shop.now.graph.now)) v.items) }
+    requires places { (k : ℕ)
+        → k < length shop.now.graph.now
+        → IfSome (slice_index_or places.items k None) (λ r.
+        (r.job ≡ k)
+        × MatchResult r.kept (λ n.
+        IsRan (map cell_name shop.now.cells.now) shop.now.graph.now
+        (W.defines shop.now.work.now) r.job n.cell n.known
+        (map (λ u. u.cell) r.used.items) (map (λ u. u.known) r.used.items))
+        (λ b.
+        IsMade (map cell_name shop.now.cells.now) shop.now.graph.now
+        (W.defines shop.now.work.now) r.job b.value
+        (map (λ u. u.cell) r.used.items)
+        (map (λ u. u.known) r.used.items))) }
+    ensures { IfOk result (λ v.
+        AreResults shop.now.graph.now (W.defines shop.now.work.now)
+        (all_jobs (length shop.now.graph.now)) v.items) }
 {
     let mut outs = Vec::with_capacity(alloc, shop.graph.jobs())?;
     let mut settled = Vec::with_capacity(alloc, shop.graph.jobs())?;
@@ -83,11 +118,28 @@ fn settle<W: Work, G: Gate>(
     settled: &mut Vec<Option<Note<W::Out>>>,
 ) -> Option<Result<Note<W::Out>, Box<W::Out>>>
     requires job { job < length shop.now.graph.now }
-    requires place { IfSome place (λ r. (r.job ≡ job) × MatchResult r.kept (λ n. IsRan (map cell_name shop.now.cells.now) shop.now.graph.now (W.defines shop.now.work.now) r.job n.cell n.known (map (λ u. u.cell) r.used.items) (map (λ u. u.known) r.used.items)) (λ b. IsMade (map cell_name shop.now.cells.now) shop.now.graph.now (W.defines shop.now.work.now) r.job b.value (map (λ u. u.cell) r.used.items) (map (λ u. u.known) r.used.items))) }
-    requires settled { (p : ℕ) → IfSome (slice_index_or settled.old.items p None) (λ n. IsSettled (map cell_name shop.now.cells.now) shop.now.graph.now (W.defines shop.now.work.now) p n.cell n.known) }
+    requires place { IfSome place (λ r.
+        (r.job ≡ job)
+        × MatchResult r.kept (λ n.
+        IsRan (map cell_name shop.now.cells.now) shop.now.graph.now
+        (W.defines shop.now.work.now) r.job n.cell n.known
+        (map (λ u. u.cell) r.used.items) (map (λ u. u.known) r.used.items)) (λ b.
+        IsMade (map cell_name shop.now.cells.now) shop.now.graph.now
+        (W.defines shop.now.work.now) r.job b.value
+        (map (λ u. u.cell) r.used.items) (map (λ u. u.known) r.used.items))) }
+    requires settled { (p : ℕ)
+        → IfSome (slice_index_or settled.old.items p None) (λ n.
+        IsSettled (map cell_name shop.now.cells.now) shop.now.graph.now
+        (W.defines shop.now.work.now) p n.cell n.known) }
     ensures same { settled.new.items ≡ settled.old.items }
-    ensures kept { IfSome result (λ k. MatchResult k (λ n. IsSettled (map cell_name shop.now.cells.now) shop.now.graph.now (W.defines shop.now.work.now) job n.cell n.known) (λ b. IsResult shop.now.graph.now (W.defines shop.now.work.now) job b.value)) }
-    ensures all { IfSome place (λ r. IsTrue (all_settled settled.old.items (prerequisites_of shop.now.graph.now job)) → result ≡ Some r.kept) }
+    ensures kept { IfSome result (λ k.
+        MatchResult k (λ n.
+        IsSettled (map cell_name shop.now.cells.now) shop.now.graph.now
+        (W.defines shop.now.work.now) job n.cell n.known)
+        (λ b. IsResult shop.now.graph.now (W.defines shop.now.work.now) job b.value)) }
+    ensures all { IfSome place (λ r.
+        IsTrue (all_settled settled.old.items (prerequisites_of shop.now.graph.now job))
+        → result ≡ Some r.kept) }
 {
     let Ran { job: _, kept, used } = place?;
     match kept {
@@ -116,11 +168,20 @@ fn agree<W: Work, G: Gate>(
     settled: &mut Vec<Option<Note<W::Out>>>,
 ) -> bool
     requires job { job < length shop.now.graph.now }
-    requires used { map (λ u. u.cell) used.items ≡ picked (map cell_name shop.now.cells.now) (prerequisites_of shop.now.graph.now job) }
-    requires settled { (p : ℕ) → IfSome (slice_index_or settled.old.items p None) (λ n. IsSettled (map cell_name shop.now.cells.now) shop.now.graph.now (W.defines shop.now.work.now) p n.cell n.known) }
+    requires used { map (λ u. u.cell) used.items
+        ≡ picked (map cell_name shop.now.cells.now) (prerequisites_of shop.now.graph.now job) }
+    requires settled { (p : ℕ)
+        → IfSome (slice_index_or settled.old.items p None) (λ n.
+        IsSettled (map cell_name shop.now.cells.now) shop.now.graph.now
+        (W.defines shop.now.work.now) p n.cell n.known) }
     ensures same { settled.new.items ≡ settled.old.items }
-    ensures agree { IsTrue result → (outs : List W.Out) → map (λ u. u.known) used.items ≡ map Some outs → AreResults shop.now.graph.now (W.defines shop.now.work.now) (prerequisites_of shop.now.graph.now job) outs }
-    ensures all { IsTrue (all_settled settled.old.items (prerequisites_of shop.now.graph.now job)) → IsTrue result }
+    ensures agree { IsTrue result
+        → (outs : List W.Out)
+        → map (λ u. u.known) used.items ≡ map Some outs
+        → AreResults shop.now.graph.now (W.defines shop.now.work.now)
+        (prerequisites_of shop.now.graph.now job) outs }
+    ensures all { IsTrue (all_settled settled.old.items (prerequisites_of shop.now.graph.now job))
+        → IsTrue result }
 {
     // This tells the proof that the graph is sound.
     let _jobs = shop.graph.jobs();
@@ -139,7 +200,8 @@ fn agree<W: Work, G: Gate>(
 fn agrees<T>(settled: &mut Vec<Option<Note<T>>>, job: usize, used: Note<T>) -> bool
     requires { IfSome (slice_index_or settled.old.items job None) (λ n. used.cell ≡ n.cell) }
     ensures same { settled.new.items ≡ settled.old.items }
-    ensures agree { MatchOption (slice_index_or settled.old.items job None) (result ≡ false) (λ n. (result ≡ true) × IfSome used.known (Agrees n.known)) }
+    ensures agree { MatchOption (slice_index_or settled.old.items job None) (result ≡ false)
+        (λ n. (result ≡ true) × IfSome used.known (Agrees n.known)) }
 {
     if job >= settled.len() {
         return false;
@@ -151,7 +213,8 @@ fn agrees<T>(settled: &mut Vec<Option<Note<T>>>, job: usize, used: Note<T>) -> b
 fn compared<T>(own: &mut Option<Note<T>>, used: Note<T>) -> bool
     requires { IfSome own.old (λ n. used.cell ≡ n.cell) }
     ensures same { own.new ≡ own.old }
-    ensures agree { MatchOption own.old (result ≡ false) (λ n. (result ≡ true) × IfSome used.known (Agrees n.known)) }
+    ensures agree { MatchOption own.old (result ≡ false)
+        (λ n. (result ≡ true) × IfSome used.known (Agrees n.known)) }
 {
     match own {
         Some(note) => {
@@ -172,10 +235,17 @@ fn one<W: Work, G: Gate>(
     before: &[W::Out],
 ) -> Result<(W::Out, Option<Note<W::Out>>), AllocError>
     requires job { job < length shop.now.graph.now }
-    requires kept { IfSome kept (λ k. MatchResult k (λ n. IsSettled (map cell_name shop.now.cells.now) shop.now.graph.now (W.defines shop.now.work.now) job n.cell n.known) (λ b. IsResult shop.now.graph.now (W.defines shop.now.work.now) job b.value)) }
+    requires kept { IfSome kept (λ k.
+        MatchResult k (λ n.
+        IsSettled (map cell_name shop.now.cells.now) shop.now.graph.now
+        (W.defines shop.now.work.now) job n.cell n.known)
+        (λ b. IsResult shop.now.graph.now (W.defines shop.now.work.now) job b.value)) }
     requires before { AreResults shop.now.graph.now (W.defines shop.now.work.now) (all_jobs job) before.now }
     ensures out { IfOk result (λ r. IsResult shop.now.graph.now (W.defines shop.now.work.now) job r.0) }
-    ensures note { IfOk result (λ r. IfSome r.1 (λ n. IsSettled (map cell_name shop.now.cells.now) shop.now.graph.now (W.defines shop.now.work.now) job n.cell n.known)) }
+    ensures note { IfOk result (λ r.
+        IfSome r.1 (λ n.
+        IsSettled (map cell_name shop.now.cells.now) shop.now.graph.now
+        (W.defines shop.now.work.now) job n.cell n.known)) }
 {
     match kept {
         Some(Ok(mut note)) => {
@@ -194,7 +264,8 @@ fn copied<W: Work, G: Gate>(
     note: &mut Note<W::Out>,
 ) -> Result<W::Out, AllocError>
     requires job { job < length shop.now.graph.now }
-    requires note { IsSettled (map cell_name shop.now.cells.now) shop.now.graph.now (W.defines shop.now.work.now) job note.old.cell note.old.known }
+    requires note { IsSettled (map cell_name shop.now.cells.now) shop.now.graph.now
+        (W.defines shop.now.work.now) job note.old.cell note.old.known }
     ensures same { note.new ≡ note.old }
     ensures out { IfOk result (λ x. IsResult shop.now.graph.now (W.defines shop.now.work.now) job x) }
 {

@@ -39,10 +39,13 @@ pub fn run_jobs<R: Threads + Sync, W: Work, G: Gate>(
     requires { graph.now ≡ W.graph work.now }
     ensures workers { (result ≡ Err PoolRefusal.Workers) ↔ ¬ ((1 ≤ workers) × (workers ≤ 64)) }
     ensures graph { result ≢ Err PoolRefusal.Prerequisite }
-    ensures results { IfOk result (λ r. AreResults (W.graph work.now) (W.defines work.now) (all_jobs (length (W.graph work.now))) r.0.items) }
+    ensures results { IfOk result (λ r.
+        AreResults (W.graph work.now) (W.defines work.now)
+        (all_jobs (length (W.graph work.now))) r.0.items) }
     ensures seats { IfOk result (λ r. length r.1.seats.items ≡ workers) }
     // Each list is what that seat had; all together are the jobs, each once.
-    ensures tally { IfOk result (λ r. IsTally graph.now workers (map (λ l. l.items) r.1.seats.items) r.1.gatherer.items) }
+    ensures tally { IfOk result
+        (λ r. IsTally graph.now workers (map (λ l. l.items) r.1.seats.items) r.1.gatherer.items) }
 {
     let (board, seats) = Board::open(alloc, graph, workers)?;
     let cells = empty_cells(alloc, graph.jobs())?;
@@ -64,9 +67,12 @@ pub fn run_on<R: Threads + Sync, W: Work, G: Gate>(
     requires cells { length cells.now ≡ length graph.now }
     requires seats { IsAllSeats board seats.items × (0 < board.workers) }
     requires new { All (λ s. s.had ≡ []) seats.items }
-    ensures results { IfOk result (λ r. AreResults (W.graph work.now) (W.defines work.now) (all_jobs (length (W.graph work.now))) r.0.items) }
+    ensures results { IfOk result (λ r.
+        AreResults (W.graph work.now) (W.defines work.now)
+        (all_jobs (length (W.graph work.now))) r.0.items) }
     ensures seats { IfOk result (λ r. length r.1.seats.items ≡ board.workers) }
-    ensures tally { IfOk result (λ r. IsTally graph.now board.workers (map (λ l. l.items) r.1.seats.items) r.1.gatherer.items) }
+    ensures tally { IfOk result (λ r.
+        IsTally graph.now board.workers (map (λ l. l.items) r.1.seats.items) r.1.gatherer.items) }
 {
     let owns = dealt(alloc, graph, seats.len())?;
     let stealers = stealers_of(alloc, owns.as_slice())?;
@@ -160,16 +166,45 @@ fn all_work<R: Threads + Sync, W: Work, G: Gate>(
     shop: &Shop<'_, W, G>,
     members: Vec<Member<W>>,
 ) -> Result<Vec<Result<Member<W>, AllocError>>, AllocError>
-    requires seats { All (λ m. (m.seat.board ≡ shop.now.board.now.id) × (m.seat.had ≡ []) × (m.ran.items ≡ [])) members.items }
+    requires seats { All (λ m. (m.seat.board ≡ shop.now.board.now.id) × (m.seat.had ≡ []) × (m.ran.items ≡ []))
+        members.items }
     ensures count { IfOk result (λ v. length v.items ≡ length members.items) }
-    ensures each { IfOk result (λ v. All (λ e. IfOk e (λ m. (m.seat.board ≡ shop.now.board.now.id) × (map (λ r. r.job) m.ran.items ≡ m.seat.had) × All (λ r. MatchResult r.kept (λ n. IsRan (map cell_name shop.now.cells.now) shop.now.graph.now (W.defines shop.now.work.now) r.job n.cell n.known (map (λ u. u.cell) r.used.items) (map (λ u. u.known) r.used.items)) (λ b. IsMade (map cell_name shop.now.cells.now) shop.now.graph.now (W.defines shop.now.work.now) r.job b.value (map (λ u. u.cell) r.used.items) (map (λ u. u.known) r.used.items))) m.ran.items)) v.items) }
+    ensures each { IfOk result (λ v.
+        All (λ e.
+        IfOk e (λ m.
+        (m.seat.board ≡ shop.now.board.now.id)
+        × (map (λ r. r.job) m.ran.items ≡ m.seat.had)
+        × All (λ r.
+        MatchResult r.kept (λ n.
+        IsRan (map cell_name shop.now.cells.now) shop.now.graph.now
+        (W.defines shop.now.work.now) r.job n.cell n.known
+        (map (λ u. u.cell) r.used.items)
+        (map (λ u. u.known) r.used.items)) (λ b.
+        IsMade (map cell_name shop.now.cells.now) shop.now.graph.now
+        (W.defines shop.now.work.now) r.job b.value
+        (map (λ u. u.cell) r.used.items)
+        (map (λ u. u.known) r.used.items))) m.ran.items)) v.items) }
 {
     thread::map_vec(
         rt,
         members,
         &|member: Member<W>| -> Result<Member<W>, AllocError>
-            requires { (member.seat.board ≡ shop.now.board.now.id) × (member.seat.had ≡ []) × (member.ran.items ≡ []) }
-            ensures { IfOk result (λ m. (m.seat.board ≡ shop.entry.now.board.now.id) × (map (λ r. r.job) m.ran.items ≡ m.seat.had) × All (λ r. MatchResult r.kept (λ n. IsRan (map cell_name shop.entry.now.cells.now) shop.entry.now.graph.now (W.defines shop.entry.now.work.now) r.job n.cell n.known (map (λ u. u.cell) r.used.items) (map (λ u. u.known) r.used.items)) (λ b. IsMade (map cell_name shop.entry.now.cells.now) shop.entry.now.graph.now (W.defines shop.entry.now.work.now) r.job b.value (map (λ u. u.cell) r.used.items) (map (λ u. u.known) r.used.items))) m.ran.items) }
+            requires { (member.seat.board ≡ shop.now.board.now.id)
+                × (member.seat.had ≡ [])
+                × (member.ran.items ≡ []) }
+            ensures { IfOk result (λ m.
+                (m.seat.board ≡ shop.entry.now.board.now.id)
+                × (map (λ r. r.job) m.ran.items ≡ m.seat.had)
+                × All (λ r.
+                MatchResult r.kept (λ n.
+                IsRan (map cell_name shop.entry.now.cells.now)
+                shop.entry.now.graph.now (W.defines shop.entry.now.work.now)
+                r.job n.cell n.known (map (λ u. u.cell) r.used.items)
+                (map (λ u. u.known) r.used.items)) (λ b.
+                IsMade (map cell_name shop.entry.now.cells.now)
+                shop.entry.now.graph.now (W.defines shop.entry.now.work.now)
+                r.job b.value (map (λ u. u.cell) r.used.items)
+                (map (λ u. u.known) r.used.items))) m.ran.items) }
         { work_on(alloc, shop, member) },
     )
 }
@@ -180,11 +215,32 @@ fn returned<W: Work, G: Gate>(
     shop: &Shop<'_, W, G>,
     ended: Vec<Result<Member<W>, AllocError>>,
 ) -> Result<(Vec<BoardSeat>, Vec<Ran<W>>), AllocError>
-    requires { All (λ e. IfOk e (λ m. (m.seat.board ≡ shop.now.board.now.id) × (map (λ r. r.job) m.ran.items ≡ m.seat.had) × All (λ r. MatchResult r.kept (λ n. IsRan (map cell_name shop.now.cells.now) shop.now.graph.now (W.defines shop.now.work.now) r.job n.cell n.known (map (λ u. u.cell) r.used.items) (map (λ u. u.known) r.used.items)) (λ b. IsMade (map cell_name shop.now.cells.now) shop.now.graph.now (W.defines shop.now.work.now) r.job b.value (map (λ u. u.cell) r.used.items) (map (λ u. u.known) r.used.items))) m.ran.items)) ended.items }
+    requires { All (λ e.
+        IfOk e (λ m.
+        (m.seat.board ≡ shop.now.board.now.id)
+        × (map (λ r. r.job) m.ran.items ≡ m.seat.had)
+        × All (λ r.
+        MatchResult r.kept (λ n.
+        IsRan (map cell_name shop.now.cells.now) shop.now.graph.now
+        (W.defines shop.now.work.now) r.job n.cell n.known
+        (map (λ u. u.cell) r.used.items)
+        (map (λ u. u.known) r.used.items)) (λ b.
+        IsMade (map cell_name shop.now.cells.now) shop.now.graph.now
+        (W.defines shop.now.work.now) r.job b.value
+        (map (λ u. u.cell) r.used.items)
+        (map (λ u. u.known) r.used.items))) m.ran.items)) ended.items }
     ensures count { IfOk result (λ r. length r.0.items ≡ length ended.items) }
     ensures seats { IfOk result (λ r. All (λ s. s.board ≡ shop.now.board.now.id) r.0.items) }
     ensures ran { IfOk result (λ r. map (λ a. a.job) r.1.items ≡ all_had r.0.items) }
-    ensures stands { IfOk result (λ o. All (λ r. MatchResult r.kept (λ n. IsRan (map cell_name shop.now.cells.now) shop.now.graph.now (W.defines shop.now.work.now) r.job n.cell n.known (map (λ u. u.cell) r.used.items) (map (λ u. u.known) r.used.items)) (λ b. IsMade (map cell_name shop.now.cells.now) shop.now.graph.now (W.defines shop.now.work.now) r.job b.value (map (λ u. u.cell) r.used.items) (map (λ u. u.known) r.used.items))) o.1.items) }
+    ensures stands { IfOk result (λ o.
+        All (λ r.
+        MatchResult r.kept (λ n.
+        IsRan (map cell_name shop.now.cells.now) shop.now.graph.now
+        (W.defines shop.now.work.now) r.job n.cell n.known
+        (map (λ u. u.cell) r.used.items) (map (λ u. u.known) r.used.items)) (λ b.
+        IsMade (map cell_name shop.now.cells.now) shop.now.graph.now
+        (W.defines shop.now.work.now) r.job b.value (map (λ u. u.cell) r.used.items)
+        (map (λ u. u.known) r.used.items))) o.1.items) }
 {
     let mut seats = Vec::with_capacity(alloc, ended.len())?;
     let mut all = Vec::new(alloc);

@@ -57,7 +57,8 @@ fn cut_name<'a>(
 ) -> Result<Cut<'a>, ScanError>
     requires begins { Begins class.Letter text.now }
     requires room { HasRoom pos text.now }
-    ensures taken { IfOk result (λ cut. Adds text.now pos cut.rest.now cut.pos tokens.old.items tokens.new.items) }
+    ensures taken { IfOk result
+        (λ cut. Adds text.now pos cut.rest.now cut.pos tokens.old.items tokens.new.items) }
     ensures refused { IfErr result (Stops text.now pos) }
 {
     let len = run_len(text);
@@ -76,7 +77,8 @@ fn cut_name<'a>(
 fn cut_number<'a>(text: &'a [u8], pos: Pos, tokens: &mut Vec<Token>) -> Result<Cut<'a>, ScanError>
     requires begins { Begins class.Digit text.now }
     requires room { HasRoom pos text.now }
-    ensures taken { IfOk result (λ cut. Adds text.now pos cut.rest.now cut.pos tokens.old.items tokens.new.items) }
+    ensures taken { IfOk result
+        (λ cut. Adds text.now pos cut.rest.now cut.pos tokens.old.items tokens.new.items) }
     ensures refused { IfErr result (Stops text.now pos) }
 {
     let len = run_len(text);
@@ -101,7 +103,8 @@ fn cut_string<'a>(
 ) -> Result<Cut<'a>, ScanError>
     requires begins { Begins class.Quote text.now }
     requires room { HasRoom pos text.now }
-    ensures taken { IfOk result (λ cut. Adds text.now pos cut.rest.now cut.pos tokens.old.items tokens.new.items) }
+    ensures taken { IfOk result
+        (λ cut. Adds text.now pos cut.rest.now cut.pos tokens.old.items tokens.new.items) }
     ensures refused { IfErr result (Stops text.now pos) }
 {
     let quote = text[0];
@@ -162,7 +165,8 @@ fn cut_pair<'a>(
 ) -> Result<Cut<'a>, ScanError>
     requires found { IsPair text.now (Some symbol) }
     requires room { HasRoom pos text.now }
-    ensures taken { IfOk result (λ cut. Adds text.now pos cut.rest.now cut.pos tokens.old.items tokens.new.items) }
+    ensures taken { IfOk result
+        (λ cut. Adds text.now pos cut.rest.now cut.pos tokens.old.items tokens.new.items) }
     ensures refused { IfErr result (Stops text.now pos) }
 {
     let (_, rest) = text.split_at(2);
@@ -178,7 +182,8 @@ fn cut_single<'a>(text: &'a [u8], pos: Pos, tokens: &mut Vec<Token>) -> Result<C
     requires no_comment { Opens text.now → ⊥ }
     requires no_pair { IsPair text.now None }
     requires room { HasRoom pos text.now }
-    ensures taken { IfOk result (λ cut. Adds text.now pos cut.rest.now cut.pos tokens.old.items tokens.new.items) }
+    ensures taken { IfOk result
+        (λ cut. Adds text.now pos cut.rest.now cut.pos tokens.old.items tokens.new.items) }
     ensures refused { IfErr result (Stops text.now pos) }
 {
     match single_of(text[0]) {
@@ -198,7 +203,8 @@ fn cut_sign<'a>(text: &'a [u8], pos: Pos, tokens: &mut Vec<Token>) -> Result<Cut
     requires begins { Begins class.Other text.now }
     requires no_comment { Opens text.now → ⊥ }
     requires room { HasRoom pos text.now }
-    ensures taken { IfOk result (λ cut. Adds text.now pos cut.rest.now cut.pos tokens.old.items tokens.new.items) }
+    ensures taken { IfOk result
+        (λ cut. Adds text.now pos cut.rest.now cut.pos tokens.old.items tokens.new.items) }
     ensures refused { IfErr result (Stops text.now pos) }
 {
     match pair(text) {
@@ -228,7 +234,8 @@ pub fn next_cut<'a>(
 ) -> Result<Cut<'a>, ScanError>
     requires some { 0 < length text.now }
     requires room { HasRoom pos text.now }
-    ensures taken { IfOk result (λ cut. Adds text.now pos cut.rest.now cut.pos tokens.old.items tokens.new.items) }
+    ensures taken { IfOk result
+        (λ cut. Adds text.now pos cut.rest.now cut.pos tokens.old.items tokens.new.items) }
     ensures refused { IfErr result (Stops text.now pos) }
 {
     match class_of(text[0]) {

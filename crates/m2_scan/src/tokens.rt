@@ -56,7 +56,11 @@ pub fn one_division()
 
 /// A text that divides is not refused, unless it is too long.
 pub fn tokens_or_refusal()
-    ensures { (text : Text) (ts : List Token) (r : ScanRefusal) → length text ≤ max_text → HasTokens text ts → Refuses text r → ⊥ }
+    ensures { (text : Text) (ts : List Token) (r : ScanRefusal)
+        → length text ≤ max_text
+        → HasTokens text ts
+        → Refuses text r
+        → ⊥ }
 {}
 
 /// A text has at most one refusal.

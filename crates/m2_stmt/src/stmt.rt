@@ -2,15 +2,16 @@
 
 ghost use Rattle.std.specs.Prelude.{◌≡◌, ◌∷◌, option_to_list, IfOk};
 ghost use Rattle.std.proofs.Common.{inl};
-ghost use Rattle.m2_tree.specs.declared.token.Symbol.TheVariants.{By};
+ghost use Rattle.m2_tree.specs.declared.token.Symbol.TheVariants.{By, Do, End, To};
 ghost use Rattle.m2_grammar.specs.Rule.{arm_rule, rest_rule, stmt_rule, stmts_rule};
-ghost use Rattle.m2_grammar.specs.Grammar.{◌▸◌, nest, opt};
+ghost use Rattle.m2_grammar.specs.Grammar.{◌·◌, ◌▸◌, ◌◂◌, nest, opt};
 ghost use Rattle.m2_grammar.specs.Ebnf.{
   arm,
   arms,
   case_stmt,
   elsif_part,
   else_part,
+  expr,
   for_stmt,
   if_stmt,
   loop_stmt,
@@ -20,6 +21,7 @@ ghost use Rattle.m2_grammar.specs.Ebnf.{
   simple_stmt,
   step,
   stmt,
+  stmts,
   while_stmt,
   with_stmt,
 };
@@ -70,7 +72,8 @@ fn begins_stmt(kind: Kind) -> bool
 
 /// An assignment or a call.
 fn simple_stmt(cursor: &mut Cursor, room: usize) -> Result<Stmt, Stop>
-    ensures { ReadsAs (λ p. assigned_or_called p.0 p.1) (read simple_stmt room cursor.old) result cursor.new }
+    ensures { ReadsAs (λ p. assigned_or_called p.0 p.1) (read simple_stmt room cursor.old) result
+        cursor.new }
 {
     let to = cursor.designator(room)?;
     if cursor.eat(Symbol::Assign) {
@@ -111,7 +114,8 @@ fn step(cursor: &mut Cursor, room: usize) -> Result<Option<Expr>, Stop>
 fn for_of(
     alloc: Global,
     variable: Ident,
-    (start, limit): (Expr, Expr),
+    start: Expr,
+    limit: Expr,
     step: Option<Expr>,
     body: Items<Stmt>,
 ) -> Result<Stmt, AllocError>
@@ -142,7 +146,8 @@ pub fn stmts(cursor: &mut Cursor, room: usize) -> Result<Items<Stmt>, Stop>
 
 #[cycle(stmt)]
 fn maybe_stmt(cursor: &mut Cursor, room: usize, found: &mut Items<Stmt>) -> Result<(), Stop>
-    ensures { ReadsOnto option_to_list (read (opt stmt) room cursor.old) found.old result found.new cursor.new }
+    ensures { ReadsOnto option_to_list (read (opt stmt) room cursor.old) found.old result found.new
+        cursor.new }
 {
     if !begins_stmt(cursor.peek()) {
         return Ok(());
@@ -297,7 +302,8 @@ fn arms(cursor: &mut Cursor, room: usize) -> Result<Items<Arm>, Stop>
 
 #[cycle(stmt)]
 fn maybe_arm(cursor: &mut Cursor, room: usize, found: &mut Items<Arm>) -> Result<(), Stop>
-    ensures { ReadsOnto option_to_list (read (opt arm) room cursor.old) found.old result found.new cursor.new }
+    ensures { ReadsOnto option_to_list (read (opt arm) room cursor.old) found.old result found.new
+        cursor.new }
 {
     if !begins_expr(cursor.peek()) {
         return Ok(());
@@ -366,13 +372,22 @@ fn for_stmt(cursor: &mut Cursor, room: usize) -> Result<Stmt, Stop>
     let variable = cursor.ident()?;
     cursor.expect(Symbol::Assign)?;
     let start = cursor.expr(inner)?;
+    let (limit, (step, body)) = for_rest(cursor, inner)?;
+    Ok(for_of(cursor.alloc, variable, start, limit, step, body)?)
+}
+
+/// A FOR from its TO on: the limit, the step, and what is repeated.
+#[cycle(stmt)]
+fn for_rest(cursor: &mut Cursor, room: usize) -> Result<(Expr, (Option<Expr>, Items<Stmt>)), Stop>
+    ensures { Reads (read (To ▸ expr · step · Do ▸ stmts ◂ End) room cursor.old) result cursor.new }
+{
     cursor.expect(Symbol::To)?;
-    let limit = cursor.expr(inner)?;
-    let step = step(cursor, inner)?;
+    let limit = cursor.expr(room)?;
+    let step = step(cursor, room)?;
     cursor.expect(Symbol::Do)?;
-    let body = stmts(cursor, inner)?;
+    let body = stmts(cursor, room)?;
     cursor.expect(Symbol::End)?;
-    Ok(for_of(cursor.alloc, variable, (start, limit), step, body)?)
+    Ok((limit, (step, body)))
 }
 
 #[cycle(stmt)]

@@ -21,7 +21,10 @@ pub struct Refusal {
 }
 
 impl fmt::Display for Refusal {
-    ghost output = { λ r. Some (string_bytes r.file ++ codes ":" ++ decimal r.pos.line ++ codes ":" ++ decimal r.pos.col ++ codes ": refusal " ++ decimal r.number) };
+    ghost output = { λ r.
+        Some
+        (string_bytes r.file ++ codes ":" ++ decimal r.pos.line ++ codes ":"
+        ++ decimal r.pos.col ++ codes ": refusal " ++ decimal r.number) };
 
     fn fmt<W: fmt::Write>(&self, f: &mut fmt::Formatter<W>) -> fmt::Result {
         let Pos { line, col } = self.pos;

@@ -19,8 +19,8 @@ pub struct Table {
     /// The number of the module, by which its types are known.
     pub number: u32,
     pub name: Name,
-    /// The modules that it imports, in order, each once.
-    pub imports: Items<Name>,
+    /// The modules that it imports, in order, each once, with their numbers.
+    pub imports: Dictionary<u32>,
     /// What it exports, in order.
     pub exported: Dictionary<Meaning>,
     /// The types of each module whose types can be met through it, its own first.

@@ -16,25 +16,29 @@ pub enum Home {
 #[derive(Clone, Copy, Debug, PartialEq, Eq)]
 pub struct TypeNo {
     pub home: Home,
-    pub number: u32,
+    pub number: usize,
 }
 
 pub const INTEGER: TypeNo = TypeNo {
     home: Home::Predeclared,
     number: 0,
 };
+
 pub const CARDINAL: TypeNo = TypeNo {
     home: Home::Predeclared,
     number: 1,
 };
+
 pub const BOOLEAN: TypeNo = TypeNo {
     home: Home::Predeclared,
     number: 2,
 };
+
 pub const CHAR: TypeNo = TypeNo {
     home: Home::Predeclared,
     number: 3,
 };
+
 pub const BITSET: TypeNo = TypeNo {
     home: Home::Predeclared,
     number: 4,

@@ -90,8 +90,8 @@ element g at v = numbered g at (whole_number v)
 abbrev pub is_element : (g : Gathers) → Pos → Ordinal → Result (Unit {0}) g.Told
 is_element g at a = told_where g (not (is_between (pos 0) a.number (pos 31))) at 52 (Ok tt)
 
-abbrev pub with_element : (g : Gathers) → ℕ → Pos → Value → Result ℕ g.Told
-with_element g bits at v = element g at v ▷ λ a. is_element g at a ▷ λ fine. Ok (with_span bits a.number a.number)
+abbrev pub single : (g : Gathers) → Pos → Value → Result ℕ g.Told
+single g at v = element g at v ▷ λ a. is_element g at a ▷ λ fine. Ok (with_span 0 a.number a.number)
 
 abbrev pub has_none : Option (Option TypeNo) → Bool
 has_none None = true
@@ -104,10 +104,16 @@ is_unlike a b = has_none (common a.sort b.sort)
 abbrev pub ordered : (g : Gathers) → Pos → ℤ → ℤ → Result (Unit {0}) g.Told
 ordered g at low high = told_where g (int_lt high low) at 35 (Ok tt)
 
-abbrev pub with_bounds : (g : Gathers) → ℕ → Pos → Ordinal → Pos → Ordinal → Result ℕ g.Told
-with_bounds g bits at a at' b =
-    told_where g (is_unlike a b) at' 40
-    (beside g (ordered g at a.number b.number) (beside g (is_element g at a) (is_element g at' b)) ▷ λ fine. Ok (with_span bits a.number b.number))
+abbrev pub in_set : (g : Gathers) → Pos → Result Ordinal g.Told → Result (Unit {0}) g.Told
+in_set g at a = a ▷ is_element g at
 
-abbrev pub with_range : (g : Gathers) → ℕ → Pos → Value → Pos → Value → Result ℕ g.Told
-with_range g bits at low at' high = both g (element g at low) (element g at' high) ▷ λ p. with_bounds g bits at p.0 at' p.1
+abbrev pub related : (g : Gathers) → Pos → Pos → Ordinal → Ordinal → Result (Unit {0}) g.Told
+related g at at' a b = told_where g (is_unlike a b) at' 40 (ordered g at a.number b.number)
+
+abbrev pub related_bounds : (g : Gathers) → Pos → Pos → Result Ordinal g.Told → Result Ordinal g.Told → Result (Unit {0}) g.Told
+related_bounds g at at' a b = both g a b ▷ λ p. related g at at' p.0 p.1
+
+-- a range of elements: each bound for itself, and both
+abbrev pub spanned : (g : Gathers) → Pos → Result Ordinal g.Told → Pos → Result Ordinal g.Told → Result ℕ g.Told
+spanned g at a at' b =
+    both g (both g a b) (beside g (beside g (in_set g at a) (in_set g at' b)) (related_bounds g at at' a b)) ▷ λ p. Ok (with_span 0 p.0.0.number p.0.1.number)

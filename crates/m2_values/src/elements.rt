@@ -2,7 +2,7 @@
 
 ghost use Rattle.std.specs.Prelude.{◌≡◌};
 ghost use Rattle.m2_judged.specs.Judged.{least};
-ghost use Rattle.m2_values.specs.Sets.{numbered, element, is_element, with_element, is_unlike, ordered, with_bounds, with_range};
+ghost use Rattle.m2_values.specs.Sets.{numbered, element, is_element, single, is_unlike, ordered, in_set, related, related_bounds, spanned};
 
 use crate::operand::Ordinal;
 use crate::operate::common;
@@ -22,7 +22,7 @@ fn numbered(at: Pos, x: Option<Ordinal>) -> Judged<Ordinal>
 }
 
 /// The number of an element, which is an INTEGER, a CARDINAL or a number without a type.
-fn element(at: Pos, value: &Value) -> Judged<Ordinal>
+pub fn element(at: Pos, value: &Value) -> Judged<Ordinal>
     ensures { result ≡ element least at value.now }
 {
     numbered(at, whole_number(value))
@@ -37,15 +37,15 @@ fn is_element(at: Pos, a: Ordinal) -> Judged<()>
     Ok(())
 }
 
-/// A set with one more element.
-pub fn with_element(bits: u32, at: Pos, value: &Value) -> Judged<u32>
-    ensures { result ≡ with_element least bits at value.now }
+/// The set of one element.
+pub fn single(at: Pos, value: &Value) -> Judged<u32>
+    ensures { result ≡ single least at value.now }
 {
     match element(at, value) {
         Err(fault) => Err(fault),
         Ok(a) => match is_element(at, a) {
             Err(fault) => Err(fault),
-            Ok(()) => Ok(with_span(bits, a.number, a.number)),
+            Ok(()) => Ok(with_span(0, a.number, a.number)),
         },
     }
 }
@@ -69,31 +69,41 @@ fn ordered(at: Pos, low: i64, high: i64) -> Judged<()>
     Ok(())
 }
 
-fn with_bounds(bits: u32, at: Pos, a: Ordinal, high_at: Pos, b: Ordinal) -> Judged<u32>
-    ensures { result ≡ with_bounds least bits at a high_at b }
+fn in_set(at: Pos, a: Judged<Ordinal>) -> Judged<()>
+    ensures { result ≡ in_set least at a }
+{
+    match a {
+        Err(fault) => Err(fault),
+        Ok(a) => is_element(at, a),
+    }
+}
+
+fn related(at: Pos, high_at: Pos, a: Ordinal, b: Ordinal) -> Judged<()>
+    ensures { result ≡ related least at high_at a b }
 {
     if is_unlike(a, b) {
         return told(high_at, 40);
     }
-    let within = beside(is_element(at, a), is_element(high_at, b));
-    match beside(ordered(at, a.number, b.number), within) {
+    ordered(at, a.number, b.number)
+}
+
+fn related_bounds(at: Pos, high_at: Pos, low: Judged<Ordinal>, high: Judged<Ordinal>) -> Judged<()>
+    ensures { result ≡ related_bounds least at high_at low high }
+{
+    match both(low, high) {
         Err(fault) => Err(fault),
-        Ok(()) => Ok(with_span(bits, a.number, b.number)),
+        Ok((a, b)) => related(at, high_at, a, b),
     }
 }
 
-/// A set with a range of elements.
-pub fn with_range(
-    bits: u32,
-    at: Pos,
-    low: &Value,
-    high_at: Pos,
-    high: &Value,
-) -> Judged<u32>
-    ensures { result ≡ with_range least bits at low.now high_at high.now }
+/// The set of a range of elements.
+pub fn spanned(at: Pos, low: Judged<Ordinal>, high_at: Pos, high: Judged<Ordinal>) -> Judged<u32>
+    ensures { result ≡ spanned least at low high_at high }
 {
-    match both(element(at, low), element(high_at, high)) {
+    let within = beside(in_set(at, low), in_set(high_at, high));
+    let fine = beside(within, related_bounds(at, high_at, low, high));
+    match both(both(low, high), fine) {
         Err(fault) => Err(fault),
-        Ok((a, b)) => with_bounds(bits, at, a, high_at, b),
+        Ok(((a, b), ())) => Ok(with_span(0, a.number, b.number)),
     }
 }

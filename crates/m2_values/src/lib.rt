@@ -9,10 +9,10 @@ mod operator;
 mod sets;
 mod standard;
 
-pub use elements::{with_element, with_range};
+pub use elements::{element, single, spanned};
 pub use number::fits;
-pub use operand::{Operand, Ordinal, operand_of};
-pub use operate::{combined, negated, signed};
+pub use operand::{Operand, Ordinal, operand_of, valued};
+pub use operate::{combined, common, negated, signed};
 pub use operator::{BinaryOp, add_op, mul_op};
 pub use standard::{
     absolute, bound_of, capital, character, converted, is_odd, ordinal_of, whole_number,

@@ -31,8 +31,11 @@ pub(crate) fn all_finished<'c, T: Drop>(
     jobs: &[usize],
 ) -> Result<Option<Found<'c, T>>, AllocError>
     ensures count { IfOk result (λ r. IfSome r (λ f. length f.outs.items ≡ length jobs.now)) }
-    ensures cells { IfOk result (λ r. IfSome r (λ f. map (λ n. n.cell) f.notes.items ≡ picked (map cell_name cells.now) jobs.now)) }
-    ensures known { IfOk result (λ r. IfSome r (λ f. map (λ n. n.known) f.notes.items ≡ map (λ x. Some x.now) f.outs.items)) }
+    ensures cells { IfOk result (λ r.
+        IfSome r
+        (λ f. map (λ n. n.cell) f.notes.items ≡ picked (map cell_name cells.now) jobs.now)) }
+    ensures known { IfOk result (λ r.
+        IfSome r (λ f. map (λ n. n.known) f.notes.items ≡ map (λ x. Some x.now) f.outs.items)) }
 {
     let mut outs = Vec::with_capacity(alloc, jobs.len())?;
     let mut notes = Vec::with_capacity(alloc, jobs.len())?;

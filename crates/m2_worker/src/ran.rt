@@ -25,7 +25,9 @@ impl<W: Work> Ran<W> {
         used: Vec<Note<W::Out>>,
     ) -> Ran<W>
         ensures job { (result.job ≡ job) × (result.used ≡ used) }
-        ensures kept { MatchResult result.kept (λ n. (n.cell ≡ cell_name cell.now) × (n.known ≡ Some out.value)) (λ b. b.value ≡ out.value) }
+        ensures kept { MatchResult result.kept
+            (λ n. (n.cell ≡ cell_name cell.now) × (n.known ≡ Some out.value))
+            (λ b. b.value ≡ out.value) }
     {
         let mut note = cell.note();
         let kept = match cell.set_as(out, &mut note) {

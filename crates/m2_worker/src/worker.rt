@@ -53,7 +53,15 @@ pub fn work_on<W: Work, G: Gate>(
     requires new { (member.seat.had ≡ []) × (member.ran.items ≡ []) }
     ensures seat { IfOk result (λ m. m.seat.board ≡ shop.now.board.now.id) }
     ensures ran { IfOk result (λ m. map (λ r. r.job) m.ran.items ≡ m.seat.had) }
-    ensures stands { IfOk result (λ m. All (λ r. MatchResult r.kept (λ n. IsRan (map cell_name shop.now.cells.now) shop.now.graph.now (W.defines shop.now.work.now) r.job n.cell n.known (map (λ u. u.cell) r.used.items) (map (λ u. u.known) r.used.items)) (λ b. IsMade (map cell_name shop.now.cells.now) shop.now.graph.now (W.defines shop.now.work.now) r.job b.value (map (λ u. u.cell) r.used.items) (map (λ u. u.known) r.used.items))) m.ran.items) }
+    ensures stands { IfOk result (λ m.
+        All (λ r.
+        MatchResult r.kept (λ n.
+        IsRan (map cell_name shop.now.cells.now) shop.now.graph.now
+        (W.defines shop.now.work.now) r.job n.cell n.known
+        (map (λ u. u.cell) r.used.items) (map (λ u. u.known) r.used.items)) (λ b.
+        IsMade (map cell_name shop.now.cells.now) shop.now.graph.now
+        (W.defines shop.now.work.now) r.job b.value (map (λ u. u.cell) r.used.items)
+        (map (λ u. u.known) r.used.items))) m.ran.items) }
 {
     for _ in 0..shop.graph.jobs() {
         let Some(job) = next_job(&mut member.own, shop.stealers, member.number) else {
@@ -98,10 +106,24 @@ fn attempt<W: Work, G: Gate>(
 ) -> Result<(), AllocError>
     requires seat { member.old.seat.board ≡ shop.now.board.now.id }
     requires ran { map (λ r. r.job) member.old.ran.items ≡ member.old.seat.had }
-    requires stands { All (λ r. MatchResult r.kept (λ n. IsRan (map cell_name shop.now.cells.now) shop.now.graph.now (W.defines shop.now.work.now) r.job n.cell n.known (map (λ u. u.cell) r.used.items) (map (λ u. u.known) r.used.items)) (λ b. IsMade (map cell_name shop.now.cells.now) shop.now.graph.now (W.defines shop.now.work.now) r.job b.value (map (λ u. u.cell) r.used.items) (map (λ u. u.known) r.used.items))) member.old.ran.items }
+    requires stands { All (λ r.
+        MatchResult r.kept (λ n.
+        IsRan (map cell_name shop.now.cells.now) shop.now.graph.now
+        (W.defines shop.now.work.now) r.job n.cell n.known
+        (map (λ u. u.cell) r.used.items) (map (λ u. u.known) r.used.items)) (λ b.
+        IsMade (map cell_name shop.now.cells.now) shop.now.graph.now
+        (W.defines shop.now.work.now) r.job b.value (map (λ u. u.cell) r.used.items)
+        (map (λ u. u.known) r.used.items))) member.old.ran.items }
     ensures seat { member.new.seat.board ≡ shop.now.board.now.id }
     ensures ran { OnOk result (map (λ r. r.job) member.new.ran.items ≡ member.new.seat.had) }
-    ensures stands { All (λ r. MatchResult r.kept (λ n. IsRan (map cell_name shop.now.cells.now) shop.now.graph.now (W.defines shop.now.work.now) r.job n.cell n.known (map (λ u. u.cell) r.used.items) (map (λ u. u.known) r.used.items)) (λ b. IsMade (map cell_name shop.now.cells.now) shop.now.graph.now (W.defines shop.now.work.now) r.job b.value (map (λ u. u.cell) r.used.items) (map (λ u. u.known) r.used.items))) member.new.ran.items }
+    ensures stands { All (λ r.
+        MatchResult r.kept (λ n.
+        IsRan (map cell_name shop.now.cells.now) shop.now.graph.now
+        (W.defines shop.now.work.now) r.job n.cell n.known
+        (map (λ u. u.cell) r.used.items) (map (λ u. u.known) r.used.items)) (λ b.
+        IsMade (map cell_name shop.now.cells.now) shop.now.graph.now
+        (W.defines shop.now.work.now) r.job b.value (map (λ u. u.cell) r.used.items)
+        (map (λ u. u.known) r.used.items))) member.new.ran.items }
 {
     if job >= shop.graph.jobs() {
         return Ok(());
@@ -139,10 +161,18 @@ fn run<W: Work, G: Gate>(
 ) -> Result<Ran<W>, AllocError>
     requires job { job < length shop.now.graph.now }
     requires prerequisites { length prerequisites.now ≡ length (prerequisites_of shop.now.graph.now job) }
-    requires cells { map (λ u. u.cell) used.items ≡ picked (map cell_name shop.now.cells.now) (prerequisites_of shop.now.graph.now job) }
+    requires cells { map (λ u. u.cell) used.items
+        ≡ picked (map cell_name shop.now.cells.now) (prerequisites_of shop.now.graph.now job) }
     requires known { map (λ u. u.known) used.items ≡ map (λ p. Some p.now) prerequisites.now }
     ensures job { IfOk result (λ r. r.job ≡ job) }
-    ensures ran { IfOk result (λ r. MatchResult r.kept (λ n. IsRan (map cell_name shop.now.cells.now) shop.now.graph.now (W.defines shop.now.work.now) r.job n.cell n.known (map (λ u. u.cell) r.used.items) (map (λ u. u.known) r.used.items)) (λ b. IsMade (map cell_name shop.now.cells.now) shop.now.graph.now (W.defines shop.now.work.now) r.job b.value (map (λ u. u.cell) r.used.items) (map (λ u. u.known) r.used.items))) }
+    ensures ran { IfOk result (λ r.
+        MatchResult r.kept (λ n.
+        IsRan (map cell_name shop.now.cells.now) shop.now.graph.now
+        (W.defines shop.now.work.now) r.job n.cell n.known
+        (map (λ u. u.cell) r.used.items) (map (λ u. u.known) r.used.items)) (λ b.
+        IsMade (map cell_name shop.now.cells.now) shop.now.graph.now
+        (W.defines shop.now.work.now) r.job b.value (map (λ u. u.cell) r.used.items)
+        (map (λ u. u.known) r.used.items))) }
 {
     let out = shop.work.run(job, prerequisites)?;
     let out = Box::new(alloc, out)?;

@@ -3,8 +3,8 @@
 ghost use Rattle.std.specs.Prelude.{◌≡◌, ◌<◌, ◌≤◌, ◌⊎◌, ◌↔◌, IfOk, IsErrOf};
 ghost use Rattle.m2c.specs.Build.{AreAlike, IsBuilt};
 
-use m2_jobs::Crew;
 use crate::outcome::outcome_of;
+use m2_jobs::Crew;
 use m2_read::SourceFile;
 use m2_tree::Refusal;
 use m2_worker::Gate;
@@ -83,11 +83,13 @@ pub fn build<R: Threads + Sync, G: Gate>(
     gate: &G,
 ) -> Result<Outcome, BuildFault>
     ensures workers { IsErrOf result BuildFault.Workers ↔ ((options.workers < 1) ⊎ (64 < options.workers)) }
-    ensures pages { (1 ≤ options.workers) × (options.workers ≤ 64) → IsErrOf result BuildFault.Pages ↔ ((options.pages < 1) ⊎ (1024 < options.pages)) }
+    ensures pages { (1 ≤ options.workers) × (options.workers ≤ 64)
+        → IsErrOf result BuildFault.Pages ↔ ((options.pages < 1) ⊎ (1024 < options.pages)) }
     // The outcome that the files have; the modules do what the program does.
     ensures built { IfOk result (IsBuilt files.now options.pages) }
     // The files have one outcome, so workers, gates and schedules have no part in it.
-    ensures one { IfOk result (λ o. (other : Outcome) → IsBuilt files.now options.pages other → AreAlike o other) }
+    ensures one { IfOk result
+        (λ o. (other : Outcome) → IsBuilt files.now options.pages other → AreAlike o other) }
 {
     if options.workers < 1 || options.workers > 64 {
         return Err(BuildFault::Workers);

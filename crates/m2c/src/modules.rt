@@ -4,23 +4,17 @@ ghost use Rattle.std.specs.Prelude.{◌≡◌, ◌++◌, ◌≤◌, IfOk, OnOk, 
 ghost use Rattle.std.specs.List.{flat_map, list_any};
 ghost use Rattle.std.specs.Str.{bytes_eq};
 ghost use Rattle.m2_graph.specs.Imports.{definition_of, defines, first_that, imported, is_definition, named_by};
-ghost use Rattle.m2_graph.specs.Refused.{is_console};
 ghost use Rattle.m2_emit.specs.Sources.{program};
 ghost use Rattle.m2_graph_laws.specs.Started.{all_imported, definition_imported};
 ghost use Rattle.m2c.specs.Modules.{body_in, each_once, program_at, with_name};
 ghost use Rattle.m2_jobs.specs.Lent.{modules_lent};
 
-use m2_check::printed_of;
+use m2_check::{is_same, printed_of};
 use m2_emit::Source;
+use m2_graph::is_console;
 use m2_tree::{Contents, Ident, Import, Items, Module, Name};
 use sqlite_items::at;
 use std::alloc::{AllocError, Global};
-
-fn is_same(name: &[u8], other: &[u8]) -> bool
-    ensures { result ≡ bytes_eq name.now other.now }
-{
-    name == other
-}
 
 fn is_among(names: &[Name], name: &[u8]) -> bool
     ensures { result ≡ list_any (λ other. bytes_eq other name.now) names.now }
@@ -33,18 +27,12 @@ fn is_among(names: &[Name], name: &[u8]) -> bool
     false
 }
 
-fn is_console(name: &[u8]) -> bool
-    ensures { result ≡ is_console name.now }
-{
-    is_same(name, b"Console")
-}
-
 /// Adds a name, if it is new and not Console's.
 fn add_name(names: &mut Items<Name>, ident: &Ident) -> Result<(), AllocError>
     ensures { OnOk result (names.new ≡ with_name names.old ident.now) }
 {
     let name = ident.name.as_bytes();
-    if is_console(name) || is_among(names.as_slice(), name) {
+    if is_console(&ident.name) || is_among(names.as_slice(), name) {
         return Ok(());
     }
     names.push(ident.name.clone()?)?;
@@ -61,7 +49,8 @@ fn add_names(names: &mut Items<Name>, idents: &[Ident]) -> Result<(), AllocError
 }
 
 fn add_import(names: &mut Items<Name>, import: &Import) -> Result<(), AllocError>
-    ensures { OnOk result (names.new ≡ fold with_name names.old (named_by import.now.from import.now.names)) }
+    ensures { OnOk result
+        (names.new ≡ fold with_name names.old (named_by import.now.from import.now.names)) }
 {
     match &import.from {
         Some(from) => add_name(names, from),
@@ -70,7 +59,9 @@ fn add_import(names: &mut Items<Name>, import: &Import) -> Result<(), AllocError
 }
 
 fn add_imports(names: &mut Items<Name>, imports: &[Import]) -> Result<(), AllocError>
-    ensures { OnOk result (names.new ≡ fold with_name names.old (flat_map (λ i. named_by i.from i.names) imports.now)) }
+    ensures { OnOk result
+        (names.new
+        ≡ fold with_name names.old (flat_map (λ i. named_by i.from i.names) imports.now)) }
 {
     for import in imports {
         add_import(names, import)?;
@@ -105,7 +96,9 @@ fn add_imported_at(
     trees: &[(&str, &Module)],
     place: Option<usize>,
 ) -> Result<(), AllocError>
-    ensures { OnOk result (names.new ≡ fold with_name names.old (definition_imported (modules_lent trees.now) place)) }
+    ensures { OnOk result
+        (names.new
+        ≡ fold with_name names.old (definition_imported (modules_lent trees.now) place)) }
 {
     match place {
         None => Ok(()),
@@ -138,7 +131,9 @@ fn add_body(
     trees: &[(&str, &Module)],
     tree: &Module,
 ) -> Result<(), AllocError>
-    ensures { OnOk result (program sources.new.items ≡ program sources.old.items ++ body_in (modules_lent trees.now) (Some tree.now)) }
+    ensures { OnOk result
+        (program sources.new.items
+        ≡ program sources.old.items ++ body_in (modules_lent trees.now) (Some tree.now)) }
 {
     match printed_of(alloc, tree)? {
         None => Ok(()),
@@ -160,7 +155,9 @@ fn add_body_at(
     trees: &[(&str, &Module)],
     place: usize,
 ) -> Result<(), AllocError>
-    ensures { OnOk result (program sources.new.items ≡ program sources.old.items ++ body_in (modules_lent trees.now) (slice_get (modules_lent trees.now) place)) }
+    ensures { OnOk result
+        (program sources.new.items ≡ program sources.old.items
+        ++ body_in (modules_lent trees.now) (slice_get (modules_lent trees.now) place)) }
 {
     match at(trees, place) {
         None => Ok(()),
@@ -174,7 +171,8 @@ pub fn program_at(
     trees: &[(&str, &Module)],
     starts: &[usize],
 ) -> Result<Vec<Source>, AllocError>
-    ensures { IfOk result (λ sources. program sources.items ≡ program_at (modules_lent trees.now) starts.now) }
+    ensures { IfOk result
+        (λ sources. program sources.items ≡ program_at (modules_lent trees.now) starts.now) }
 {
     let mut sources = Vec::new(alloc);
     for place in starts {

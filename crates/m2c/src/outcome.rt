@@ -12,7 +12,6 @@ ghost use Rattle.m2c.specs.Build.{built_of, named, told, refused_of, trees_of, u
 ghost use Rattle.m2_jobs.specs.Lent.{lent};
 ghost use Rattle.m2_read.specs.Reading.{AreRead};
 
-use m2_jobs::Crew;
 use crate::files::Outcome;
 use crate::modules::program_at;
 use crate::order::in_order;
@@ -20,6 +19,7 @@ use crate::refusals::{refused_of, unknown_of};
 use crate::texts::trees_of;
 use m2_emit::{Source, emit, emit_link};
 use m2_graph::{Graph, GraphError};
+use m2_jobs::Crew;
 use m2_read::{Read, SourceFile};
 use m2_tree::{Module, Refusal};
 use m2_worker::Gate;
@@ -40,7 +40,9 @@ fn add_module(
     source: &Source,
 ) -> Result<(), AllocError>
     requires { IsName source.now.name }
-    ensures module { OnOk result (map named modules.new.items ≡ map named modules.old.items ++ (source.now.name, module_spelling (body_module (body source.now))) ∷ []) }
+    ensures module { OnOk result
+        (map named modules.new.items ≡ map named modules.old.items
+        ++ (source.now.name, module_spelling (body_module (body source.now))) ∷ []) }
     ensures small { OnOk result (All (λ b. b < 256) source.now.printed) }
 {
     let name = name_of(alloc, source)?;
@@ -72,8 +74,10 @@ fn compile(
 ) -> Result<Outcome, AllocError>
     requires least { 1 ≤ pages }
     requires most { pages ≤ 1024 }
-    requires graph { HaveGraph files.now (lent trees.now) graph.now.files.items (map (λ j. j.items) graph.now.jobs.items) graph.now.starts.items }
-    requires none { unknown (lent trees.now) graph.now.files.items (map (λ j. j.items) graph.now.jobs.items) ≡ [] }
+    requires graph { HaveGraph files.now (lent trees.now) graph.now.files.items
+        (map (λ j. j.items) graph.now.jobs.items) graph.now.starts.items }
+    requires none { unknown (lent trees.now) graph.now.files.items (map (λ j. j.items) graph.now.jobs.items)
+        ≡ [] }
     ensures { IfOk result (IsBuilt files.now pages) }
 {
     let sources = program_at(alloc, trees, graph.start_order())?;
@@ -88,8 +92,11 @@ fn unknown<R: Threads + Sync, G: Gate>(
     trees: &[(&str, &Module)],
     graph: &Graph,
 ) -> Result<Vec<Refusal>, AllocError>
-    requires { IsGraph (numbered 0 (lent trees.now)) graph.now.files.items (map (λ j. j.items) graph.now.jobs.items) graph.now.starts.items }
-    ensures { IfOk result (λ rs. map told rs.items ≡ unknown (lent trees.now) graph.now.files.items (map (λ j. j.items) graph.now.jobs.items)) }
+    requires { IsGraph (numbered 0 (lent trees.now)) graph.now.files.items
+        (map (λ j. j.items) graph.now.jobs.items) graph.now.starts.items }
+    ensures { IfOk result (λ rs.
+        map told rs.items ≡ unknown (lent trees.now) graph.now.files.items
+        (map (λ j. j.items) graph.now.jobs.items)) }
 {
     let dones = crew.done_all(trees, graph)?;
     unknown_of(crew.alloc, trees, graph.files(), &dones)
@@ -105,7 +112,8 @@ fn of_graph<R: Threads + Sync, G: Gate>(
 ) -> Result<Outcome, AllocError>
     requires least { 1 ≤ pages }
     requires most { pages ≤ 1024 }
-    requires graph { HaveGraph files.now (lent trees.now) graph.now.files.items (map (λ j. j.items) graph.now.jobs.items) graph.now.starts.items }
+    requires graph { HaveGraph files.now (lent trees.now) graph.now.files.items
+        (map (λ j. j.items) graph.now.jobs.items) graph.now.starts.items }
     ensures { IfOk result (IsBuilt files.now pages) }
 {
     let refusals = unknown(crew, trees, graph)?;

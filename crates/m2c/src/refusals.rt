@@ -29,7 +29,9 @@ fn add_refused(
     file: &SourceFile,
     read: &Read,
 ) -> Result<(), AllocError>
-    ensures { OnOk result (map told refusals.new.items ≡ map told refusals.old.items ++ refused_in (string_bytes file.now.name) read.now) }
+    ensures { OnOk result
+        (map told refusals.new.items
+        ≡ map told refusals.old.items ++ refused_in (string_bytes file.now.name) read.now) }
 {
     match read {
         Read::Parsed(_) => Ok(()),
@@ -74,7 +76,8 @@ fn add_unknown(
     file: &str,
     done: Done,
 ) -> Result<(), AllocError>
-    ensures { OnOk result (map told refusals.new.items ≡ map told refusals.old.items ++ unknown_in file.now done) }
+    ensures { OnOk result
+        (map told refusals.new.items ≡ map told refusals.old.items ++ unknown_in file.now done) }
 {
     match done {
         Done::Known | Done::Blocked => Ok(()),

@@ -15,7 +15,9 @@ fn add_tree<'a>(
     file: &'a SourceFile,
     read: &'a Read,
 ) -> Result<(), AllocError>
-    ensures { OnOk result (lent trees.new.items ≡ lent trees.old.items ++ tree_in (string_bytes file.now.name) read.now) }
+    ensures { OnOk result
+        (lent trees.new.items
+        ≡ lent trees.old.items ++ tree_in (string_bytes file.now.name) read.now) }
 {
     match read {
         Read::Refused(_, _) => Ok(()),

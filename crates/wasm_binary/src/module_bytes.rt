@@ -143,7 +143,8 @@ fn module_at(alloc: Global, bytes: &[u8]) -> Result<WModule, WFault>
 /// byte decides that cannot continue a spelling or that breaks a stated size.
 pub fn read_module(alloc: Global, bytes: &[u8]) -> Result<WModule, WFault>
     // A module exactly where the bytes spell it.
-    ensures decided { MatchResult result (λ m. Spells bytes.now m) (λ e. (e ≡ NoMemory) ⊎ ((m : WModule) → ¬ (Spells bytes.now m))) }
+    ensures decided { MatchResult result (λ m. Spells bytes.now m)
+        (λ e. (e ≡ NoMemory) ⊎ ((m : WModule) → ¬ (Spells bytes.now m))) }
     // Which fault it is.
     ensures exact { Gives (λ m. (m, [])) result (module_at bytes.now) }
     // No memory is asked for before the header is there.

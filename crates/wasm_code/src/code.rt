@@ -68,7 +68,8 @@ fn put_op(pile: &mut Vec<Op>, op: Op) -> Result<(), AllocError>
 #[inline(always)]
 fn put<'a>(pile: &mut Vec<Op>, op: Op, rest: &'a [u8]) -> Result<&'a [u8], WFault>
     requires { is_plain op ≡ true }
-    ensures { Gives (λ x. (pile.new.items, x.now)) result (onto pile.old.items (Ok (head tree op [], rest.now))) }
+    ensures { Gives (λ x. (pile.new.items, x.now)) result
+        (onto pile.old.items (Ok (head tree op [], rest.now))) }
 {
     put_op(pile, op)?;
     Ok(rest)
@@ -113,7 +114,8 @@ fn put_table<'a>(
     last: u32,
     rest: &'a [u8],
 ) -> Result<&'a [u8], WFault>
-    ensures { Gives (λ x. (pile.new.items, x.now)) result (onto pile.old.items (Ok (instr.BrTable labels.now last, rest.now))) }
+    ensures { Gives (λ x. (pile.new.items, x.now)) result
+        (onto pile.old.items (Ok (instr.BrTable labels.now last, rest.now))) }
 {
     let Ok(count) = u32::try_from(labels.len()) else {
         return Err(WFault::NoMemory);
@@ -127,7 +129,8 @@ fn put_table<'a>(
 #[inline(always)]
 #[tactic(auto, unfolding(crate::specs::Instructions::memory_of))]
 fn memory_onto<'a>(pile: &mut Vec<Op>, opcode: u8, bytes: &'a [u8]) -> Result<&'a [u8], WFault>
-    ensures { Gives (λ x. (pile.new.items, x.now)) result (onto pile.old.items (memory_of opcode bytes.now)) }
+    ensures { Gives (λ x. (pile.new.items, x.now)) result
+        (onto pile.old.items (memory_of opcode bytes.now)) }
 {
     if let Some(load) = load_of(opcode) {
         let rest = no_offset(bytes)?;
@@ -147,7 +150,8 @@ fn memory_onto<'a>(pile: &mut Vec<Op>, opcode: u8, bytes: &'a [u8]) -> Result<&'
 #[inline(always)]
 #[tactic(auto, unfolding(crate::specs::Instructions::variable_of))]
 fn variable_onto<'a>(pile: &mut Vec<Op>, opcode: u8, bytes: &'a [u8]) -> Result<&'a [u8], WFault>
-    ensures { Gives (λ x. (pile.new.items, x.now)) result (onto pile.old.items (variable_of opcode bytes.now)) }
+    ensures { Gives (λ x. (pile.new.items, x.now)) result
+        (onto pile.old.items (variable_of opcode bytes.now)) }
 {
     match opcode {
         0x1A => put(pile, Op::Drop, bytes),
@@ -188,7 +192,8 @@ fn plain_onto<'a>(
     opcode: u8,
     bytes: &'a [u8],
 ) -> Result<&'a [u8], WFault>
-    ensures { Gives (λ x. (pile.new.items, x.now)) result (onto pile.old.items (plain_of opcode bytes.now)) }
+    ensures { Gives (λ x. (pile.new.items, x.now)) result
+        (onto pile.old.items (plain_of opcode bytes.now)) }
 {
     match opcode {
         0x00 => put(pile, Op::Unreachable, bytes),
@@ -262,7 +267,9 @@ fn close_one(
     kind: Option<ValueType>,
 ) -> Result<(), AllocError>
     requires { place < length pile.old.items }
-    ensures { OnOk result (pile.new.items ≡ slice_set pile.old.items place (one_sided_op opcode kind (length pile.old.items - (place + 1)))) }
+    ensures { OnOk result
+        (pile.new.items ≡ slice_set pile.old.items place
+        (one_sided_op opcode kind (length pile.old.items - (place + 1)))) }
 {
     let Ok(count) = u32::try_from(pile.len() - (place + 1)) else {
         return Err(AllocError);
@@ -280,7 +287,9 @@ fn close_two(
 ) -> Result<(), AllocError>
     requires first { place < second }
     requires second { second ≤ length pile.old.items }
-    ensures { OnOk result (pile.new.items ≡ slice_set pile.old.items place (IfElse kind (second - (place + 1)) (length pile.old.items - second))) }
+    ensures { OnOk result
+        (pile.new.items ≡ slice_set pile.old.items place
+        (IfElse kind (second - (place + 1)) (length pile.old.items - second))) }
 {
     let Ok(count) = u32::try_from(second - (place + 1)) else {
         return Err(AllocError);
@@ -303,7 +312,8 @@ fn sides_onto<'a>(
     kind: Option<ValueType>,
     bytes: &'a [u8],
 ) -> Result<&'a [u8], WFault>
-    ensures { Gives (λ x. (pile.new.items, x.now)) result (onto pile.old.items (sides_of levels opcode kind bytes.now)) }
+    ensures { Gives (λ x. (pile.new.items, x.now)) result
+        (onto pile.old.items (sides_of levels opcode kind bytes.now)) }
 {
     let place = pile.len();
     put_op(pile, Op::Unreachable)?;
@@ -335,7 +345,8 @@ fn opened_onto<'a>(
     opcode: u8,
     bytes: &'a [u8],
 ) -> Result<&'a [u8], WFault>
-    ensures { Gives (λ x. (pile.new.items, x.now)) result (onto pile.old.items (opened levels opcode bytes.now)) }
+    ensures { Gives (λ x. (pile.new.items, x.now)) result
+        (onto pile.old.items (opened levels opcode bytes.now)) }
 {
     if levels == 0 {
         return Err(WFault::OutsideProfile);
@@ -353,7 +364,8 @@ fn instr_onto<'a>(
     opcode: u8,
     bytes: &'a [u8],
 ) -> Result<&'a [u8], WFault>
-    ensures { Gives (λ x. (pile.new.items, x.now)) result (onto pile.old.items (instr_of (opened levels) opcode bytes.now)) }
+    ensures { Gives (λ x. (pile.new.items, x.now)) result
+        (onto pile.old.items (instr_of (opened levels) opcode bytes.now)) }
 {
     if opens(opcode) {
         opened_onto(alloc, levels, pile, opcode, bytes)
@@ -370,7 +382,8 @@ fn code_in<'a>(
     pile: &mut Vec<Op>,
     bytes: &'a [u8],
 ) -> Result<(Ending, &'a [u8]), WFault>
-    ensures { Gives (λ x. ((pile.new.items, x.0), x.1.now)) result (onto_sequence pile.old.items (code_in levels bytes.now)) }
+    ensures { Gives (λ x. ((pile.new.items, x.0), x.1.now)) result
+        (onto_sequence pile.old.items (code_in levels bytes.now)) }
 {
     let mut rest = bytes;
     for _ in 0..bytes.len() {
@@ -391,7 +404,8 @@ fn code_within<'a>(
     pile: &mut Vec<Op>,
     bytes: &'a [u8],
 ) -> Result<&'a [u8], WFault>
-    ensures { Gives (λ x. (pile.new.items, x.now)) result (onto_code pile.old.items ((code_within levels).reading bytes.now)) }
+    ensures { Gives (λ x. (pile.new.items, x.now)) result
+        (onto_code pile.old.items ((code_within levels).reading bytes.now)) }
 {
     match code_in(alloc, levels, pile, bytes)? {
         (Ending::End, rest) => Ok(rest),
@@ -469,7 +483,10 @@ fn write_labels(out: &mut Writer, labels: &[Op]) -> Result<(), AllocError>
 }
 
 fn write_table(out: &mut Writer, labels: &[Op], last: u32) -> Result<(), AllocError>
-    ensures { OnOk result (out.new ≡ out.old ++ (0x0E ∷ (vector unsigned).spelling (map label_of labels.now) ++ unsigned.spelling last)) }
+    ensures { OnOk result
+        (out.new ≡ out.old
+        ++ (0x0E ∷ (vector unsigned).spelling (map label_of labels.now)
+        ++ unsigned.spelling last)) }
 {
     out.byte(0x0E)?;
     write_labels(out, labels)?;
@@ -498,7 +515,9 @@ fn write_opened(
     kind: Option<ValueType>,
     ops: &[Op],
 ) -> Result<(), AllocError>
-    ensures { OnOk result (out.new ≡ out.old ++ (opcode ∷ block_type.spelling kind ++ flat_map instr_spelling (tree ops.now))) }
+    ensures { OnOk result
+        (out.new ≡ out.old
+        ++ (opcode ∷ block_type.spelling kind ++ flat_map instr_spelling (tree ops.now))) }
 {
     out.byte(opcode)?;
     write_block_type(out, kind)?;
@@ -513,7 +532,10 @@ fn write_block(
     kind: Option<ValueType>,
     ops: &[Op],
 ) -> Result<(), AllocError>
-    ensures { OnOk result (out.new ≡ out.old ++ (opcode ∷ block_type.spelling kind ++ flat_map instr_spelling (tree ops.now) ++ 0x0B ∷ [])) }
+    ensures { OnOk result
+        (out.new ≡ out.old
+        ++ (opcode ∷ block_type.spelling kind ++ flat_map instr_spelling (tree ops.now)
+        ++ 0x0B ∷ [])) }
 {
     write_opened(out, opcode, kind, ops)?;
     out.byte(0x0B)
@@ -527,7 +549,10 @@ fn write_sides(
     ops: &[Op],
     others: &[Op],
 ) -> Result<(), AllocError>
-    ensures { OnOk result (out.new ≡ out.old ++ (0x04 ∷ block_type.spelling kind ++ flat_map instr_spelling (tree ops.now) ++ (0x05 ∷ flat_map instr_spelling (tree others.now) ++ 0x0B ∷ []))) }
+    ensures { OnOk result
+        (out.new ≡ out.old
+        ++ (0x04 ∷ block_type.spelling kind ++ flat_map instr_spelling (tree ops.now)
+        ++ (0x05 ∷ flat_map instr_spelling (tree others.now) ++ 0x0B ∷ []))) }
 {
     write_opened(out, 0x04, kind, ops)?;
     out.byte(0x05)?;

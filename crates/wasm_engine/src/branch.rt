@@ -22,7 +22,10 @@ pub fn inside<'a>(
     again: &'a [Op],
     body: &'a [Op],
 ) -> Result<Reduced, AllocError>
-    ensures { IfOk result (λ r. progress r machine.new ≡ inside (store_of machine.old) (activation machine.old.now) (callers_of machine.old) arity (tree again.now) (tree body.now)) }
+    ensures { IfOk result (λ r.
+        progress r machine.new
+        ≡ inside (store_of machine.old) (activation machine.old.now)
+        (callers_of machine.old) arity (tree again.now) (tree body.now)) }
 {
     let label = Label {
         arity,
@@ -44,7 +47,11 @@ pub fn block<'a>(
     ahead: &'a [Op],
     count: u32,
 ) -> Result<Reduced, AllocError>
-    ensures { IfOk result (λ r. progress r machine.new ≡ inside (store_of machine.old) (record (activation machine.old.now) { rest = tree (drop count ahead.now) }) (callers_of machine.old) arity (tree (drop count ahead.now)) (tree (take count ahead.now))) }
+    ensures { IfOk result (λ r.
+        progress r machine.new ≡ inside (store_of machine.old)
+        (record (activation machine.old.now) { rest = tree (drop count ahead.now) })
+        (callers_of machine.old) arity (tree (drop count ahead.now))
+        (tree (take count ahead.now))) }
 {
     let (body, behind) = split_ops(ahead, count);
     machine.now.rest = behind;
@@ -59,7 +66,10 @@ pub fn again<'a>(
     ahead: &'a [Op],
     count: u32,
 ) -> Result<Reduced, AllocError>
-    ensures { IfOk result (λ r. progress r machine.new ≡ inside (store_of machine.old) (record (activation machine.old.now) { rest = tree (drop count ahead.now) }) (callers_of machine.old) 0 (tree code.now) (tree (take count ahead.now))) }
+    ensures { IfOk result (λ r.
+        progress r machine.new ≡ inside (store_of machine.old)
+        (record (activation machine.old.now) { rest = tree (drop count ahead.now) })
+        (callers_of machine.old) 0 (tree code.now) (tree (take count ahead.now))) }
 {
     let (body, behind) = split_ops(ahead, count);
     machine.now.rest = behind;
@@ -69,7 +79,9 @@ pub fn again<'a>(
 /// Takes off the labels up to the one of this number, counted from the innermost one, and that one too.
 fn pop_labels<'a>(labels: &mut Vec<Label<'a>>, label: usize) -> Option<Label<'a>>
     requires { label ≤ length labels.old.items }
-    ensures { innermost labels.new.items result ≡ split_last (take (length (map label_of labels.old.items) - label) (map label_of labels.old.items)) }
+    ensures { innermost labels.new.items result ≡ split_last
+        (take (length (map label_of labels.old.items) - label)
+        (map label_of labels.old.items)) }
 {
     labels.truncate(labels.len() - label);
     labels.pop()
@@ -79,7 +91,9 @@ fn pop_labels<'a>(labels: &mut Vec<Label<'a>>, label: usize) -> Option<Label<'a>
 #[inline(always)]
 fn go_to<'a>(machine: &mut Machine<'a>, label: Label<'a>) -> Reduced
     requires { label.height + label.arity ≤ length machine.old.now.stack.known.values }
-    ensures { progress result machine.new ≡ found (store_of machine.old) (activation machine.old.now) (callers_of machine.old) (Some (map label_of machine.old.now.labels.items, label_of label.entry)) }
+    ensures { progress result machine.new
+        ≡ found (store_of machine.old) (activation machine.old.now) (callers_of machine.old)
+        (Some (map label_of machine.old.now.labels.items, label_of label.entry)) }
 {
     machine.now.stack.keep(label.height, label.arity);
     machine.now.rest = label.again;
@@ -89,8 +103,11 @@ fn go_to<'a>(machine: &mut Machine<'a>, label: Label<'a>) -> Reduced
 /// A branch to the label of this number, counted from the innermost one.
 #[inline(always)]
 pub fn branch(machine: &mut Machine<'_>, label: u32) -> Result<Reduced, AllocError>
-    requires { ∥ CanBranch (activation machine.old.now).labels machine.old.now.arity machine.old.now.stack.known.values label ∥₁ }
-    ensures { IfOk result (λ r. progress r machine.new ≡ branched (store_of machine.old) (activation machine.old.now) (callers_of machine.old) label) }
+    requires { ∥ CanBranch (activation machine.old.now).labels machine.old.now.arity
+        machine.old.now.stack.known.values label ∥₁ }
+    ensures { IfOk result (λ r.
+        progress r machine.new ≡ branched (store_of machine.old) (activation machine.old.now)
+        (callers_of machine.old) label) }
 {
     match pop_labels(&mut machine.now.labels, label as usize) {
         None => leave(machine),
@@ -102,8 +119,13 @@ pub fn branch(machine: &mut Machine<'_>, label: u32) -> Result<Reduced, AllocErr
 #[tactic(auto, using(crate::proofs::Opened::out_br_if))]
 #[inline(always)]
 pub fn branch_if(machine: &mut Machine<'_>, label: u32) -> Result<Reduced, AllocError>
-    requires { ∥ CanBranchIf (activation machine.old.now).labels machine.old.now.arity machine.old.now.stack.known.values label ∥₁ }
-    ensures { IfOk result (λ r. (modules : List WModule) → progress r machine.new ≡ begun modules (store_of machine.old) (activation machine.old.now) (callers_of machine.old) (BrIf label)) }
+    requires { ∥ CanBranchIf (activation machine.old.now).labels machine.old.now.arity
+        machine.old.now.stack.known.values label ∥₁ }
+    ensures { IfOk result (λ r.
+        (modules : List WModule)
+        → progress r machine.new
+        ≡ begun modules (store_of machine.old) (activation machine.old.now)
+        (callers_of machine.old) (BrIf label)) }
 {
     if machine.now.stack.pop_i32() == 0 {
         return Ok(Reduced::On);
@@ -131,8 +153,13 @@ pub fn branch_table(
     branches: &[Op],
     default: u32,
 ) -> Result<Reduced, AllocError>
-    requires { ∥ CanBranchTable (activation machine.old.now).labels machine.old.now.arity machine.old.now.stack.known.values (map code.label_of branches.now) default ∥₁ }
-    ensures { IfOk result (λ r. (modules : List WModule) → progress r machine.new ≡ begun modules (store_of machine.old) (activation machine.old.now) (callers_of machine.old) (BrTable (map code.label_of branches.now) default)) }
+    requires { ∥ CanBranchTable (activation machine.old.now).labels machine.old.now.arity
+        machine.old.now.stack.known.values (map code.label_of branches.now) default ∥₁ }
+    ensures { IfOk result (λ r.
+        (modules : List WModule)
+        → progress r machine.new
+        ≡ begun modules (store_of machine.old) (activation machine.old.now)
+        (callers_of machine.old) (BrTable (map code.label_of branches.now) default)) }
 {
     let number = machine.now.stack.pop_i32();
     branch(machine, chosen(branches, number, default))
@@ -146,8 +173,14 @@ pub fn table<'a>(
     count: u32,
     default: u32,
 ) -> Result<Reduced, AllocError>
-    requires { ∥ CanBranchTable (activation machine.old.now).labels machine.old.now.arity machine.old.now.stack.known.values (map code.label_of (take count ahead.now)) default ∥₁ }
-    ensures { IfOk result (λ r. (modules : List WModule) → progress r machine.new ≡ begun modules (store_of machine.old) (record (activation machine.old.now) { rest = tree (drop count ahead.now) }) (callers_of machine.old) (BrTable (map code.label_of (take count ahead.now)) default)) }
+    requires { ∥ CanBranchTable (activation machine.old.now).labels machine.old.now.arity
+        machine.old.now.stack.known.values (map code.label_of (take count ahead.now)) default ∥₁ }
+    ensures { IfOk result (λ r.
+        (modules : List WModule)
+        → progress r machine.new ≡ begun modules (store_of machine.old)
+        (record (activation machine.old.now) { rest = tree (drop count ahead.now) })
+        (callers_of machine.old)
+        (BrTable (map code.label_of (take count ahead.now)) default)) }
 {
     let (branches, behind) = split_ops(ahead, count);
     machine.now.rest = behind;
@@ -157,8 +190,12 @@ pub fn table<'a>(
 /// The end of a block, or of the function where there is none.
 #[inline(always)]
 pub fn end(machine: &mut Machine<'_>) -> Result<Reduced, AllocError>
-    requires { ∥ IsReadyToEnd (activation machine.old.now) (split_last (activation machine.old.now).labels) ∥₁ }
-    ensures { IfOk result (λ r. progress r machine.new ≡ ended (store_of machine.old) (activation machine.old.now) (callers_of machine.old) (split_last (map label_of machine.old.now.labels.items))) }
+    requires { ∥ IsReadyToEnd (activation machine.old.now) (split_last (activation machine.old.now).labels)
+        ∥₁ }
+    ensures { IfOk result (λ r.
+        progress r machine.new
+        ≡ ended (store_of machine.old) (activation machine.old.now) (callers_of machine.old)
+        (split_last (map label_of machine.old.now.labels.items))) }
 {
     match pop_labels(&mut machine.now.labels, 0) {
         None => leave(machine),

@@ -18,7 +18,8 @@ use wasm_tree::{Numeric, Operation, Relation};
 fn two_32(stack: &mut Operands) -> (u32, u32)
     requires { ∥ AreI32 stack.old.known.values ∥₁ }
     ensures top { top_i32 stack.old.known.values ≡ Some (stack.new.known.values, result.1) }
-    ensures next { top_i32 stack.new.known.values ≡ Some (take (length stack.new.known.values - 1) stack.new.known.values, result.0) }
+    ensures next { top_i32 stack.new.known.values
+        ≡ Some (take (length stack.new.known.values - 1) stack.new.known.values, result.0) }
     ensures some { 0 < length stack.new.known.values }
 {
     let m = stack.pop_i32();
@@ -30,7 +31,8 @@ fn two_32(stack: &mut Operands) -> (u32, u32)
 fn two_64(stack: &mut Operands) -> (u64, u64)
     requires { ∥ AreI64 stack.old.known.values ∥₁ }
     ensures top { top_i64 stack.old.known.values ≡ Some (stack.new.known.values, result.1) }
-    ensures next { top_i64 stack.new.known.values ≡ Some (take (length stack.new.known.values - 1) stack.new.known.values, result.0) }
+    ensures next { top_i64 stack.new.known.values
+        ≡ Some (take (length stack.new.known.values - 1) stack.new.known.values, result.0) }
     ensures some { 0 < length stack.new.known.values }
 {
     let m = stack.pop_i64();
@@ -41,7 +43,8 @@ fn two_64(stack: &mut Operands) -> (u64, u64)
 #[inline(always)]
 fn equals_zero_32(stack: &mut Operands) -> bool
     requires { ∥ IsI32 stack.old.known.values ∥₁ }
-    ensures { if_kept stack.new.known.values result ≡ replaced (calculated Numeric.I32Eqz stack.old.known.values) }
+    ensures { if_kept stack.new.known.values result
+        ≡ replaced (calculated Numeric.I32Eqz stack.old.known.values) }
 {
     let n = stack.top_i32();
     stack.set_i32(truth(n == 0));
@@ -52,7 +55,8 @@ fn equals_zero_32(stack: &mut Operands) -> bool
 #[inline(always)]
 fn equals_zero_64(stack: &mut Operands) -> bool
     requires { ∥ IsI64 stack.old.known.values ∥₁ }
-    ensures { if_kept stack.new.known.values result ≡ replaced (calculated Numeric.I64Eqz stack.old.known.values) }
+    ensures { if_kept stack.new.known.values result
+        ≡ replaced (calculated Numeric.I64Eqz stack.old.known.values) }
 {
     let n = stack.top_i64();
     stack.set_i32(truth(n == 0));
@@ -62,7 +66,8 @@ fn equals_zero_64(stack: &mut Operands) -> bool
 #[inline(always)]
 fn relation_32(stack: &mut Operands, relation: Relation) -> bool
     requires { ∥ AreI32 stack.old.known.values ∥₁ }
-    ensures { if_kept stack.new.known.values result ≡ replaced (calculated (Numeric.I32Relation relation) stack.old.known.values) }
+    ensures { if_kept stack.new.known.values result
+        ≡ replaced (calculated (Numeric.I32Relation relation) stack.old.known.values) }
 {
     let (n, m) = two_32(stack);
     stack.set_i32(truth(compares_32(relation, n, m)));
@@ -72,7 +77,8 @@ fn relation_32(stack: &mut Operands, relation: Relation) -> bool
 #[inline(always)]
 fn relation_64(stack: &mut Operands, relation: Relation) -> bool
     requires { ∥ AreI64 stack.old.known.values ∥₁ }
-    ensures { if_kept stack.new.known.values result ≡ replaced (calculated (Numeric.I64Relation relation) stack.old.known.values) }
+    ensures { if_kept stack.new.known.values result
+        ≡ replaced (calculated (Numeric.I64Relation relation) stack.old.known.values) }
 {
     let (n, m) = two_64(stack);
     stack.set_i32(truth(compares_64(relation, n, m)));
@@ -82,7 +88,8 @@ fn relation_64(stack: &mut Operands, relation: Relation) -> bool
 #[inline(always)]
 fn sum_32(stack: &mut Operands) -> bool
     requires { ∥ AreI32 stack.old.known.values ∥₁ }
-    ensures { if_kept stack.new.known.values result ≡ replaced (calculated Numeric.I32Add stack.old.known.values) }
+    ensures { if_kept stack.new.known.values result
+        ≡ replaced (calculated Numeric.I32Add stack.old.known.values) }
 {
     let (n, m) = two_32(stack);
     stack.set_i32(n.wrapping_add(m));
@@ -92,7 +99,8 @@ fn sum_32(stack: &mut Operands) -> bool
 #[inline(always)]
 fn operation_64(stack: &mut Operands, operation: Operation) -> bool
     requires { ∥ AreI64 stack.old.known.values ∥₁ }
-    ensures { if_kept stack.new.known.values result ≡ replaced (calculated (Numeric.I64Operation operation) stack.old.known.values) }
+    ensures { if_kept stack.new.known.values result
+        ≡ replaced (calculated (Numeric.I64Operation operation) stack.old.known.values) }
 {
     let (n, m) = two_64(stack);
     match operated(operation, n, m) {
@@ -108,7 +116,8 @@ fn operation_64(stack: &mut Operands, operation: Operation) -> bool
 #[inline(always)]
 fn wrapped(stack: &mut Operands) -> bool
     requires { ∥ IsI64 stack.old.known.values ∥₁ }
-    ensures { if_kept stack.new.known.values result ≡ replaced (calculated Numeric.I32WrapI64 stack.old.known.values) }
+    ensures { if_kept stack.new.known.values result
+        ≡ replaced (calculated Numeric.I32WrapI64 stack.old.known.values) }
 {
     let n = stack.top_i64();
     stack.set_i32((n % 4_294_967_296) as u32);
@@ -119,7 +128,8 @@ fn wrapped(stack: &mut Operands) -> bool
 #[inline(always)]
 fn extended_by_sign(stack: &mut Operands) -> bool
     requires { ∥ IsI32 stack.old.known.values ∥₁ }
-    ensures { if_kept stack.new.known.values result ≡ replaced (calculated Numeric.I64ExtendI32S stack.old.known.values) }
+    ensures { if_kept stack.new.known.values result
+        ≡ replaced (calculated Numeric.I64ExtendI32S stack.old.known.values) }
 {
     let n = stack.top_i32();
     stack.set_i64(extended(n));
@@ -130,7 +140,8 @@ fn extended_by_sign(stack: &mut Operands) -> bool
 #[inline(always)]
 fn extended_by_zeros(stack: &mut Operands) -> bool
     requires { ∥ IsI32 stack.old.known.values ∥₁ }
-    ensures { if_kept stack.new.known.values result ≡ replaced (calculated Numeric.I64ExtendI32U stack.old.known.values) }
+    ensures { if_kept stack.new.known.values result
+        ≡ replaced (calculated Numeric.I64ExtendI32U stack.old.known.values) }
 {
     let n = stack.top_i32();
     stack.set_i64(u64::from(n));
@@ -161,7 +172,10 @@ fn calculated(stack: &mut Operands, numeric: Numeric) -> bool
 #[inline(always)]
 pub fn calculate(machine: &mut Machine<'_>, numeric: Numeric) -> Reduced
     requires { ∥ AreNumbers numeric machine.old.now.stack.known.values ∥₁ }
-    ensures { (modules : List WModule) → progress result machine.new ≡ begun modules (store_of machine.old) (activation machine.old.now) (callers_of machine.old) (instr.Numeric numeric) }
+    ensures { (modules : List WModule)
+        → progress result machine.new
+        ≡ begun modules (store_of machine.old) (activation machine.old.now)
+        (callers_of machine.old) (instr.Numeric numeric) }
 {
     if calculated(&mut machine.now.stack, numeric) {
         Reduced::On

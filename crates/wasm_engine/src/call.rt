@@ -53,7 +53,9 @@ fn enter<'a>(
     count: usize,
 ) -> Result<(), AllocError>
     requires { count ≤ length stack.now.known.values }
-    ensures { OnOk result (activation frame.new ≡ entered instance (typed function.entry) (drop (length stack.now.known.values - count) stack.now.known.values)) }
+    ensures { OnOk result
+        (activation frame.new ≡ entered instance (typed function.entry)
+        (drop (length stack.now.known.values - count) stack.now.known.values)) }
 {
     let body = &function.function.body;
     frame.instance = instance;
@@ -92,7 +94,10 @@ fn stopped(number: u64) -> Reduced
 #[inline(always)]
 fn call_put(machine: &mut Machine<'_>) -> Reduced
     requires { ∥ IsI64 machine.old.now.stack.known.values ∥₁ }
-    ensures { (modules : List WModule) → progress result machine.new ≡ called modules (store_of machine.old) (activation machine.old.now) (callers_of machine.old) Put }
+    ensures { (modules : List WModule)
+        → progress result machine.new
+        ≡ called modules (store_of machine.old) (activation machine.old.now)
+        (callers_of machine.old) Put }
 {
     Reduced::Printed((machine.now.stack.pop_i64() % 256) as u8)
 }
@@ -100,7 +105,10 @@ fn call_put(machine: &mut Machine<'_>) -> Reduced
 #[inline(always)]
 fn call_stop(machine: &mut Machine<'_>) -> Reduced
     requires { ∥ IsI64 machine.old.now.stack.known.values ∥₁ }
-    ensures { (modules : List WModule) → progress result machine.new ≡ called modules (store_of machine.old) (activation machine.old.now) (callers_of machine.old) Stop }
+    ensures { (modules : List WModule)
+        → progress result machine.new
+        ≡ called modules (store_of machine.old) (activation machine.old.now)
+        (callers_of machine.old) Stop }
 {
     stopped(machine.now.stack.pop_i64())
 }
@@ -123,7 +131,10 @@ fn call_typed<'a>(
     function: TypedFunction<'a>,
 ) -> Result<Reduced, AllocError>
     requires { length (typed function).type.params ≤ length machine.old.now.stack.known.values }
-    ensures { IfOk result (λ r. progress r machine.new ≡ called_typed (store_of machine.old) (activation machine.old.now) (callers_of machine.old) number (typed function.entry)) }
+    ensures { IfOk result (λ r.
+        progress r machine.new
+        ≡ called_typed (store_of machine.old) (activation machine.old.now)
+        (callers_of machine.old) number (typed function.entry)) }
 {
     let count = function.func_type.params.len();
     let next = spare_frame(alloc, &mut machine.spare);
@@ -144,7 +155,10 @@ fn call_own<'a>(
     function: usize,
 ) -> Result<Reduced, AllocError>
     requires { ∥ CanCall modules.now machine.old.now.stack.known.values (Own number function) ∥₁ }
-    ensures { IfOk result (λ r. progress r machine.new ≡ called modules.now (store_of machine.old) (activation machine.old.now) (callers_of machine.old) (Own number function)) }
+    ensures { IfOk result (λ r.
+        progress r machine.new
+        ≡ called modules.now (store_of machine.old) (activation machine.old.now)
+        (callers_of machine.old) (Own number function)) }
 {
     let callee = function_at(modules, number, function);
     call_typed(alloc, machine, number, callee)
@@ -158,7 +172,10 @@ fn call<'a>(
     callee: Callee,
 ) -> Result<Reduced, AllocError>
     requires { ∥ CanCall modules.now machine.old.now.stack.known.values callee ∥₁ }
-    ensures { IfOk result (λ r. progress r machine.new ≡ called modules.now (store_of machine.old) (activation machine.old.now) (callers_of machine.old) callee) }
+    ensures { IfOk result (λ r.
+        progress r machine.new
+        ≡ called modules.now (store_of machine.old) (activation machine.old.now)
+        (callers_of machine.old) callee) }
 {
     match callee {
         Callee::Put => Ok(call_put(machine)),
@@ -176,8 +193,12 @@ pub fn call_index<'a>(
     machine: &mut Machine<'a>,
     function: u32,
 ) -> Result<Reduced, AllocError>
-    requires { ∥ CanCallIndex modules.now (store_of machine.old) machine.old.now.instance machine.old.now.stack.known.values function ∥₁ }
-    ensures { IfOk result (λ r. progress r machine.new ≡ begun modules.now (store_of machine.old) (activation machine.old.now) (callers_of machine.old) (Call function)) }
+    requires { ∥ CanCallIndex modules.now (store_of machine.old) machine.old.now.instance
+        machine.old.now.stack.known.values function ∥₁ }
+    ensures { IfOk result (λ r.
+        progress r machine.new
+        ≡ begun modules.now (store_of machine.old) (activation machine.old.now)
+        (callers_of machine.old) (Call function)) }
 {
     let callee = callee_at(&machine.store, machine.now.instance, function);
     call(alloc, modules, machine, callee)
@@ -206,8 +227,12 @@ pub fn call_indirect<'a>(
     machine: &mut Machine<'a>,
     type_index: u32,
 ) -> Result<Reduced, AllocError>
-    requires { ∥ CanCallTop modules.now (store_of machine.old) machine.old.now.instance machine.old.now.stack.known.values type_index ∥₁ }
-    ensures { IfOk result (λ r. progress r machine.new ≡ begun modules.now (store_of machine.old) (activation machine.old.now) (callers_of machine.old) (CallIndirect type_index)) }
+    requires { ∥ CanCallTop modules.now (store_of machine.old) machine.old.now.instance
+        machine.old.now.stack.known.values type_index ∥₁ }
+    ensures { IfOk result (λ r.
+        progress r machine.new
+        ≡ begun modules.now (store_of machine.old) (activation machine.old.now)
+        (callers_of machine.old) (CallIndirect type_index)) }
 {
     let slot = machine.now.stack.pop_i32();
     let Some(callee) = callee_in(&machine.store, machine.now.instance, slot) else {
@@ -231,7 +256,10 @@ fn pop_caller<'a>(callers: &mut Vec<Frame<'a>>) -> Option<Frame<'a>>
 #[inline(always)]
 pub fn leave(machine: &mut Machine<'_>) -> Result<Reduced, AllocError>
     requires { machine.old.now.arity ≤ length machine.old.now.stack.known.values }
-    ensures { IfOk result (λ r. progress r machine.new ≡ found (store_of machine.old) (activation machine.old.now) (callers_of machine.old) None) }
+    ensures { IfOk result (λ r.
+        progress r machine.new
+        ≡ found (store_of machine.old) (activation machine.old.now) (callers_of machine.old)
+        None) }
 {
     let Some(caller) = pop_caller(&mut machine.callers) else {
         return Ok(Reduced::Over(0));

@@ -88,7 +88,9 @@ fn pages_of(alloc: Global, memories: &[Memory]) -> Result<Vec<Pages>, AllocError
 
 /// Takes the memories out of the store.
 fn take_memories(alloc: Global, store: &mut Store) -> Result<Vec<Pages>, AllocError>
-    ensures { IfOk result (λ v. (map memory_from v.items ≡ store.old.memories) × (store.new ≡ record store.old { memories = [] })) }
+    ensures { IfOk result (λ v.
+        (map memory_from v.items ≡ store.old.memories)
+        × (store.new ≡ record store.old { memories = [] })) }
 {
     let memories = pages_of(alloc, store.memories.as_slice())?;
     store.memories = Items::new(alloc);
@@ -97,7 +99,8 @@ fn take_memories(alloc: Global, store: &mut Store) -> Result<Vec<Pages>, AllocEr
 
 /// Takes the values of globals out of the store.
 fn take_globals(alloc: Global, store: &mut Store) -> Result<Operands, AllocError>
-    ensures { IfOk result (λ o. (o.known.values ≡ store.old.globals) × (store.new ≡ record store.old { globals = [] })) }
+    ensures { IfOk result (λ o.
+        (o.known.values ≡ store.old.globals) × (store.new ≡ record store.old { globals = [] })) }
 {
     let globals = Operands::from_values(alloc, store.globals.as_slice())?;
     store.globals = Items::new(alloc);
@@ -112,7 +115,8 @@ fn machine_at<'a>(
     number: usize,
     function: usize,
 ) -> Result<Machine<'a>, WFault>
-    ensures { Gives (λ m. going m) result (started store (own_function modules.now number function) number) }
+    ensures { Gives (λ m. going m) result
+        (started store (own_function modules.now number function) number) }
 {
     let Some(first) = own_function(modules, number, function) else {
         return Err(WFault::Unlinked);
@@ -188,13 +192,17 @@ impl<'a> Instances<'a> {
         ensures ok { IfOk result (λ e. Runs S.told S.failed steps e self.old self.new out.old out.new) }
         ensures unbroken { OnOk result (has_failed self.new ≡ false) }
         // With one: the bytes of the reductions before it.
-        ensures err { OnErr result (RunsPart S.told steps self.old out.old out.new × (has_failed self.new ≡ true)) }
+        ensures err { OnErr result
+            (RunsPart S.told steps self.old out.old out.new × (has_failed self.new ≡ true)) }
         ensures write { (result ≡ Err RunFault.Write) ↔ (S.failed out.new ≡ S.failed out.old + 1) }
         ensures others { (result ≡ Err RunFault.Write → ⊥) → S.failed out.new ≡ S.failed out.old }
         ensures ended { (result ≡ Err RunFault.Ended) ↔ (has_failed self.old ≡ true) }
         ensures nothing { result ≡ Err RunFault.Ended → IsIdle S.told self.old self.new out.old out.new }
         // After an end nothing is done, and the answer is the same.
-        ensures over { has_failed self.old ≡ false → (e : End) → end_of (config_of self.old) ≡ Some e → (result ≡ Ok e) × IsIdle S.told self.old self.new out.old out.new }
+        ensures over { has_failed self.old ≡ false
+            → (e : End)
+            → end_of (config_of self.old) ≡ Some e
+            → (result ≡ Ok e) × IsIdle S.told self.old self.new out.old out.new }
         ensures modules { modules_of self.new ≡ modules_of self.old }
         // Each reduction finds what it needs, and traps only by a rule of the standard.
         ensures safe { has_failed self.old ≡ false → StaysSafe (modules_of self.old) (config_of self.old) }
@@ -217,8 +225,10 @@ impl<'a> Instances<'a> {
         requires broken { has_failed self.old ≡ true }
         requires sound { ∥ IsWell (modules_of self.old) (config_of self.old) ∥₁ }
         ensures ok { IfOk result (λ e. Runs S.told S.failed steps e self.old self.new out.old out.new) }
-        ensures err { IfErr result (λ e. RunsPart S.told steps self.old out.old out.new × Breaks S.failed e out.old out.new) }
-        ensures keeps { (modules_of self.new ≡ modules_of self.old) × (has_failed self.new ≡ has_failed self.old) }
+        ensures err { IfErr result (λ e.
+            RunsPart S.told steps self.old out.old out.new × Breaks S.failed e out.old out.new) }
+        ensures keeps { (modules_of self.new ≡ modules_of self.old)
+            × (has_failed self.new ≡ has_failed self.old) }
     {
         let mut left = steps;
         while left > 0 && self.end == End::StillRunning {
@@ -234,9 +244,11 @@ impl<'a> Instances<'a> {
         requires most { 0 < most }
         requires broken { has_failed self.old ≡ true }
         requires sound { ∥ IsWell (modules_of self.old) (config_of self.old) ∥₁ }
-        ensures ok { IfOk result (λ n. (0 < n) × (n ≤ most) × Made S.told S.failed n self.old self.new out.old out.new) }
+        ensures ok { IfOk result (λ n.
+            (0 < n) × (n ≤ most) × Made S.told S.failed n self.old self.new out.old out.new) }
         ensures err { IfErr result (λ e. Stops S.told S.failed e out.old out.new) }
-        ensures keeps { (modules_of self.new ≡ modules_of self.old) × (has_failed self.new ≡ has_failed self.old) }
+        ensures keeps { (modules_of self.new ≡ modules_of self.old)
+            × (has_failed self.new ≡ has_failed self.old) }
     {
         let (made, reduced) = go(self.alloc, self.modules, &mut self.machine, most)?;
         self.settle(reduced, out)?;
@@ -248,8 +260,11 @@ impl<'a> Instances<'a> {
         requires room { S.failed out.old + 1 < 2 ^ 64 }
         requires going { self.old.end ≡ End.StillRunning }
         requires broken { has_failed self.old ≡ true }
-        ensures settles { MatchResult result (λ _. Settles S.told S.failed reduced self.old self.new out.old out.new) (λ e. Stops S.told S.failed e out.old out.new) }
-        ensures keeps { (modules_of self.new ≡ modules_of self.old) × (has_failed self.new ≡ has_failed self.old) }
+        ensures settles { MatchResult result
+            (λ _. Settles S.told S.failed reduced self.old self.new out.old out.new)
+            (λ e. Stops S.told S.failed e out.old out.new) }
+        ensures keeps { (modules_of self.new ≡ modules_of self.old)
+            × (has_failed self.new ≡ has_failed self.old) }
     {
         match reduced {
             Reduced::On => Ok(()),

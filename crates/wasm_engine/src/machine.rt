@@ -47,7 +47,13 @@ fn choose<'a>(
     behind: &'a [Op],
 ) -> Result<Reduced, AllocError>
     requires { ∥ IsI32 machine.old.now.stack.known.values ∥₁ }
-    ensures { IfOk result (λ r. progress r machine.new ≡ or_trap (top_i32 machine.old.now.stack.known.values) (λ p. inside (store_of machine.old) (record (activation machine.old.now) { stack = p.0; rest = tree behind.now }) (callers_of machine.old) (results_of given) (tree behind.now) (side p.1 (tree body.now) (Some (tree otherwise.now))))) }
+    ensures { IfOk result (λ r.
+        progress r machine.new ≡ or_trap (top_i32 machine.old.now.stack.known.values) (λ p.
+        inside (store_of machine.old)
+        (record (activation machine.old.now)
+        { stack = p.0; rest = tree behind.now }) (callers_of machine.old)
+        (results_of given) (tree behind.now)
+        (side p.1 (tree body.now) (Some (tree otherwise.now))))) }
 {
     let condition = machine.now.stack.pop_i32();
     machine.now.rest = behind;
@@ -69,7 +75,13 @@ fn choose_one<'a>(
     count: u32,
 ) -> Result<Reduced, AllocError>
     requires { ∥ IsI32 machine.old.now.stack.known.values ∥₁ }
-    ensures { IfOk result (λ r. progress r machine.new ≡ or_trap (top_i32 machine.old.now.stack.known.values) (λ p. inside (store_of machine.old) (record (activation machine.old.now) { stack = p.0; rest = tree (drop count ahead.now) }) (callers_of machine.old) (results_of given) (tree (drop count ahead.now)) (side p.1 (tree (take count ahead.now)) None))) }
+    ensures { IfOk result (λ r.
+        progress r machine.new ≡ or_trap (top_i32 machine.old.now.stack.known.values) (λ p.
+        inside (store_of machine.old)
+        (record (activation machine.old.now)
+        { stack = p.0; rest = tree (drop count ahead.now) })
+        (callers_of machine.old) (results_of given) (tree (drop count ahead.now))
+        (side p.1 (tree (take count ahead.now)) None))) }
 {
     let (body, behind) = split_ops(ahead, count);
     choose(machine, given, body, &[], behind)
@@ -85,7 +97,15 @@ fn choose_two<'a>(
     others: u32,
 ) -> Result<Reduced, AllocError>
     requires { ∥ IsI32 machine.old.now.stack.known.values ∥₁ }
-    ensures { IfOk result (λ r. progress r machine.new ≡ or_trap (top_i32 machine.old.now.stack.known.values) (λ p. inside (store_of machine.old) (record (activation machine.old.now) { stack = p.0; rest = tree (drop others (drop count ahead.now)) }) (callers_of machine.old) (results_of given) (tree (drop others (drop count ahead.now))) (side p.1 (tree (take count ahead.now)) (Some (tree (take others (drop count ahead.now))))))) }
+    ensures { IfOk result (λ r.
+        progress r machine.new ≡ or_trap (top_i32 machine.old.now.stack.known.values) (λ p.
+        inside (store_of machine.old)
+        (record (activation machine.old.now)
+        { stack = p.0; rest = tree (drop others (drop count ahead.now)) })
+        (callers_of machine.old) (results_of given)
+        (tree (drop others (drop count ahead.now)))
+        (side p.1 (tree (take count ahead.now))
+        (Some (tree (take others (drop count ahead.now))))))) }
 {
     let (body, rest) = split_ops(ahead, count);
     let (otherwise, behind) = split_ops(rest, others);
@@ -95,7 +115,10 @@ fn choose_two<'a>(
 /// Pushes a number of 32 bits.
 #[inline(always)]
 fn push_i32(machine: &mut Machine<'_>, number: u32) -> Result<Reduced, AllocError>
-    ensures { IfOk result (λ r. progress r machine.new ≡ pushed (store_of machine.old) (activation machine.old.now) (callers_of machine.old) (I32 number)) }
+    ensures { IfOk result (λ r.
+        progress r machine.new
+        ≡ pushed (store_of machine.old) (activation machine.old.now)
+        (callers_of machine.old) (I32 number)) }
 {
     machine.now.stack.push_i32(number)?;
     Ok(Reduced::On)
@@ -104,7 +127,10 @@ fn push_i32(machine: &mut Machine<'_>, number: u32) -> Result<Reduced, AllocErro
 /// Pushes a number of 64 bits.
 #[inline(always)]
 fn push_i64(machine: &mut Machine<'_>, number: u64) -> Result<Reduced, AllocError>
-    ensures { IfOk result (λ r. progress r machine.new ≡ pushed (store_of machine.old) (activation machine.old.now) (callers_of machine.old) (I64 number)) }
+    ensures { IfOk result (λ r.
+        progress r machine.new
+        ≡ pushed (store_of machine.old) (activation machine.old.now)
+        (callers_of machine.old) (I64 number)) }
 {
     machine.now.stack.push_i64(number)?;
     Ok(Reduced::On)
@@ -122,8 +148,13 @@ fn begin<'a>(
     code: &'a [Op],
 ) -> Result<Reduced, AllocError>
     requires front { tree code.now ≡ head tree op.now rest.now ∷ tree (behind op.now rest.now) }
-    requires ready { ∥ IsReady modules.now (store_of machine.old) (record (activation machine.old.now) { rest = tree (behind op.now rest.now) }) (out-Instr (head tree op.now rest.now)) ∥₁ }
-    ensures { IfOk result (λ r. progress r machine.new ≡ begun modules.now (store_of machine.old) (record (activation machine.old.now) { rest = tree (behind op.now rest.now) }) (callers_of machine.old) (head tree op.now rest.now)) }
+    requires ready { ∥ IsReady modules.now (store_of machine.old)
+        (record (activation machine.old.now) { rest = tree (behind op.now rest.now) })
+        (out-Instr (head tree op.now rest.now)) ∥₁ }
+    ensures { IfOk result (λ r.
+        progress r machine.new ≡ begun modules.now (store_of machine.old)
+        (record (activation machine.old.now) { rest = tree (behind op.now rest.now) })
+        (callers_of machine.old) (head tree op.now rest.now)) }
 {
     machine.now.rest = rest;
     match op {

@@ -40,7 +40,10 @@ fn loaded_at(kind: Load, bytes: &[u8], place: u32) -> Option<u64>
 pub fn load(machine: &mut Machine<'_>, kind: Load) -> Reduced
     requires address { ∥ IsI32 machine.old.now.stack.known.values ∥₁ }
     requires memory { IsThere (memory_of (store_of machine.old) machine.old.now.instance) }
-    ensures { (modules : List WModule) → progress result machine.new ≡ begun modules (store_of machine.old) (activation machine.old.now) (callers_of machine.old) (instr.Load kind) }
+    ensures { (modules : List WModule)
+        → progress result machine.new
+        ≡ begun modules (store_of machine.old) (activation machine.old.now)
+        (callers_of machine.old) (instr.Load kind) }
 {
     let place = machine.now.stack.top_i32();
     let instance = machine.now.instance;
@@ -59,7 +62,8 @@ pub fn load(machine: &mut Machine<'_>, kind: Load) -> Reduced
 fn paste(memory: &mut Pages, place: usize, bytes: &[u8])
     requires within { place + length bytes.now ≤ length memory.old.bytes.items }
     requires small { place + length bytes.now < 2 ^ 64 }
-    ensures { memory_from memory.new ≡ record (memory_from memory.old) { bytes = pasted memory.old.bytes.items place bytes.now } }
+    ensures { memory_from memory.new ≡ record (memory_from memory.old)
+        { bytes = pasted memory.old.bytes.items place bytes.now } }
 {
     memory.bytes[place..place + bytes.len()].copy_from_slice(bytes);
 }
@@ -70,7 +74,11 @@ fn store_bytes(machine: &mut Machine<'_>, bytes: &[u8]) -> Reduced
     requires few { length bytes.now ≤ 8 }
     requires address { ∥ IsI32 machine.old.now.stack.known.values ∥₁ }
     requires memory { IsThere (memory_of (store_of machine.old) machine.old.now.instance) }
-    ensures { progress result machine.new ≡ or_trap (top_i32 machine.old.now.stack.known.values) (λ p. or_trap (memory_of (store_of machine.old) machine.old.now.instance) (stores (store_of machine.old) (record (activation machine.old.now) { stack = p.0 }) (callers_of machine.old) p.1 bytes.now)) }
+    ensures { progress result machine.new ≡ or_trap (top_i32 machine.old.now.stack.known.values) (λ p.
+        or_trap (memory_of (store_of machine.old) machine.old.now.instance)
+        (stores (store_of machine.old)
+        (record (activation machine.old.now) { stack = p.0 })
+        (callers_of machine.old) p.1 bytes.now)) }
 {
     let place = machine.now.stack.pop_i32() as usize;
     let instance = machine.now.instance;
@@ -86,8 +94,12 @@ fn store_bytes(machine: &mut Machine<'_>, bytes: &[u8]) -> Reduced
 #[tactic(auto, using(crate::proofs::Opened::out_store))]
 #[inline(always)]
 pub fn store(machine: &mut Machine<'_>, width: StoreWidth) -> Reduced
-    requires { ∥ CanStore (store_of machine.old) machine.old.now.instance machine.old.now.stack.known.values ∥₁ }
-    ensures { (modules : List WModule) → progress result machine.new ≡ begun modules (store_of machine.old) (activation machine.old.now) (callers_of machine.old) (instr.Store width) }
+    requires { ∥ CanStore (store_of machine.old) machine.old.now.instance
+        machine.old.now.stack.known.values ∥₁ }
+    ensures { (modules : List WModule)
+        → progress result machine.new
+        ≡ begun modules (store_of machine.old) (activation machine.old.now)
+        (callers_of machine.old) (instr.Store width) }
 {
     let number = machine.now.stack.pop_i64();
     match width {

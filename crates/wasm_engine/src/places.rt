@@ -26,7 +26,8 @@ pub fn the<T>(items: &[T], index: usize) -> &T
 #[inline(always)]
 pub fn place_of_global(store: &Store, globals: &Operands, instance: usize, index: u32) -> usize
     requires { IsThere (global_at (record store.now { globals = globals.now.known.values }) instance index) }
-    ensures { global_at (record store.now { globals = globals.now.known.values }) instance index ≡ slice_get globals.now.known.values result }
+    ensures { global_at (record store.now { globals = globals.now.known.values }) instance index
+        ≡ slice_get globals.now.known.values result }
 {
     let instance = the(store.instances.as_slice(), instance);
     *the(instance.globals.as_slice(), index as usize)
@@ -60,7 +61,8 @@ pub fn callee_in(store: &Store, instance: usize, slot: u32) -> Option<Callee>
 #[inline(always)]
 pub fn memory_of<'m>(store: &Store, memories: &'m [Pages], instance: usize) -> (usize, &'m Pages)
     requires { IsThere (memory_of (record store.now { memories = map memory_from memories.now }) instance) }
-    ensures { memory_of (record store.now { memories = map memory_from memories.now }) instance ≡ Some (result.0, memory_from result.1.now) }
+    ensures { memory_of (record store.now { memories = map memory_from memories.now }) instance
+        ≡ Some (result.0, memory_from result.1.now) }
 {
     let instance = the(store.instances.as_slice(), instance);
     let address = *the(instance.memories.as_slice(), 0);

@@ -15,7 +15,11 @@ use std::alloc::AllocError;
 #[inline(always)]
 pub fn global_get(machine: &mut Machine<'_>, global: u32) -> Result<Reduced, AllocError>
     requires { IsThere (global_at (store_of machine.old) machine.old.now.instance global) }
-    ensures { IfOk result (λ r. (modules : List WModule) → progress r machine.new ≡ begun modules (store_of machine.old) (activation machine.old.now) (callers_of machine.old) (instr.GlobalGet global)) }
+    ensures { IfOk result (λ r.
+        (modules : List WModule)
+        → progress r machine.new
+        ≡ begun modules (store_of machine.old) (activation machine.old.now)
+        (callers_of machine.old) (instr.GlobalGet global)) }
 {
     let instance = machine.now.instance;
     let place = place_of_global(&machine.store, &machine.globals, instance, global);
@@ -27,7 +31,11 @@ pub fn global_get(machine: &mut Machine<'_>, global: u32) -> Result<Reduced, All
 #[inline(always)]
 pub fn local_get(machine: &mut Machine<'_>, local: u32) -> Result<Reduced, AllocError>
     requires { local < length machine.old.now.locals.known.values }
-    ensures { IfOk result (λ r. (modules : List WModule) → progress r machine.new ≡ begun modules (store_of machine.old) (activation machine.old.now) (callers_of machine.old) (instr.LocalGet local)) }
+    ensures { IfOk result (λ r.
+        (modules : List WModule)
+        → progress r machine.new
+        ≡ begun modules (store_of machine.old) (activation machine.old.now)
+        (callers_of machine.old) (instr.LocalGet local)) }
 {
     let now = &mut machine.now;
     now.stack.push_copy(&now.locals, local as usize)?;
@@ -39,7 +47,10 @@ pub fn local_get(machine: &mut Machine<'_>, local: u32) -> Result<Reduced, Alloc
 pub fn local_set(machine: &mut Machine<'_>, local: u32) -> Reduced
     requires within { local < length machine.old.now.locals.known.values }
     requires one { 0 < length machine.old.now.stack.known.values }
-    ensures { (modules : List WModule) → progress result machine.new ≡ begun modules (store_of machine.old) (activation machine.old.now) (callers_of machine.old) (instr.LocalSet local) }
+    ensures { (modules : List WModule)
+        → progress result machine.new
+        ≡ begun modules (store_of machine.old) (activation machine.old.now)
+        (callers_of machine.old) (instr.LocalSet local) }
 {
     let now = &mut machine.now;
     now.locals.set_last(local as usize, &now.stack);
@@ -52,7 +63,10 @@ pub fn local_set(machine: &mut Machine<'_>, local: u32) -> Reduced
 pub fn local_tee(machine: &mut Machine<'_>, local: u32) -> Reduced
     requires within { local < length machine.old.now.locals.known.values }
     requires one { 0 < length machine.old.now.stack.known.values }
-    ensures { (modules : List WModule) → progress result machine.new ≡ begun modules (store_of machine.old) (activation machine.old.now) (callers_of machine.old) (instr.LocalTee local) }
+    ensures { (modules : List WModule)
+        → progress result machine.new
+        ≡ begun modules (store_of machine.old) (activation machine.old.now)
+        (callers_of machine.old) (instr.LocalTee local) }
 {
     let now = &mut machine.now;
     now.locals.set_last(local as usize, &now.stack);
@@ -63,7 +77,10 @@ pub fn local_tee(machine: &mut Machine<'_>, local: u32) -> Reduced
 #[inline(always)]
 pub fn drop_operand(machine: &mut Machine<'_>) -> Reduced
     requires { 0 < length machine.old.now.stack.known.values }
-    ensures { (modules : List WModule) → progress result machine.new ≡ begun modules (store_of machine.old) (activation machine.old.now) (callers_of machine.old) instr.Drop }
+    ensures { (modules : List WModule)
+        → progress result machine.new
+        ≡ begun modules (store_of machine.old) (activation machine.old.now)
+        (callers_of machine.old) instr.Drop }
 {
     machine.now.stack.drop_last();
     Reduced::On

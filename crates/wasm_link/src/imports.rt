@@ -140,7 +140,9 @@ fn suits_function(
     type_index: u32,
     address: usize,
 ) -> bool
-    ensures { result ≡ agree (slice_get tree.now.types type_index) (option_and_then (λ c. callee_type modules.now c) (slice_get store.now.functions address)) }
+    ensures { result ≡ agree (slice_get tree.now.types type_index)
+        (option_and_then (λ c. callee_type modules.now c)
+        (slice_get store.now.functions address)) }
 {
     let asked = at(tree.types.as_slice(), type_index as usize);
     match at(store.functions.as_slice(), address) {
@@ -209,7 +211,8 @@ pub fn with_imports(
     imports: &[Import],
     instance: &mut Instance,
 ) -> Result<(), WFault>
-    ensures { Gives (λ _. instance.new) result (each (with_import modules.now store.now tree.now) imports.now instance.old) }
+    ensures { Gives (λ _. instance.new) result
+        (each (with_import modules.now store.now tree.now) imports.now instance.old) }
 {
     for import in imports {
         let found = answered(modules, store, tree, import)?;

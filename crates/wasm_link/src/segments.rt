@@ -76,7 +76,10 @@ fn with_slots(
     place: usize,
     slots: &[Option<usize>],
 ) -> Result<(), WFault>
-    ensures { (i : Instance) → Gives (λ _. linked store.new i) result (with_slots (linked store.old i) table place (slice_get store.old.tables table) (Some slots.now)) }
+    ensures { (i : Instance)
+        → Gives (λ _. linked store.new i) result
+        (with_slots (linked store.old i) table place (slice_get store.old.tables table)
+        (Some slots.now)) }
 {
     let Some(old) = at(store.tables.as_slice(), table) else {
         return Err(WFault::SegmentOutside);
@@ -96,7 +99,8 @@ fn with_element(
     instance: &Instance,
     element: &Element,
 ) -> Result<(), WFault>
-    ensures { Gives (λ _. linked store.new instance.now) result (with_element element.now (linked store.old instance.now)) }
+    ensures { Gives (λ _. linked store.new instance.now) result
+        (with_element element.now (linked store.old instance.now)) }
 {
     let place = offset_of(value_of(store, instance, element.offset.ops()))?;
     let table = some_address(instance.tables.as_slice(), element.table)?;
@@ -113,7 +117,8 @@ pub fn with_elements(
     instance: &Instance,
     elements: &[Element],
 ) -> Result<(), WFault>
-    ensures { Gives (λ _. linked store.new instance.now) result (each with_element elements.now (linked store.old instance.now)) }
+    ensures { Gives (λ _. linked store.new instance.now) result
+        (each with_element elements.now (linked store.old instance.now)) }
 {
     for element in elements {
         with_element(alloc, store, instance, element)?;
@@ -128,7 +133,10 @@ fn with_bytes(
     place: usize,
     bytes: &[u8],
 ) -> Result<(), WFault>
-    ensures { (i : Instance) → Gives (λ _. linked store.new i) result (with_bytes (linked store.old i) memory place (slice_get store.old.memories memory) bytes.now) }
+    ensures { (i : Instance)
+        → Gives (λ _. linked store.new i) result
+        (with_bytes (linked store.old i) memory place (slice_get store.old.memories memory)
+        bytes.now) }
 {
     let Some(old) = at(store.memories.as_slice(), memory) else {
         return Err(WFault::SegmentOutside);
@@ -148,7 +156,8 @@ fn with_segment(
     instance: &Instance,
     segment: &Data,
 ) -> Result<(), WFault>
-    ensures { Gives (λ _. linked store.new instance.now) result (with_segment segment.now (linked store.old instance.now)) }
+    ensures { Gives (λ _. linked store.new instance.now) result
+        (with_segment segment.now (linked store.old instance.now)) }
 {
     let place = offset_of(value_of(store, instance, segment.offset.ops()))?;
     let memory = some_address(instance.memories.as_slice(), segment.memory)?;
@@ -162,7 +171,8 @@ pub fn with_segments(
     instance: &Instance,
     segments: &[Data],
 ) -> Result<(), WFault>
-    ensures { Gives (λ _. linked store.new instance.now) result (each with_segment segments.now (linked store.old instance.now)) }
+    ensures { Gives (λ _. linked store.new instance.now) result
+        (each with_segment segments.now (linked store.old instance.now)) }
 {
     for segment in segments {
         with_segment(alloc, store, instance, segment)?;

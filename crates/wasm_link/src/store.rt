@@ -19,7 +19,8 @@ fn with_function(
     instance: &mut Instance,
     callee: Callee,
 ) -> Result<(), AllocError>
-    ensures { OnOk result (linked store.new instance.new ≡ with_function callee (linked store.old instance.old)) }
+    ensures { OnOk result
+        (linked store.new instance.new ≡ with_function callee (linked store.old instance.old)) }
 {
     let address = store.functions.len();
     store.functions.push(callee)?;
@@ -34,7 +35,9 @@ pub fn with_functions(
     number: usize,
     functions: &[Function],
 ) -> Result<(), AllocError>
-    ensures { OnOk result (linked store.new instance.new ≡ with_functions number 0 functions.now (linked store.old instance.old)) }
+    ensures { OnOk result
+        (linked store.new instance.new
+        ≡ with_functions number 0 functions.now (linked store.old instance.old)) }
 {
     for function in 0..functions.len() {
         let callee = Callee::Own {
@@ -62,7 +65,8 @@ fn with_table(
     instance: &mut Instance,
     table: TableType,
 ) -> Result<(), AllocError>
-    ensures { OnOk result (with_table table (linked store.old instance.old) ≡ Ok (linked store.new instance.new)) }
+    ensures { OnOk result
+        (with_table table (linked store.old instance.old) ≡ Ok (linked store.new instance.new)) }
 {
     let address = store.tables.len();
     let fresh = fresh_table(alloc, table)?;
@@ -78,7 +82,9 @@ pub fn with_tables(
     instance: &mut Instance,
     tables: &[TableType],
 ) -> Result<(), AllocError>
-    ensures { OnOk result (each with_table tables.now (linked store.old instance.old) ≡ Ok (linked store.new instance.new)) }
+    ensures { OnOk result
+        (each with_table tables.now (linked store.old instance.old)
+        ≡ Ok (linked store.new instance.new)) }
 {
     for table in tables {
         with_table(alloc, store, instance, *table)?;
@@ -102,7 +108,9 @@ fn with_memory(
     instance: &mut Instance,
     memory: MemoryType,
 ) -> Result<(), AllocError>
-    ensures { OnOk result (with_memory memory (linked store.old instance.old) ≡ Ok (linked store.new instance.new)) }
+    ensures { OnOk result
+        (with_memory memory (linked store.old instance.old)
+        ≡ Ok (linked store.new instance.new)) }
 {
     let address = store.memories.len();
     let fresh = fresh_memory(alloc, memory)?;
@@ -118,7 +126,9 @@ pub fn with_memories(
     instance: &mut Instance,
     memories: &[MemoryType],
 ) -> Result<(), AllocError>
-    ensures { OnOk result (each with_memory memories.now (linked store.old instance.old) ≡ Ok (linked store.new instance.new)) }
+    ensures { OnOk result
+        (each with_memory memories.now (linked store.old instance.old)
+        ≡ Ok (linked store.new instance.new)) }
 {
     for memory in memories {
         with_memory(alloc, store, instance, *memory)?;
@@ -169,7 +179,8 @@ pub fn value_of(store: &Store, instance: &Instance, code: &[Op]) -> Option<Value
 }
 
 fn with_global(store: &mut Store, instance: &mut Instance, global: &Constant) -> Result<(), WFault>
-    ensures { Gives (λ _. linked store.new instance.new) result (with_global global.now (linked store.old instance.old)) }
+    ensures { Gives (λ _. linked store.new instance.new) result
+        (with_global global.now (linked store.old instance.old)) }
 {
     let Some(value) = value_of(store, instance, global.value.ops()) else {
         return Err(WFault::Unlinked);
@@ -186,7 +197,8 @@ pub fn with_globals(
     instance: &mut Instance,
     globals: &[Constant],
 ) -> Result<(), WFault>
-    ensures { Gives (λ _. linked store.new instance.new) result (each with_global globals.now (linked store.old instance.old)) }
+    ensures { Gives (λ _. linked store.new instance.new) result
+        (each with_global globals.now (linked store.old instance.old)) }
 {
     for global in globals {
         with_global(store, instance, global)?;

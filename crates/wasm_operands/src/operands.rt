@@ -38,7 +38,8 @@ fn zero_of(value_type: ValueType) -> Value
 #[inline(always)]
 fn keep(cells: &mut Vec<u64>, height: usize, count: usize)
     requires { height + count ≤ length cells.old.items }
-    ensures { cells.new.items ≡ take height cells.old.items ++ drop (length cells.old.items - count) cells.old.items }
+    ensures { cells.new.items
+        ≡ take height cells.old.items ++ drop (length cells.old.items - count) cells.old.items }
 {
     if count == 0 {
         cells.truncate(height);
@@ -126,7 +127,9 @@ impl Operands {
     #[inline(always)]
     pub fn push_copy(&mut self, from: &Operands, place: usize) -> Result<(), AllocError>
         requires { place < length from.now.known.values }
-        ensures { OnOk result (self.new.known.values ≡ self.old.known.values ++ value_at from.now.known.values place ∷ []) }
+        ensures { OnOk result
+            (self.new.known.values
+            ≡ self.old.known.values ++ value_at from.now.known.values place ∷ []) }
     {
         self.cells.push(from.cells[place])?;
         self.known = known_as(&self.known, &from.known, &NONE, &place, &0);
@@ -137,7 +140,9 @@ impl Operands {
     #[inline(always)]
     pub fn push_end(&mut self, from: &Operands, count: usize) -> Result<(), AllocError>
         requires { count ≤ length from.now.known.values }
-        ensures { OnOk result (self.new.known.values ≡ self.old.known.values ++ drop (length from.now.known.values - count) from.now.known.values) }
+        ensures { OnOk result
+            (self.new.known.values ≡ self.old.known.values
+            ++ drop (length from.now.known.values - count) from.now.known.values) }
     {
         let height = from.cells.len() - count;
         append(&mut self.cells, &from.cells[height..])?;
@@ -166,7 +171,8 @@ impl Operands {
     #[inline(always)]
     pub fn top_i32(&self) -> u32
         requires { ∥ IsI32 self.now.known.values ∥₁ }
-        ensures { top_i32 self.now.known.values ≡ Some (take (length self.now.known.values - 1) self.now.known.values, result) }
+        ensures { top_i32 self.now.known.values
+            ≡ Some (take (length self.now.known.values - 1) self.now.known.values, result) }
     {
         self.cells[self.cells.len() - 1] as u32
     }
@@ -175,7 +181,8 @@ impl Operands {
     #[inline(always)]
     pub fn top_i64(&self) -> u64
         requires { ∥ IsI64 self.now.known.values ∥₁ }
-        ensures { top_i64 self.now.known.values ≡ Some (take (length self.now.known.values - 1) self.now.known.values, result) }
+        ensures { top_i64 self.now.known.values
+            ≡ Some (take (length self.now.known.values - 1) self.now.known.values, result) }
     {
         self.cells[self.cells.len() - 1]
     }
@@ -216,7 +223,8 @@ impl Operands {
     #[inline(always)]
     pub fn set_i32(&mut self, number: u32)
         requires { 0 < length self.old.known.values }
-        ensures { self.new.known.values ≡ take (length self.old.known.values - 1) self.old.known.values ++ I32 number ∷ [] }
+        ensures { self.new.known.values
+            ≡ take (length self.old.known.values - 1) self.old.known.values ++ I32 number ∷ [] }
     {
         let last = self.cells.len() - 1;
         self.cells[last] = u64::from(number);
@@ -227,7 +235,8 @@ impl Operands {
     #[inline(always)]
     pub fn set_i64(&mut self, number: u64)
         requires { 0 < length self.old.known.values }
-        ensures { self.new.known.values ≡ take (length self.old.known.values - 1) self.old.known.values ++ I64 number ∷ [] }
+        ensures { self.new.known.values
+            ≡ take (length self.old.known.values - 1) self.old.known.values ++ I64 number ∷ [] }
     {
         let last = self.cells.len() - 1;
         self.cells[last] = number;
@@ -239,7 +248,8 @@ impl Operands {
     pub fn set_last(&mut self, place: usize, from: &Operands)
         requires within { place < length self.old.known.values }
         requires one { 0 < length from.now.known.values }
-        ensures { self.new.known.values ≡ slice_set self.old.known.values place (last_of from.now.known.values) }
+        ensures { self.new.known.values
+            ≡ slice_set self.old.known.values place (last_of from.now.known.values) }
     {
         self.cells[place] = from.cells[from.cells.len() - 1];
         self.known = known_as(&self.known, &from.known, &NONE, &place, &0);
@@ -258,7 +268,8 @@ impl Operands {
     #[inline(always)]
     pub fn keep(&mut self, height: usize, count: usize)
         requires { height + count ≤ length self.old.known.values }
-        ensures { Some self.new.known.values ≡ option_map (kept height) (split_end count self.old.known.values) }
+        ensures { Some self.new.known.values
+            ≡ option_map (kept height) (split_end count self.old.known.values) }
     {
         keep(&mut self.cells, height, count);
         self.known = known_as(&self.known, &self.known, &NONE, &height, &count);

@@ -37,7 +37,9 @@ pub fn check_body<'a>(
     body: &'a Body,
 ) -> Result<(), WFault>
     requires { IsFuncType func_type.now }
-    ensures { Decides result (Leads (function_context (scope_of scope.entry) func_type.now body.now.locals) body.now.code [] func_type.now.results) }
+    ensures { Decides result
+        (Leads (function_context (scope_of scope.entry) func_type.now body.now.locals)
+        body.now.code [] func_type.now.results) }
 {
     let returns = result_of(func_type.results.as_slice());
     let groups = body.locals.as_slice();

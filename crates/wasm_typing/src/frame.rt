@@ -69,7 +69,8 @@ fn is_same_result(left: Option<ValueType>, right: Option<ValueType>) -> bool
 
 /// Whether branches to the two labels take the same.
 fn is_same_label(blocks: &[Option<ValueType>], left: u32, right: u32) -> bool
-    ensures { IsTrue result ↔ (slice_get (labels_of blocks.now) left ≡ slice_get (labels_of blocks.now) right) }
+    ensures { IsTrue result
+        ↔ (slice_get (labels_of blocks.now) left ≡ slice_get (labels_of blocks.now) right) }
 {
     match label(blocks, left) {
         None => label(blocks, right).is_none(),
@@ -82,7 +83,10 @@ fn is_same_label(blocks: &[Option<ValueType>], left: u32, right: u32) -> bool
 
 /// Whether all of these branches take what one to the last label does.
 pub fn are_same_labels(blocks: &[Option<ValueType>], branches: &[Op], last: u32) -> bool
-    ensures { IsTrue result ↔ All (λ o. slice_get (labels_of blocks.now) (label_of o) ≡ slice_get (labels_of blocks.now) last) branches.now }
+    ensures { IsTrue result
+        ↔ All (λ o.
+        slice_get (labels_of blocks.now) (label_of o)
+        ≡ slice_get (labels_of blocks.now) last) branches.now }
 {
     branches
         .iter()
@@ -109,7 +113,8 @@ fn numeric_effect(numeric: Numeric) -> Effect<'static>
 
 /// The effect of `br`.
 fn branch(blocks: &[Option<ValueType>], index: u32) -> Option<Effect<'static>>
-    ensures { option_map seen result ≡ option_map (λ taken. Leaves taken) (slice_get (labels_of blocks.now) index) }
+    ensures { option_map seen result
+        ≡ option_map (λ taken. Leaves taken) (slice_get (labels_of blocks.now) index) }
 {
     match label(blocks, index) {
         None => None,
@@ -119,7 +124,9 @@ fn branch(blocks: &[Option<ValueType>], index: u32) -> Option<Effect<'static>>
 
 /// The effect of `br_if`.
 fn branch_if(blocks: &[Option<ValueType>], index: u32) -> Option<Effect<'static>>
-    ensures { option_map seen result ≡ option_map (λ (taken : List ValueType). Exchanges (taken ++ I32 ∷ []) taken) (slice_get (labels_of blocks.now) index) }
+    ensures { option_map seen result
+        ≡ option_map (λ (taken : List ValueType). Exchanges (taken ++ I32 ∷ []) taken)
+        (slice_get (labels_of blocks.now) index) }
 {
     match label(blocks, index) {
         None => None,
@@ -129,7 +136,8 @@ fn branch_if(blocks: &[Option<ValueType>], index: u32) -> Option<Effect<'static>
 
 /// The effect of `br_table` with this last label.
 fn branch_table(blocks: &[Option<ValueType>], index: u32) -> Option<Effect<'static>>
-    ensures { option_map seen result ≡ option_map (λ (taken : List ValueType). Leaves (taken ++ I32 ∷ [])) (slice_get (labels_of blocks.now) index) }
+    ensures { option_map seen result ≡ option_map (λ (taken : List ValueType). Leaves (taken ++ I32 ∷ []))
+        (slice_get (labels_of blocks.now) index) }
 {
     match label(blocks, index) {
         None => None,
@@ -139,7 +147,9 @@ fn branch_table(blocks: &[Option<ValueType>], index: u32) -> Option<Effect<'stat
 
 /// The effect of `call`.
 fn call(scope: Scope<'_>, function: u32) -> Option<Effect<'_>>
-    ensures { option_map seen result ≡ option_and_then (λ i. option_map called (slice_get (scope_of scope.entry).types i)) (slice_get (scope_of scope.entry).functions function) }
+    ensures { option_map seen result
+        ≡ option_and_then (λ i. option_map called (slice_get (scope_of scope.entry).types i))
+        (slice_get (scope_of scope.entry).functions function) }
 {
     match at(scope.functions, function as usize) {
         None => None,
@@ -152,7 +162,9 @@ fn call(scope: Scope<'_>, function: u32) -> Option<Effect<'_>>
 
 /// The effect of `call_indirect`.
 fn call_slot(scope: Scope<'_>, type_index: u32) -> Option<Effect<'_>>
-    ensures { option_map seen result ≡ option_and_then (λ _. option_map called_slot (slice_get (scope_of scope.entry).types type_index)) (slice_get (scope_of scope.entry).tables 0) }
+    ensures { option_map seen result ≡ option_and_then
+        (λ _. option_map called_slot (slice_get (scope_of scope.entry).types type_index))
+        (slice_get (scope_of scope.entry).tables 0) }
 {
     match at(scope.tables, 0) {
         None => None,
@@ -201,7 +213,8 @@ fn keeps(value_type: Option<ValueType>) -> Option<Effect<'static>>
 
 /// The effect, where there is a memory.
 fn with_memory<'a>(scope: Scope<'_>, effect: Effect<'a>) -> Option<Effect<'a>>
-    ensures { option_map seen result ≡ option_map (λ _. seen effect.entry) (slice_get (scope_of scope.entry).memories 0) }
+    ensures { option_map seen result
+        ≡ option_map (λ _. seen effect.entry) (slice_get (scope_of scope.entry).memories 0) }
 {
     match at(scope.memories, 0) {
         None => None,
@@ -211,7 +224,8 @@ fn with_memory<'a>(scope: Scope<'_>, effect: Effect<'a>) -> Option<Effect<'a>>
 
 /// What the instruction does to the operands, whatever code stands inside it. Nothing where it names what is not there.
 pub fn effect_of<'a>(frame: Frame<'a>, blocks: &[Option<ValueType>], op: Op) -> Option<Effect<'a>>
-    ensures { (rest : List Op) → option_map seen result ≡ change (frame_context frame.entry blocks.now) (opened op rest) }
+    ensures { (rest : List Op)
+        → option_map seen result ≡ change (frame_context frame.entry blocks.now) (opened op rest) }
 {
     let narrow = Some(ValueType::I32);
     let wide = Some(ValueType::I64);

@@ -37,7 +37,8 @@ pub fn count_ends(ends: &mut Vec<usize>, groups: &[Locals]) -> Result<(), AllocE
 
 /// The number of the group that a declared local stands in.
 fn group_of(locals: Groups<'_>, index: usize) -> usize
-    ensures { option_map (λ g. g.value_type) (slice_get locals.entry.groups.now result) ≡ slice_get (declared locals.entry.groups.now) index }
+    ensures { option_map (λ g. g.value_type) (slice_get locals.entry.groups.now result)
+        ≡ slice_get (declared locals.entry.groups.now) index }
 {
     locals.ends.partition_point(|end| *end <= index)
 }

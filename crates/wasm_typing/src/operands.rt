@@ -184,7 +184,8 @@ fn exchange_few(
     second: Option<ValueType>,
     given: Option<ValueType>,
 ) -> Result<(), WFault>
-    ensures { Steps result (Are (result_types first ++ result_types second) (result_types given)) operands.old operands.new }
+    ensures { Steps result (Are (result_types first ++ result_types second) (result_types given))
+        operands.old operands.new }
 {
     if !take_given(operands, second) {
         return Err(WFault::Invalid);
@@ -201,7 +202,8 @@ fn leave(
     first: Option<ValueType>,
     second: Option<ValueType>,
 ) -> Result<(), WFault>
-    ensures steps { Steps result (Rule (Leaves (result_types first ++ result_types second))) operands.old operands.new }
+    ensures steps { Steps result (Rule (Leaves (result_types first ++ result_types second))) operands.old
+        operands.new }
     ensures memory { result ≢ Err WFault.NoMemory }
 {
     if !take_given(operands, second) {

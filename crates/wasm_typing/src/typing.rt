@@ -24,7 +24,9 @@ fn step(
     op: Op,
     operands: &mut Operands,
 ) -> Result<(), WFault>
-    ensures { (rest : List Op) → Steps result (MayRule (change (frame_context frame.entry blocks.now) (opened op rest))) operands.old operands.new }
+    ensures { (rest : List Op)
+        → Steps result (MayRule (change (frame_context frame.entry blocks.now) (opened op rest)))
+        operands.old operands.new }
 {
     match effect_of(frame, blocks, op) {
         Some(effect) => affect(operands, effect),
@@ -33,7 +35,9 @@ fn step(
 }
 
 fn check_labels(blocks: &[Option<ValueType>], branches: &[Op], last: u32) -> Result<(), WFault>
-    ensures same { Decides result (All (λ l. slice_get (labels_of blocks.now) l ≡ slice_get (labels_of blocks.now) last) (map label_of branches.now)) }
+    ensures same { Decides result
+        (All (λ l. slice_get (labels_of blocks.now) l ≡ slice_get (labels_of blocks.now) last)
+        (map label_of branches.now)) }
     ensures memory { result ≢ Err WFault.NoMemory }
 {
     if are_same_labels(blocks, branches, last) {
@@ -109,7 +113,9 @@ fn check_block(
     taken: Option<ValueType>,
     given: Option<ValueType>,
 ) -> Result<(), WFault>
-    ensures fits { Decides result (Leads (within (result_types taken) (frame_context frame.entry blocks.old)) (tree code.now) [] (result_types given)) }
+    ensures fits { Decides result
+        (Leads (within (result_types taken) (frame_context frame.entry blocks.old))
+        (tree code.now) [] (result_types given)) }
     ensures blocks { OnOk result (blocks.new ≡ blocks.old) }
 {
     blocks.push(taken)?;
@@ -127,7 +133,8 @@ pub fn check_code(
     code: &[Op],
     given: Option<ValueType>,
 ) -> Result<(), WFault>
-    ensures fits { Decides result (Leads (frame_context frame.entry blocks.old) (tree code.now) [] (result_types given)) }
+    ensures fits { Decides result
+        (Leads (frame_context frame.entry blocks.old) (tree code.now) [] (result_types given)) }
     ensures blocks { OnOk result (blocks.new ≡ blocks.old) }
 {
     let mut operands = no_operands(spares);

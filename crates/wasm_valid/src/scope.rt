@@ -67,7 +67,9 @@ fn imported_functions(alloc: Global, tree: &WModule) -> Result<Vec<u32>, AllocEr
 }
 
 pub fn functions_of(alloc: Global, tree: &WModule) -> Result<Vec<u32>, AllocError>
-    ensures { IfOk result (λ v. v.items ≡ filter_map function_import tree.now.imports ++ map (λ f. f.type_index) tree.now.functions) }
+    ensures { IfOk result (λ v.
+        v.items ≡ filter_map function_import tree.now.imports
+        ++ map (λ f. f.type_index) tree.now.functions) }
 {
     let mut functions = imported_functions(alloc, tree)?;
     for function in tree.functions.as_slice() {
@@ -87,7 +89,9 @@ fn imported_tables(alloc: Global, tree: &WModule) -> Result<Vec<Limits>, AllocEr
 }
 
 fn tables_of(alloc: Global, tree: &WModule) -> Result<Vec<Limits>, AllocError>
-    ensures { IfOk result (λ v. v.items ≡ filter_map table_import tree.now.imports ++ map (λ t. t.limits) tree.now.tables) }
+    ensures { IfOk result (λ v.
+        v.items
+        ≡ filter_map table_import tree.now.imports ++ map (λ t. t.limits) tree.now.tables) }
 {
     let mut tables = imported_tables(alloc, tree)?;
     for table in tree.tables.as_slice() {
@@ -107,7 +111,10 @@ fn imported_memories(alloc: Global, tree: &WModule) -> Result<Vec<Limits>, Alloc
 }
 
 fn memories_of(alloc: Global, tree: &WModule) -> Result<Vec<Limits>, AllocError>
-    ensures { IfOk result (λ v. v.items ≡ filter_map memory_import tree.now.imports ++ map (λ t. t.limits) tree.now.memories) }
+    ensures { IfOk result (λ v.
+        v.items
+        ≡ filter_map memory_import tree.now.imports
+        ++ map (λ t. t.limits) tree.now.memories) }
 {
     let mut memories = imported_memories(alloc, tree)?;
     for memory in tree.memories.as_slice() {
@@ -127,7 +134,9 @@ fn imported_globals(alloc: Global, tree: &WModule) -> Result<Vec<ValueType>, All
 }
 
 fn globals_of(alloc: Global, tree: &WModule) -> Result<Vec<ValueType>, AllocError>
-    ensures { IfOk result (λ v. v.items ≡ filter_map global_import tree.now.imports ++ map (λ g. g.value_type) tree.now.globals) }
+    ensures { IfOk result (λ v.
+        v.items ≡ filter_map global_import tree.now.imports
+        ++ map (λ g. g.value_type) tree.now.globals) }
 {
     let mut globals = imported_globals(alloc, tree)?;
     for global in tree.globals.as_slice() {

@@ -150,7 +150,8 @@ fn check_segments(alloc: Global, scope: Scope<'_>, segments: &[Data]) -> Result<
 /// Puts the name into the set. Whether it is new there.
 fn is_added<'a>(names: &mut HashSet<&'a [u8]>, name: &'a [u8]) -> Result<bool, AllocError>
     ensures new { IfOk result (λ new. new ≡ not (holds names.old name.now)) }
-    ensures held { OnOk result ((n : List ℕ) → holds names.new n ≡ cond (bytes_eq name.now n) true (holds names.old n)) }
+    ensures held { OnOk result
+        ((n : List ℕ) → holds names.new n ≡ cond (bytes_eq name.now n) true (holds names.old n)) }
 {
     let is_new = names.insert(name)?;
     Ok(is_new)
@@ -308,7 +309,8 @@ impl ValidModule {
 
 /// The module, if it is valid. `Invalid` where it is not; the module is then dropped.
 pub fn validate(alloc: Global, tree: WModule) -> Result<ValidModule, WFault>
-    ensures { MatchResult result (λ v. (v ≡ tree) × IsValid tree) (λ e. ((e ≡ WFault.Invalid) × (¬ IsValid tree)) ⊎ (e ≡ WFault.NoMemory)) }
+    ensures { MatchResult result (λ v. (v ≡ tree) × IsValid tree)
+        (λ e. ((e ≡ WFault.Invalid) × (¬ IsValid tree)) ⊎ (e ≡ WFault.NoMemory)) }
 {
     match check_whole(alloc, &tree) {
         Ok(()) => Ok(ValidModule { tree }),

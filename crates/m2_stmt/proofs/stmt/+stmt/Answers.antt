@@ -99,7 +99,7 @@ pub for_stmt-returns : goal.for_stmt-returns
 for_stmt-returns t c =
     let e = rules_of.for_stmt_is c.args.room c.args.cursor.now in
     let w = c.in_ok-variable.ensures in
-    ((w.0, (c.in_ok-start.start, (c.in_ok-limit.limit, (c.in_ok-step.step, c.in_ok-body.body)))), first_of (search rules, grind (arith, common_steps)), first_of (search rules, grind (arith, common_steps)))
+    ((w.0, (c.in_ok-start.start, (c.in_ok-limit.limit, (c.in_ok-limit.step, c.in_ok-limit.body)))), first_of (search rules, grind (arith, common_steps)), first_of (search rules, grind (arith, common_steps)))
 
 pub with_stmt-returns : goal.with_stmt-returns
 with_stmt-returns t c =

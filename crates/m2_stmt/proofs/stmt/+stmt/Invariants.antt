@@ -19,6 +19,9 @@ decreases-case_stmt l = l.room * 32 + 10
 abbrev pub decreases-elsif_part : goal.decreases-elsif_part
 decreases-elsif_part l = l.room * 32 + 10
 
+abbrev pub decreases-for_rest : goal.decreases-for_rest
+decreases-for_rest l = l.room * 32 + 23
+
 abbrev pub decreases-for_stmt : goal.decreases-for_stmt
 decreases-for_stmt l = l.room * 32 + 10
 

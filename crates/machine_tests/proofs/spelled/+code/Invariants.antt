@@ -1,5 +1,5 @@
 use Rattle.std.proofs.Common.{◌+◌, ◌*◌, length}
-use Rattle.machine_rows.proofs.spelled.+code.Given as goal
+use Rattle.machine_tests.proofs.spelled.+code.Given as goal
 
 abbrev pub decreases-are_sides : goal.decreases-are_sides
 decreases-are_sides l = 2 * length l.bytes.now + 1

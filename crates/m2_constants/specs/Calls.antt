@@ -1,0 +1,95 @@
+-- Calls of standard procedures.
+use Rattle.std.specs.Prelude.{ℕ, Option, Some, None, Result, Ok, Err}
+use Rattle.m2_tree.specs.declared.pos.Pos.{Pos}
+use Rattle.m2_typed.specs.declared.types.TypeNo.{TypeNo}
+use Rattle.m2_typed.specs.declared.shape.Scalar.{Scalar}
+use Rattle.m2_typed.specs.declared.meaning.Value.{Value}
+use Rattle.m2_typed.specs.declared.meaning.Standard.{Standard}
+use Rattle.m2_typed.specs.declared.meaning.Standard.TheVariants.{Abs, Cap, Chr, High, Max, Min, Odd, Ord, Val, Inc, Dec, Incl, Excl, Halt, Put}
+use Rattle.m2_judged.specs.declared.types.Types.{Types}
+use Rattle.m2_judged.specs.Types.{scalar_at}
+use Rattle.m2_judged.specs.Judged.{Gathers, told, both, ◌▷◌}
+use Rattle.m2_values.specs.Standards.{absolute, capital, character, is_odd, ordinal_of, bound_of, converted}
+use Rattle.m2_constants.specs.declared.denoted.Denoted.{Denoted}
+use Rattle.m2_constants.specs.declared.denoted.Denoted.TheVariants as denoted
+use Rattle.m2_constants.specs.declared.call.Sort.{Sort}
+use Rattle.m2_constants.specs.declared.call.Sort.TheVariants.{Unary, Bound, Conversion, Never}
+
+abbrev pub sort_of : Standard → Sort
+sort_of Abs = Unary
+sort_of Cap = Unary
+sort_of Chr = Unary
+sort_of High = Never
+sort_of Max = Bound
+sort_of Min = Bound
+sort_of Odd = Unary
+sort_of Ord = Unary
+sort_of Val = Conversion
+sort_of Inc = Never
+sort_of Dec = Never
+sort_of Incl = Never
+sort_of Excl = Never
+sort_of Halt = Never
+sort_of Put = Never
+
+-- ---- arguments that name a type
+
+abbrev pub scalar_type : (g : Gathers) → Pos → TypeNo → Option Scalar → Result (TypeNo × Scalar) g.Told
+scalar_type g at t None = told g at 33
+scalar_type g at t (Some s) = Ok (t, s)
+
+abbrev pub type_part : (g : Gathers) → Types → Pos → Denoted → Result (TypeNo × Scalar) g.Told
+type_part g types at (denoted.Type t) = scalar_type g at t (scalar_at types t)
+type_part g types at (denoted.Value v) = told g at 33
+type_part g types at denoted.Variable = told g at 33
+type_part g types at denoted.Procedure = told g at 33
+type_part g types at (denoted.Standard f) = told g at 33
+type_part g types at (denoted.Module k) = told g at 33
+
+abbrev pub type_argument : (g : Gathers) → Types → Pos → Result Denoted g.Told → Result (TypeNo × Scalar) g.Told
+type_argument g types at d = d ▷ type_part g types at
+
+-- ---- what they give
+
+abbrev pub unary_of : (g : Gathers) → Standard → Pos → Value → Result Value g.Told
+unary_of g Abs at v = absolute g at v
+unary_of g Cap at v = capital g at v
+unary_of g Chr at v = character g at v
+unary_of g High at v = told g at 34
+unary_of g Max at v = told g at 34
+unary_of g Min at v = told g at 34
+unary_of g Odd at v = is_odd g at v
+unary_of g Ord at v = ordinal_of g at v
+unary_of g Val at v = told g at 34
+unary_of g Inc at v = told g at 34
+unary_of g Dec at v = told g at 34
+unary_of g Incl at v = told g at 34
+unary_of g Excl at v = told g at 34
+unary_of g Halt at v = told g at 34
+unary_of g Put at v = told g at 34
+
+abbrev pub unary : (g : Gathers) → Standard → Result (Pos × Value) g.Told → Result Value g.Told
+unary g f x = x ▷ λ p. unary_of g f p.0 p.1
+
+abbrev pub bound_by : Standard → TypeNo → Scalar → Value
+bound_by Min t s = bound_of t s s.low
+bound_by Abs t s = bound_of t s s.high
+bound_by Cap t s = bound_of t s s.high
+bound_by Chr t s = bound_of t s s.high
+bound_by High t s = bound_of t s s.high
+bound_by Max t s = bound_of t s s.high
+bound_by Odd t s = bound_of t s s.high
+bound_by Ord t s = bound_of t s s.high
+bound_by Val t s = bound_of t s s.high
+bound_by Inc t s = bound_of t s s.high
+bound_by Dec t s = bound_of t s s.high
+bound_by Incl t s = bound_of t s s.high
+bound_by Excl t s = bound_of t s s.high
+bound_by Halt t s = bound_of t s s.high
+bound_by Put t s = bound_of t s s.high
+
+abbrev pub bound : {T : Type 0} → Standard → Result (TypeNo × Scalar) T → Result Value T
+bound f x = x ▷ λ p. Ok (bound_by f p.0 p.1)
+
+abbrev pub converted_by : (g : Gathers) → Result (TypeNo × Scalar) g.Told → Pos → Result Value g.Told → Result Value g.Told
+converted_by g to at v = both g to v ▷ λ p. converted g p.0.0 p.0.1 at p.1

@@ -1,0 +1,221 @@
+-- What constant expressions mean.
+use Rattle.std.specs.Prelude.{ℕ, ℤ, pos, List, [], ◌∷◌, map, bit_or, Option, Some, None, Result, Ok, Err}
+use Rattle.std.specs.List.{fold}
+use Rattle.m2_tree.specs.declared.pos.Pos.{Pos}
+use Rattle.m2_tree.specs.declared.name.Ident.{Ident}
+use Rattle.m2_tree.specs.declared.expr.MulOp.{MulOp}
+use Rattle.m2_tree.specs.declared.expr.AddOp.{AddOp}
+use Rattle.m2_tree.specs.declared.expr.RelOp.{RelOp}
+use Rattle.m2_tree.specs.declared.expr.Sign.{Sign}
+use Rattle.m2_tree.specs.declared.expr.Operator.{Operator}
+use Rattle.m2_tree.specs.declared.expr.Expr.{Expr, Expr-F, fold-Expr}
+use Rattle.m2_tree.specs.declared.expr.Expr.TheOpen as layer
+use Rattle.m2_tree.specs.declared.expr.Selector.{Selector, Selector-F, fold-Selector}
+use Rattle.m2_tree.specs.declared.expr.Designator.{Designator, Designator-F, fold-Designator}
+use Rattle.m2_tree.specs.declared.expr.Item.{Item, Item-F, fold-Item}
+use Rattle.m2_typed.specs.declared.types.TypeNo.{TypeNo}
+use Rattle.m2_typed.specs.declared.shape.Scalar.{Scalar}
+use Rattle.m2_typed.specs.declared.meaning.Value.{Value}
+use Rattle.m2_typed.specs.declared.meaning.Value.TheVariants as value
+use Rattle.m2_typed.specs.declared.meaning.Standard.{Standard}
+use Rattle.m2_typed.specs.Types.{char}
+use Rattle.m2_judged.specs.Judged.{Gathers, least, told, both, ◌▷◌}
+use Rattle.m2_judged.specs.declared.scope.Scope.{Scope}
+use Rattle.m2_judged.specs.Scopes.{looked_up}
+use Rattle.m2_values.specs.declared.operand.Ordinal.{Ordinal}
+use Rattle.m2_values.specs.declared.operator.BinaryOp.TheVariants as op
+use Rattle.m2_values.specs.Operators.{mul_op, add_op}
+use Rattle.m2_values.specs.Operands.{valued}
+use Rattle.m2_values.specs.Operate.{combined, signed, negated}
+use Rattle.m2_values.specs.Sets.{element, single, spanned}
+use Rattle.m2_constants.specs.declared.denoted.Denoted.{Denoted}
+use Rattle.m2_constants.specs.declared.denoted.Denoted.TheVariants as denoted
+use Rattle.m2_constants.specs.declared.call.Sort.{Sort}
+use Rattle.m2_constants.specs.declared.call.Sort.TheVariants.{Unary, Bound, Conversion, Never}
+use Rattle.m2_constants.specs.Denote.{denoted_by, constant_by, of_value, is_bitset, component, member}
+use Rattle.m2_constants.specs.Calls.{sort_of, type_argument, unary, bound, converted_by}
+
+-- an expression or a designator: the place of its first token, and what it stands for in a scope
+pub record Part (T : Type 0) : Type 0 where
+  pub at : Pos
+  pub denotes : Scope T → Result Denoted T
+
+-- a selector: what it picks of what stands before it
+abbrev pub Pick : Type 0 → Type 0
+Pick T = Scope T → Result Denoted T → Result Denoted T
+
+-- an element of a set: its bits
+abbrev pub Adds : Type 0 → Type 0
+Adds T = Scope T → Result ℕ T
+
+-- ---- places
+
+abbrev pub sign_place : Option (Operator Sign) → Pos → Pos
+sign_place None at = at
+sign_place (Some o) at = o.pos
+
+abbrev pub set_place : Option Ident → Pos → Pos
+set_place None at = at
+set_place (Some name) at = name.pos
+
+-- ---- pieces
+
+abbrev pub value_at : {T : Type 0} → Pos → Result Value T → Result (Pos × Value) T
+value_at at v = v ▷ λ x. Ok (at, x)
+
+abbrev pub single_of : (g : Gathers) → Pos → Result Value g.Told → Result ℕ g.Told
+single_of g at v = v ▷ single g at
+
+abbrev pub element_of : (g : Gathers) → Pos → Result Value g.Told → Result Ordinal g.Told
+element_of g at v = v ▷ element g at
+
+abbrev pub joined_bits : (g : Gathers) → Result ℕ g.Told → Result ℕ g.Told → Result ℕ g.Told
+joined_bits g so more = both g so more ▷ λ p. Ok (bit_or p.0 p.1)
+
+abbrev pub signed_first : (g : Gathers) → Option (Operator Sign) → Result Value g.Told → Result Value g.Told
+signed_first g None v = v
+signed_first g (Some o) v = signed g o.op o.pos v
+
+abbrev pub set_type : (g : Gathers) → Scope g.Told → Option Ident → Result (Unit {0}) g.Told
+set_type g s None = Ok tt
+set_type g s (Some name) = looked_up g s name ▷ is_bitset g name.pos
+
+abbrev pub set_of : (g : Gathers) → Result (Unit {0}) g.Told → Result ℕ g.Told → Result Denoted g.Told
+set_of g t bits = both g t bits ▷ λ p. Ok (denoted.Value (value.Set p.1))
+
+abbrev pub related : (g : Gathers) → Operator RelOp → Pos → Result Value g.Told → Pos → Result Value g.Told → Result Denoted g.Told
+related g o at a at' b = of_value (combined g (op.Relation o.op) o.pos at a at' b)
+
+-- ---- designators
+
+abbrev pub named : (g : Gathers) → Scope g.Told → Ident → Result Denoted g.Told
+named g s name = looked_up g s name ▷ λ m. Ok (denoted_by m)
+
+abbrev pub member_of : (g : Gathers) → Scope g.Told → ℕ → Ident → Result Denoted g.Told
+member_of g s k name = member g s.tables k name ▷ λ m. Ok (denoted_by m)
+
+abbrev pub field_of : (g : Gathers) → Scope g.Told → Pos → Ident → Denoted → Result Denoted g.Told
+field_of g s at name (denoted.Module k) = member_of g s k name
+field_of g s at name denoted.Variable = component g at denoted.Variable
+field_of g s at name (denoted.Value v) = component g at (denoted.Value v)
+field_of g s at name (denoted.Type t) = component g at (denoted.Type t)
+field_of g s at name denoted.Procedure = component g at denoted.Procedure
+field_of g s at name (denoted.Standard f) = component g at (denoted.Standard f)
+
+module _ (g : Gathers) where
+  -- a part taken as a constant
+  abbrev pub constant : Scope g.Told → Part g.Told → Result Value g.Told
+  constant s x = constant_by g x.at (x.denotes s)
+
+  -- ---- calls
+
+  abbrev pub one : Scope g.Told → Pos → List (Part g.Told) → Result (Pos × Value) g.Told
+  one s at [] = told g at 42
+  one s at (x ∷ []) = value_at x.at (constant s x)
+  one s at (x ∷ y ∷ xs) = told g at 42
+
+  abbrev pub type_only : Scope g.Told → Pos → List (Part g.Told) → Result (TypeNo × Scalar) g.Told
+  type_only s at [] = told g at 42
+  type_only s at (x ∷ []) = type_argument g s.types x.at (x.denotes s)
+  type_only s at (x ∷ y ∷ xs) = told g at 42
+
+  abbrev pub conversion : Scope g.Told → Pos → List (Part g.Told) → Result Value g.Told
+  conversion s at [] = told g at 42
+  conversion s at (t ∷ []) = told g at 42
+  conversion s at (t ∷ x ∷ []) = converted_by g (type_argument g s.types t.at (t.denotes s)) x.at (constant s x)
+  conversion s at (t ∷ x ∷ y ∷ xs) = told g at 42
+
+  abbrev pub by_sort : Scope g.Told → Pos → Standard → List (Part g.Told) → Sort → Result Value g.Told
+  by_sort s at f args Unary = unary g f (one s at args)
+  by_sort s at f args Bound = bound f (type_only s at args)
+  by_sort s at f args Conversion = conversion s at args
+  by_sort s at f args Never = told g at 34
+
+  abbrev pub called_as : Scope g.Told → Pos → Denoted → List (Part g.Told) → Result Value g.Told
+  called_as s at (denoted.Standard f) args = by_sort s at f args (sort_of f)
+  called_as s at (denoted.Value v) args = told g at 34
+  called_as s at (denoted.Type t) args = told g at 34
+  called_as s at denoted.Variable args = told g at 34
+  called_as s at denoted.Procedure args = told g at 34
+  called_as s at (denoted.Module k) args = told g at 34
+
+  abbrev pub called : Scope g.Told → Pos → Result Denoted g.Told → List (Part g.Told) → Result Value g.Told
+  called s at d args = d ▷ λ x. called_as s at x args
+
+  abbrev pub used_with : Scope g.Told → Part g.Told → Option (List (Part g.Told)) → Result Denoted g.Told
+  used_with s d None = d.denotes s
+  used_with s d (Some args) = of_value (called s d.at (d.denotes s) args)
+
+  -- ---- operators
+
+  abbrev pub factor : Scope g.Told → Pos → Result Value g.Told → Operator MulOp × Part g.Told → Result Value g.Told
+  factor s at left x = combined g (mul_op x.0.op) x.0.pos at left x.1.at (constant s x.1)
+
+  abbrev pub term : Scope g.Told → Pos → Result Value g.Told → Operator AddOp × Part g.Told → Result Value g.Told
+  term s at left x = combined g (add_op x.0.op) x.0.pos at left x.1.at (constant s x.1)
+
+  -- ---- elements
+
+  abbrev pub added : Scope g.Told → Part g.Told → Option (Part g.Told) → Result ℕ g.Told
+  added s low None = single_of g low.at (constant s low)
+  added s low (Some high) = spanned g low.at (element_of g low.at (constant s low)) high.at (element_of g high.at (constant s high))
+
+  abbrev pub with_item : Scope g.Told → Result ℕ g.Told → Adds g.Told → Result ℕ g.Told
+  with_item s so i = joined_bits g so (i s)
+
+  -- ---- the layers
+
+  abbrev pub expr_layer : Expr-F (Part g.Told) (Pick g.Told) (Part g.Told) (Adds g.Told) → Part g.Told
+  expr_layer (layer.Number at n) = record { at = at; denotes = λ s. Ok (denoted.Value (value.Number (pos n))) }
+  expr_layer (layer.Char at c) = record { at = at; denotes = λ s. Ok (denoted.Value (valued (Some char) (pos c))) }
+  expr_layer (layer.Text at t) = record { at = at; denotes = λ s. Ok (denoted.Value (value.Text t)) }
+  expr_layer (layer.Set name at items) = record { at = set_place name at; denotes = λ s. set_of g (set_type g s name) (fold (with_item s) (Ok 0) items) }
+  expr_layer (layer.Not at e) = record { at = at; denotes = λ s. of_value (negated g at (constant s e)) }
+  expr_layer (layer.Bracketed at e) = record { at = at; denotes = λ s. of_value (constant s e) }
+  expr_layer (layer.Use d args) = record { at = d.at; denotes = λ s. used_with s d args }
+  expr_layer (layer.Term e rest) = record { at = e.at; denotes = λ s. of_value (fold (factor s e.at) (constant s e) rest) }
+  expr_layer (layer.Sum sign e rest) = record { at = sign_place sign e.at; denotes = λ s. of_value (fold (term s (sign_place sign e.at)) (signed_first g sign (constant s e)) rest) }
+  expr_layer (layer.Relation a o b) = record { at = a.at; denotes = λ s. related g o a.at (constant s a) b.at (constant s b) }
+
+  abbrev pub selector_layer : Selector-F (Part g.Told) (Pick g.Told) (Part g.Told) (Adds g.Told) → Pick g.Told
+  selector_layer (layer.Field at name) = λ s d. d ▷ field_of g s at name
+  selector_layer (layer.Index at index) = λ s d. d ▷ component g at
+
+  abbrev pub designator_layer : Designator-F (Part g.Told) (Pick g.Told) (Part g.Told) (Adds g.Told) → Part g.Told
+  designator_layer d = record { at = d.name.pos; denotes = λ s. fold (λ x p. p s x) (named g s d.name) d.selectors }
+
+  abbrev pub item_layer : Item-F (Part g.Told) (Pick g.Told) (Part g.Told) (Adds g.Told) → Adds g.Told
+  item_layer i = λ s. added s i.low i.high
+
+  unfoldable pub part : Expr → Part g.Told
+  part = fold-Expr (Part g.Told) (Pick g.Told) (Part g.Told) (Adds g.Told) expr_layer selector_layer designator_layer item_layer
+
+  unfoldable pub pick : Selector → Pick g.Told
+  pick = fold-Selector (Part g.Told) (Pick g.Told) (Part g.Told) (Adds g.Told) expr_layer selector_layer designator_layer item_layer
+
+  unfoldable pub head : Designator → Part g.Told
+  head = fold-Designator (Part g.Told) (Pick g.Told) (Part g.Told) (Adds g.Told) expr_layer selector_layer designator_layer item_layer
+
+  unfoldable pub item : Item → Adds g.Told
+  item = fold-Item (Part g.Told) (Pick g.Told) (Part g.Told) (Adds g.Told) expr_layer selector_layer designator_layer item_layer
+
+-- ---- the same, step by step
+
+abbrev pub factor_in : Scope (least).Told → Pos → Result Value (least).Told → Operator MulOp × Expr → Result Value (least).Told
+factor_in s at v x = factor least s at v (x.0, part least x.1)
+
+abbrev pub term_in : Scope (least).Told → Pos → Result Value (least).Told → Operator AddOp × Expr → Result Value (least).Told
+term_in s at v x = term least s at v (x.0, part least x.1)
+
+abbrev pub pick_in : Scope (least).Told → Result Denoted (least).Told → Selector → Result Denoted (least).Told
+pick_in s d x = pick least x s d
+
+abbrev pub item_in : Scope (least).Told → Result ℕ (least).Told → Item → Result ℕ (least).Told
+item_in s so i = with_item least s so (item least i)
+
+abbrev pub mapped : Option (List Expr) → Option (List (Part (least).Told))
+mapped None = None
+mapped (Some es) = Some (map (part least) es)
+
+abbrev pub used : Scope (least).Told → Part (least).Told → Option (List Expr) → Result Denoted (least).Told
+used s d args = used_with least s d (mapped args)

@@ -1,0 +1,150 @@
+//! Calls of standard procedures.
+
+ghost use Rattle.std.specs.Prelude.{◌≡◌};
+ghost use Rattle.m2_judged.specs.Judged.{least, ◌▷◌};
+ghost use Rattle.m2_constants.specs.Calls.{sort_of, scalar_type, type_part, type_argument, unary_of, unary, bound_by, bound, converted_by};
+
+use crate::denoted::Denoted;
+use m2_judged::{Judged, Types, both, scalar_of, told};
+use m2_tree::Pos;
+use m2_typed::{Scalar, Standard, TypeNo, Value};
+use m2_values::{absolute, bound_of, capital, character, converted, is_odd, ordinal_of};
+
+/// What a standard procedure asks for in a constant expression.
+#[derive(Clone, Copy, Debug, PartialEq, Eq)]
+pub enum Sort {
+    /// One constant.
+    Unary,
+    /// One type.
+    Bound,
+    /// A type and a constant.
+    Conversion,
+    /// It gives no constant.
+    Never,
+}
+
+/// What a standard procedure asks for.
+pub fn sort_of(standard: Standard) -> Sort
+    ensures { result ≡ sort_of standard }
+{
+    match standard {
+        Standard::Abs | Standard::Cap | Standard::Chr | Standard::Odd | Standard::Ord => {
+            Sort::Unary
+        }
+        Standard::Max | Standard::Min => Sort::Bound,
+        Standard::Val => Sort::Conversion,
+        Standard::High
+        | Standard::Inc
+        | Standard::Dec
+        | Standard::Incl
+        | Standard::Excl
+        | Standard::Halt
+        | Standard::Put => Sort::Never,
+    }
+}
+
+fn scalar_type(at: Pos, t: TypeNo, scalar: Option<Scalar>) -> Judged<(TypeNo, Scalar)>
+    ensures { result ≡ scalar_type least at t scalar }
+{
+    match scalar {
+        None => told(at, 33),
+        Some(scalar) => Ok((t, scalar)),
+    }
+}
+
+fn type_part(types: &Types, at: Pos, denoted: Denoted) -> Judged<(TypeNo, Scalar)>
+    ensures { result ≡ type_part least types.now at denoted }
+{
+    match denoted {
+        Denoted::Type(t) => scalar_type(at, t, scalar_of(types, t)),
+        Denoted::Value(_) => told(at, 33),
+        Denoted::Variable => told(at, 33),
+        Denoted::Procedure => told(at, 33),
+        Denoted::Standard(_) => told(at, 33),
+        Denoted::Module(_) => told(at, 33),
+    }
+}
+
+/// An argument that names a scalar type.
+pub fn type_argument(types: &Types, at: Pos, denoted: Judged<Denoted>) -> Judged<(TypeNo, Scalar)>
+    ensures { result ≡ type_argument least types.now at denoted }
+{
+    match denoted {
+        Err(fault) => Err(fault),
+        Ok(denoted) => type_part(types, at, denoted),
+    }
+}
+
+fn unary_of(standard: Standard, at: Pos, value: &Value) -> Judged<Value>
+    ensures { result ≡ unary_of least standard at value.now }
+{
+    match standard {
+        Standard::Abs => absolute(at, value),
+        Standard::Cap => capital(at, value),
+        Standard::Chr => character(at, value),
+        Standard::Odd => is_odd(at, value),
+        Standard::Ord => ordinal_of(at, value),
+        Standard::High
+        | Standard::Max
+        | Standard::Min
+        | Standard::Val
+        | Standard::Inc
+        | Standard::Dec
+        | Standard::Incl
+        | Standard::Excl
+        | Standard::Halt
+        | Standard::Put => told(at, 34),
+    }
+}
+
+/// A standard procedure of one constant.
+pub fn unary(standard: Standard, argument: Judged<(Pos, Value)>) -> Judged<Value>
+    ensures { result ≡ unary least standard argument }
+{
+    match argument {
+        Err(fault) => Err(fault),
+        Ok((at, value)) => unary_of(standard, at, &value),
+    }
+}
+
+fn bound_by(standard: Standard, t: TypeNo, scalar: Scalar) -> Value
+    ensures { result ≡ bound_by standard t scalar }
+{
+    match standard {
+        Standard::Min => bound_of(t, scalar, scalar.low),
+        Standard::Max
+        | Standard::Abs
+        | Standard::Cap
+        | Standard::Chr
+        | Standard::Odd
+        | Standard::Ord
+        | Standard::High
+        | Standard::Val
+        | Standard::Inc
+        | Standard::Dec
+        | Standard::Incl
+        | Standard::Excl
+        | Standard::Halt
+        | Standard::Put => bound_of(t, scalar, scalar.high),
+    }
+}
+
+/// MIN, or else MAX, of a type.
+pub fn bound(standard: Standard, argument: Judged<(TypeNo, Scalar)>) -> Judged<Value>
+    ensures { result ≡ bound standard argument }
+{
+    match argument {
+        Err(fault) => Err(fault),
+        Ok((t, scalar)) => Ok(bound_by(standard, t, scalar)),
+    }
+}
+
+/// VAL of a type and of what stands at a place.
+pub fn converted_by(to: Judged<(TypeNo, Scalar)>, at: Pos, value: Judged<Value>) -> Judged<Value>
+    ensures { result ≡ converted_by least to at value }
+{
+    match both(to, value) {
+        Err(fault) => Err(fault),
+        Ok(((t, scalar), value)) => converted(t, scalar, at, &value),
+    }
+}

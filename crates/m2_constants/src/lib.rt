@@ -1,0 +1,11 @@
+//! Constant expressions.
+#![tactic(auto)]
+
+mod call;
+mod denoted;
+mod expr;
+mod qualified;
+
+pub use denoted::Denoted;
+pub use expr::{constant_of, place_of};
+pub use qualified::member;
