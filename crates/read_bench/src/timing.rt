@@ -46,10 +46,9 @@ fn tell<R: Eprint>(
         (user.saturating_add(system)).saturating_mul(HUNDREDTH),
     ));
     let faults = after.faults.saturating_sub(before.faults);
-    let peak = after.peak.saturating_sub(before.now);
-    let each = Hundredths(peak.saturating_mul(100) / bytes.max(1));
+    let each = Hundredths(after.peak.saturating_mul(100) / bytes.max(1));
     eprintln!(rt;
-        "{workers} workers: {wall} MB/s, {processor} MB/s of processor time ({user} + {system} hundredths), {faults} page faults, {each} bytes a byte at most"
+        "{workers} workers: {wall} MB/s, {processor} MB/s of processor time ({user} + {system} hundredths), {faults} page faults, at most {each} bytes of memory a byte of text"
     )?;
     Ok(())
 }

@@ -15,8 +15,6 @@ pub struct Usage {
     pub system: u64,
     /// The most memory that there was at one time.
     pub peak: u64,
-    /// The memory that there is.
-    pub now: u64,
 }
 
 fn number(word: Option<&str>) -> u64 {
@@ -49,7 +47,6 @@ pub fn used<R: Files + AllocGlobal>(rt: &R) -> Result<Usage> {
         user: field(&line, 13),
         system: field(&line, 14),
         peak: memory(&status, "VmHWM:"),
-        now: memory(&status, "VmRSS:"),
     })
 }
 
