@@ -16,6 +16,9 @@ use Rattle.m2_judged.specs.declared.known.Known.TheVariants.{Later, Ahead}
 use Rattle.m2_judged.specs.declared.scope.Scope.{Scope}
 use Rattle.m2_judged.specs.Scopes.{marked}
 
+abbrev pub Marks : Type 0 → Type 0
+Marks T = Scope T → Scope T
+
 module _ {T : Type 0} where
   abbrev pub marked_later : Scope T → Ident → Scope T
   marked_later s name = marked name Later s
@@ -25,27 +28,24 @@ module _ {T : Type 0} where
   marked_simple (simple.Enumeration at names) s = fold marked_later s names
   marked_simple (simple.Subrange of at low high) s = s
 
-  abbrev pub Marks : Type 0
-  Marks = Scope T → Scope T
-
-  abbrev pub then_marks : Scope T → Marks → Scope T
+  abbrev pub then_marks : Scope T → Marks T → Scope T
   then_marks s f = f s
 
   -- the constants of the enumerations in a type
-  abbrev pub type_layer : TypeExpr-F Marks Marks → Marks
+  abbrev pub type_layer : TypeExpr-F (Marks T) (Marks T) → Marks T
   type_layer (layer.Simple t) = λ s. marked_simple t s
   type_layer (layer.Array at index of) = λ s. of (marked_simple index s)
   type_layer (layer.Record at fields) = λ s. fold then_marks s fields
   type_layer (layer.Procedure at formals of) = λ s. s
 
-  abbrev pub field_layer : Field-F Marks Marks → Marks
+  abbrev pub field_layer : Field-F (Marks T) (Marks T) → Marks T
   field_layer f = f.of
 
-  unfoldable pub marked_in : TypeExpr → Marks
-  marked_in = fold-TypeExpr Marks Marks type_layer field_layer
+  unfoldable pub marked_in : TypeExpr → Marks T
+  marked_in = fold-TypeExpr (Marks T) (Marks T) type_layer field_layer
 
-  unfoldable pub marked_field : Field → Marks
-  marked_field = fold-Field Marks Marks type_layer field_layer
+  unfoldable pub marked_field : Field → Marks T
+  marked_field = fold-Field (Marks T) (Marks T) type_layer field_layer
 
   abbrev pub marked_with_field : Scope T → Field → Scope T
   marked_with_field s f = marked_field f s

@@ -69,7 +69,7 @@ fn brings_simple(t: &Simple) -> usize
     ensures { result ≡ brings_simple t.now }
 {
     match t {
-        Simple::Enumeration(_, names) => names.len() + 1,
+        Simple::Enumeration(_, names) => names.as_slice().len() + 1,
         Simple::Named(_) => 1,
         Simple::Subrange(_, _, _, _) => 1,
     }
