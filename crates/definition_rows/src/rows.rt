@@ -5,8 +5,8 @@ use m2_judged::Judged;
 use m2_parse::parse;
 use m2_scan::scan;
 use m2_tree::{Items, Module};
-use m2_types::compile_definition;
 use m2_typed::{Shared, Table};
+use m2_types::compile_definition;
 use std::alloc::Global;
 use std::fs;
 
@@ -35,11 +35,7 @@ fn shared(alloc: Global, tables: &Items<Shared<Table>>) -> Result<Items<Shared<T
     Ok(copies)
 }
 
-fn compiled(
-    alloc: Global,
-    tables: &Items<Shared<Table>>,
-    text: &[u8],
-) -> Result<Judged<Table>> {
+fn compiled(alloc: Global, tables: &Items<Shared<Table>>, text: &[u8]) -> Result<Judged<Table>> {
     let tree = tree_of(alloc, text)?;
     let number = u32::try_from(tables.len())?;
     Ok(compile_definition(alloc, number, &tree, shared(alloc, tables)?)?)
@@ -48,7 +44,10 @@ fn compiled(
 fn told(alloc: Global, judged: &Judged<Table>) -> Result<String> {
     match judged {
         Ok(_) => Ok(String::from_str(alloc, "ok")?),
-        Err(fault) => Ok(format!(in alloc; "{} {} {}", fault.pos.line, fault.pos.col, fault.number)?),
+        Err(fault) => Ok(format!(in alloc;
+            "{} {} {}",
+            fault.pos.line, fault.pos.col, fault.number
+        )?),
     }
 }
 

@@ -140,11 +140,7 @@ pub fn bound(standard: Standard, argument: Judged<(TypeNo, Scalar)>) -> Judged<V
 }
 
 /// VAL of a type and of what stands at a place.
-pub fn converted_by(
-    to: Judged<(TypeNo, Scalar)>,
-    at: Pos,
-    value: Judged<Value>,
-) -> Judged<Value>
+pub fn converted_by(to: Judged<(TypeNo, Scalar)>, at: Pos, value: Judged<Value>) -> Judged<Value>
     ensures { result ≡ converted_by least to at value }
 {
     match both(to, value) {

@@ -13,8 +13,7 @@ use crate::denoted::{Denoted, component, constant_by, denoted_by, is_bitset, of_
 use crate::qualified::member;
 use m2_judged::{Fault, Judged, Scope, both, looked_up, told};
 use m2_tree::{
-    AddOp, Designator, Expr, Ident, Item, MulOp, Operator, Pos, Quoted, RelOp, Selector,
-    Sign,
+    AddOp, Designator, Expr, Ident, Item, MulOp, Operator, Pos, Quoted, RelOp, Selector, Sign,
 };
 use m2_typed::{CHAR, Scalar, Shared, Standard, TypeNo, Value};
 use m2_values::{
@@ -222,10 +221,7 @@ fn picked(
 
 /// What a designator stands for.
 #[tactic(auto, using(crate::proofs::Variants::variants))]
-fn designated(
-    scope: &Scope<Fault>,
-    designator: &Designator,
-) -> Result<Judged<Denoted>, AllocError>
+fn designated(scope: &Scope<Fault>, designator: &Designator) -> Result<Judged<Denoted>, AllocError>
     ensures { IfOk result (λ d. d ≡ (head least designator.now).denotes scope.now) }
 {
     let first = named(scope, &designator.name)?;
@@ -435,7 +431,14 @@ fn factors(
     let mut value = left;
     for (operator, factor) in rest {
         let right = constant_of(alloc, scope, factor)?;
-        value = combined(mul_op(operator.op), operator.pos, at, value, place_of(factor), right);
+        value = combined(
+            mul_op(operator.op),
+            operator.pos,
+            at,
+            value,
+            place_of(factor),
+            right,
+        );
     }
     Ok(value)
 }
@@ -454,18 +457,21 @@ fn terms(
     let mut value = left;
     for (operator, term) in rest {
         let right = constant_of(alloc, scope, term)?;
-        value = combined(add_op(operator.op), operator.pos, at, value, place_of(term), right);
+        value = combined(
+            add_op(operator.op),
+            operator.pos,
+            at,
+            value,
+            place_of(term),
+            right,
+        );
     }
     Ok(value)
 }
 
 /// The elements in braces.
 #[cycle(expr)]
-fn elements(
-    alloc: Global,
-    scope: &Scope<Fault>,
-    items: &[Item],
-) -> Result<Judged<u32>, AllocError>
+fn elements(alloc: Global, scope: &Scope<Fault>, items: &[Item]) -> Result<Judged<u32>, AllocError>
     ensures { IfOk result (λ b. b ≡ fold (item_in scope.now) (Ok 0) items.now) }
 {
     let mut bits = Ok(0);

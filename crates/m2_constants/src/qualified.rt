@@ -36,5 +36,8 @@ pub fn member(
 ) -> Result<Judged<Meaning>, AllocError>
     ensures { IfOk result (λ m. m ≡ member least scope.now.tables place name.now) }
 {
-    exported(name.pos, exported_by(scope.tables.get(place), name.name.as_bytes()))
+    exported(
+        name.pos,
+        exported_by(scope.tables.get(place), name.name.as_bytes()),
+    )
 }

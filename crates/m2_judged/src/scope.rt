@@ -41,10 +41,7 @@ fn or_outside<'a>(
     }
 }
 
-fn known_outside<'a>(
-    outer: &'a [Dictionary<Known<Fault>>],
-    name: &[u8],
-) -> Option<&'a Known<Fault>>
+fn known_outside<'a>(outer: &'a [Dictionary<Known<Fault>>], name: &[u8]) -> Option<&'a Known<Fault>>
     ensures { option_copied result ≡ known_outside name.now outer.now }
 {
     let mut known = None;
@@ -58,7 +55,10 @@ fn known_outside<'a>(
 pub fn known_in<'a>(scope: &'a Scope<Fault>, name: &[u8]) -> Option<&'a Known<Fault>>
     ensures { option_copied result ≡ known name.now scope.now }
 {
-    or_outside(scope.own.find(name), known_outside(scope.outer.as_slice(), name))
+    or_outside(
+        scope.own.find(name),
+        known_outside(scope.outer.as_slice(), name),
+    )
 }
 
 fn means_as(at: Pos, known: Option<&Known<Fault>>) -> Result<Judged<Meaning>, AllocError>
@@ -119,7 +119,12 @@ pub fn declare(
     if !is_free(scope.own.find(name.name.as_bytes())) {
         return Ok(told(name.pos, 31));
     }
-    with_known(alloc, scope, name.name.as_bytes(), Known::Declared(Origin::Here, means))?;
+    with_known(
+        alloc,
+        scope,
+        name.name.as_bytes(),
+        Known::Declared(Origin::Here, means),
+    )?;
     Ok(Ok(()))
 }
 
@@ -162,7 +167,12 @@ pub fn finish(
     if !is_begun(scope.own.find(name.name.as_bytes())) {
         return Ok(());
     }
-    with_known(alloc, scope, name.name.as_bytes(), Known::Declared(Origin::Here, means))
+    with_known(
+        alloc,
+        scope,
+        name.name.as_bytes(),
+        Known::Declared(Origin::Here, means),
+    )
 }
 
 fn is_one_origin(first: Origin, second: Origin) -> bool

@@ -43,11 +43,7 @@ pub fn plus(a: u32, b: u32) -> u32
     ensures { result ≡ plus a b }
 {
     let sum = u64::from(a) + u64::from(b);
-    if sum > 131_072 {
-        131_073
-    } else {
-        sum as u32
-    }
+    if sum > 131_072 { 131_073 } else { sum as u32 }
 }
 
 /// The cells of an array of so many elements.

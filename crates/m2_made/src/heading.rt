@@ -143,10 +143,7 @@ fn sections(
     Ok((names, formals))
 }
 
-fn procedure_made(
-    formals: Judged<Items<Formal>>,
-    of: Judged<Option<TypeNo>>,
-) -> Judged<Made>
+fn procedure_made(formals: Judged<Items<Formal>>, of: Judged<Option<TypeNo>>) -> Judged<Made>
     ensures { result ≡ procedure_made least formals of }
 {
     match both(formals, of) {

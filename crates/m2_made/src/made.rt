@@ -19,10 +19,7 @@ use m2_values::Ordinal;
 use std::alloc::{AllocError, Global};
 
 /// Makes a type.
-pub fn with_made(
-    scope: &mut Scope<Fault>,
-    made: Judged<Made>,
-) -> Result<Judged<TypeNo>, AllocError>
+pub fn with_made(scope: &mut Scope<Fault>, made: Judged<Made>) -> Result<Judged<TypeNo>, AllocError>
     ensures { IfOk result (λ t. (scope.new, t) ≡ with_made scope.old made) }
 {
     match made {
@@ -150,11 +147,7 @@ fn scalar_named(scope: &Scope<Fault>, q: &Qualified) -> Result<Judged<Scalar>, A
     Ok(scalar_in(&scope.types, first_of(q), t))
 }
 
-fn bound_at(
-    alloc: Global,
-    scope: &Scope<Fault>,
-    e: &Expr,
-) -> Result<Judged<Ordinal>, AllocError>
+fn bound_at(alloc: Global, scope: &Scope<Fault>, e: &Expr) -> Result<Judged<Ordinal>, AllocError>
     ensures { IfOk result (λ a. a ≡ bound_at least scope.now (part least e.now)) }
 {
     let value = constant_of(alloc, scope, e)?;
@@ -384,5 +377,12 @@ fn field_list(
     let t = type_of(alloc, scope, &field.of)?;
     let of = field_type(t);
     let cells = cells_of(&scope.types, of);
-    with_names(alloc, fields, beside(before, nothing_of(t)), field.names.as_slice(), of, cells)
+    with_names(
+        alloc,
+        fields,
+        beside(before, nothing_of(t)),
+        field.names.as_slice(),
+        of,
+        cells,
+    )
 }

@@ -68,7 +68,13 @@ fn ordered(at: Pos, low: i64, high: i64) -> Judged<()>
     Ok(())
 }
 
-fn between(at: Pos, a: Ordinal, high_at: Pos, b: Ordinal, sort: Option<Option<TypeNo>>) -> Judged<Scalar>
+fn between(
+    at: Pos,
+    a: Ordinal,
+    high_at: Pos,
+    b: Ordinal,
+    sort: Option<Option<TypeNo>>,
+) -> Judged<Scalar>
     ensures { result ≡ between least at a high_at b sort }
 {
     match sort {

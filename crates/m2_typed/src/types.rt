@@ -23,18 +23,22 @@ pub const INTEGER: TypeNo = TypeNo {
     home: Home::Predeclared,
     number: 0,
 };
+
 pub const CARDINAL: TypeNo = TypeNo {
     home: Home::Predeclared,
     number: 1,
 };
+
 pub const BOOLEAN: TypeNo = TypeNo {
     home: Home::Predeclared,
     number: 2,
 };
+
 pub const CHAR: TypeNo = TypeNo {
     home: Home::Predeclared,
     number: 3,
 };
+
 pub const BITSET: TypeNo = TypeNo {
     home: Home::Predeclared,
     number: 4,

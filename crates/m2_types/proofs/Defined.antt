@@ -17,5 +17,5 @@ pub definition_is : (number : ℕ) (m : Module) (tables ts : List Table) (defs :
 definition_is number m tables ts defs modules n s s' j t h1 h2 h3 =
     let em : modules ≡ (numbered_modules tables).0 = ap (λ (p : List (List ℕ × ℕ) × ℕ). p.0) (h1 ∙ ap numbered_modules t) in
     let e : (s', j) ≡ declared_in least m (numbered_modules tables).0 (first_scope number tables) defs =
-        h3 ∙ ap (λ (ms : List (List ℕ × ℕ)). declared_in least m ms s defs) em ∙ ap (λ (x : Scope Fault). declared_in least m (numbered_modules tables).0 x defs) h2 in
+    h3 ∙ ap (λ (ms : List (List ℕ × ℕ)). declared_in least m ms s defs) em ∙ ap (λ (x : Scope Fault). declared_in least m (numbered_modules tables).0 x defs) h2 in
     ap (λ (ms : List (List ℕ × ℕ)). table_or m ms s' j) em ∙ ap (λ (st : State (Unit {0}) Fault). table_or m (numbered_modules tables).0 st.0 st.1) e

@@ -17,8 +17,11 @@ use Rattle.m2_types.specs.Export.{exports, reached_of, imported_modules}
 
 abbrev pub table_of : {T : Type 0} → Module → List (List ℕ × ℕ) → Scope T → Table
 table_of m modules s = record {
-  number = s.types.home; name = m.name.name; imports = imported_modules modules s.tables m.imports;
-  exported = exports s.own; reached = reached_of s.types;
+  number = s.types.home;
+  name = m.name.name;
+  imports = imported_modules modules s.tables m.imports;
+  exported = exports s.own;
+  reached = reached_of s.types;
 }
 
 abbrev pub table_or : {T : Type 0} → Module → List (List ℕ × ℕ) → Scope T → Result (Unit {0}) T → Result Table T

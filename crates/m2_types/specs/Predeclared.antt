@@ -74,5 +74,8 @@ abbrev pub first_scope : {T : Type 0} → ℕ → List Table → Scope T
 first_scope home tables = record {
   tables = tables;
   types = record { home = home; own = []; others = others_of tables };
-  variables = []; procedures = []; own = []; outer = predeclared ∷ [];
+  variables = [];
+  procedures = [];
+  own = [];
+  outer = predeclared ∷ [];
 }

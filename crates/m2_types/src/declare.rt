@@ -5,10 +5,9 @@ ghost use Rattle.std.specs.List.{fold};
 ghost use Rattle.m2_judged.specs.Judged.{least};
 ghost use Rattle.m2_types.specs.Declare.{constant_meaning, nothing_told, with_constant, brings_simple, brings_with, type_meaning, with_type, begun_name, variable_meaning, with_variable_type, finished_variable, with_variables, procedure_meaning, with_procedure_type, declared_procedure, with_procedure, with_def};
 
-
-use m2_made::{heading_of, nothing_of, type_of, with_made};
 use m2_constants::constant_of;
 use m2_judged::{Fault, Judged, Scope, begin, beside, declare, finish};
+use m2_made::{heading_of, nothing_of, type_of, with_made};
 use m2_tree::{Constant, Def, Heading, Ident, Simple, TypeDecl, TypeExpr, Variables};
 use m2_typed::{Meaning, Procedure, TypeNo, Value, Variable};
 use std::alloc::{AllocError, Global};
@@ -106,7 +105,12 @@ fn with_type(
 {
     let first = begin(alloc, scope, &decl.name)?;
     let t = type_of(alloc, scope, &decl.of)?;
-    finish(alloc, scope, &decl.name, type_meaning(t, brings_with(&decl.of)))?;
+    finish(
+        alloc,
+        scope,
+        &decl.name,
+        type_meaning(t, brings_with(&decl.of)),
+    )?;
     Ok(beside(before, beside(first, nothing_of(t))))
 }
 

@@ -163,9 +163,7 @@ fn with_imported(
 {
     match modules.find(name.name.as_bytes()) {
         None => Ok(()),
-        Some(place) => {
-            with_table_if(alloc, imported, name.name.as_bytes(), tables.get(*place))
-        }
+        Some(place) => { with_table_if(alloc, imported, name.name.as_bytes(), tables.get(*place)) }
     }
 }
 

@@ -28,10 +28,7 @@ fn with_module(
 }
 
 /// The places of the tables by their names. The first of a name counts.
-pub fn modules_of(
-    alloc: Global,
-    tables: &[Shared<Table>],
-) -> Result<Dictionary<usize>, AllocError>
+pub fn modules_of(alloc: Global, tables: &[Shared<Table>]) -> Result<Dictionary<usize>, AllocError>
     ensures { IfOk result (λ m. (m, length tables.now) ≡ numbered_modules tables.now) }
 {
     let mut modules = Dictionary::new(alloc);

@@ -2,18 +2,13 @@
 
 ghost use Rattle.std.specs.Prelude.{◌≡◌, OnOk};
 ghost use Rattle.std.specs.List.{fold};
-
 ghost use Rattle.m2_types.specs.Marking.{marked_later, marked_simple, marked_in, marked_field, marked_constant, marked_type, marked_variables, marked_def, marked_with_field};
 
 use m2_judged::{Fault, Known, Scope, mark};
 use m2_tree::{Constant, Def, Field, Ident, Simple, TypeDecl, TypeExpr, Variables};
 use std::alloc::{AllocError, Global};
 
-fn mark_names(
-    alloc: Global,
-    scope: &mut Scope<Fault>,
-    names: &[Ident],
-) -> Result<(), AllocError>
+fn mark_names(alloc: Global, scope: &mut Scope<Fault>, names: &[Ident]) -> Result<(), AllocError>
     ensures { OnOk result (scope.new ≡ fold marked_later scope.old names.now) }
 {
     for name in names {
@@ -50,11 +45,7 @@ fn mark_in(alloc: Global, scope: &mut Scope<Fault>, t: &TypeExpr) -> Result<(), 
 }
 
 #[cycle(marks)]
-fn mark_fields(
-    alloc: Global,
-    scope: &mut Scope<Fault>,
-    fields: &[Field],
-) -> Result<(), AllocError>
+fn mark_fields(alloc: Global, scope: &mut Scope<Fault>, fields: &[Field]) -> Result<(), AllocError>
     ensures { OnOk result (scope.new ≡ fold marked_with_field scope.old fields.now) }
 {
     for field in fields {
@@ -84,11 +75,7 @@ fn mark_constants(
     Ok(())
 }
 
-fn mark_types(
-    alloc: Global,
-    scope: &mut Scope<Fault>,
-    list: &[TypeDecl],
-) -> Result<(), AllocError>
+fn mark_types(alloc: Global, scope: &mut Scope<Fault>, list: &[TypeDecl]) -> Result<(), AllocError>
     ensures { OnOk result (scope.new ≡ fold marked_type scope.old list.now) }
 {
     for decl in list {

@@ -23,15 +23,27 @@ fn predeclare(
     names.enter(alloc, name, Known::Declared(Origin::Here, Ok(means)))
 }
 
-fn predeclare_types(
-    alloc: Global,
-    names: &mut Dictionary<Known<Fault>>,
-) -> Result<(), AllocError>
+fn predeclare_types(alloc: Global, names: &mut Dictionary<Known<Fault>>) -> Result<(), AllocError>
     ensures { OnOk result (names.new ≡ with_types names.old) }
 {
-    predeclare(alloc, names, b"INTEGER".as_slice(), Meaning::Type(INTEGER, 1))?;
-    predeclare(alloc, names, b"CARDINAL".as_slice(), Meaning::Type(CARDINAL, 1))?;
-    predeclare(alloc, names, b"BOOLEAN".as_slice(), Meaning::Type(BOOLEAN, 1))?;
+    predeclare(
+        alloc,
+        names,
+        b"INTEGER".as_slice(),
+        Meaning::Type(INTEGER, 1),
+    )?;
+    predeclare(
+        alloc,
+        names,
+        b"CARDINAL".as_slice(),
+        Meaning::Type(CARDINAL, 1),
+    )?;
+    predeclare(
+        alloc,
+        names,
+        b"BOOLEAN".as_slice(),
+        Meaning::Type(BOOLEAN, 1),
+    )?;
     predeclare(alloc, names, b"CHAR".as_slice(), Meaning::Type(CHAR, 1))?;
     predeclare(alloc, names, b"BITSET".as_slice(), Meaning::Type(BITSET, 1))
 }
@@ -46,10 +58,7 @@ fn truth(number: i64) -> Meaning
     }))
 }
 
-fn predeclare_truth(
-    alloc: Global,
-    names: &mut Dictionary<Known<Fault>>,
-) -> Result<(), AllocError>
+fn predeclare_truth(alloc: Global, names: &mut Dictionary<Known<Fault>>) -> Result<(), AllocError>
     ensures { OnOk result (names.new ≡ with_truth names.old) }
 {
     predeclare(alloc, names, b"FALSE".as_slice(), truth(0))?;
@@ -62,23 +71,65 @@ fn predeclare_functions(
 ) -> Result<(), AllocError>
     ensures { OnOk result (names.new ≡ with_functions names.old) }
 {
-    predeclare(alloc, names, b"ABS".as_slice(), Meaning::Standard(Standard::Abs))?;
-    predeclare(alloc, names, b"CAP".as_slice(), Meaning::Standard(Standard::Cap))?;
-    predeclare(alloc, names, b"CHR".as_slice(), Meaning::Standard(Standard::Chr))?;
-    predeclare(alloc, names, b"HIGH".as_slice(), Meaning::Standard(Standard::High))
+    predeclare(
+        alloc,
+        names,
+        b"ABS".as_slice(),
+        Meaning::Standard(Standard::Abs),
+    )?;
+    predeclare(
+        alloc,
+        names,
+        b"CAP".as_slice(),
+        Meaning::Standard(Standard::Cap),
+    )?;
+    predeclare(
+        alloc,
+        names,
+        b"CHR".as_slice(),
+        Meaning::Standard(Standard::Chr),
+    )?;
+    predeclare(
+        alloc,
+        names,
+        b"HIGH".as_slice(),
+        Meaning::Standard(Standard::High),
+    )
 }
 
-fn predeclare_bounds(
-    alloc: Global,
-    names: &mut Dictionary<Known<Fault>>,
-) -> Result<(), AllocError>
+fn predeclare_bounds(alloc: Global, names: &mut Dictionary<Known<Fault>>) -> Result<(), AllocError>
     ensures { OnOk result (names.new ≡ with_bounds names.old) }
 {
-    predeclare(alloc, names, b"MAX".as_slice(), Meaning::Standard(Standard::Max))?;
-    predeclare(alloc, names, b"MIN".as_slice(), Meaning::Standard(Standard::Min))?;
-    predeclare(alloc, names, b"ODD".as_slice(), Meaning::Standard(Standard::Odd))?;
-    predeclare(alloc, names, b"ORD".as_slice(), Meaning::Standard(Standard::Ord))?;
-    predeclare(alloc, names, b"VAL".as_slice(), Meaning::Standard(Standard::Val))
+    predeclare(
+        alloc,
+        names,
+        b"MAX".as_slice(),
+        Meaning::Standard(Standard::Max),
+    )?;
+    predeclare(
+        alloc,
+        names,
+        b"MIN".as_slice(),
+        Meaning::Standard(Standard::Min),
+    )?;
+    predeclare(
+        alloc,
+        names,
+        b"ODD".as_slice(),
+        Meaning::Standard(Standard::Odd),
+    )?;
+    predeclare(
+        alloc,
+        names,
+        b"ORD".as_slice(),
+        Meaning::Standard(Standard::Ord),
+    )?;
+    predeclare(
+        alloc,
+        names,
+        b"VAL".as_slice(),
+        Meaning::Standard(Standard::Val),
+    )
 }
 
 fn predeclare_procedures(
@@ -87,11 +138,36 @@ fn predeclare_procedures(
 ) -> Result<(), AllocError>
     ensures { OnOk result (names.new ≡ with_procedures names.old) }
 {
-    predeclare(alloc, names, b"INC".as_slice(), Meaning::Standard(Standard::Inc))?;
-    predeclare(alloc, names, b"DEC".as_slice(), Meaning::Standard(Standard::Dec))?;
-    predeclare(alloc, names, b"INCL".as_slice(), Meaning::Standard(Standard::Incl))?;
-    predeclare(alloc, names, b"EXCL".as_slice(), Meaning::Standard(Standard::Excl))?;
-    predeclare(alloc, names, b"HALT".as_slice(), Meaning::Standard(Standard::Halt))
+    predeclare(
+        alloc,
+        names,
+        b"INC".as_slice(),
+        Meaning::Standard(Standard::Inc),
+    )?;
+    predeclare(
+        alloc,
+        names,
+        b"DEC".as_slice(),
+        Meaning::Standard(Standard::Dec),
+    )?;
+    predeclare(
+        alloc,
+        names,
+        b"INCL".as_slice(),
+        Meaning::Standard(Standard::Incl),
+    )?;
+    predeclare(
+        alloc,
+        names,
+        b"EXCL".as_slice(),
+        Meaning::Standard(Standard::Excl),
+    )?;
+    predeclare(
+        alloc,
+        names,
+        b"HALT".as_slice(),
+        Meaning::Standard(Standard::Halt),
+    )
 }
 
 /// The predeclared names.

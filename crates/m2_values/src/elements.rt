@@ -97,12 +97,7 @@ fn related_bounds(at: Pos, high_at: Pos, low: Judged<Ordinal>, high: Judged<Ordi
 }
 
 /// The set of a range of elements.
-pub fn spanned(
-    at: Pos,
-    low: Judged<Ordinal>,
-    high_at: Pos,
-    high: Judged<Ordinal>,
-) -> Judged<u32>
+pub fn spanned(at: Pos, low: Judged<Ordinal>, high_at: Pos, high: Judged<Ordinal>) -> Judged<u32>
     ensures { result ≡ spanned least at low high_at high }
 {
     let within = beside(in_set(at, low), in_set(high_at, high));

@@ -18,27 +18,9 @@ pub fn common(first: Option<TypeNo>, second: Option<TypeNo>) -> Option<Option<Ty
 {
     match (first, second) {
         (None, None) => Some(None),
-        (None, Some(t)) => {
-            if is_numeric(t) {
-                Some(Some(t))
-            } else {
-                None
-            }
-        }
-        (Some(t), None) => {
-            if is_numeric(t) {
-                Some(Some(t))
-            } else {
-                None
-            }
-        }
-        (Some(t), Some(u)) => {
-            if are_same(t, u) {
-                Some(Some(t))
-            } else {
-                None
-            }
-        }
+        (None, Some(t)) => { if is_numeric(t) { Some(Some(t)) } else { None } }
+        (Some(t), None) => { if is_numeric(t) { Some(Some(t)) } else { None } }
+        (Some(t), Some(u)) => { if are_same(t, u) { Some(Some(t)) } else { None } }
     }
 }
 

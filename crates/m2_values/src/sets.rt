@@ -50,13 +50,7 @@ fn place(n: i64) -> u32
 {
     match u32::try_from(n) {
         Err(_) => 0,
-        Ok(k) => {
-            if k < 32 {
-                k
-            } else {
-                0
-            }
-        }
+        Ok(k) => { if k < 32 { k } else { 0 } }
     }
 }
 

@@ -27,13 +27,7 @@ pub fn whole_number(value: &Value) -> Option<Ordinal>
 {
     match scalar_part(operand_of(value)) {
         None => None,
-        Some(a) => {
-            if is_number(a.sort) {
-                Some(a)
-            } else {
-                None
-            }
-        }
+        Some(a) => { if is_number(a.sort) { Some(a) } else { None } }
     }
 }
 
