@@ -70,7 +70,8 @@ pub enum Standard {
 #[derive(Drop)]
 pub enum Meaning {
     Constant(Value),
-    /// A type, and how many constants of an enumeration are declared with it; these follow it in their module.
+    /// A type, and how many names come with its import: its own, and the constants of an enumeration that it is
+    /// declared as, which follow it in the table.
     Type(TypeNo, usize),
     Variable(Variable),
     Procedure(Procedure),

@@ -1,6 +1,6 @@
 //! The types that modules make, by the modules' numbers.
 
-ghost use Rattle.std.specs.Prelude.{◌≡◌, [], nat_eq, slice_get, OnOk};
+ghost use Rattle.std.specs.Prelude.{◌≡◌, [], length, nat_eq, slice_get, OnOk};
 ghost use Rattle.std.specs.Option.{option_copied, option_map};
 ghost use Rattle.std.specs.Map.{lookup};
 ghost use Rattle.indexmap.specs.IndexMap.{insert_entry};
@@ -35,6 +35,13 @@ impl Reached {
         Reached {
             modules: IndexMap::new(alloc),
         }
+    }
+
+    /// How many modules there are.
+    pub fn len(&self) -> usize
+        ensures { result ≡ length self.now }
+    {
+        self.modules.len()
     }
 
     /// The types of the module of this number.

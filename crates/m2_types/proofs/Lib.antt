@@ -1,1 +1,3 @@
-pub mod Making
+pub mod Marks
+pub mod Walks
+pub mod Defined

@@ -1,6 +1,7 @@
-pub mod Named
-pub mod Cells
-pub mod Subranges
-pub mod Fields
-pub mod Headings
-pub mod Made
+pub mod Steps
+pub mod Marking
+pub mod Predeclared
+pub mod Importing
+pub mod Declare
+pub mod Export
+pub mod Compiled

@@ -1,16 +1,11 @@
 //! What definitions mean: their tables.
 #![tactic(auto)]
 
-mod cells;
-mod field;
-mod heading;
-mod made;
-mod named;
-mod subrange;
+mod declare;
+mod definition;
+mod export;
+mod importing;
+mod marking;
+mod predeclared;
 
-pub use cells::{MAX_CELLS, array_cells, count_at, is_index, plus};
-pub use field::{Fields, no_fields, with_names};
-pub use heading::{heading_of, procedure_type};
-pub use made::{nothing_of, type_of, with_made};
-pub use named::{first_of, named_type};
-pub use subrange::{bound_of, under, unnamed};
+pub use definition::compile_definition;

@@ -1,0 +1,192 @@
+//! Headings of procedures, and procedure types.
+
+ghost use Rattle.std.specs.Prelude.{◌≡◌, [], Ok, IfOk};
+ghost use Rattle.std.specs.List.{fold};
+ghost use Rattle.m2_judged.specs.Judged.{least};
+ghost use Rattle.m2_made.specs.Headings.{formal_of, result_in, result_of, joined_formal, with_parameter, repeated, joined_formals, with_section, sections, procedure_made, signed_by, heading_of, procedure_type};
+
+use crate::field::{Fields, no_fields, with_names};
+use crate::named::{first_of, named_type};
+use m2_judged::{Fault, Judged, Scope, Types, both, is_result, told};
+use m2_tree::{FormalType, Heading, Ident, Items, Parameter, Pos, Qualified, Section};
+use m2_typed::{Formal, INTEGER, Made, Shape, Signature, TypeNo};
+use std::alloc::{AllocError, Global};
+
+fn formal_of(
+    scope: &Scope<Fault>,
+    is_var: bool,
+    of: &FormalType,
+) -> Result<Judged<Formal>, AllocError>
+    ensures { IfOk result (λ f. f ≡ formal_of least scope.now is_var of.now) }
+{
+    match named_type(scope, &of.of)? {
+        Err(fault) => Ok(Err(fault)),
+        Ok(t) => Ok(Ok(Formal {
+            is_var,
+            is_open: of.is_open,
+            of: t,
+        })),
+    }
+}
+
+fn result_in(types: &Types, at: Pos, t: TypeNo) -> Judged<Option<TypeNo>>
+    ensures { result ≡ result_in least types.now at t }
+{
+    if !is_result(types, t) {
+        return told(at, 33);
+    }
+    Ok(Some(t))
+}
+
+fn result_of(
+    scope: &Scope<Fault>,
+    of: &Option<Qualified>,
+) -> Result<Judged<Option<TypeNo>>, AllocError>
+    ensures { IfOk result (λ t. t ≡ result_of least scope.now of.now) }
+{
+    match of {
+        None => Ok(Ok(None)),
+        Some(q) => match named_type(scope, q)? {
+            Err(fault) => Ok(Err(fault)),
+            Ok(t) => Ok(result_in(&scope.types, first_of(q), t)),
+        },
+    }
+}
+
+fn joined_formal(
+    formals: Judged<Items<Formal>>,
+    formal: Judged<Formal>,
+) -> Result<Judged<Items<Formal>>, AllocError>
+    ensures { IfOk result (λ fs. fs ≡ joined_formal least formals formal) }
+{
+    match both(formals, formal) {
+        Err(fault) => Ok(Err(fault)),
+        Ok((mut all, one)) => {
+            all.push(one)?;
+            Ok(Ok(all))
+        }
+    }
+}
+
+fn parameters(
+    alloc: Global,
+    scope: &Scope<Fault>,
+    list: &[Parameter],
+) -> Result<Judged<Items<Formal>>, AllocError>
+    ensures { IfOk result (λ fs. fs ≡ fold (with_parameter least scope.now) (Ok []) list.now) }
+{
+    let mut formals = Ok(Items::new(alloc));
+    for parameter in list {
+        let formal = formal_of(scope, parameter.is_var, &parameter.of)?;
+        formals = joined_formal(formals, formal)?;
+    }
+    Ok(formals)
+}
+
+fn repeated(alloc: Global, formal: Formal, names: &[Ident]) -> Result<Items<Formal>, AllocError>
+    ensures { IfOk result (λ fs. fs ≡ repeated formal names.now) }
+{
+    let mut formals = Items::new(alloc);
+    for _name in names {
+        formals.push(formal)?;
+    }
+    Ok(formals)
+}
+
+fn joined_formals(
+    alloc: Global,
+    formals: Judged<Items<Formal>>,
+    formal: Judged<Formal>,
+    names: &[Ident],
+) -> Result<Judged<Items<Formal>>, AllocError>
+    ensures { IfOk result (λ fs. fs ≡ joined_formals least formals formal names.now) }
+{
+    match both(formals, formal) {
+        Err(fault) => Ok(Err(fault)),
+        Ok((mut all, one)) => {
+            all.append(repeated(alloc, one, names)?)?;
+            Ok(Ok(all))
+        }
+    }
+}
+
+/// One more section: its formals, and its names.
+fn with_section(
+    alloc: Global,
+    scope: &Scope<Fault>,
+    fields: &mut Fields,
+    names: Judged<()>,
+    formals: Judged<Items<Formal>>,
+    section: &Section,
+) -> Result<(Judged<()>, Judged<Items<Formal>>), AllocError>
+    ensures { IfOk result (λ st. (fields.new, st.0, st.1) ≡ with_section least scope.now (fields.old, names, formals) section.now) }
+{
+    let formal = formal_of(scope, section.is_var, &section.of)?;
+    let judged = with_names(alloc, fields, names, section.names.as_slice(), INTEGER, 0)?;
+    let all = joined_formals(alloc, formals, formal, section.names.as_slice())?;
+    Ok((judged, all))
+}
+
+fn sections(
+    alloc: Global,
+    scope: &Scope<Fault>,
+    list: &[Section],
+) -> Result<(Judged<()>, Judged<Items<Formal>>), AllocError>
+    ensures { IfOk result (λ st. st ≡ sections least scope.now list.now) }
+{
+    let mut fields = no_fields(alloc);
+    let mut names = Ok(());
+    let mut formals = Ok(Items::new(alloc));
+    for section in list {
+        (names, formals) = with_section(alloc, scope, &mut fields, names, formals, section)?;
+    }
+    Ok((names, formals))
+}
+
+fn procedure_made(formals: Judged<Items<Formal>>, of: Judged<Option<TypeNo>>) -> Judged<Made>
+    ensures { result ≡ procedure_made least formals of }
+{
+    match both(formals, of) {
+        Err(fault) => Err(fault),
+        Ok((formals, result)) => Ok(Made {
+            shape: Shape::Procedure(Signature { formals, result }),
+            cells: 1,
+        }),
+    }
+}
+
+fn signed_by(names: Judged<()>, made: Judged<Made>) -> Judged<Made>
+    ensures { result ≡ signed_by least names made }
+{
+    match both(names, made) {
+        Err(fault) => Err(fault),
+        Ok(((), made)) => Ok(made),
+    }
+}
+
+/// The type of a procedure with this heading.
+pub fn heading_of(
+    alloc: Global,
+    scope: &Scope<Fault>,
+    heading: &Heading,
+) -> Result<Judged<Made>, AllocError>
+    ensures { IfOk result (λ m. m ≡ heading_of least scope.now heading.now) }
+{
+    let (names, formals) = sections(alloc, scope, heading.formals.as_slice())?;
+    let of = result_of(scope, &heading.result)?;
+    Ok(signed_by(names, procedure_made(formals, of)))
+}
+
+/// A procedure type.
+pub fn procedure_type(
+    alloc: Global,
+    scope: &Scope<Fault>,
+    list: &[Parameter],
+    of: &Option<Qualified>,
+) -> Result<Judged<Made>, AllocError>
+    ensures { IfOk result (λ m. m ≡ procedure_type least scope.now list.now of.now) }
+{
+    let formals = parameters(alloc, scope, list)?;
+    let result = result_of(scope, of)?;
+    Ok(procedure_made(formals, result))
+}

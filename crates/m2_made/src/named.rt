@@ -1,0 +1,76 @@
+//! Names of types.
+
+ghost use Rattle.std.specs.Prelude.{◌≡◌, IfOk};
+ghost use Rattle.m2_judged.specs.Judged.{least, ◌▷◌};
+ghost use Rattle.m2_made.specs.Named.{first_of, type_meant, in_module, of_module, named_type};
+
+use m2_constants::member;
+use m2_judged::{Fault, Judged, Scope, looked_up, told};
+use m2_tree::{Ident, Pos, Qualified};
+use m2_typed::{Meaning, TypeNo};
+use std::alloc::AllocError;
+
+/// The place of a name's first token.
+pub fn first_of(q: &Qualified) -> Pos
+    ensures { result ≡ first_of q.now }
+{
+    match &q.module {
+        None => q.name.pos,
+        Some(name) => name.pos,
+    }
+}
+
+fn type_meant(at: Pos, meaning: Meaning) -> Judged<TypeNo>
+    ensures { result ≡ type_meant least at meaning }
+{
+    match meaning {
+        Meaning::Type(t, _) => Ok(t),
+        Meaning::Constant(_) => told(at, 33),
+        Meaning::Variable(_) => told(at, 33),
+        Meaning::Procedure(_) => told(at, 33),
+        Meaning::Ahead => told(at, 33),
+        Meaning::Standard(_) => told(at, 33),
+        Meaning::Module(_) => told(at, 33),
+    }
+}
+
+fn type_by(at: Pos, meaning: Judged<Meaning>) -> Judged<TypeNo>
+    ensures { result ≡ meaning ▷ type_meant least at }
+{
+    match meaning {
+        Err(fault) => Err(fault),
+        Ok(meaning) => type_meant(at, meaning),
+    }
+}
+
+fn in_module(
+    scope: &Scope<Fault>,
+    at: Pos,
+    name: &Ident,
+    meaning: Meaning,
+) -> Result<Judged<TypeNo>, AllocError>
+    ensures { IfOk result (λ t. t ≡ in_module least scope.now at name.now meaning) }
+{
+    match meaning {
+        Meaning::Module(place) => Ok(type_by(at, member(scope, place, name)?)),
+        Meaning::Type(_, _) => Ok(told(at, 33)),
+        Meaning::Constant(_) => Ok(told(at, 33)),
+        Meaning::Variable(_) => Ok(told(at, 33)),
+        Meaning::Procedure(_) => Ok(told(at, 33)),
+        Meaning::Ahead => Ok(told(at, 33)),
+        Meaning::Standard(_) => Ok(told(at, 33)),
+    }
+}
+
+/// The type of this name.
+pub fn named_type(scope: &Scope<Fault>, q: &Qualified) -> Result<Judged<TypeNo>, AllocError>
+    ensures { IfOk result (λ t. t ≡ named_type least scope.now q.now) }
+{
+    match &q.module {
+        None => Ok(type_by(q.name.pos, looked_up(scope, &q.name)?)),
+        Some(home) => match looked_up(scope, home)? {
+            Err(fault) => Ok(Err(fault)),
+            Ok(meaning) => in_module(scope, home.pos, &q.name, meaning),
+        },
+    }
+}

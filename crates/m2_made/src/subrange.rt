@@ -1,0 +1,189 @@
+//! Subranges.
+
+ghost use Rattle.std.specs.Prelude.{◌≡◌};
+ghost use Rattle.m2_judged.specs.Judged.{least, ◌▷◌};
+ghost use Rattle.m2_made.specs.Subranges.{ordinal_in, bound_of, number_base, base_of, fits_at, between, unnamed, ordered, is_of_base, is_of, bound_in, alike_ordered, are_bounds, limited, under};
+
+use m2_judged::{Judged, beside, both, told};
+use m2_tree::Pos;
+use m2_typed::{CARDINAL, INTEGER, Scalar, TypeNo, Value, are_same, is_numeric};
+use m2_values::{Operand, Ordinal, common, fits, operand_of};
+
+fn ordinal_in(at: Pos, x: Option<Operand>) -> Judged<Ordinal>
+    ensures { result ≡ ordinal_in least at x }
+{
+    match x {
+        None => told(at, 40),
+        Some(Operand::Set(_)) => told(at, 40),
+        Some(Operand::Scalar(a)) => Ok(a),
+    }
+}
+
+/// A bound, which is a scalar.
+pub fn bound_of(at: Pos, value: Judged<Value>) -> Judged<Ordinal>
+    ensures { result ≡ bound_of least at value }
+{
+    match value {
+        Err(fault) => Err(fault),
+        Ok(value) => ordinal_in(at, operand_of(&value)),
+    }
+}
+
+fn number_base(low: i64) -> TypeNo
+    ensures { result ≡ number_base low }
+{
+    if low < 0 { INTEGER } else { CARDINAL }
+}
+
+fn base_of(sort: Option<TypeNo>, low: i64) -> TypeNo
+    ensures { result ≡ base_of sort low }
+{
+    match sort {
+        None => number_base(low),
+        Some(t) => t,
+    }
+}
+
+/// A bound that takes the base, if it is a number without a type.
+fn fits_at(at: Pos, base: TypeNo, a: Ordinal) -> Judged<()>
+    ensures { result ≡ fits_at least at base a.sort a.number }
+{
+    match a.sort {
+        Some(_) => Ok(()),
+        None => {
+            if !fits(Some(base), a.number) {
+                return told(at, 52);
+            }
+            Ok(())
+        }
+    }
+}
+
+fn ordered(at: Pos, low: i64, high: i64) -> Judged<()>
+    ensures { result ≡ ordered least at low high }
+{
+    if high < low {
+        return told(at, 35);
+    }
+    Ok(())
+}
+
+fn between(
+    at: Pos,
+    a: Ordinal,
+    high_at: Pos,
+    b: Ordinal,
+    sort: Option<Option<TypeNo>>,
+) -> Judged<Scalar>
+    ensures { result ≡ between least at a high_at b sort }
+{
+    match sort {
+        None => told(high_at, 40),
+        Some(sort) => {
+            let base = base_of(sort, a.number);
+            let fit = beside(fits_at(at, base, a), fits_at(high_at, base, b));
+            match beside(ordered(at, a.number, b.number), fit) {
+                Err(fault) => Err(fault),
+                Ok(()) => Ok(Scalar {
+                    base,
+                    low: a.number,
+                    high: b.number,
+                }),
+            }
+        }
+    }
+}
+
+/// The subrange between two bounds, with no type named.
+pub fn unnamed(at: Pos, low: Judged<Ordinal>, high_at: Pos, high: Judged<Ordinal>) -> Judged<Scalar>
+    ensures { result ≡ unnamed least at low high_at high }
+{
+    match both(low, high) {
+        Err(fault) => Err(fault),
+        Ok((a, b)) => between(at, a, high_at, b, common(a.sort, b.sort)),
+    }
+}
+
+/// Whether a bound is of this base type.
+fn is_of_base(base: TypeNo, sort: Option<TypeNo>) -> bool
+    ensures { result ≡ is_of_base base sort }
+{
+    match sort {
+        None => is_numeric(base),
+        Some(t) => are_same(t, base),
+    }
+}
+
+fn is_of(of: Scalar, at: Pos, a: Ordinal) -> Judged<()>
+    ensures { result ≡ is_of least of at a }
+{
+    if !is_of_base(of.base, a.sort) {
+        return told(at, 40);
+    }
+    if !(of.low <= a.number && a.number <= of.high) {
+        return told(at, 52);
+    }
+    Ok(())
+}
+
+fn bound_in(of: Judged<Scalar>, at: Pos, a: Judged<Ordinal>) -> Judged<()>
+    ensures { result ≡ bound_in least of at a }
+{
+    match both(of, a) {
+        Err(fault) => Err(fault),
+        Ok((of, a)) => is_of(of, at, a),
+    }
+}
+
+/// The order of two bounds that go together.
+fn alike_ordered(at: Pos, low: Judged<Ordinal>, high: Judged<Ordinal>) -> Judged<()>
+    ensures { result ≡ alike_ordered least at low high }
+{
+    match both(low, high) {
+        Err(fault) => Err(fault),
+        Ok((a, b)) => match common(a.sort, b.sort) {
+            None => Ok(()),
+            Some(_) => ordered(at, a.number, b.number),
+        },
+    }
+}
+
+fn are_bounds(
+    of: Judged<Scalar>,
+    at: Pos,
+    low: Judged<Ordinal>,
+    high_at: Pos,
+    high: Judged<Ordinal>,
+) -> Judged<()>
+    ensures { result ≡ are_bounds least of at low high_at high }
+{
+    let within = beside(bound_in(of, at, low), bound_in(of, high_at, high));
+    beside(within, alike_ordered(at, low, high))
+}
+
+fn limited(parts: Judged<(Scalar, (Ordinal, Ordinal))>, fine: Judged<()>) -> Judged<Scalar>
+    ensures { result ≡ limited least parts fine }
+{
+    match both(parts, fine) {
+        Err(fault) => Err(fault),
+        Ok(((of, (a, b)), ())) => Ok(Scalar {
+            base: of.base,
+            low: a.number,
+            high: b.number,
+        }),
+    }
+}
+
+/// The subrange between two bounds, under a named type.
+pub fn under(
+    of: Judged<Scalar>,
+    at: Pos,
+    low: Judged<Ordinal>,
+    high_at: Pos,
+    high: Judged<Ordinal>,
+) -> Judged<Scalar>
+    ensures { result ≡ under least of at low high_at high }
+{
+    let fine = are_bounds(of, at, low, high_at, high);
+    limited(both(of, both(low, high)), fine)
+}

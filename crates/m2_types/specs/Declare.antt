@@ -1,0 +1,112 @@
+-- What declarations mean.
+use Rattle.std.specs.Prelude.{ℕ, ◌+◌, List, [], ◌∷◌, ◌++◌, length, Result, Ok, Err}
+use Rattle.std.specs.List.{fold}
+use Rattle.m2_tree.specs.declared.name.Ident.{Ident}
+use Rattle.m2_tree.specs.declared.decl.Constant.{Constant}
+use Rattle.m2_tree.specs.declared.decl.TypeDecl.{TypeDecl}
+use Rattle.m2_tree.specs.declared.decl.Variables.{Variables}
+use Rattle.m2_tree.specs.declared.decl.Heading.{Heading}
+use Rattle.m2_tree.specs.declared.decl.Def.{Def}
+use Rattle.m2_tree.specs.declared.decl.Def.TheVariants as def
+use Rattle.m2_tree.specs.declared.decl.Simple.{Simple}
+use Rattle.m2_tree.specs.declared.decl.Simple.TheVariants as simple
+use Rattle.m2_tree.specs.declared.decl.TypeExpr.{TypeExpr, TypeExpr-F, out-TypeExpr}
+use Rattle.m2_tree.specs.declared.decl.TypeExpr.TheOpen as layer
+use Rattle.m2_tree.specs.declared.decl.Field.{Field}
+use Rattle.m2_typed.specs.declared.types.TypeNo.{TypeNo}
+use Rattle.m2_typed.specs.declared.meaning.Value.{Value}
+use Rattle.m2_typed.specs.declared.meaning.Meaning.{Meaning}
+use Rattle.m2_typed.specs.declared.meaning.Meaning.TheVariants as meaning
+use Rattle.m2_judged.specs.declared.scope.Scope.{Scope}
+use Rattle.m2_judged.specs.Scopes.{State, declared, begun, finished}
+use Rattle.m2_judged.specs.Judged.{Gathers, beside, ◌▷◌}
+use Rattle.m2_constants.specs.Parts.{part, constant}
+use Rattle.m2_made.specs.Headings.{heading_of}
+use Rattle.m2_made.specs.Made.{nothing_of, type_of, with_made}
+
+-- ---- constants
+
+abbrev pub nothing_told : {T : Type 0} → Result Value T → Result (Unit {0}) T
+nothing_told v = v ▷ λ x. Ok tt
+
+abbrev pub constant_meaning : {T : Type 0} → Result Value T → Result Meaning T
+constant_meaning v = v ▷ λ x. Ok (meaning.Constant x)
+
+abbrev pub with_constant : (g : Gathers) → State (Unit {0}) g.Told → Constant → State (Unit {0}) g.Told
+with_constant g st c =
+    let b = begun g st.0 c.name in
+    let v = constant g b.0 (part g c.value) in
+    (finished b.0 c.name (constant_meaning v), beside g st.1 (beside g b.1 (nothing_told v)))
+
+-- ---- types
+
+abbrev pub brings_simple : Simple → ℕ
+brings_simple (simple.Named q) = 1
+brings_simple (simple.Enumeration at names) = length names + 1
+brings_simple (simple.Subrange of at low high) = 1
+
+abbrev pub brings_layer : TypeExpr-F TypeExpr Field → ℕ
+brings_layer (layer.Simple t) = brings_simple t
+brings_layer (layer.Array at index of) = 1
+brings_layer (layer.Record at fields) = 1
+brings_layer (layer.Procedure at formals of) = 1
+
+-- how many names come with a type: its own, and the constants of an enumeration that it is
+abbrev pub brings_with : TypeExpr → ℕ
+brings_with t = brings_layer (out-TypeExpr t)
+
+abbrev pub type_meaning : {T : Type 0} → Result TypeNo T → ℕ → Result Meaning T
+type_meaning t n = t ▷ λ x. Ok (meaning.Type x n)
+
+abbrev pub with_type : (g : Gathers) → State (Unit {0}) g.Told → TypeDecl → State (Unit {0}) g.Told
+with_type g st d =
+    let b = begun g st.0 d.name in
+    let t = type_of g d.of b.0 in
+    (finished t.0 d.name (type_meaning t.1 (brings_with d.of)), beside g st.1 (beside g b.1 (nothing_of t.1)))
+
+-- ---- variables: the names of one list together
+
+abbrev pub begun_name : (g : Gathers) → State (Unit {0}) g.Told → Ident → State (Unit {0}) g.Told
+begun_name g st name = let b = begun g st.0 name in (b.0, beside g st.1 b.1)
+
+abbrev pub variable_meaning : {T : Type 0} → ℕ → ℕ → Result TypeNo T → Result Meaning T
+variable_meaning home n t = t ▷ λ x. Ok (meaning.Variable (record { home = home; number = n; of = x }))
+
+abbrev pub with_variable_type : {T : Type 0} → Scope T → Result TypeNo T → Scope T
+with_variable_type s (Ok t) = record s { variables = s.variables ++ t ∷ [] }
+with_variable_type s (Err e) = s
+
+abbrev pub finished_variable : {T : Type 0} → Result TypeNo T → Scope T → Ident → Scope T
+finished_variable t s name = finished (with_variable_type s t) name (variable_meaning s.types.home (length s.variables) t)
+
+abbrev pub with_variables : (g : Gathers) → State (Unit {0}) g.Told → Variables → State (Unit {0}) g.Told
+with_variables g st v =
+    let b = fold (begun_name g) st v.names in
+    let t = type_of g v.of b.0 in
+    (fold (finished_variable t.1) t.0 v.names, beside g b.1 (nothing_of t.1))
+
+-- ---- procedures
+
+abbrev pub procedure_meaning : {T : Type 0} → ℕ → ℕ → Result TypeNo T → Result Meaning T
+procedure_meaning home n t = t ▷ λ x. Ok (meaning.Procedure (record { home = home; number = n; heading = x }))
+
+abbrev pub with_procedure_type : {T : Type 0} → Scope T → Result TypeNo T → Scope T
+with_procedure_type s (Ok t) = record s { procedures = s.procedures ++ t ∷ [] }
+with_procedure_type s (Err e) = s
+
+abbrev pub declared_procedure : (g : Gathers) → Scope g.Told → Ident → Result TypeNo g.Told → State (Unit {0}) g.Told
+declared_procedure g s name t = declared g (with_procedure_type s t) name (procedure_meaning s.types.home (length s.procedures) t)
+
+abbrev pub with_procedure : (g : Gathers) → State (Unit {0}) g.Told → Heading → State (Unit {0}) g.Told
+with_procedure g st h =
+    let t = with_made st.0 (heading_of g st.0 h) in
+    let d = declared_procedure g t.0 h.name t.1 in
+    (d.0, beside g st.1 (beside g (nothing_of t.1) d.1))
+
+-- ---- all of them
+
+abbrev pub with_def : (g : Gathers) → State (Unit {0}) g.Told → Def → State (Unit {0}) g.Told
+with_def g st (def.Constants cs) = fold (with_constant g) st cs
+with_def g st (def.Types ts) = fold (with_type g) st ts
+with_def g st (def.Variables vs) = fold (with_variables g) st vs
+with_def g st (def.Procedure h) = with_procedure g st h

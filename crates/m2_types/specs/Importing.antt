@@ -1,0 +1,83 @@
+-- Imports.
+use Rattle.std.specs.Prelude.{ℕ, ◌+◌, cond, List, [], ◌∷◌, take, drop, Option, Some, None, Result, Ok, Err, slice_get}
+use Rattle.std.specs.List.{fold}
+use Rattle.std.specs.Option.{is_some}
+use Rattle.m2_tree.specs.declared.pos.Pos.{Pos}
+use Rattle.m2_tree.specs.declared.name.Ident.{Ident}
+use Rattle.m2_tree.specs.declared.decl.Import.{Import}
+use Rattle.m2_typed.specs.declared.meaning.Meaning.{Meaning}
+use Rattle.m2_typed.specs.declared.meaning.Meaning.TheVariants as meaning
+use Rattle.m2_typed.specs.declared.table.Table.{Table}
+use Rattle.m2_typed.specs.Names.{found, place_of, entered}
+use Rattle.m2_judged.specs.declared.known.Origin.TheVariants.{Module, Export}
+use Rattle.m2_judged.specs.declared.scope.Scope.{Scope}
+use Rattle.m2_judged.specs.Scopes.{State, imported}
+use Rattle.m2_judged.specs.Judged.{Gathers, told, beside, ◌▷◌}
+
+-- ---- modules by name: the first of a name counts
+
+abbrev pub with_place : List ℕ → ℕ → List (List ℕ × ℕ) → List (List ℕ × ℕ)
+with_place name k ms = cond (is_some (found name ms)) ms (entered name k ms)
+
+abbrev pub with_numbered : List (List ℕ × ℕ) × ℕ → Table → List (List ℕ × ℕ) × ℕ
+with_numbered st t = (with_place t.name st.1 st.0, st.1 + 1)
+
+abbrev pub numbered_modules : List Table → List (List ℕ × ℕ) × ℕ
+numbered_modules tables = fold with_numbered ([], 0) tables
+
+abbrev pub module_found : (g : Gathers) → Pos → Option ℕ → Result ℕ g.Told
+module_found g at None = told g at 20
+module_found g at (Some k) = Ok k
+
+abbrev pub module_named : (g : Gathers) → List (List ℕ × ℕ) → Ident → Result ℕ g.Told
+module_named g modules name = module_found g name.pos (found name.name modules)
+
+-- ---- IMPORT M
+
+abbrev pub with_module_as : (g : Gathers) → Scope g.Told → Ident → Result ℕ g.Told → State (Unit {0}) g.Told
+with_module_as g s name (Ok k) = imported g s name.pos name.name (Module k) (Ok (meaning.Module k))
+with_module_as g s name (Err e) = (s, Err e)
+
+abbrev pub with_module_name : (g : Gathers) → List (List ℕ × ℕ) → State (Unit {0}) g.Told → Ident → State (Unit {0}) g.Told
+with_module_name g modules st name = let one = with_module_as g st.0 name (module_named g modules name) in (one.0, beside g st.1 one.1)
+
+-- ---- FROM M IMPORT x
+
+abbrev pub with_entry : (g : Gathers) → Pos → ℕ → State (Unit {0}) g.Told → List ℕ × Meaning → State (Unit {0}) g.Told
+with_entry g at k st e = let one = imported g st.0 at e.0 (Export k) (Ok e.1) in (one.0, beside g st.1 one.1)
+
+-- how many names come with a name: the constants of an enumeration follow it in the table
+abbrev pub brings_of : Meaning → ℕ
+brings_of (meaning.Type t n) = n
+brings_of (meaning.Constant v) = 1
+brings_of (meaning.Variable v) = 1
+brings_of (meaning.Procedure p) = 1
+brings_of meaning.Ahead = 1
+brings_of (meaning.Standard f) = 1
+brings_of (meaning.Module k) = 1
+
+abbrev pub brings_in : Option (List ℕ × Meaning) → ℕ
+brings_in None = 0
+brings_in (Some e) = brings_of e.1
+
+abbrev pub from_place : (g : Gathers) → Scope g.Told → Pos → ℕ → List (List ℕ × Meaning) → Option ℕ → State (Unit {0}) g.Told
+from_place g s at k es None = (s, told g at 32)
+from_place g s at k es (Some i) = fold (with_entry g at k) (s, Ok tt) (take (brings_in (slice_get es i)) (drop i es))
+
+abbrev pub with_from : (g : Gathers) → ℕ → List (List ℕ × Meaning) → State (Unit {0}) g.Told → Ident → State (Unit {0}) g.Told
+with_from g k es st name = let one = from_place g st.0 name.pos k es (place_of name.name es) in (one.0, beside g st.1 one.1)
+
+abbrev pub exports_of : Option Table → List (List ℕ × Meaning)
+exports_of None = []
+exports_of (Some t) = t.exported
+
+abbrev pub from_module : (g : Gathers) → Result ℕ g.Told → State (Unit {0}) g.Told → List Ident → State (Unit {0}) g.Told
+from_module g (Ok k) st names = fold (with_from g k (exports_of (slice_get st.0.tables k))) st names
+from_module g (Err e) st names = (st.0, beside g st.1 (Err e))
+
+abbrev pub with_imports : (g : Gathers) → List (List ℕ × ℕ) → State (Unit {0}) g.Told → Option Ident → List Ident → State (Unit {0}) g.Told
+with_imports g modules st None names = fold (with_module_name g modules) st names
+with_imports g modules st (Some m) names = from_module g (module_named g modules m) st names
+
+abbrev pub with_import : (g : Gathers) → List (List ℕ × ℕ) → State (Unit {0}) g.Told → Import → State (Unit {0}) g.Told
+with_import g modules st i = with_imports g modules st i.from i.names

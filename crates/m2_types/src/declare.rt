@@ -1,0 +1,313 @@
+//! Declarations.
+
+ghost use Rattle.std.specs.Prelude.{◌≡◌, Ok, IfOk, OnOk};
+ghost use Rattle.std.specs.List.{fold};
+ghost use Rattle.m2_judged.specs.Judged.{least};
+ghost use Rattle.m2_types.specs.Declare.{constant_meaning, nothing_told, with_constant, brings_simple, brings_with, type_meaning, with_type, begun_name, variable_meaning, with_variable_type, finished_variable, with_variables, procedure_meaning, with_procedure_type, declared_procedure, with_procedure, with_def};
+
+use m2_constants::constant_of;
+use m2_judged::{Fault, Judged, Scope, begin, beside, declare, finish};
+use m2_made::{heading_of, nothing_of, type_of, with_made};
+use m2_tree::{Constant, Def, Heading, Ident, Simple, TypeDecl, TypeExpr, Variables};
+use m2_typed::{Meaning, Procedure, TypeNo, Value, Variable};
+use std::alloc::{AllocError, Global};
+
+// ---- constants
+
+fn nothing_told(value: &Judged<Value>) -> Judged<()>
+    ensures { result ≡ nothing_told value.now }
+{
+    match value {
+        Err(fault) => Err(*fault),
+        Ok(_) => Ok(()),
+    }
+}
+
+fn constant_meaning(value: Judged<Value>) -> Judged<Meaning>
+    ensures { result ≡ constant_meaning value }
+{
+    match value {
+        Err(fault) => Err(fault),
+        Ok(value) => Ok(Meaning::Constant(value)),
+    }
+}
+
+fn with_constant(
+    alloc: Global,
+    scope: &mut Scope<Fault>,
+    before: Judged<()>,
+    constant: &Constant,
+) -> Result<Judged<()>, AllocError>
+    ensures { IfOk result (λ j. (scope.new, j) ≡ with_constant least (scope.old, before) constant.now) }
+{
+    let first = begin(alloc, scope, &constant.name)?;
+    let value = constant_of(alloc, scope, &constant.value)?;
+    let told = nothing_told(&value);
+    finish(alloc, scope, &constant.name, constant_meaning(value))?;
+    Ok(beside(before, beside(first, told)))
+}
+
+fn constants(
+    alloc: Global,
+    scope: &mut Scope<Fault>,
+    before: Judged<()>,
+    list: &[Constant],
+) -> Result<Judged<()>, AllocError>
+    ensures { IfOk result (λ j. (scope.new, j) ≡ fold (with_constant least) (scope.old, before) list.now) }
+{
+    let mut judged = before;
+    for constant in list {
+        judged = with_constant(alloc, scope, judged, constant)?;
+    }
+    Ok(judged)
+}
+
+// ---- types
+
+fn brings_simple(t: &Simple) -> usize
+    ensures { result ≡ brings_simple t.now }
+{
+    match t {
+        Simple::Enumeration(_, names) => names.as_slice().len() + 1,
+        Simple::Named(_) => 1,
+        Simple::Subrange(_, _, _, _) => 1,
+    }
+}
+
+/// How many names come with a type: its own, and the constants of an enumeration that it is.
+fn brings_with(t: &TypeExpr) -> usize
+    ensures { result ≡ brings_with t.now }
+{
+    match t {
+        TypeExpr::Simple(simple) => brings_simple(simple),
+        TypeExpr::Array(_, _, _) => 1,
+        TypeExpr::Record(_, _) => 1,
+        TypeExpr::Procedure(_, _, _) => 1,
+    }
+}
+
+fn type_meaning(t: Judged<TypeNo>, names: usize) -> Judged<Meaning>
+    ensures { result ≡ type_meaning t names }
+{
+    match t {
+        Err(fault) => Err(fault),
+        Ok(t) => Ok(Meaning::Type(t, names)),
+    }
+}
+
+fn with_type(
+    alloc: Global,
+    scope: &mut Scope<Fault>,
+    before: Judged<()>,
+    decl: &TypeDecl,
+) -> Result<Judged<()>, AllocError>
+    ensures { IfOk result (λ j. (scope.new, j) ≡ with_type least (scope.old, before) decl.now) }
+{
+    let first = begin(alloc, scope, &decl.name)?;
+    let t = type_of(alloc, scope, &decl.of)?;
+    finish(
+        alloc,
+        scope,
+        &decl.name,
+        type_meaning(t, brings_with(&decl.of)),
+    )?;
+    Ok(beside(before, beside(first, nothing_of(t))))
+}
+
+fn types(
+    alloc: Global,
+    scope: &mut Scope<Fault>,
+    before: Judged<()>,
+    list: &[TypeDecl],
+) -> Result<Judged<()>, AllocError>
+    ensures { IfOk result (λ j. (scope.new, j) ≡ fold (with_type least) (scope.old, before) list.now) }
+{
+    let mut judged = before;
+    for decl in list {
+        judged = with_type(alloc, scope, judged, decl)?;
+    }
+    Ok(judged)
+}
+
+// ---- variables
+
+fn begin_all(
+    alloc: Global,
+    scope: &mut Scope<Fault>,
+    before: Judged<()>,
+    names: &[Ident],
+) -> Result<Judged<()>, AllocError>
+    ensures { IfOk result (λ j. (scope.new, j) ≡ fold (begun_name least) (scope.old, before) names.now) }
+{
+    let mut judged = before;
+    for name in names {
+        let one = begin(alloc, scope, name)?;
+        judged = beside(judged, one);
+    }
+    Ok(judged)
+}
+
+fn variable_meaning(home: u32, number: usize, t: Judged<TypeNo>) -> Judged<Meaning>
+    ensures { result ≡ variable_meaning home number t }
+{
+    match t {
+        Err(fault) => Err(fault),
+        Ok(of) => Ok(Meaning::Variable(Variable { home, number, of })),
+    }
+}
+
+fn with_variable_type(scope: &mut Scope<Fault>, t: Judged<TypeNo>) -> Result<(), AllocError>
+    ensures { OnOk result (scope.new ≡ with_variable_type scope.old t) }
+{
+    match t {
+        Err(_) => Ok(()),
+        Ok(t) => {
+            scope.variables.push(t)?;
+            Ok(())
+        }
+    }
+}
+
+fn finish_variable(
+    alloc: Global,
+    scope: &mut Scope<Fault>,
+    t: Judged<TypeNo>,
+    name: &Ident,
+) -> Result<(), AllocError>
+    ensures { OnOk result (scope.new ≡ finished_variable t scope.old name.now) }
+{
+    let means = variable_meaning(scope.types.home, scope.variables.len(), t);
+    with_variable_type(scope, t)?;
+    finish(alloc, scope, name, means)
+}
+
+fn finish_all(
+    alloc: Global,
+    scope: &mut Scope<Fault>,
+    t: Judged<TypeNo>,
+    names: &[Ident],
+) -> Result<(), AllocError>
+    ensures { OnOk result (scope.new ≡ fold (finished_variable t) scope.old names.now) }
+{
+    for name in names {
+        finish_variable(alloc, scope, t, name)?;
+    }
+    Ok(())
+}
+
+fn with_variables(
+    alloc: Global,
+    scope: &mut Scope<Fault>,
+    before: Judged<()>,
+    variables: &Variables,
+) -> Result<Judged<()>, AllocError>
+    ensures { IfOk result (λ j. (scope.new, j) ≡ with_variables least (scope.old, before) variables.now) }
+{
+    let judged = begin_all(alloc, scope, before, variables.names.as_slice())?;
+    let t = type_of(alloc, scope, &variables.of)?;
+    finish_all(alloc, scope, t, variables.names.as_slice())?;
+    Ok(beside(judged, nothing_of(t)))
+}
+
+fn all_variables(
+    alloc: Global,
+    scope: &mut Scope<Fault>,
+    before: Judged<()>,
+    list: &[Variables],
+) -> Result<Judged<()>, AllocError>
+    ensures { IfOk result (λ j. (scope.new, j) ≡ fold (with_variables least) (scope.old, before) list.now) }
+{
+    let mut judged = before;
+    for variables in list {
+        judged = with_variables(alloc, scope, judged, variables)?;
+    }
+    Ok(judged)
+}
+
+// ---- procedures
+
+fn procedure_meaning(home: u32, number: usize, t: Judged<TypeNo>) -> Judged<Meaning>
+    ensures { result ≡ procedure_meaning home number t }
+{
+    match t {
+        Err(fault) => Err(fault),
+        Ok(heading) => Ok(Meaning::Procedure(Procedure {
+            home,
+            number,
+            heading,
+        })),
+    }
+}
+
+fn with_procedure_type(scope: &mut Scope<Fault>, t: Judged<TypeNo>) -> Result<(), AllocError>
+    ensures { OnOk result (scope.new ≡ with_procedure_type scope.old t) }
+{
+    match t {
+        Err(_) => Ok(()),
+        Ok(t) => {
+            scope.procedures.push(t)?;
+            Ok(())
+        }
+    }
+}
+
+fn declare_procedure(
+    alloc: Global,
+    scope: &mut Scope<Fault>,
+    name: &Ident,
+    t: Judged<TypeNo>,
+) -> Result<Judged<()>, AllocError>
+    ensures { IfOk result (λ j. (scope.new, j) ≡ declared_procedure least scope.old name.now t) }
+{
+    let means = procedure_meaning(scope.types.home, scope.procedures.len(), t);
+    with_procedure_type(scope, t)?;
+    declare(alloc, scope, name, means)
+}
+
+fn with_procedure(
+    alloc: Global,
+    scope: &mut Scope<Fault>,
+    before: Judged<()>,
+    heading: &Heading,
+) -> Result<Judged<()>, AllocError>
+    ensures { IfOk result (λ j. (scope.new, j) ≡ with_procedure least (scope.old, before) heading.now) }
+{
+    let made = heading_of(alloc, scope, heading)?;
+    let t = with_made(scope, made)?;
+    let one = declare_procedure(alloc, scope, &heading.name, t)?;
+    Ok(beside(before, beside(nothing_of(t), one)))
+}
+
+// ---- all of them
+
+fn with_def(
+    alloc: Global,
+    scope: &mut Scope<Fault>,
+    before: Judged<()>,
+    def: &Def,
+) -> Result<Judged<()>, AllocError>
+    ensures { IfOk result (λ j. (scope.new, j) ≡ with_def least (scope.old, before) def.now) }
+{
+    match def {
+        Def::Constants(list) => constants(alloc, scope, before, list.as_slice()),
+        Def::Types(list) => types(alloc, scope, before, list.as_slice()),
+        Def::Variables(list) => all_variables(alloc, scope, before, list.as_slice()),
+        Def::Procedure(heading) => with_procedure(alloc, scope, before, heading),
+    }
+}
+
+/// Declares what a definition declares.
+pub fn declare_all(
+    alloc: Global,
+    scope: &mut Scope<Fault>,
+    before: Judged<()>,
+    defs: &[Def],
+) -> Result<Judged<()>, AllocError>
+    ensures { IfOk result (λ j. (scope.new, j) ≡ fold (with_def least) (scope.old, before) defs.now) }
+{
+    let mut judged = before;
+    for def in defs {
+        judged = with_def(alloc, scope, judged, def)?;
+    }
+    Ok(judged)
+}
