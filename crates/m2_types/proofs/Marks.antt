@@ -1,5 +1,5 @@
 -- What each variant of a type expression marks.
-use Rattle.std.proofs.Common.{◌≡◌, List, Option, Some, None, refl, ap, ◌∙◌}
+use Rattle.std.proofs.Common.{◌≡◌, List, Option, Some, None, ap, ◌∙◌}
 use Rattle.std.specs.List.{fold}
 use Rattle.std.proofs.lemmas.List.Folds.{fold-map}
 use Rattle.m2_tree.specs.declared.pos.Pos.{Pos}
@@ -9,10 +9,10 @@ use Rattle.m2_tree.specs.declared.decl.Parameter.{Parameter}
 use Rattle.m2_tree.specs.declared.decl.TypeExpr.{TypeExpr, TypeExpr-F, out-TypeExpr, map-TypeExpr, fold_out-TypeExpr}
 use Rattle.m2_tree.specs.declared.decl.TypeExpr.TheOpen as layer
 use Rattle.m2_tree.specs.declared.decl.TypeExpr.TheVariants as type
-use Rattle.m2_tree.specs.declared.decl.Field.{Field, Field-F, out-Field, fold_out-Field}
+use Rattle.m2_tree.specs.declared.decl.Field.{Field, out-Field, fold_out-Field}
 use Rattle.m2_judged.specs.declared.fault.Fault.{Fault}
 use Rattle.m2_judged.specs.declared.scope.Scope.{Scope}
-use Rattle.m2_types.specs.Marking.{Marks, marked_simple, then_marks, type_layer, field_layer, marked_in, marked_field, marked_with_field}
+use Rattle.m2_types.specs.Marking.{marked_simple, then_marks, type_layer, field_layer, marked_in, marked_field, marked_with_field}
 
 abbrev M : Type 0
 M = Scope Fault → Scope Fault

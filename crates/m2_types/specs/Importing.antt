@@ -1,5 +1,5 @@
 -- Imports.
-use Rattle.std.specs.Prelude.{ℕ, ◌+◌, cond, List, [], ◌∷◌, take, drop, Option, Some, None, Result, Ok, Err, slice_get}
+use Rattle.std.specs.Prelude.{ℕ, ◌+◌, cond, List, [], take, drop, Option, Some, None, Result, Ok, Err, slice_get}
 use Rattle.std.specs.List.{fold}
 use Rattle.std.specs.Option.{is_some}
 use Rattle.m2_tree.specs.declared.pos.Pos.{Pos}
@@ -12,7 +12,7 @@ use Rattle.m2_typed.specs.Names.{found, place_of, entered}
 use Rattle.m2_judged.specs.declared.known.Origin.TheVariants.{Module, Export}
 use Rattle.m2_judged.specs.declared.scope.Scope.{Scope}
 use Rattle.m2_judged.specs.Scopes.{State, imported}
-use Rattle.m2_judged.specs.Judged.{Gathers, told, beside, ◌▷◌}
+use Rattle.m2_judged.specs.Judged.{Gathers, told, beside}
 
 -- ---- modules by name: the first of a name counts
 

@@ -1,5 +1,4 @@
 -- The names that a definition declares, wherever they stand.
-use Rattle.std.specs.Prelude.{ℕ, List, Option}
 use Rattle.std.specs.List.{fold}
 use Rattle.m2_tree.specs.declared.name.Ident.{Ident}
 use Rattle.m2_tree.specs.declared.decl.Constant.{Constant}

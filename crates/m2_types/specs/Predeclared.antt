@@ -1,5 +1,5 @@
 -- The names around every module, the module Console, and what is known where a module begins.
-use Rattle.std.specs.Prelude.{ℕ, ℤ, pos, nat_eq, cond, List, [], ◌∷◌, codes, Result, Ok}
+use Rattle.std.specs.Prelude.{ℕ, ℤ, pos, nat_eq, cond, List, [], ◌∷◌, codes, Ok}
 use Rattle.std.specs.List.{fold}
 use Rattle.std.specs.Map.{lookup}
 use Rattle.std.specs.Option.{is_some}

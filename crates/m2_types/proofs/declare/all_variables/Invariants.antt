@@ -1,4 +1,4 @@
-use Rattle.std.proofs.Common.{◌≡◌, take, Ok, []}
+use Rattle.std.proofs.Common.{◌≡◌, take}
 use Rattle.std.specs.List.{fold}
 use Rattle.m2_types.specs.Declare.{with_variables}
 use Rattle.m2_judged.specs.Judged.{least}

@@ -1,4 +1,4 @@
-use Rattle.std.proofs.Common.{◌≡◌, take, Ok, []}
+use Rattle.std.proofs.Common.{◌≡◌, take}
 use Rattle.std.specs.List.{fold}
 use Rattle.m2_types.specs.Declare.{finished_variable}
 use Rattle.m2_types.proofs.declare.finish_all.Given as goal

@@ -1,5 +1,4 @@
-use Rattle.std.proofs.Common.{◌≡◌, take, Ok, []}
-use Rattle.std.specs.List.{fold}
+use Rattle.std.proofs.Common.{◌≡◌, take}
 use Rattle.m2_types.specs.Export.{imported_modules}
 use Rattle.m2_types.proofs.export.imported_modules.Given as goal
 

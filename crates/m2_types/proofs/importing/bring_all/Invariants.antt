@@ -1,4 +1,4 @@
-use Rattle.std.proofs.Common.{◌≡◌, take, Ok, []}
+use Rattle.std.proofs.Common.{◌≡◌, take, Ok}
 use Rattle.std.specs.List.{fold}
 use Rattle.m2_types.specs.Importing.{with_entry}
 use Rattle.m2_judged.specs.Judged.{least}

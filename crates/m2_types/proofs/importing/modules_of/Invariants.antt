@@ -1,5 +1,4 @@
-use Rattle.std.proofs.Common.{◌≡◌, take, Ok, []}
-use Rattle.std.specs.List.{fold}
+use Rattle.std.proofs.Common.{◌≡◌, take}
 use Rattle.m2_types.specs.Importing.{numbered_modules}
 use Rattle.m2_types.proofs.importing.modules_of.Given as goal
 

@@ -1,4 +1,4 @@
-use Rattle.std.proofs.Common.{◌≡◌, take, Ok, []}
+use Rattle.std.proofs.Common.{◌≡◌, take}
 use Rattle.std.specs.List.{fold}
 use Rattle.m2_types.specs.Marking.{marked_with_field}
 use Rattle.m2_types.proofs.marking.+marks.Given as goal

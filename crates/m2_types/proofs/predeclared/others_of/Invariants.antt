@@ -1,5 +1,4 @@
-use Rattle.std.proofs.Common.{◌≡◌, take, Ok, []}
-use Rattle.std.specs.List.{fold}
+use Rattle.std.proofs.Common.{◌≡◌, take}
 use Rattle.m2_types.specs.Predeclared.{others_of}
 use Rattle.m2_types.proofs.predeclared.others_of.Given as goal
 

@@ -1,4 +1,4 @@
-use Rattle.std.proofs.Common.{◌≡◌, take, Ok, []}
+use Rattle.std.proofs.Common.{◌≡◌, take}
 use Rattle.std.specs.List.{fold}
 use Rattle.m2_types.specs.Predeclared.{with_reached}
 use Rattle.m2_types.proofs.predeclared.with_table.Given as goal
