@@ -253,7 +253,7 @@ fn denotes(alloc: Global, scope: &Scope<Fault>, e: &Expr) -> Result<Judged<Denot
             Some(args) => {
                 let callee = designated(scope, designator)?;
                 let at = first_of(designator);
-                Ok(of_value(called(alloc, scope, at, callee, args.as_slice())?))
+                Ok(of_value(called(alloc, scope, at, callee, args.get().as_slice())?))
             }
         },
         Expr::Term(first, rest) => {

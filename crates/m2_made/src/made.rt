@@ -206,7 +206,7 @@ fn simple_type(
         Simple::Named(q) => named_type(scope, q),
         Simple::Enumeration(_, names) => enumeration(alloc, scope, names.as_slice()),
         Simple::Subrange(of, _, low, high) => {
-            let scalar = subrange(alloc, scope, of, low, high)?;
+            let scalar = subrange(alloc, scope, of, low.get(), high.get())?;
             with_made(scope, scalar_made(scalar))
         }
     }

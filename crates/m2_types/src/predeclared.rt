@@ -193,7 +193,7 @@ pub fn console(alloc: Global) -> Result<Table, AllocError>
     exported.enter(alloc, b"Put".as_slice(), Meaning::Standard(Standard::Put))?;
     Ok(Table {
         number: 4_294_967_295,
-        name: Name::new(b"Console".as_slice()),
+        name: Name::new(alloc, b"Console".as_slice())?,
         imports: Dictionary::new(alloc),
         exported,
         reached: Items::new(alloc),
