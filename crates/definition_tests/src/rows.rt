@@ -51,41 +51,84 @@ fn told(alloc: Global, judged: &Judged<Table>) -> Result<String> {
     }
 }
 
+/// A row as far as it is read: what is expected, the text, and the tables of the texts before it.
+#[derive(Drop)]
+struct Row {
+    expected: String,
+    text: String,
+    tables: Items<Shared<Table>>,
+}
+
+fn empty_row(alloc: Global) -> Row {
+    Row {
+        expected: String::new(alloc),
+        text: String::new(alloc),
+        tables: Items::new(alloc),
+    }
+}
+
+/// Takes the text as one that the next may import.
+fn with_import(alloc: Global, row: &mut Row) -> Result<()> {
+    let Ok(table) = compiled(alloc, &row.tables, row.text.as_bytes())? else {
+        bail!("a definition that is imported is refused");
+    };
+    row.tables.push(Shared::new(alloc, table)?)?;
+    row.text = String::new(alloc);
+    Ok(())
+}
+
+/// What is told of a row's last text, if it is not what is expected.
+fn difference(alloc: Global, row: &Row) -> Result<Option<String>> {
+    let judged = compiled(alloc, &row.tables, row.text.as_bytes())?;
+    let answer = told(alloc, &judged)?;
+    if answer.as_str() == row.expected.as_str() {
+        return Ok(None);
+    }
+    let line = format!(in alloc; "expected {}, told {answer}: {}", row.expected, row.text)?;
+    Ok(Some(line))
+}
+
+fn with_line(row: &mut Row, line: &str) -> Result<()> {
+    if row.expected.is_empty() {
+        row.expected.push_str(line)?;
+        return Ok(());
+    }
+    row.text.push_str(line)?;
+    row.text.push_str("\n")?;
+    Ok(())
+}
+
+fn counted(rt: &HostRuntime, count: Count, row: &Row) -> Result<Count> {
+    match difference(rt.alloc(), row)? {
+        None => Ok(Count {
+            right: count.right.saturating_add(1),
+            wrong: count.wrong,
+        }),
+        Some(line) => {
+            eprintln!(rt; "{line}")?;
+            Ok(Count {
+                right: count.right,
+                wrong: count.wrong.saturating_add(1),
+            })
+        }
+    }
+}
+
 /// Compiles each row, and compares what is told of its last definition.
 pub fn check_all(rt: &HostRuntime) -> Result<Count> {
     let alloc = rt.alloc();
     let bytes = fs::read(rt, "cases.txt").context("cannot read the rows")?;
     let all = String::from_utf8(bytes)?;
     let mut count = Count { right: 0, wrong: 0 };
-    let mut expected = String::new(alloc);
-    let mut text = String::new(alloc);
-    let mut tables = Items::new(alloc);
-    let mut is_first = true;
+    let mut row = empty_row(alloc);
     for line in all.as_str().lines() {
-        if is_first {
-            expected = String::from_str(alloc, line)?;
-            is_first = false;
-        } else if line == "%+" {
-            let Ok(table) = compiled(alloc, &tables, text.as_bytes())? else {
-                bail!("a definition that is imported is refused");
-            };
-            tables.push(Shared::new(alloc, table)?)?;
-            text = String::new(alloc);
+        if line == "%+" {
+            with_import(alloc, &mut row)?;
         } else if line == "%%" {
-            let judged = compiled(alloc, &tables, text.as_bytes())?;
-            let answer = told(alloc, &judged)?;
-            if answer.as_str() == expected.as_str() {
-                count.right += 1;
-            } else {
-                count.wrong += 1;
-                eprintln!(rt; "expected {expected}, told {answer}: {text}")?;
-            }
-            text = String::new(alloc);
-            tables = Items::new(alloc);
-            is_first = true;
+            count = counted(rt, count, &row)?;
+            row = empty_row(alloc);
         } else {
-            text.push_str(line)?;
-            text.push_str("\n")?;
+            with_line(&mut row, line)?;
         }
     }
     Ok(count)
