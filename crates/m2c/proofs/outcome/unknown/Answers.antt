@@ -6,7 +6,8 @@ use Rattle.m2_check.specs.declared.done.Done.{Done}
 use Rattle.m2_jobs.specs.Jobs.{done_all}
 use Rattle.m2_jobs.specs.Lent.{lent, modules_lent}
 use Rattle.m2c.specs.Build.{told, unknown_of, unknown}
-use Rattle.m2c.proofs.Graphs.{jobs_count, same_modules}
+use Rattle.m2_jobs.proofs.Rounds.{jobs_count}
+use Rattle.m2c.proofs.Graphs.{same_modules}
 use Rattle.m2c.proofs.Known.{done_count}
 use Rattle.m2c.proofs.outcome.unknown.Goals as goal
 
