@@ -167,10 +167,94 @@ fn a_blocked_job_tells_nothing(rt: HostRuntime) -> Result<(), Fail> {
             "A.mod",
             "IMPLEMENTATION MODULE A; VAR v: CHAR; END A.",
         )?,
-        file(alloc, "A.def", "DEFINITION MODULE A; VAR v: CHAR; END A.")?,
+        file(alloc, "A.def", "DEFINITION MODULE A; VAR v: T; END A.")?,
     ];
     let text = told(&rt, alloc, &files, 2)?;
-    assert_eq!(rt; text.as_str(), "A.def:1:1: refusal 99;");
+    assert_eq!(rt; text.as_str(), "A.def:1:29: refusal 30;");
+    Ok(())
+}
+
+#[test]
+fn tells_what_definitions_break(rt: HostRuntime) -> Result<(), Fail> {
+    let alloc = rt.alloc();
+    let files = [
+        file(alloc, "p.mod", "MODULE P; END P.")?,
+        file(alloc, "b.def", "DEFINITION MODULE B; VAR v: T; END B.")?,
+        file(alloc, "b.mod", "IMPLEMENTATION MODULE B; END B.")?,
+        file(alloc, "c.mod", "IMPLEMENTATION MODULE C; END C.")?,
+        file(
+            alloc,
+            "c.def",
+            "DEFINITION MODULE C; TYPE T = [5..2]; END C.",
+        )?,
+        file(
+            alloc,
+            "d.def",
+            "DEFINITION MODULE D; IMPORT B; VAR v: T; END D.",
+        )?,
+        file(alloc, "d.mod", "IMPLEMENTATION MODULE D; END D.")?,
+    ];
+    for workers in [1, 8] {
+        let text = told(&rt, alloc, &files, workers)?;
+        assert_eq!(rt;
+            text.as_str(),
+            "b.def:1:29: refusal 30;c.def:1:32: refusal 35;"
+        );
+    }
+    Ok(())
+}
+
+#[test]
+fn tells_files_of_one_name_as_they_are_given(rt: HostRuntime) -> Result<(), Fail> {
+    let alloc = rt.alloc();
+    let files = [
+        file(alloc, "p.mod", "MODULE P; END P.")?,
+        file(alloc, "x", "DEFINITION MODULE C; VAR v: T; END C.")?,
+        file(
+            alloc,
+            "x",
+            "DEFINITION MODULE B; IMPORT A; VAR v: A.T; END B.",
+        )?,
+        file(alloc, "x", "DEFINITION MODULE A; CONST c = 1 DIV 0; END A.")?,
+        file(alloc, "x", "DEFINITION MODULE D; TYPE T = [5..2]; END D.")?,
+        file(alloc, "a.mod", "IMPLEMENTATION MODULE A; END A.")?,
+        file(alloc, "b.mod", "IMPLEMENTATION MODULE B; END B.")?,
+        file(alloc, "c.mod", "IMPLEMENTATION MODULE C; END C.")?,
+        file(alloc, "d.mod", "IMPLEMENTATION MODULE D; END D.")?,
+    ];
+    for workers in [1, 8] {
+        let text = told(&rt, alloc, &files, workers)?;
+        assert_eq!(rt;
+            text.as_str(),
+            "x:1:29: refusal 30;x:1:34: refusal 52;x:1:32: refusal 35;"
+        );
+    }
+    Ok(())
+}
+
+#[test]
+fn takes_the_table_of_the_module_that_is_named(rt: HostRuntime) -> Result<(), Fail> {
+    let alloc = rt.alloc();
+    let files = [
+        file(alloc, "p.mod", "MODULE P; END P.")?,
+        file(alloc, "a.def", "DEFINITION MODULE A; CONST c = 3; END A.")?,
+        file(alloc, "b.def", "DEFINITION MODULE B; CONST c = 300; END B.")?,
+        file(
+            alloc,
+            "c.def",
+            "DEFINITION MODULE C; IMPORT B, A; TYPE T = [0..A.c]; S = [A.c..B.c]; R = [B.c..A.c]; END C.",
+        )?,
+        file(alloc, "a.mod", "IMPLEMENTATION MODULE A; END A.")?,
+        file(alloc, "b.mod", "IMPLEMENTATION MODULE B; END B.")?,
+        file(alloc, "c.mod", "IMPLEMENTATION MODULE C; END C.")?,
+    ];
+    for workers in [1, 8] {
+        let text = told(&rt, alloc, &files, workers)?;
+        assert_eq!(rt;
+            text.as_str(),
+            "a.mod:1:1: refusal 99;b.mod:1:1: refusal 99;c.def:1:75: refusal 35;"
+        );
+    }
     Ok(())
 }
 

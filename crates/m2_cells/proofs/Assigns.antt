@@ -2,9 +2,9 @@
 use Rattle.std.proofs.Common.{◌≡◌, ◌⊎◌, ⊎_elim, ℕ, ◌+◌, ◌≤◌, List, [], ◌∷◌, ◌++◌, length, Some, subst, inl, inr, arith}
 use Rattle.wasm_effect.specs.Bytes.{copied_bytes, cleared_bytes}
 use Rattle.wasm_effect.proofs.Bytes.{copied_length, copied_small, copied_only, copied_moved, cleared_length, cleared_small, cleared_only, cleared_zero}
-use Rattle.m2_meaning.specs.Types.{Ty, row, component, IsPlain, IsFit}
+use Rattle.m2_layout.specs.Types.{Ty, row, component, IsPlain, IsFit}
 use Rattle.m2_meaning.specs.Store.{Location, Store, placed, copied, fresh}
-use Rattle.m2_cells.specs.Sizes.{size, offset}
+use Rattle.m2_layout.specs.Sizes.{size, offset}
 use Rattle.m2_cells.specs.Relation.{Shows, Holds}
 use Rattle.m2_cells.proofs.Places.{same_or_apart, inside}
 use Rattle.m2_cells.proofs.Keeps.{shows_at, shows_moved}

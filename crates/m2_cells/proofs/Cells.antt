@@ -10,8 +10,8 @@ use Rattle.wasm_tree.specs.Machine.{bytes_at, pasted}
 use Rattle.wasm_tree.specs.Numbers.{load_size, loaded, extended, stored}
 use Rattle.wasm_effect.specs.Bytes.{byte, IsOnly}
 use Rattle.wasm_effect.proofs.Bytes.{byte_part, byte_pasted, pasted_only, length-pasted, small_pasted, part0}
-use Rattle.m2_meaning.specs.Types.{Scalar, Natural, Integer, Between, IsOf, IsScalar}
-use Rattle.m2_cells.specs.Sizes.{Room, One, Two, Four, room_for, bytes_in, room_of, width, value_of}
+use Rattle.m2_layout.specs.Types.{Scalar, Natural, Integer, Between, IsOf, IsScalar}
+use Rattle.m2_layout.specs.Sizes.{Room, One, Two, Four, room_for, bytes_in, room_of, width, value_of}
 use Rattle.m2_cells.specs.Cells.{number, word, unsigned_load, load_of, raised, lowered, fetched, put, stored_in}
 use Rattle.m2_cells.specs.Relation.{Says}
 

@@ -10,9 +10,9 @@ use Rattle.wasm_tree.specs.declared.instr.Load.TheVariants as load
 use Rattle.wasm_tree.specs.Numbers.{load_size, loaded}
 use Rattle.wasm_effect.specs.Bytes.{byte, IsOnly}
 use Rattle.wasm_effect.proofs.Bytes.{pasted_only, byte_pasted, length-pasted, small_pasted}
-use Rattle.m2_meaning.specs.Types.{Ty, Scalar, Natural, Integer, Between, Cell, Hidden, row, frame_of, component, IsFit, IsOf, IsScalar, first}
+use Rattle.m2_layout.specs.Types.{Ty, Scalar, Natural, Integer, Between, Cell, Hidden, row, frame_of, component, IsFit, IsOf, IsScalar, first}
 use Rattle.m2_meaning.specs.Store.{Location, Store, placed, fresh, first_in}
-use Rattle.m2_cells.specs.Sizes.{Four, size, offset, width, value_of}
+use Rattle.m2_layout.specs.Sizes.{Four, size, offset, width, value_of}
 use Rattle.m2_cells.specs.Cells.{number, load_of, raised, fetched, stored_in}
 use Rattle.m2_cells.specs.Relation.{Says, Shows, Hides, Holds, Keeps}
 use Rattle.m2_cells.proofs.Places.{inside, component_append, offset_append}

@@ -2,9 +2,9 @@
 use Rattle.std.proofs.Common.{◌≡◌, ◌⊎◌, ⊎_elim, ℕ, zero, suc, ◌+◌, ◌<◌, ◌≤◌, ℤ, List, [], ◌∷◌, ◌++◌, Option, Some, None, refl, sym, ap, ◌∙◌, subst, inl, inr, arith, append-nil}
 use Rattle.std.proofs.lemmas.Option.{none-some}
 use Rattle.wasm_effect.specs.Bytes.{byte, AreMoved, IsOnly}
-use Rattle.m2_meaning.specs.Types.{Ty, Scalar, Cell, Hidden, component}
+use Rattle.m2_layout.specs.Types.{Ty, Scalar, Cell, Hidden, component}
 use Rattle.m2_meaning.specs.Store.{Location, behind}
-use Rattle.m2_cells.specs.Sizes.{size, offset, width, value_of}
+use Rattle.m2_layout.specs.Sizes.{size, offset, width, value_of}
 use Rattle.m2_cells.specs.Cells.{number}
 use Rattle.m2_cells.specs.Relation.{Says, Shows, Hides}
 use Rattle.m2_cells.proofs.Places.{behind_is, behind_append, component_append, offset_append, inside, apart, AreApart}

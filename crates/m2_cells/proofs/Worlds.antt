@@ -3,9 +3,9 @@ use Rattle.std.proofs.Common.{◌≡◌, ℕ, zero, suc, ◌+◌, ◌<◌, ◌�
 use Rattle.std.proofs.lemmas.Bool.{ne_eqb}
 use Rattle.std.proofs.lemmas.Option.{none-some, same_Some}
 use Rattle.wasm_effect.specs.Bytes.{byte, AreMoved, IsOnly}
-use Rattle.m2_meaning.specs.Types.{Ty, Scalar, Cell, Hidden, Array, Nothing, Field, row, component, IsOf, IsScalar, IsPlain}
+use Rattle.m2_layout.specs.Types.{Ty, Scalar, Cell, Hidden, Array, Nothing, Field, row, component, IsOf, IsScalar, IsPlain}
 use Rattle.m2_meaning.specs.Store.{Location, Store, behind, placed, chosen, assigned, copied}
-use Rattle.m2_cells.specs.Sizes.{size, offset, width}
+use Rattle.m2_layout.specs.Sizes.{size, offset, width}
 use Rattle.m2_cells.specs.Cells.{word, fetched, put}
 use Rattle.m2_cells.specs.Relation.{Says, Shows, Hides, Holds}
 use Rattle.m2_cells.proofs.Places.{when, behind_append, inside}

@@ -5,9 +5,9 @@ use Rattle.wasm_tree.specs.declared.instr.Load.TheVariants as load
 use Rattle.wasm_tree.specs.Numbers.{loaded}
 use Rattle.wasm_tree.specs.Machine.{bytes_at, pasted}
 use Rattle.wasm_effect.specs.Bytes.{copied_bytes, cleared_bytes}
-use Rattle.m2_meaning.specs.Types.{Ty, Scalar, Natural, Cell, Hidden, row, frame_of, component, IsScalar, IsOf, IsPlain, IsFit}
+use Rattle.m2_layout.specs.Types.{Ty, Scalar, Natural, Cell, Hidden, row, frame_of, component, IsScalar, IsOf, IsPlain, IsFit}
 use Rattle.m2_meaning.specs.Store.{Location, Store, placed, assigned, copied, fresh}
-use Rattle.m2_cells.specs.Sizes.{Four, size, offset}
+use Rattle.m2_layout.specs.Sizes.{Four, size, offset}
 use Rattle.m2_cells.specs.Cells.{word, stored_in, fetched, put}
 use Rattle.m2_cells.specs.Relation.{Holds, Keeps}
 

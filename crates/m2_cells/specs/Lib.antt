@@ -1,4 +1,3 @@
-pub mod Sizes
 pub mod Cells
 pub mod Relation
 pub mod Laws

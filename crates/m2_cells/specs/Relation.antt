@@ -1,9 +1,9 @@
 -- How a memory holds a store: the instances that live stand one after the other from address 0 on.
 use Rattle.std.specs.Prelude.{◌≡◌, ℕ, ◌+◌, ◌<◌, ◌≤◌, ℤ, List, length, get_or, Some}
 use Rattle.wasm_effect.specs.Bytes.{byte}
-use Rattle.m2_meaning.specs.Types.{Ty, Scalar, Cell, Hidden, row, component, IsOf}
+use Rattle.m2_layout.specs.Types.{Ty, Scalar, Cell, Hidden, row, component, IsOf}
 use Rattle.m2_meaning.specs.Store.{Location, Store}
-use Rattle.m2_cells.specs.Sizes.{width, value_of, size, offset}
+use Rattle.m2_layout.specs.Sizes.{width, value_of, size, offset}
 use Rattle.m2_cells.specs.Cells.{number}
 
 -- what a cell of this type says, and that it is a number of the type

@@ -1,7 +1,7 @@
 //! Memory that holds a store: where the variables that live stand, and what reading and writing their cells does. There is
 //! no code here but what names the laws.
 //!
-//! - `specs/Sizes` has the sizes of types and the offsets of components, `specs/Cells` what code does with a cell.
+//! - `specs/Cells` says what code does with a cell; the sizes of types and the offsets of components stand in `m2_layout`.
 //! - `specs/Relation` says when a memory holds a store: the instances that live stand one after another from address 0.
 //! - `specs/Laws` says what holds after a read, a write, a copy, a call's begin and its end.
 #![tactic(auto)]

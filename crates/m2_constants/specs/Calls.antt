@@ -6,8 +6,8 @@ use Rattle.m2_typed.specs.declared.shape.Scalar.{Scalar}
 use Rattle.m2_typed.specs.declared.meaning.Value.{Value}
 use Rattle.m2_typed.specs.declared.meaning.Standard.{Standard}
 use Rattle.m2_typed.specs.declared.meaning.Standard.TheVariants.{Abs, Cap, Chr, High, Max, Min, Odd, Ord, Val, Inc, Dec, Incl, Excl, Halt, Put}
-use Rattle.m2_judged.specs.declared.types.Types.{Types}
-use Rattle.m2_judged.specs.Types.{scalar_at}
+use Rattle.m2_typed.specs.declared.known_types.Types.{Types}
+use Rattle.m2_typed.specs.Known.{scalar_at}
 use Rattle.m2_judged.specs.Judged.{Gathers, told, both, ◌▷◌}
 use Rattle.m2_values.specs.Standards.{absolute, capital, character, is_odd, ordinal_of, bound_of, converted}
 use Rattle.m2_constants.specs.declared.denoted.Denoted.{Denoted}

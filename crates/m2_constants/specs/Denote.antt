@@ -17,7 +17,10 @@ abbrev pub denoted_by : Meaning → Denoted
 denoted_by (meaning.Constant v) = denoted.Value v
 denoted_by (meaning.Type t n) = denoted.Type t
 denoted_by (meaning.Variable v) = denoted.Variable
+denoted_by (meaning.Local v) = denoted.Variable
+denoted_by (meaning.Field f) = denoted.Variable
 denoted_by (meaning.Procedure p) = denoted.Procedure
+denoted_by (meaning.LocalProcedure p) = denoted.Procedure
 denoted_by meaning.Ahead = denoted.Procedure
 denoted_by (meaning.Standard f) = denoted.Standard f
 denoted_by (meaning.Module k) = denoted.Module k
@@ -42,7 +45,10 @@ abbrev pub is_bitset : (g : Gathers) → Pos → Meaning → Result (Unit {0}) g
 is_bitset g at (meaning.Type t n) = told_where g (not (are_same t bitset)) at 33 (Ok tt)
 is_bitset g at (meaning.Constant v) = told g at 33
 is_bitset g at (meaning.Variable v) = told g at 33
+is_bitset g at (meaning.Local v) = told g at 33
+is_bitset g at (meaning.Field f) = told g at 33
 is_bitset g at (meaning.Procedure p) = told g at 33
+is_bitset g at (meaning.LocalProcedure p) = told g at 33
 is_bitset g at meaning.Ahead = told g at 33
 is_bitset g at (meaning.Standard f) = told g at 33
 is_bitset g at (meaning.Module k) = told g at 33

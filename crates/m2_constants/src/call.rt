@@ -5,9 +5,9 @@ ghost use Rattle.m2_judged.specs.Judged.{least, ◌▷◌};
 ghost use Rattle.m2_constants.specs.Calls.{sort_of, scalar_type, type_part, type_argument, unary_of, unary, bound_by, bound, converted_by};
 
 use crate::denoted::Denoted;
-use m2_judged::{Judged, Types, both, scalar_of, told};
+use m2_judged::{Judged, both, told};
 use m2_tree::Pos;
-use m2_typed::{Scalar, Standard, TypeNo, Value};
+use m2_typed::{Scalar, Standard, TypeNo, Types, Value, scalar_of};
 use m2_values::{absolute, bound_of, capital, character, converted, is_odd, ordinal_of};
 
 /// What a standard procedure asks for in a constant expression.
@@ -43,7 +43,8 @@ pub fn sort_of(standard: Standard) -> Sort
     }
 }
 
-fn scalar_type(at: Pos, t: TypeNo, scalar: Option<Scalar>) -> Judged<(TypeNo, Scalar)>
+/// A type that has to be scalar.
+pub fn scalar_type(at: Pos, t: TypeNo, scalar: Option<Scalar>) -> Judged<(TypeNo, Scalar)>
     ensures { result ≡ scalar_type least at t scalar }
 {
     match scalar {
@@ -75,7 +76,8 @@ pub fn type_argument(types: &Types, at: Pos, denoted: Judged<Denoted>) -> Judged
     }
 }
 
-fn unary_of(standard: Standard, at: Pos, value: &Value) -> Judged<Value>
+/// What a standard procedure of one constant gives.
+pub fn unary_of(standard: Standard, at: Pos, value: &Value) -> Judged<Value>
     ensures { result ≡ unary_of least standard at value.now }
 {
     match standard {
@@ -107,7 +109,8 @@ pub fn unary(standard: Standard, argument: Judged<(Pos, Value)>) -> Judged<Value
     }
 }
 
-fn bound_by(standard: Standard, t: TypeNo, scalar: Scalar) -> Value
+/// MIN, or else MAX, of a scalar type.
+pub fn bound_by(standard: Standard, t: TypeNo, scalar: Scalar) -> Value
     ensures { result ≡ bound_by standard t scalar }
 {
     match standard {

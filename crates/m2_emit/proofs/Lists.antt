@@ -7,7 +7,7 @@ use Rattle.wasm_tree.specs.declared.instr.Instr.{Instr}
 use Rattle.wasm_tree.specs.declared.instr.Instr.TheVariants as instr
 use Rattle.wasm_tree.specs.Code.{tree}
 use Rattle.wasm_tree.proofs.Flat.{tree_front, tree_none}
-use Rattle.m2_meaning.specs.Program.{Program, Body}
+use Rattle.m2_meaning.specs.Program.{Program}
 use Rattle.m2_scheme.specs.Scheme.{numbered, stack_begin, body_calls}
 
 -- an instruction that holds no others

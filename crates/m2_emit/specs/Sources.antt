@@ -1,5 +1,5 @@
 -- The programs that sources stand for.
-use Rattle.std.specs.Prelude.{List, map}
+use Rattle.std.specs.Prelude.{ℕ, List, [], map}
 use Rattle.m2_meaning.specs.Program.{Program, Body, Put}
 use Rattle.m2_emit.specs.declared.source.Source.{Source}
 
@@ -9,3 +9,7 @@ body s = record { name = s.name; imported = s.imported; statements = map Put s.p
 
 abbrev pub program : List Source → Program
 program sources = map body sources
+
+-- bodies of these names, of which nothing else is said
+abbrev pub named : List (List ℕ) → Program
+named names = map (λ name. record { name = name; imported = []; statements = [] }) names

@@ -8,7 +8,7 @@ ghost use Rattle.m2_emit.specs.Sources.{body};
 use crate::code::{body_code, global_code};
 use crate::parts::{AT_LEAST_ONE, joined, one, type_from};
 use crate::source::Source;
-use m2_tree::Name;
+use m2_tree::Items as List;
 use sqlite_items::Items;
 use std::alloc::{AllocError, Global};
 use wasm_tree::{
@@ -101,12 +101,12 @@ fn push_globals(alloc: Global, imports: &mut Items<Import>, name: &[u8]) -> Resu
 fn push_imported(
     alloc: Global,
     imports: &mut Items<Import>,
-    imported: &[Name],
+    imported: &[List<u8>],
 ) -> Result<(), AllocError>
     ensures { OnOk result (imports.new ≡ imports.old ++ imported_globals imported.now) }
 {
     for name in imported {
-        push_globals(alloc, imports, name.as_bytes())?;
+        push_globals(alloc, imports, name.as_slice())?;
     }
     Ok(())
 }

@@ -3,11 +3,11 @@
 ghost use Rattle.std.specs.Prelude.{◌≡◌, ◌≤◌, ◌<◌, ◌++◌, ◌∷◌, [], All, IfOk, OnOk, length, map};
 ghost use Rattle.m2_meaning.specs.Program.{Put};
 ghost use Rattle.m2_scheme.specs.Scheme.{body_calls, body_code, stack_begin};
-ghost use Rattle.m2_emit.specs.Sources.{program};
+ghost use Rattle.m2_emit.specs.Sources.{named};
 ghost use Rattle.wasm_tree.specs.declared.code.Op.TheVariants as op;
 ghost use Rattle.wasm_tree.specs.declared.instr.Instr.TheVariants.{GlobalGet, I32Const};
 
-use crate::source::Source;
+use m2_tree::Name;
 use std::alloc::{AllocError, Global};
 use wasm_tree::{Code, Op};
 
@@ -58,13 +58,13 @@ fn push_call(ops: &mut Vec<Op>, global: u32) -> Result<(), AllocError>
 }
 
 /// Calls of the bodies, one after another.
-pub fn body_calls(alloc: Global, sources: &[Source]) -> Result<Code, AllocError>
-    requires { length sources.now ≤ 1024 }
-    ensures { IfOk result (λ code. code ≡ body_calls 3 (program sources.now)) }
+pub fn body_calls(alloc: Global, modules: &[Name]) -> Result<Code, AllocError>
+    requires { length modules.now ≤ 1024 }
+    ensures { IfOk result (λ code. code ≡ body_calls 3 (named modules.now)) }
 {
     let mut ops = Vec::new(alloc);
     let mut global = 3;
-    for _ in sources {
+    for _ in modules {
         push_call(&mut ops, global)?;
         global += 3;
     }

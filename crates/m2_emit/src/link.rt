@@ -4,11 +4,11 @@ ghost use Rattle.std.specs.Prelude.{◌≡◌, ◌≤◌, ◌+◌, ◌*◌, ◌<
 ghost use Rattle.wasm_tree.specs.declared.kinds.ValueType.TheVariants as types;
 ghost use Rattle.wasm_tree.specs.declared.module.ExportKind.TheVariants as exported;
 ghost use Rattle.m2_scheme.specs.Scheme.{base_name, body_calls, constant_global, exported_as, link_exports, link_globals, link_module, module_exports, module_globals, tab_name, text_name, type_from};
-ghost use Rattle.m2_emit.specs.Sources.{program};
+ghost use Rattle.m2_emit.specs.Sources.{named};
 
 use crate::code::body_calls;
 use crate::parts::{constant_global, exported_as, joined, one, type_from};
-use crate::source::Source;
+use m2_tree::Name;
 use sqlite_items::Items;
 use std::alloc::{AllocError, Global};
 use wasm_tree::{
@@ -29,18 +29,14 @@ fn push_globals(alloc: Global, globals: &mut Items<Constant>, slot: u32) -> Resu
 }
 
 /// The end of the memory, and the places and slots of the modules.
-fn link_globals(
-    alloc: Global,
-    sources: &[Source],
-    pages: u32,
-) -> Result<Items<Constant>, AllocError>
-    requires count { length sources.now ≤ 1024 }
+fn link_globals(alloc: Global, modules: &[Name], pages: u32) -> Result<Items<Constant>, AllocError>
+    requires count { length modules.now ≤ 1024 }
     requires pages { pages ≤ 1024 }
-    ensures { IfOk result (λ globals. globals ≡ link_globals (program sources.now) pages) }
+    ensures { IfOk result (λ globals. globals ≡ link_globals (named modules.now) pages) }
 {
     let mut globals = one(alloc, constant_global(alloc, 65536 * pages)?)?;
     let mut slot = 1;
-    for _ in sources {
+    for _ in modules {
         push_globals(alloc, &mut globals, slot)?;
         slot += 1;
     }
@@ -84,45 +80,45 @@ fn push_exports(
 fn push_modules(
     alloc: Global,
     exports: &mut Items<Export>,
-    sources: &[Source],
+    modules: &[Name],
 ) -> Result<(), AllocError>
-    requires { length sources.now ≤ 1024 }
-    ensures { OnOk result (exports.new ≡ exports.old ++ module_exports 1 (program sources.now)) }
+    requires { length modules.now ≤ 1024 }
+    ensures { OnOk result (exports.new ≡ exports.old ++ module_exports 1 (named modules.now)) }
 {
     let mut global = 1;
-    for source in sources {
-        push_exports(alloc, exports, source.name.as_bytes(), global)?;
+    for name in modules {
+        push_exports(alloc, exports, name.as_bytes(), global)?;
         global += 3;
     }
     Ok(())
 }
 
-fn link_exports(alloc: Global, sources: &[Source]) -> Result<Items<Export>, AllocError>
-    requires { length sources.now ≤ 1024 }
-    ensures { IfOk result (λ exports. exports ≡ link_exports (program sources.now)) }
+fn link_exports(alloc: Global, modules: &[Name]) -> Result<Items<Export>, AllocError>
+    requires { length modules.now ≤ 1024 }
+    ensures { IfOk result (λ exports. exports ≡ link_exports (named modules.now)) }
 {
     let mut exports = one(alloc, exported_as(alloc, b"memory", ExportKind::Memory(0))?)?;
     exports.push(exported_as(alloc, b"table", ExportKind::Table(0))?)?;
     exports.push(exported_as(alloc, b"limit", ExportKind::Global(0))?)?;
-    push_modules(alloc, &mut exports, sources)?;
+    push_modules(alloc, &mut exports, modules)?;
     exports.push(exported_as(alloc, b"run", ExportKind::Function(0))?)?;
     Ok(exports)
 }
 
 /// The function that calls the bodies.
-fn run_function(alloc: Global, sources: &[Source]) -> Result<Function, AllocError>
-    requires { length sources.now ≤ 1024 }
+fn run_function(alloc: Global, modules: &[Name]) -> Result<Function, AllocError>
+    requires { length modules.now ≤ 1024 }
     ensures { IfOk result (λ f.
         f ≡ record {
           type_index = 0;
-          body = record { locals = []; code = body_calls 3 (program sources.now) };
+          body = record { locals = []; code = body_calls 3 (named modules.now) };
         }) }
 {
     Ok(Function {
         type_index: 0,
         body: Body {
             locals: Items::new(alloc),
-            code: body_calls(alloc, sources)?,
+            code: body_calls(alloc, modules)?,
         },
     })
 }
@@ -145,16 +141,16 @@ fn fixed(size: u32) -> Limits
 }
 
 /// The module link for these modules in start order, with so many pages of memory.
-pub fn link_module(alloc: Global, sources: &[Source], pages: u32) -> Result<WModule, AllocError>
-    requires count { length sources.now ≤ 1024 }
+pub fn link_module(alloc: Global, modules: &[Name], pages: u32) -> Result<WModule, AllocError>
+    requires count { length modules.now ≤ 1024 }
     requires pages { pages ≤ 1024 }
-    ensures { IfOk result (λ m. m ≡ link_module (program sources.now) pages) }
+    ensures { IfOk result (λ m. m ≡ link_module (named modules.now) pages) }
 {
-    let slots = fixed(1 + sources.len() as u32);
+    let slots = fixed(1 + modules.len() as u32);
     Ok(WModule {
         types: link_types(alloc)?,
         imports: Items::new(alloc),
-        functions: one(alloc, run_function(alloc, sources)?)?,
+        functions: one(alloc, run_function(alloc, modules)?)?,
         tables: one(alloc, TableType { limits: slots })?,
         memories: one(
             alloc,
@@ -162,8 +158,8 @@ pub fn link_module(alloc: Global, sources: &[Source], pages: u32) -> Result<WMod
                 limits: fixed(pages),
             },
         )?,
-        globals: link_globals(alloc, sources, pages)?,
-        exports: link_exports(alloc, sources)?,
+        globals: link_globals(alloc, modules, pages)?,
+        exports: link_exports(alloc, modules)?,
         elements: Items::new(alloc),
         data: Items::new(alloc),
     })

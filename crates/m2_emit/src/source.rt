@@ -7,8 +7,9 @@ use m2_tree::{Items, Name};
 pub struct Source {
     /// The module's name.
     pub name: Name,
-    /// The modules that its definition imports, and then those that it imports itself, each once, without Console.
-    pub imported: Items<Name>,
+    /// The names of the modules that its definition imports, and then of those that it imports itself, each once, without
+    /// Console.
+    pub imported: Items<Items<u8>>,
     /// The bytes that its calls of `Put` print, in order.
     pub printed: Items<u8>,
 }

@@ -19,9 +19,9 @@ use Rattle.wasm_effect.proofs.Steps.{◌▹◌, i32_runs, i64_runs, load_runs, s
 use Rattle.wasm_effect.proofs.Follows.{runs}
 use Rattle.m2_helpers.specs.Called.{HasMemory}
 use Rattle.m2_helpers.proofs.Helpers.{fill_called}
-use Rattle.m2_meaning.specs.Types.{Ty, Scalar, Natural, Integer, Cell, Hidden, row, component, IsScalar, IsOf, IsFit}
+use Rattle.m2_layout.specs.Types.{Ty, Scalar, Natural, Integer, Cell, Hidden, row, component, IsScalar, IsOf, IsFit}
 use Rattle.m2_meaning.specs.Store.{Location, Store, placed, behind, assigned, fresh}
-use Rattle.m2_cells.specs.Sizes.{size, offset}
+use Rattle.m2_layout.specs.Sizes.{size, offset}
 use Rattle.m2_cells.specs.Cells.{word, fetched}
 use Rattle.m2_cells.specs.Relation.{Holds, Shows, Hides}
 use Rattle.m2_cells.proofs.Worlds.{holds_fetched, holds_assigned}

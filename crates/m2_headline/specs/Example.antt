@@ -11,7 +11,7 @@ use Rattle.wasm_tree.specs.declared.store.Callee.TheVariants.{Put, Stop, Own}
 use Rattle.wasm_tree.specs.Machine.{Config, Going, Over, Typed, entered, run}
 use Rattle.wasm_effect.specs.Effect.{Fixed, store_of}
 use Rattle.wasm_effect.specs.Bytes.{byte}
-use Rattle.m2_meaning.specs.Types.{Ty, Natural, Integer, Cell, row}
+use Rattle.m2_layout.specs.Types.{Ty, Natural, Integer, Cell, row}
 use Rattle.m2_cells.specs.Cells.{word}
 use Rattle.m2_scheme.specs.Helpers.{fill_code, helper}
 

@@ -1,3 +1,3 @@
 pub mod Crossing
-pub mod CrossingJobs
+pub mod CrossingModules
 pub mod Rounds

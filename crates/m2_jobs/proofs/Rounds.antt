@@ -7,8 +7,11 @@ use Rattle.m2_board.specs.Lists.{times}
 use Rattle.graph_walk.specs.Links.{has, targets}
 use Rattle.graph_walk.specs.Links.{times as often}
 use Rattle.std.specs.List.{AllZip}
-use Rattle.m2_graph.specs.Files.{File, given_of}
-use Rattle.m2_graph.specs.Graph.{IsGraph}
+use Rattle.m2_graph.specs.Files.{File, given_of, numbered, trees}
+use Rattle.m2_graph.specs.Refused.{max_files}
+use Rattle.m2_graph_laws.proofs.Given.{few_files}
+use Rattle.std.proofs.lemmas.List.Sorted.{length_permutation}
+use Rattle.m2_graph.specs.Graph.{IsGraph, CompileEach}
 use Rattle.m2_graph.specs.Jobs.{AreJobs}
 use Rattle.m2_worker.specs.Results.{AreResults, all_jobs}
 use Rattle.m2_worker.proofs.Resulting.{as_defined, without_prerequisites, job_at, all_long}
@@ -17,8 +20,8 @@ use Rattle.m2_read.specs.declared.reading.Read.{Read}
 use Rattle.m2_read.specs.Reading.{AreRead, IsReadAt}
 use Rattle.m2_read.proofs.All.{are_read}
 use Rattle.m2_tree.specs.declared.decl.Module.{Module}
-use Rattle.m2_check.specs.declared.done.Done.{Done}
-use Rattle.m2_jobs.specs.Jobs.{defined, done_all}
+use Rattle.m2_compile.specs.declared.outcome.Compiled.{Compiled}
+use Rattle.m2_jobs.specs.Jobs.{compiled_at, all_compiled}
 
 -- ---- rows
 
@@ -67,6 +70,14 @@ jobs_count given numbers jobs starts g =
     let j = g.2.is_jobs in
     ap length j.compiled ∙ length-map j.order (given_of g.0) ∙ zip_length _ j.order jobs j.needs
 
+-- a graph has no more jobs than a program has files
+pub few_jobs : (fs : List (List ℕ × Module)) (numbers : List ℕ) (jobs : List (List ℕ)) (starts : List ℕ) → IsGraph (numbered 0 fs) numbers jobs starts → CompileEach (numbered 0 fs) numbers → length jobs ≤ max_files
+few_jobs fs numbers jobs starts g each =
+    let few : length (trees g.0) ≤ max_files = few_files fs g.0 g.1 g.2.fine in
+    let all : length numbers ≡ length (map (λ f. f.given) (numbered 0 fs)) = length_permutation (map (λ f. f.given) (numbered 0 fs)) numbers each in
+    let same : length g.0 ≡ length (numbered 0 fs) = length_permutation (numbered 0 fs) g.0 g.1.same in
+    omega (arith, few, all, same, length-map (numbered 0 fs) (λ (f : File). f.given), length-map g.0 (λ (f : File). f.tree), jobs_count (numbered 0 fs) numbers jobs starts g)
+
 -- ---- results
 
 -- where the results of all jobs are there, each file is read
@@ -89,8 +100,8 @@ read_count (f ∷ fs) (r ∷ rs) h = ap suc (read_count fs rs h.1)
 read_count [] (r ∷ rs) h = absurd h
 read_count (f ∷ fs) [] h = absurd h
 
--- where the results of all jobs are there, they are what becomes of the jobs
-pub all_done : (trees : List Module) (files : List ℕ) (jobs : List (List ℕ)) (dones : List Done) → IsJobGraph jobs → AreResults jobs (λ job outs d. d ≡ defined trees files job outs) (all_jobs (length jobs)) dones → dones ≡ done_all trees files jobs
-all_done trees files jobs dones graph are =
-    sym (map-id dones) ∙ as_defined jobs (λ job outs d. d ≡ defined trees files job outs) (λ d. d) (defined trees files) graph
-    (λ job outs x is. is ∙ ap (defined trees files job) (sym (map-id outs))) dones are
+-- where the results of all jobs are there, they are what becomes of the modules
+pub each_compiled : (trees : List Module) (files : List ℕ) (jobs : List (List ℕ)) (all : List Compiled) → IsJobGraph jobs → AreResults jobs (λ job outs c. c ≡ compiled_at trees files job outs) (all_jobs (length jobs)) all → all ≡ all_compiled trees files jobs
+each_compiled trees files jobs all graph are =
+    sym (map-id all) ∙ as_defined jobs (λ job outs c. c ≡ compiled_at trees files job outs) (λ c. c) (compiled_at trees files) graph
+    (λ job outs x is. is ∙ ap (compiled_at trees files job) (sym (map-id outs))) all are

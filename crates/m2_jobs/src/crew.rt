@@ -3,17 +3,17 @@
 ghost use Rattle.std.specs.Prelude.{◌≡◌, ◌≢◌, ◌≤◌, Err, IfOk, Ok, [], length, map};
 ghost use Rattle.m2_board.specs.Graph.{IsJobGraph};
 ghost use Rattle.m2_board.specs.declared.board.Tally.{Tally as Records};
-ghost use Rattle.m2_jobs.specs.Jobs.{done_all};
+ghost use Rattle.m2_jobs.specs.Jobs.{all_compiled};
 ghost use Rattle.m2_jobs.specs.Lent.{lent, modules_lent};
 ghost use Rattle.m2_graph.specs.Files.{numbered};
-ghost use Rattle.m2_graph.specs.Graph.{IsGraph};
+ghost use Rattle.m2_graph.specs.Graph.{IsGraph, CompileEach};
 ghost use Rattle.m2_read.specs.Reading.{AreRead};
 ghost use Rattle.m2_worker.specs.Results.{AreResults, all_jobs};
 
-use crate::checks::Checks;
+use crate::modules::Modules;
 use crate::texts::Texts;
 use m2_board::{JobGraph, PoolRefusal, Tally};
-use m2_check::Done;
+use m2_compile::Compiled;
 use m2_graph::Graph;
 use m2_pool::run_jobs;
 use m2_read::{Read, SourceFile};
@@ -70,14 +70,19 @@ fn results_of<X>(ran: Result<(Vec<X>, Tally), PoolRefusal>) -> Result<Vec<X>, Al
 }
 
 /// The work of the jobs of a graph.
-fn checks_of<'a>(alloc: Global, trees: &'a [(&'a str, &'a Module)], graph: &'a Graph) -> Checks<'a>
-    requires { IsGraph (numbered 0 (lent trees.now)) graph.now.files.items
+fn modules_of<'a>(
+    alloc: Global,
+    trees: &'a [(&'a str, &'a Module)],
+    graph: &'a Graph,
+) -> Modules<'a>
+    requires graph { IsGraph (numbered 0 (lent trees.now)) graph.now.files.items
         (map (λ j. j.items) graph.now.jobs.items) graph.now.starts.items }
+    requires each { CompileEach (numbered 0 (lent trees.now)) graph.now.files.items }
     ensures trees { result.trees.now ≡ trees.now }
     ensures files { result.files.now ≡ graph.now.files.items }
     ensures jobs { result.jobs.now ≡ graph.now.jobs.items }
 {
-    Checks {
+    Modules {
         alloc,
         trees,
         files: graph.files(),
@@ -115,19 +120,20 @@ impl<R: Threads + Sync, G: Gate> Crew<'_, R, G> {
         self.run(&graph, &Texts { alloc, files })
     }
 
-    /// The second round: what becomes of each job of a graph.
-    pub fn done_all(
+    /// The second round: what becomes of the module of each job of a graph.
+    pub fn compile_all(
         &self,
         trees: &[(&str, &Module)],
         graph: &Graph,
-    ) -> Result<Vec<Done>, AllocError>
-        requires { IsGraph (numbered 0 (lent trees.now)) graph.now.files.items
+    ) -> Result<Vec<Compiled>, AllocError>
+        requires graph { IsGraph (numbered 0 (lent trees.now)) graph.now.files.items
             (map (λ j. j.items) graph.now.jobs.items) graph.now.starts.items }
+        requires each { CompileEach (numbered 0 (lent trees.now)) graph.now.files.items }
         ensures { IfOk result (λ all.
-            all.items ≡ done_all (modules_lent trees.now) graph.now.files.items
+            all.items ≡ all_compiled (modules_lent trees.now) graph.now.files.items
             (map (λ job. job.items) graph.now.jobs.items)) }
     {
         let jobs = pooled(self.alloc, graph)?;
-        self.run(&jobs, &checks_of(self.alloc, trees, graph))
+        self.run(&jobs, &modules_of(self.alloc, trees, graph))
     }
 }

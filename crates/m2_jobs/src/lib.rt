@@ -1,9 +1,9 @@
-//! The two rounds of a build's jobs, over threads: files are read, and then the jobs of their graph are done. What a job
-//! does stands in `m2_read` and `m2_check`.
+//! The two rounds of a build's jobs, over threads: files are read, and then the modules of their graph are compiled. What
+//! a job does stands in `m2_read` and `m2_compile`.
 #![tactic(auto)]
 
-mod checks;
 mod crew;
+mod modules;
 mod texts;
 
 pub use crew::Crew;

@@ -1,44 +1,117 @@
 -- Names in scope.
-use Rattle.std.specs.Prelude.{ℕ, Bool, true, false, ◌==◌, cond, List, [], ◌∷◌, Option, Some, None, Result, Ok, Err}
+use Rattle.std.specs.Prelude.{ℕ, Bool, true, false, ◌==◌, nat_lt, cond, List, [], ◌∷◌, Option, Some, None, Result, Ok, slice_get}
 use Rattle.std.specs.List.{fold}
+use Rattle.std.specs.Option.{option_map}
+use Rattle.std.specs.Borrow.{Bor}
 use Rattle.m2_tree.specs.declared.pos.Pos.{Pos}
 use Rattle.m2_tree.specs.declared.name.Ident.{Ident}
 use Rattle.m2_typed.specs.declared.meaning.Meaning.{Meaning}
 use Rattle.m2_typed.specs.declared.meaning.Meaning.TheVariants as meaning
-use Rattle.m2_typed.specs.Names.{found, entered}
+use Rattle.m2_typed.specs.declared.meaning.OpenedField.{OpenedField}
+use Rattle.m2_typed.specs.declared.types.TypeNo.{TypeNo}
+use Rattle.m2_typed.specs.declared.shape.Shape.{Shape}
+use Rattle.m2_typed.specs.declared.shape.Shape.TheVariants as shape
+use Rattle.m2_typed.specs.declared.shape.Made.{Made}
+use Rattle.m2_typed.specs.declared.known_types.Types.{Types}
+use Rattle.m2_typed.specs.Known.{made_at}
+use Rattle.m2_typed.specs.Names.{found, place_of, entered}
 use Rattle.m2_judged.specs.declared.known.Origin.{Origin}
 use Rattle.m2_judged.specs.declared.known.Origin.TheVariants.{Here, Module, Export}
 use Rattle.m2_judged.specs.declared.known.Known.{Known}
-use Rattle.m2_judged.specs.declared.known.Known.TheVariants.{Later, Ahead, Begun, Declared}
+use Rattle.m2_judged.specs.declared.known.Known.TheVariants.{Later, Ahead, Begun, Headed, Declared}
+use Rattle.m2_judged.specs.declared.scope.Block.{Block}
+use Rattle.m2_judged.specs.declared.scope.OpenedRecord.{OpenedRecord}
 use Rattle.m2_judged.specs.declared.scope.Scope.{Scope}
 use Rattle.m2_judged.specs.Judged.{Gathers, told}
 
 -- ---- what a name means
 
--- what the block knows, or else what is known around it
+-- what the nearer knows, or else the farther
 abbrev pub or_outside : {A : Type 0} → Option A → Option A → Option A
 or_outside (Some k) far = Some k
 or_outside None far = far
 
-abbrev pub nearer : {T : Type 0} → List ℕ → Option (Known T) → List (List ℕ × Known T) → Option (Known T)
-nearer name far block = or_outside (found name block) far
+-- what is known of a name, and whether it stands before the procedure in which the name is used
+abbrev pub Sight : Type 0 → Type 0
+Sight T = Option (Known T × Bool)
 
-abbrev pub known_outside : {T : Type 0} → List ℕ → List (List (List ℕ × Known T)) → Option (Known T)
+-- the same, of what is lent
+abbrev pub sighted : {T : Type 0} → Option (Bor (Known T) × Bool) → Sight T
+sighted s = option_map {U = _ × Bool} (λ e. (e.0.now, e.1)) s
+
+abbrev pub seen_at : {T : Type 0} → (seen : ℕ) → List (List ℕ × Known T) → Option ℕ → Sight T
+seen_at seen names None = None
+seen_at seen names (Some p) = option_map (λ e. (e.1, nat_lt p seen)) (slice_get names p)
+
+abbrev pub in_block : {T : Type 0} → List ℕ → Block T → Sight T
+in_block name b = seen_at b.seen b.names (place_of name b.names)
+
+abbrev pub nearer : {T : Type 0} → List ℕ → Sight T → Block T → Sight T
+nearer name far b = or_outside (in_block name b) far
+
+abbrev pub known_outside : {T : Type 0} → List ℕ → List (Block T) → Sight T
 known_outside name outer = fold (nearer name) None outer
 
-abbrev pub known : {T : Type 0} → List ℕ → Scope T → Option (Known T)
-known name s = or_outside (found name s.own) (known_outside name s.outer)
+abbrev pub or_around : {T : Type 0} → Option (Known T) → Sight T → Sight T
+or_around None far = far
+or_around (Some k) far = Some (k, true)
 
--- names are declared before use, but procedures are known ahead
-abbrev pub means_as : (g : Gathers) → Pos → Option (Known g.Told) → Result Meaning g.Told
+abbrev pub known : {T : Type 0} → List ℕ → Scope T → Sight T
+known name s = or_around (found name s.own) (known_outside name s.outer)
+
+-- names are declared before use, but procedures are known in all bodies of their block
+abbrev pub means_seen : (g : Gathers) → Pos → Known g.Told → (seen : Bool) → Result Meaning g.Told
+means_seen g at Later seen = told g at 30
+means_seen g at Ahead seen = Ok meaning.Ahead
+means_seen g at Begun seen = told g at 30
+means_seen g at (Headed m) seen = m
+means_seen g at (Declared o m) seen = cond seen m (told g at 30)
+
+abbrev pub means_as : (g : Gathers) → Pos → Sight g.Told → Result Meaning g.Told
 means_as g at None = told g at 30
-means_as g at (Some Later) = told g at 30
-means_as g at (Some Ahead) = Ok meaning.Ahead
-means_as g at (Some Begun) = told g at 30
-means_as g at (Some (Declared o m)) = m
+means_as g at (Some k) = means_seen g at k.0 k.1
+
+-- ---- fields under WITH come before all other names
+
+abbrev pub fields_shape : Shape → Option (List (List ℕ × TypeNo))
+fields_shape (shape.Record fs) = Some fs
+fields_shape (shape.Scalar s) = None
+fields_shape shape.Set = None
+fields_shape (shape.Array i e) = None
+fields_shape (shape.Procedure p) = None
+fields_shape (shape.Open e) = None
+
+abbrev pub fields_made : Option Made → Option (List (List ℕ × TypeNo))
+fields_made None = None
+fields_made (Some m) = fields_shape m.shape
+
+abbrev pub fields_at : Types → TypeNo → Option (List (List ℕ × TypeNo))
+fields_at types t = fields_made (made_at types t)
+
+abbrev pub field_numbered : OpenedRecord → List (List ℕ × TypeNo) → Option ℕ → Option OpenedField
+field_numbered r fs None = None
+field_numbered r fs (Some n) = option_map (λ e. record { with = r.number; whole = r.of; number = n; of = e.1 }) (slice_get fs n)
+
+abbrev pub field_at : OpenedRecord → List ℕ → List (List ℕ × TypeNo) → Option OpenedField
+field_at r name fs = field_numbered r fs (place_of name fs)
+
+abbrev pub field_of : OpenedRecord → List ℕ → Option (List (List ℕ × TypeNo)) → Option OpenedField
+field_of r name None = None
+field_of r name (Some fs) = field_at r name fs
+
+abbrev pub field_in : Types → List ℕ → OpenedRecord → Option OpenedField
+field_in types name r = field_of r name (fields_at types r.of)
+
+abbrev pub opened : Types → List ℕ → List OpenedRecord → Option OpenedField
+opened types name [] = None
+opened types name (r ∷ inner) = or_outside (opened types name inner) (field_in types name r)
+
+abbrev pub means_or : {T : Type 0} → Option OpenedField → Result Meaning T → Result Meaning T
+means_or (Some f) m = Ok (meaning.Field f)
+means_or None m = m
 
 abbrev pub looked_up : (g : Gathers) → Scope g.Told → Ident → Result Meaning g.Told
-looked_up g s name = means_as g name.pos (known name.name s)
+looked_up g s name = means_or (opened s.types name.name s.withs) (means_as g name.pos (known name.name s))
 
 -- ---- declarations
 
@@ -47,6 +120,7 @@ is_free None = true
 is_free (Some Later) = true
 is_free (Some Ahead) = true
 is_free (Some Begun) = false
+is_free (Some (Headed m)) = false
 is_free (Some (Declared o m)) = false
 
 abbrev pub with_known : {T : Type 0} → List ℕ → Known T → Scope T → Scope T
@@ -72,6 +146,7 @@ is_begun None = false
 is_begun (Some Later) = false
 is_begun (Some Ahead) = false
 is_begun (Some Begun) = true
+is_begun (Some (Headed m)) = false
 is_begun (Some (Declared o m)) = false
 
 abbrev pub finished : {T : Type 0} → Scope T → Ident → Result Meaning T → Scope T
@@ -93,6 +168,7 @@ is_again None o = false
 is_again (Some Later) o = false
 is_again (Some Ahead) o = false
 is_again (Some Begun) o = false
+is_again (Some (Headed m)) o = false
 is_again (Some (Declared first m)) o = is_one_origin first o
 
 -- the same declaration counts once

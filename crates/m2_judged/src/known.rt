@@ -22,6 +22,8 @@ pub enum Known<T> {
     Ahead,
     /// Its declaration has begun.
     Begun,
+    /// It is a procedure, with the meaning of its heading. It is known in all bodies of the block.
+    Headed(Result<Meaning, T>),
     /// What it means, or what is told of its declaration.
     Declared(Origin, Result<Meaning, T>),
 }

@@ -4,8 +4,8 @@ use Rattle.m2_tree.specs.declared.pos.Pos.{Pos}
 use Rattle.m2_typed.specs.declared.types.TypeNo.{TypeNo}
 use Rattle.m2_typed.specs.declared.shape.Scalar.{Scalar}
 use Rattle.m2_typed.specs.Types.{is_numeric}
-use Rattle.m2_judged.specs.declared.types.Types.{Types}
-use Rattle.m2_judged.specs.Types.{scalar_at}
+use Rattle.m2_typed.specs.declared.known_types.Types.{Types}
+use Rattle.m2_typed.specs.Known.{scalar_at}
 use Rattle.m2_judged.specs.Judged.{Gathers, told_where}
 
 abbrev pub counted : ℕ → ℕ

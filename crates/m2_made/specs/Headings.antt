@@ -13,9 +13,9 @@ use Rattle.m2_typed.specs.declared.shape.Formal.{Formal}
 use Rattle.m2_typed.specs.declared.shape.Shape.TheVariants as shape
 use Rattle.m2_typed.specs.declared.shape.Made.{Made}
 use Rattle.m2_typed.specs.Types.{integer}
-use Rattle.m2_judged.specs.declared.types.Types.{Types}
+use Rattle.m2_typed.specs.declared.known_types.Types.{Types}
 use Rattle.m2_judged.specs.declared.scope.Scope.{Scope}
-use Rattle.m2_judged.specs.Types.{is_result}
+use Rattle.m2_typed.specs.Known.{is_result}
 use Rattle.m2_judged.specs.Judged.{Gathers, told, told_where, both, ◌▷◌}
 use Rattle.m2_made.specs.declared.field.Fields.{Fields}
 use Rattle.m2_made.specs.Named.{first_of, named_type}

@@ -18,9 +18,9 @@ use Rattle.m2_typed.specs.declared.meaning.Value.TheVariants as value
 use Rattle.m2_typed.specs.declared.meaning.Meaning.{Meaning}
 use Rattle.m2_typed.specs.declared.meaning.Meaning.TheVariants as meaning
 use Rattle.m2_typed.specs.Types.{integer}
-use Rattle.m2_judged.specs.declared.types.Types.{Types}
+use Rattle.m2_typed.specs.declared.known_types.Types.{Types}
 use Rattle.m2_judged.specs.declared.scope.Scope.{Scope}
-use Rattle.m2_judged.specs.Types.{scalar_at, cells_at}
+use Rattle.m2_typed.specs.Known.{scalar_at, cells_at}
 use Rattle.m2_judged.specs.Scopes.{State, declared}
 use Rattle.m2_judged.specs.Judged.{Gathers, least, told, told_where, both, beside, ◌▷◌}
 use Rattle.m2_values.specs.declared.operand.Ordinal.{Ordinal}

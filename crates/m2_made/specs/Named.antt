@@ -23,7 +23,10 @@ abbrev pub type_meant : (g : Gathers) → Pos → Meaning → Result TypeNo g.To
 type_meant g at (meaning.Type t n) = Ok t
 type_meant g at (meaning.Constant v) = told g at 33
 type_meant g at (meaning.Variable v) = told g at 33
+type_meant g at (meaning.Local v) = told g at 33
+type_meant g at (meaning.Field f) = told g at 33
 type_meant g at (meaning.Procedure p) = told g at 33
+type_meant g at (meaning.LocalProcedure p) = told g at 33
 type_meant g at meaning.Ahead = told g at 33
 type_meant g at (meaning.Standard f) = told g at 33
 type_meant g at (meaning.Module k) = told g at 33
@@ -34,7 +37,10 @@ in_module g s at name (meaning.Module k) = member g s.tables k name ▷ type_mea
 in_module g s at name (meaning.Type t n) = told g at 33
 in_module g s at name (meaning.Constant v) = told g at 33
 in_module g s at name (meaning.Variable v) = told g at 33
+in_module g s at name (meaning.Local v) = told g at 33
+in_module g s at name (meaning.Field f) = told g at 33
 in_module g s at name (meaning.Procedure p) = told g at 33
+in_module g s at name (meaning.LocalProcedure p) = told g at 33
 in_module g s at name meaning.Ahead = told g at 33
 in_module g s at name (meaning.Standard f) = told g at 33
 

@@ -4,9 +4,9 @@ ghost use Rattle.std.specs.Prelude.{◌≡◌};
 ghost use Rattle.m2_judged.specs.Judged.{least};
 ghost use Rattle.m2_made.specs.Cells.{counted, count_of, count_at, plus, array_cells, is_index};
 
-use m2_judged::{Judged, Types, scalar_of, told};
+use m2_judged::{Judged, told};
 use m2_tree::Pos;
-use m2_typed::{Scalar, TypeNo, is_numeric};
+use m2_typed::{Scalar, TypeNo, Types, is_numeric, scalar_of};
 
 /// The most scalar cells that a type may have.
 pub const MAX_CELLS: u32 = 131_072;

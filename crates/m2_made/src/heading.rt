@@ -7,12 +7,13 @@ ghost use Rattle.m2_made.specs.Headings.{formal_of, result_in, result_of, joined
 
 use crate::field::{Fields, no_fields, with_names};
 use crate::named::{first_of, named_type};
-use m2_judged::{Fault, Judged, Scope, Types, both, is_result, told};
+use m2_judged::{Fault, Judged, Scope, both, told};
 use m2_tree::{FormalType, Heading, Ident, Items, Parameter, Pos, Qualified, Section};
-use m2_typed::{Formal, INTEGER, Made, Shape, Signature, TypeNo};
+use m2_typed::{Formal, INTEGER, Made, Shape, Signature, TypeNo, Types, is_result};
 use std::alloc::{AllocError, Global};
 
-fn formal_of(
+/// A formal, from what stands before its names and its type.
+pub fn formal_of(
     scope: &Scope<Fault>,
     is_var: bool,
     of: &FormalType,
@@ -38,7 +39,8 @@ fn result_in(types: &Types, at: Pos, t: TypeNo) -> Judged<Option<TypeNo>>
     Ok(Some(t))
 }
 
-fn result_of(
+/// What a procedure gives, if it gives something.
+pub fn result_of(
     scope: &Scope<Fault>,
     of: &Option<Qualified>,
 ) -> Result<Judged<Option<TypeNo>>, AllocError>

@@ -12,9 +12,12 @@ use crate::heading::procedure_type;
 use crate::named::{first_of, named_type};
 use crate::subrange::{bound_of, under, unnamed};
 use m2_constants::{constant_of, place_of};
-use m2_judged::{Fault, Judged, Scope, Types, beside, both, cells_of, declare, scalar_of, told};
+use m2_judged::{Fault, Judged, Scope, beside, both, declare, told};
 use m2_tree::{Expr, Field, Ident, Pos, Qualified, Simple, TypeExpr};
-use m2_typed::{Home, INTEGER, Made, Meaning, Scalar, ScalarValue, Shape, TypeNo, Value};
+use m2_typed::{
+    Home, INTEGER, Made, Meaning, Scalar, ScalarValue, Shape, TypeNo, Types, Value, cells_of,
+    scalar_of,
+};
 use m2_values::Ordinal;
 use std::alloc::{AllocError, Global};
 

@@ -1,3 +1,11 @@
-pub mod Types
 pub mod Store
+pub mod Answer
+pub mod Operators
+pub mod Around
+pub mod Expressions
+pub mod Calls
+pub mod Statements
+pub mod Runs
+pub mod Later
+pub mod Calm
 pub mod Program

@@ -1,2 +1,9 @@
-pub mod Helpers
+pub mod Coded
+pub mod Cells
+pub mod Exprs
+pub mod Steps
+pub mod Functions
+pub mod Signatures
 pub mod Scheme
+pub mod Helpers
+pub mod Modules

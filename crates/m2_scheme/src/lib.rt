@@ -1,4 +1,8 @@
 //! The code that each construct gets. There is no code here, only definitions.
 //!
-//! - `specs/Scheme` gives each body its WebAssembly module, and a program the module `link`.
+//! - `specs/Exprs`, `specs/Steps` and `specs/Functions` have the code of expressions, statements and procedures, made of the
+//!   pieces of `specs/Coded` and `specs/Cells`; `specs/Signatures` the types of functions that a module needs; and
+//!   `specs/Modules` the modules of a program.
+//! - `specs/Helpers` has the functions that each module has before its own.
+//! - `specs/Scheme` says the same of the programs that are compiled so far.
 #![tactic(auto)]

@@ -1,10 +1,8 @@
 -- Entries of a map as a list of names.
-use Rattle.std.proofs.Common.{◌≡◌, ℕ, ◌+◌, suc, Bool, true, false, cond, not, List, [], ◌∷◌, length, Option, Some, None, refl, ap, ◌∙◌}
-use Rattle.std.specs.Prelude.{map, nat_eq, nat_lt}
+use Rattle.std.proofs.Common.{◌≡◌, ℕ, ◌+◌, suc, Bool, true, false, cond, not, List, [], ◌∷◌, length, Some, None, refl, ap, ◌∙◌}
+use Rattle.std.specs.Prelude.{map, nat_lt}
 use Rattle.std.specs.List.{position, prefix_len}
 use Rattle.std.specs.Map.{lookup, keys_of}
-use Rattle.std.specs.Cmp.Lexicographic.{pointwise}
-use Rattle.std.proofs.lemmas.List.{length-map}
 use Rattle.indexmap.specs.IndexMap.{insert_entry}
 use Rattle.m2_typed.specs.Names.{same_name, found, place_of, entered}
 

@@ -45,6 +45,54 @@ pub struct Procedure {
     pub heading: TypeNo,
 }
 
+/// Which sort of name of a procedure it is.
+#[derive(Clone, Copy, Debug, PartialEq, Eq)]
+pub enum LocalKind {
+    /// A variable that the procedure declares.
+    Variable,
+    /// A value formal, but no open array.
+    Value,
+    /// A VAR formal, but no open array.
+    Alias,
+    /// A formal ARRAY OF.
+    Open,
+}
+
+/// A variable or a formal of a procedure.
+#[derive(Clone, Copy, Debug, PartialEq, Eq)]
+pub struct LocalVariable {
+    /// The level of the procedure: 1 for one of the module.
+    pub level: usize,
+    /// Its number among the formals and then the variables of the procedure, from 0.
+    pub number: usize,
+    pub kind: LocalKind,
+    /// Its type, of an open array that of the elements.
+    pub of: TypeNo,
+}
+
+/// A procedure that is declared in a procedure.
+#[derive(Clone, Copy, Debug, PartialEq, Eq)]
+pub struct NestedProcedure {
+    /// The level of the procedure around it.
+    pub level: usize,
+    /// Its number among all such procedures of the module, in the order of their headings, from 0.
+    pub number: usize,
+    /// Its heading as a procedure type.
+    pub heading: TypeNo,
+}
+
+/// A field of the record of a WITH.
+#[derive(Clone, Copy, Debug, PartialEq, Eq)]
+pub struct OpenedField {
+    /// The number of the WITH among those around the place, the outermost first, from 0.
+    pub with: usize,
+    /// The type of the record.
+    pub whole: TypeNo,
+    /// The number of the field, from 0.
+    pub number: usize,
+    pub of: TypeNo,
+}
+
 /// A standard procedure.
 #[derive(Clone, Copy, Debug, PartialEq, Eq)]
 pub enum Standard {
@@ -74,7 +122,10 @@ pub enum Meaning {
     /// declared as, which follow it in the table.
     Type(TypeNo, usize),
     Variable(Variable),
+    Local(LocalVariable),
+    Field(OpenedField),
     Procedure(Procedure),
+    LocalProcedure(NestedProcedure),
     /// A procedure of the block, before its heading.
     Ahead,
     Standard(Standard),
@@ -105,7 +156,10 @@ impl Meaning {
             Meaning::Constant(value) => Ok(Meaning::Constant(value.copy()?)),
             Meaning::Type(t, constants) => Ok(Meaning::Type(*t, *constants)),
             Meaning::Variable(variable) => Ok(Meaning::Variable(*variable)),
+            Meaning::Local(variable) => Ok(Meaning::Local(*variable)),
+            Meaning::Field(field) => Ok(Meaning::Field(*field)),
             Meaning::Procedure(procedure) => Ok(Meaning::Procedure(*procedure)),
+            Meaning::LocalProcedure(procedure) => Ok(Meaning::LocalProcedure(*procedure)),
             Meaning::Ahead => Ok(Meaning::Ahead),
             Meaning::Standard(standard) => Ok(Meaning::Standard(*standard)),
             Meaning::Module(place) => Ok(Meaning::Module(*place)),

@@ -23,6 +23,6 @@ pub struct Table {
     pub imports: Dictionary<u32>,
     /// What it exports, in order.
     pub exported: Dictionary<Meaning>,
-    /// The types of each module whose types can be met through it, its own first.
+    /// The types of each module whose types can be met through it, each module behind those whose types it names.
     pub reached: Items<ModuleTypes>,
 }

@@ -11,8 +11,8 @@ use Rattle.m2_typed.specs.Names.{found, entered}
 use Rattle.m2_judged.specs.declared.known.Origin.{Origin}
 use Rattle.m2_judged.specs.declared.known.Origin.TheVariants.{Here, Module, Export}
 use Rattle.m2_judged.specs.declared.known.Known.{Known}
-use Rattle.m2_judged.specs.declared.known.Known.TheVariants.{Later, Ahead, Begun, Declared}
-use Rattle.m2_judged.specs.declared.types.Types.{Types}
+use Rattle.m2_judged.specs.declared.known.Known.TheVariants.{Later, Ahead, Begun, Headed, Declared}
+use Rattle.m2_typed.specs.declared.known_types.Types.{Types}
 
 -- ---- exports: what the block declares, in order
 
@@ -29,6 +29,7 @@ abbrev pub with_known : {T : Type 0} → List (List ℕ × Meaning) → List ℕ
 with_known so name Later = so
 with_known so name Ahead = so
 with_known so name Begun = so
+with_known so name (Headed m) = with_meaning so name m
 with_known so name (Declared o m) = with_declared so name o m
 
 abbrev pub with_export : {T : Type 0} → List (List ℕ × Meaning) → List ℕ × Known T → List (List ℕ × Meaning)
@@ -37,7 +38,7 @@ with_export so e = with_known so e.0 e.1
 abbrev pub exports : {T : Type 0} → List (List ℕ × Known T) → List (List ℕ × Meaning)
 exports own = fold with_export [] own
 
--- ---- types that are met, the module's own first
+-- ---- types that are met, each module behind those whose types it names
 
 abbrev pub with_types : List ModuleTypes → ℕ × List Made → List ModuleTypes
 with_types so e = so ++ record { number = e.0; made = e.1 } ∷ []
@@ -47,7 +48,7 @@ own_types home [] = []
 own_types home (m ∷ ms) = record { number = home; made = m ∷ ms } ∷ []
 
 abbrev pub reached_of : Types → List ModuleTypes
-reached_of types = fold with_types (own_types types.home types.own) types.others
+reached_of types = fold with_types [] types.others ++ own_types types.home types.own
 
 -- ---- modules that are imported, in order, each once
 

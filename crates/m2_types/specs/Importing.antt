@@ -1,5 +1,5 @@
 -- Imports.
-use Rattle.std.specs.Prelude.{ℕ, ◌+◌, cond, List, [], take, drop, Option, Some, None, Result, Ok, Err, slice_get}
+use Rattle.std.specs.Prelude.{ℕ, ◌+◌, not, cond, List, [], take, drop, Option, Some, None, Result, Ok, Err, slice_get}
 use Rattle.std.specs.List.{fold}
 use Rattle.std.specs.Option.{is_some}
 use Rattle.m2_tree.specs.declared.pos.Pos.{Pos}
@@ -10,9 +10,11 @@ use Rattle.m2_typed.specs.declared.meaning.Meaning.TheVariants as meaning
 use Rattle.m2_typed.specs.declared.table.Table.{Table}
 use Rattle.m2_typed.specs.Names.{found, place_of, entered}
 use Rattle.m2_judged.specs.declared.known.Origin.TheVariants.{Module, Export}
+use Rattle.m2_judged.specs.declared.known.Known.{Known}
+use Rattle.m2_judged.specs.declared.known.Known.TheVariants.{Later, Ahead, Begun, Headed, Declared}
 use Rattle.m2_judged.specs.declared.scope.Scope.{Scope}
-use Rattle.m2_judged.specs.Scopes.{State, imported}
-use Rattle.m2_judged.specs.Judged.{Gathers, told, beside}
+use Rattle.m2_judged.specs.Scopes.{State, is_one_origin, imported}
+use Rattle.m2_judged.specs.Judged.{Gathers, told, told_where, beside}
 
 -- ---- modules by name: the first of a name counts
 
@@ -51,7 +53,10 @@ abbrev pub brings_of : Meaning → ℕ
 brings_of (meaning.Type t n) = n
 brings_of (meaning.Constant v) = 1
 brings_of (meaning.Variable v) = 1
+brings_of (meaning.Local v) = 1
+brings_of (meaning.Field f) = 1
 brings_of (meaning.Procedure p) = 1
+brings_of (meaning.LocalProcedure p) = 1
 brings_of meaning.Ahead = 1
 brings_of (meaning.Standard f) = 1
 brings_of (meaning.Module k) = 1
@@ -60,12 +65,26 @@ abbrev pub brings_in : Option (List ℕ × Meaning) → ℕ
 brings_in None = 0
 brings_in (Some e) = brings_of e.1
 
-abbrev pub from_place : (g : Gathers) → Scope g.Told → Pos → ℕ → List (List ℕ × Meaning) → Option ℕ → State (Unit {0}) g.Told
-from_place g s at k es None = (s, told g at 32)
-from_place g s at k es (Some i) = fold (with_entry g at k) (s, Ok tt) (take (brings_in (slice_get es i)) (drop i es))
+-- what is told of a name that is taken, if it is; it brings nothing more
+abbrev pub told_of_taken : (g : Gathers) → Pos → ℕ → Option (Known g.Told) → Option (Result (Unit {0}) g.Told)
+told_of_taken g at k None = None
+told_of_taken g at k (Some Later) = None
+told_of_taken g at k (Some Ahead) = None
+told_of_taken g at k (Some Begun) = Some (told g at 31)
+told_of_taken g at k (Some (Headed m)) = Some (told g at 31)
+told_of_taken g at k (Some (Declared o m)) = Some (told_where g (not (is_one_origin o (Export k))) at 31 (Ok tt))
+
+-- a name with those that come with it
+abbrev pub unless_taken : (g : Gathers) → Scope g.Told → Pos → ℕ → List (List ℕ × Meaning) → ℕ → Option (Result (Unit {0}) g.Told) → State (Unit {0}) g.Told
+unless_taken g s at k es i (Some j) = (s, j)
+unless_taken g s at k es i None = fold (with_entry g at k) (s, Ok tt) (take (brings_in (slice_get es i)) (drop i es))
+
+abbrev pub from_place : (g : Gathers) → Scope g.Told → Ident → ℕ → List (List ℕ × Meaning) → Option ℕ → State (Unit {0}) g.Told
+from_place g s name k es None = (s, told g name.pos 32)
+from_place g s name k es (Some i) = unless_taken g s name.pos k es i (told_of_taken g name.pos k (found name.name s.own))
 
 abbrev pub with_from : (g : Gathers) → ℕ → List (List ℕ × Meaning) → State (Unit {0}) g.Told → Ident → State (Unit {0}) g.Told
-with_from g k es st name = let one = from_place g st.0 name.pos k es (place_of name.name es) in (one.0, beside g st.1 one.1)
+with_from g k es st name = let one = from_place g st.0 name k es (place_of name.name es) in (one.0, beside g st.1 one.1)
 
 abbrev pub exports_of : Option Table → List (List ℕ × Meaning)
 exports_of None = []

@@ -1,5 +1,5 @@
 -- The names around every module, the module Console, and what is known where a module begins.
-use Rattle.std.specs.Prelude.{ℕ, ℤ, pos, nat_eq, cond, List, [], ◌∷◌, codes, Ok}
+use Rattle.std.specs.Prelude.{ℕ, ℤ, pos, nat_eq, cond, List, [], ◌∷◌, length, codes, Ok}
 use Rattle.std.specs.List.{fold}
 use Rattle.std.specs.Map.{lookup}
 use Rattle.std.specs.Option.{is_some}
@@ -16,6 +16,7 @@ use Rattle.m2_typed.specs.Names.{entered}
 use Rattle.m2_judged.specs.declared.known.Origin.TheVariants.{Here}
 use Rattle.m2_judged.specs.declared.known.Known.{Known}
 use Rattle.m2_judged.specs.declared.known.Known.TheVariants.{Declared}
+use Rattle.m2_judged.specs.declared.scope.Block.{Block}
 use Rattle.m2_judged.specs.declared.scope.Scope.{Scope}
 
 -- ---- predeclared names
@@ -70,12 +71,18 @@ with_table so t = fold with_reached so t.reached
 abbrev pub others_of : List Table → List (ℕ × List Made)
 others_of tables = fold with_table [] tables
 
-abbrev pub first_scope : {T : Type 0} → ℕ → List Table → Scope T
-first_scope home tables = record {
-  tables = tables;
-  types = record { home = home; own = []; others = others_of tables };
-  variables = [];
-  procedures = [];
-  own = [];
-  outer = predeclared ∷ [];
-}
+module _ {T : Type 0} where
+  abbrev pub predeclared_block : Block T
+  predeclared_block = record { names = predeclared {T = T}; seen = length (predeclared {T = T}) }
+
+  abbrev pub first_scope : ℕ → List Table → Scope T
+  first_scope home tables = record {
+    tables = tables;
+    types = record { home = home; own = []; others = others_of tables };
+    variables = [];
+    procedures = [];
+    level = 0;
+    own = [];
+    outer = predeclared_block ∷ [];
+    withs = [];
+  }

@@ -47,7 +47,8 @@ fn with_constant(
     Ok(beside(before, beside(first, told)))
 }
 
-fn constants(
+/// Declares constants.
+pub fn declare_constants(
     alloc: Global,
     scope: &mut Scope<Fault>,
     before: Judged<()>,
@@ -114,7 +115,8 @@ fn with_type(
     Ok(beside(before, beside(first, nothing_of(t))))
 }
 
-fn types(
+/// Declares types.
+pub fn declare_types(
     alloc: Global,
     scope: &mut Scope<Fault>,
     before: Judged<()>,
@@ -131,7 +133,8 @@ fn types(
 
 // ---- variables
 
-fn begin_all(
+/// Begins the declarations of names.
+pub fn begin_all(
     alloc: Global,
     scope: &mut Scope<Fault>,
     before: Judged<()>,
@@ -156,7 +159,8 @@ fn variable_meaning(home: u32, number: usize, t: Judged<TypeNo>) -> Judged<Meani
     }
 }
 
-fn with_variable_type(scope: &mut Scope<Fault>, t: Judged<TypeNo>) -> Result<(), AllocError>
+/// Numbers one more variable of this type.
+pub fn with_variable_type(scope: &mut Scope<Fault>, t: Judged<TypeNo>) -> Result<(), AllocError>
     ensures { OnOk result (scope.new ≡ with_variable_type scope.old t) }
 {
     match t {
@@ -209,7 +213,8 @@ fn with_variables(
     Ok(beside(judged, nothing_of(t)))
 }
 
-fn all_variables(
+/// Declares variables of a module.
+pub fn declare_variables(
     alloc: Global,
     scope: &mut Scope<Fault>,
     before: Judged<()>,
@@ -226,7 +231,8 @@ fn all_variables(
 
 // ---- procedures
 
-fn procedure_meaning(home: u32, number: usize, t: Judged<TypeNo>) -> Judged<Meaning>
+/// What a procedure of a module means, from its number and its heading.
+pub fn procedure_meaning(home: u32, number: usize, t: Judged<TypeNo>) -> Judged<Meaning>
     ensures { result ≡ procedure_meaning home number t }
 {
     match t {
@@ -239,7 +245,8 @@ fn procedure_meaning(home: u32, number: usize, t: Judged<TypeNo>) -> Judged<Mean
     }
 }
 
-fn with_procedure_type(scope: &mut Scope<Fault>, t: Judged<TypeNo>) -> Result<(), AllocError>
+/// Numbers one more procedure with this heading.
+pub fn with_procedure_type(scope: &mut Scope<Fault>, t: Judged<TypeNo>) -> Result<(), AllocError>
     ensures { OnOk result (scope.new ≡ with_procedure_type scope.old t) }
 {
     match t {
@@ -289,9 +296,9 @@ fn with_def(
     ensures { IfOk result (λ j. (scope.new, j) ≡ with_def least (scope.old, before) def.now) }
 {
     match def {
-        Def::Constants(list) => constants(alloc, scope, before, list.as_slice()),
-        Def::Types(list) => types(alloc, scope, before, list.as_slice()),
-        Def::Variables(list) => all_variables(alloc, scope, before, list.as_slice()),
+        Def::Constants(list) => declare_constants(alloc, scope, before, list.as_slice()),
+        Def::Types(list) => declare_types(alloc, scope, before, list.as_slice()),
+        Def::Variables(list) => declare_variables(alloc, scope, before, list.as_slice()),
         Def::Procedure(heading) => with_procedure(alloc, scope, before, heading),
     }
 }

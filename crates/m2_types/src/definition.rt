@@ -16,7 +16,7 @@ use m2_typed::{Dictionary, Shared, Table};
 use std::alloc::{AllocError, Global};
 
 /// The tables of a module's imports, and that of Console.
-fn with_console(
+pub fn with_console(
     alloc: Global,
     tables: Items<Shared<Table>>,
 ) -> Result<Items<Shared<Table>>, AllocError>

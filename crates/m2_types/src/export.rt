@@ -1,14 +1,14 @@
 //! What a definition exports, and the modules that it imports.
 
-ghost use Rattle.std.specs.Prelude.{◌≡◌, IfOk, OnOk};
+ghost use Rattle.std.specs.Prelude.{◌++◌, ◌≡◌, IfOk, OnOk};
 ghost use Rattle.std.specs.List.{fold};
 ghost use Rattle.std.specs.Option.{option_map, option_copied};
 ghost use Rattle.m2_types.specs.Steps.{if_some};
 ghost use Rattle.m2_types.specs.Export.{with_meaning, with_declared, with_export, exports, with_types, own_types, reached_of, with_table_if, with_imported, with_import_of, imported_modules};
 
-use m2_judged::{Fault, Known, Origin, Types};
+use m2_judged::{Fault, Known, Origin};
 use m2_tree::{Ident, Import, Items};
-use m2_typed::{Dictionary, Made, Meaning, ModuleTypes, Reached, Shared, Table};
+use m2_typed::{Dictionary, Made, Meaning, ModuleTypes, Reached, Shared, Table, Types};
 use std::alloc::{AllocError, Global};
 
 // ---- exports
@@ -55,6 +55,7 @@ fn with_export(
         Known::Later => Ok(()),
         Known::Ahead => Ok(()),
         Known::Begun => Ok(()),
+        Known::Headed(means) => with_meaning(alloc, exported, name, means),
         Known::Declared(origin, means) => with_declared(alloc, exported, name, *origin, means),
     }
 }
@@ -112,27 +113,31 @@ fn with_others(reached: &mut Items<ModuleTypes>, others: &Reached) -> Result<(),
     Ok(())
 }
 
-fn own_types(alloc: Global, home: u32, own: Items<Made>) -> Result<Items<ModuleTypes>, AllocError>
-    ensures { IfOk result (λ types. types ≡ own_types home own) }
+fn with_own(
+    alloc: Global,
+    reached: &mut Items<ModuleTypes>,
+    home: u32,
+    own: Items<Made>,
+) -> Result<(), AllocError>
+    ensures { OnOk result (reached.new ≡ reached.old ++ own_types home own) }
 {
-    let mut reached = Items::new(alloc);
     if own.len() == 0 {
-        return Ok(reached);
+        return Ok(());
     }
     reached.push(ModuleTypes {
         number: home,
         made: Shared::new(alloc, own)?,
-    })?;
-    Ok(reached)
+    })
 }
 
-/// The types of each module whose types can be met, the module's own first.
+/// The types of each module whose types can be met, each behind those that it names.
 pub fn reached_of(alloc: Global, types: Types) -> Result<Items<ModuleTypes>, AllocError>
     ensures { IfOk result (λ reached. reached ≡ reached_of types) }
 {
     let Types { home, own, others } = types;
-    let mut reached = own_types(alloc, home, own)?;
+    let mut reached = Items::new(alloc);
     with_others(&mut reached, &others)?;
+    with_own(alloc, &mut reached, home, own)?;
     Ok(reached)
 }
 
@@ -182,7 +187,8 @@ fn with_imported_names(
     Ok(())
 }
 
-fn with_import_of(
+/// Enters the modules that an import names, with their numbers.
+pub fn with_import_of(
     alloc: Global,
     imported: &mut Dictionary<u32>,
     modules: &Dictionary<usize>,

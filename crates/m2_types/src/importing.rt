@@ -1,13 +1,15 @@
 //! Imports.
 
-ghost use Rattle.std.specs.Prelude.{◌≡◌, ◌+◌, ◌<◌, ◌^◌, [], Ok, IfOk, OnOk, length, take, drop, slice_get};
+ghost use Rattle.std.specs.Prelude.{◌≡◌, not, ◌+◌, ◌<◌, ◌^◌, [], Ok, IfOk, OnOk, length, take, drop, slice_get};
 ghost use Rattle.std.specs.List.{fold};
-ghost use Rattle.std.specs.Option.{option_map};
-ghost use Rattle.m2_judged.specs.Judged.{least};
+ghost use Rattle.std.specs.Option.{option_copied, option_map};
+ghost use Rattle.m2_judged.specs.Judged.{least, told_where};
+ghost use Rattle.m2_judged.specs.Scopes.{is_one_origin};
+ghost use Rattle.m2_judged.specs.declared.known.Origin.TheVariants.{Export};
 ghost use Rattle.m2_types.specs.Steps.{if_some};
-ghost use Rattle.m2_types.specs.Importing.{with_place, numbered_modules, module_named, with_module_as, with_module_name, with_entry, brings_in, brings_of, from_place, with_from, exports_of, from_module, with_import};
+ghost use Rattle.m2_types.specs.Importing.{with_place, numbered_modules, module_named, with_module_as, with_module_name, with_entry, brings_in, brings_of, told_of_taken, from_place, with_from, exports_of, from_module, with_import};
 
-use m2_judged::{Fault, Judged, Origin, Scope, beside, import, told};
+use m2_judged::{Fault, Judged, Known, Origin, Scope, beside, import, told};
 use m2_tree::{Ident, Import, Pos};
 use m2_typed::{Dictionary, Meaning, Shared, Table};
 use std::alloc::{AllocError, Global};
@@ -164,7 +166,10 @@ fn brings_of(meaning: &Meaning) -> usize
         Meaning::Type(_, names) => *names,
         Meaning::Constant(_)
         | Meaning::Variable(_)
+        | Meaning::Local(_)
+        | Meaning::Field(_)
         | Meaning::Procedure(_)
+        | Meaning::LocalProcedure(_)
         | Meaning::Ahead
         | Meaning::Standard(_)
         | Meaning::Module(_) => 1,
@@ -181,21 +186,55 @@ fn brings_in(entry: Option<(&[u8], &Meaning)>) -> usize
     }
 }
 
+/// What is told of an import whose name is taken, if it is.
+fn told_of_taken(known: Option<&Known<Fault>>, at: Pos, place: usize) -> Option<Judged<()>>
+    ensures { result ≡ told_of_taken least at place (option_copied known.entry) }
+{
+    match known {
+        None => None,
+        Some(known) => match known {
+            Known::Later | Known::Ahead => None,
+            Known::Begun => Some(told(at, 31)),
+            Known::Headed(_) => Some(told(at, 31)),
+            Known::Declared(origin, _) => Some(told_unless_from(*origin, at, place)),
+        },
+    }
+}
+
+fn told_unless_from(origin: Origin, at: Pos, place: usize) -> Judged<()>
+    ensures { result ≡ told_where least (not (is_one_origin origin (Export place))) at 31 (Ok tt) }
+{
+    match origin {
+        Origin::Here | Origin::Module(_) => told(at, 31),
+        Origin::Export(first) => {
+            if first == place {
+                return Ok(());
+            }
+            told(at, 31)
+        }
+    }
+}
+
+/// Imports a name of a table, with those that come with it. One that is taken brings nothing.
 fn from_place(
     alloc: Global,
     scope: &mut Scope<Fault>,
-    at: Pos,
+    name: &Ident,
     place: usize,
     exported: &Dictionary<Meaning>,
     found: Option<usize>,
 ) -> Result<Judged<()>, AllocError>
-    ensures { IfOk result (λ j. (scope.new, j) ≡ from_place least scope.old at place exported.now found) }
+    ensures { IfOk result (λ j. (scope.new, j) ≡ from_place least scope.old name.now place exported.now found) }
 {
-    match found {
-        None => Ok(told(at, 32)),
-        Some(first) => {
+    let Some(first) = found else {
+        return Ok(told(name.pos, 32));
+    };
+    let known = scope.own.find(name.name.as_bytes());
+    match told_of_taken(known, name.pos, place) {
+        Some(judged) => Ok(judged),
+        None => {
             let count = brings_in(exported.get(first));
-            bring(alloc, scope, at, place, exported, first, count)
+            bring(alloc, scope, name.pos, place, exported, first, count)
         }
     }
 }
@@ -213,7 +252,7 @@ fn import_names(
     let mut judged = before;
     for name in names {
         let found = exported.place(name.name.as_bytes());
-        let one = from_place(alloc, scope, name.pos, place, exported, found)?;
+        let one = from_place(alloc, scope, name, place, exported, found)?;
         judged = beside(judged, one);
     }
     Ok(judged)

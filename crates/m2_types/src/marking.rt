@@ -62,7 +62,8 @@ fn mark_field(alloc: Global, scope: &mut Scope<Fault>, field: &Field) -> Result<
     mark_in(alloc, scope, &field.of)
 }
 
-fn mark_constants(
+/// Marks the names of constants.
+pub fn mark_constants(
     alloc: Global,
     scope: &mut Scope<Fault>,
     list: &[Constant],
@@ -75,7 +76,12 @@ fn mark_constants(
     Ok(())
 }
 
-fn mark_types(alloc: Global, scope: &mut Scope<Fault>, list: &[TypeDecl]) -> Result<(), AllocError>
+/// Marks the names of types, and the constants in them.
+pub fn mark_types(
+    alloc: Global,
+    scope: &mut Scope<Fault>,
+    list: &[TypeDecl],
+) -> Result<(), AllocError>
     ensures { OnOk result (scope.new ≡ fold marked_type scope.old list.now) }
 {
     for decl in list {
@@ -85,7 +91,8 @@ fn mark_types(alloc: Global, scope: &mut Scope<Fault>, list: &[TypeDecl]) -> Res
     Ok(())
 }
 
-fn mark_variables(
+/// Marks the names of variables, and the constants in their types.
+pub fn mark_variables(
     alloc: Global,
     scope: &mut Scope<Fault>,
     list: &[Variables],

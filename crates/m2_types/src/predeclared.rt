@@ -4,11 +4,11 @@ ghost use Rattle.std.specs.Prelude.{◌≡◌, [], IfOk, OnOk};
 ghost use Rattle.std.specs.List.{fold};
 ghost use Rattle.m2_types.specs.Predeclared.{predeclared_as, truth, with_types, with_truth, with_functions, with_bounds, with_procedures, predeclared, console, with_reached, with_table, others_of, first_scope};
 
-use m2_judged::{Fault, Known, Origin, Scope, Types};
+use m2_judged::{Block, Fault, Known, Origin, Scope};
 use m2_tree::{Items, Name};
 use m2_typed::{
     BITSET, BOOLEAN, CARDINAL, CHAR, Dictionary, INTEGER, Meaning, ModuleTypes, Reached,
-    ScalarValue, Shared, Standard, Table, Value,
+    ScalarValue, Shared, Standard, Table, Types, Value,
 };
 use std::alloc::{AllocError, Global};
 
@@ -209,7 +209,8 @@ fn with_reached(others: &mut Reached, types: &ModuleTypes) -> Result<(), AllocEr
     others.enter(types.number, types.made.share()?)
 }
 
-fn with_table(others: &mut Reached, list: &[ModuleTypes]) -> Result<(), AllocError>
+/// Enters the types of each module that is not there.
+pub fn with_table(others: &mut Reached, list: &[ModuleTypes]) -> Result<(), AllocError>
     ensures { OnOk result (others.new ≡ fold with_reached others.old list.now) }
 {
     for types in list {
@@ -240,7 +241,8 @@ pub fn first_scope(
     let others = others_of(alloc, tables.as_slice())?;
     let names = predeclared(alloc)?;
     let mut outer = Items::new(alloc);
-    outer.push(names)?;
+    let seen = names.len();
+    outer.push(Block { names, seen })?;
     Ok(Scope {
         tables,
         types: Types {
@@ -250,7 +252,9 @@ pub fn first_scope(
         },
         variables: Items::new(alloc),
         procedures: Items::new(alloc),
+        level: 0,
         own: Dictionary::new(alloc),
         outer,
+        withs: Items::new(alloc),
     })
 }

@@ -1,5 +1,5 @@
 -- Numbers that no type has.
-use Rattle.std.proofs.Common.{◌≡◌, ℤ, pos, negsuc, Bool, true, false, cond, not, ◌&&◌, arith, subst, of_z, to_z, Option, Some, None, Result, Ok, ap}
+use Rattle.std.proofs.Common.{◌≡◌, ℤ, pos, negsuc, Bool, true, false, cond, not, ◌&&◌, arith, subst, of_z, to_z, Option, Some, None, Ok, ap}
 use Rattle.std.specs.Prelude.{int_le, FitsSigned}
 use Rattle.std.specs.Int.{w64}
 use Rattle.std.proofs.lemmas.Int.{ints, to_z-of_z}

@@ -1,5 +1,5 @@
 -- Numbers and their ranges.
-use Rattle.std.specs.Prelude.{ℕ, ℤ, pos, negsuc, ◌+ℤ◌, ◌-ℤ◌, ◌*ℤ◌, Bool, not, cond, ◌&&◌, int_le, int_lt, Option, Some, None, Result, Ok}
+use Rattle.std.specs.Prelude.{ℤ, pos, negsuc, ◌+ℤ◌, ◌-ℤ◌, ◌*ℤ◌, Bool, not, cond, ◌&&◌, int_le, int_lt, Option, Some, None, Result, Ok}
 use Rattle.std.specs.Int.{int_div_euclid, int_rem_euclid}
 use Rattle.m2_tree.specs.declared.pos.Pos.{Pos}
 use Rattle.m2_typed.specs.declared.types.TypeNo.{TypeNo}

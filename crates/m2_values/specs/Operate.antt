@@ -1,5 +1,5 @@
 -- What operators make of constants.
-use Rattle.std.specs.Prelude.{ℕ, ℤ, pos, Bool, true, false, not, ◌&&◌, ◌||◌, int_le, int_lt, Option, Some, None, Result, Ok, if◌then◌else◌}
+use Rattle.std.specs.Prelude.{ℤ, pos, Bool, true, false, not, ◌&&◌, ◌||◌, int_le, int_lt, Option, Some, None, Result, Ok}
 use Rattle.m2_tree.specs.declared.pos.Pos.{Pos}
 use Rattle.m2_tree.specs.declared.expr.RelOp.{RelOp}
 use Rattle.m2_tree.specs.declared.expr.RelOp.TheVariants.{Equal, Unequal, Less, AtMost, Greater, AtLeast, In}
@@ -7,7 +7,7 @@ use Rattle.m2_tree.specs.declared.expr.Sign.{Sign}
 use Rattle.m2_tree.specs.declared.expr.Sign.TheVariants as sign
 use Rattle.m2_typed.specs.declared.types.TypeNo.{TypeNo}
 use Rattle.m2_typed.specs.declared.meaning.Value.{Value}
-use Rattle.m2_typed.specs.Types.{are_same, is_integer, is_numeric}
+use Rattle.m2_typed.specs.Types.{is_integer}
 use Rattle.m2_judged.specs.Judged.{Gathers, told, told_where, both, beside, ◌▷◌}
 use Rattle.m2_values.specs.declared.operand.Ordinal.{Ordinal}
 use Rattle.m2_values.specs.declared.operand.Operand.{Operand}

@@ -1,5 +1,5 @@
 -- Standard procedures of constants.
-use Rattle.std.specs.Prelude.{ℕ, ℤ, pos, ◌-ℤ◌, Bool, true, false, not, cond, int_lt, Option, Some, None, Result, Ok}
+use Rattle.std.specs.Prelude.{ℤ, pos, ◌-ℤ◌, Bool, false, not, cond, int_lt, Option, Some, None, Result, Ok}
 use Rattle.std.specs.Int.{int_rem_euclid}
 use Rattle.m2_tree.specs.declared.pos.Pos.{Pos}
 use Rattle.m2_typed.specs.declared.types.TypeNo.{TypeNo}

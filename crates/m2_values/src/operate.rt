@@ -13,6 +13,7 @@ use m2_judged::{Judged, beside, both, told};
 use m2_tree::{Pos, RelOp, Sign};
 use m2_typed::{TypeNo, Value, are_same, is_integer, is_numeric};
 
+/// The type of two scalars, if they go together. A number without a type takes the type of the other.
 pub fn common(first: Option<TypeNo>, second: Option<TypeNo>) -> Option<Option<TypeNo>>
     ensures { result ≡ common first second }
 {
@@ -24,7 +25,8 @@ pub fn common(first: Option<TypeNo>, second: Option<TypeNo>) -> Option<Option<Ty
     }
 }
 
-fn takes(op: BinaryOp, sort: Option<TypeNo>) -> bool
+/// Whether an operator takes scalars of this type.
+pub fn takes(op: BinaryOp, sort: Option<TypeNo>) -> bool
     ensures { result ≡ takes op sort }
 {
     match op {
@@ -74,8 +76,8 @@ fn applied(op: BinaryOp, spot: Pos, sort: Option<TypeNo>, x: i64, y: i64) -> Jud
     }
 }
 
-/// Whether a divisor is positive.
-fn divisor(op: BinaryOp, spot: Pos, y: i64) -> Judged<()>
+/// The rule that a constant divisor is positive.
+pub fn divisor(op: BinaryOp, spot: Pos, y: i64) -> Judged<()>
     ensures { result ≡ divisor least op spot y }
 {
     if is_division(op) && y < 1 {
@@ -96,7 +98,8 @@ fn is_misfit(wanted: Option<TypeNo>, a: Ordinal) -> bool
     }
 }
 
-fn fitting(wanted: Option<TypeNo>, at: Pos, a: Ordinal) -> Judged<()>
+/// The rule that a number without a type is one of the other operand's type.
+pub fn fitting(wanted: Option<TypeNo>, at: Pos, a: Ordinal) -> Judged<()>
     ensures { result ≡ fitting least wanted at a }
 {
     if is_misfit(wanted, a) {
@@ -142,7 +145,8 @@ fn on_scalars(
     }
 }
 
-fn binary(
+/// An operator at a place, between two operands at theirs. What is none is refused.
+pub fn binary(
     op: BinaryOp,
     spot: Pos,
     at: Pos,

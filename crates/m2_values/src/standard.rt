@@ -63,7 +63,8 @@ fn upper(code: i64) -> i64
     }
 }
 
-fn is_char(sort: Option<TypeNo>) -> bool
+/// Whether it is CHAR.
+pub fn is_char(sort: Option<TypeNo>) -> bool
     ensures { result ≡ is_char sort }
 {
     match sort {

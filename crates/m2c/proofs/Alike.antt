@@ -14,8 +14,8 @@ use Rattle.m2_scheme.specs.Scheme.{link_module}
 use Rattle.m2_read.specs.declared.file.SourceFile.{SourceFile}
 use Rattle.m2c.specs.declared.files.Outcome.{Outcome}
 use Rattle.m2c.specs.declared.files.Outcome.TheVariants as outcome
-use Rattle.m2c.specs.Modules.{program_at}
-use Rattle.m2c.specs.Build.{Told, told, told_at, AreTold, refused_of, modules, unknown, built_of, named, AreUnread, AreUngraphed, AreUncompiled, HaveGraph, IsProgram, IsBuilt, AreAlike}
+use Rattle.m2c.specs.Modules.{program_of}
+use Rattle.m2c.specs.Build.{Told, told, told_at, AreTold, refused_of, refused_by, started, built_of, named, AreUnread, AreUngraphed, AreUncompiled, HaveGraph, IsProgram, IsBuilt, AreAlike}
 use Rattle.m2c.proofs.Same.{same_refused, one_trees, trees_or_refused}
 use Rattle.m2c.proofs.Ranks.{one_order}
 
@@ -34,15 +34,16 @@ module _ (files : List SourceFile) (t u : List (List ℕ × Module)) (n m : List
       let w = one_graph (numbered 0 u) n m j k s r (subst (λ (x : List (List ℕ × Module)). IsGraph (numbered 0 x) n j s) e h.is_graph) g.is_graph in
       record { trees = e; numbers = w.0; rows = w.1; starts = w.2 }
 
-  untold_same : HaveGraph files t n j s → HaveGraph files u m k r → unknown t n j ≡ unknown u m k
+  untold_same : HaveGraph files t n j s → HaveGraph files u m k r → refused_by t n j ≡ refused_by u m k
   untold_same h g =
       let w = have_same h g in
-      ap (λ (x : List (List ℕ × Module)). unknown x n j) w.trees ∙ ap (λ (x : List ℕ). unknown u x j) w.numbers ∙ ap (unknown u m) w.rows
+      ap (λ (x : List (List ℕ × Module)). refused_by x n j) w.trees ∙ ap (λ (x : List ℕ). refused_by u x j) w.numbers ∙ ap (refused_by u m) w.rows
 
-  programs_same : HaveGraph files t n j s → HaveGraph files u m k r → program_at (modules t) s ≡ program_at (modules u) r
+  programs_same : HaveGraph files t n j s → HaveGraph files u m k r → program_of (started t n j s) ≡ program_of (started u m k r)
   programs_same h g =
       let w = have_same h g in
-      ap (λ (x : List (List ℕ × Module)). program_at (modules x) s) w.trees ∙ ap (λ (x : List ℕ). program_at (modules u) x) w.starts
+      ap (λ (x : List (List ℕ × Module)). program_of (started x n j s)) w.trees ∙ ap (λ (x : List ℕ). program_of (started u x j s)) w.numbers
+      ∙ ap (λ (x : List (List ℕ)). program_of (started u m x s)) w.rows ∙ ap (λ (x : List ℕ). program_of (started u m k x)) w.starts
 
 -- a graph is there, or imports break rules
 graph_or_told : (files : List SourceFile) (t : List (List ℕ × Module)) (n : List ℕ) (j : List (List ℕ)) (s : List ℕ) (rs : Vec Refusal) → HaveGraph files t n j s → AreUngraphed files rs → ⊥
@@ -73,7 +74,7 @@ both_refused files rs qs (inr (inr a)) (inl b) = absurd (trees_or_refused files 
 both_refused files rs qs (inr (inr a)) (inr (inl b)) = absurd (graph_or_told files a.trees a.numbers a.all_jobs a.starts qs a.graph b)
 both_refused files rs qs (inr (inr a)) (inr (inr b)) =
     let same = untold_same files b.trees a.trees b.numbers a.numbers b.all_jobs a.all_jobs b.starts a.starts b.graph a.graph in
-    one_order (unknown a.trees a.numbers a.all_jobs) rs.items qs.items a.told (subst (λ (all : List Told). AreTold all qs.items) same b.told)
+    one_order (refused_by a.trees a.numbers a.all_jobs) rs.items qs.items a.told (subst (λ (all : List Told). AreTold all qs.items) same b.told)
 
 never_both : (files : List SourceFile) (rs : Vec Refusal) (pages : ℕ) (link : List ℕ) (built : List (List ℕ × List ℕ)) → AreUnread files rs.items ⊎ (AreUngraphed files rs ⊎ AreUncompiled files rs.items) → IsProgram files pages link built → ⊥
 never_both files rs pages link built (inl a) p = trees_or_refused files p.trees a.reads p.graph.are_trees a.are_read a.some

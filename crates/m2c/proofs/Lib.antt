@@ -1,9 +1,13 @@
 pub mod Fragments
 pub mod Bodies
 pub mod Two
-pub mod Known
+pub mod EachOnce
+pub mod Tables
+pub mod Unrefused
+pub mod Started
 pub mod Programs
 pub mod Graphs
+pub mod Borrowed
 pub mod Same
 pub mod Ranks
 pub mod Alike

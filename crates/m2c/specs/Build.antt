@@ -1,5 +1,5 @@
 -- What the build of files answers.
-use Rattle.std.specs.Prelude.{◌≡◌, ◌≢◌, ◌⊎◌, ℕ, List, [], ◌∷◌, ◌++◌, map, Option, Some, None, String, slice_get}
+use Rattle.std.specs.Prelude.{◌≡◌, ◌≢◌, ◌⊎◌, ℕ, ◌+◌, List, [], ◌∷◌, ◌++◌, map, Option, Some, None, String}
 use Rattle.std.specs.String.{string_bytes}
 use Rattle.std.specs.Arc.{arc_value}
 use Rattle.std.specs.Global.{Global, Vec}
@@ -17,12 +17,13 @@ use Rattle.m2c.specs.declared.files.Outcome.{Outcome}
 use Rattle.m2c.specs.declared.files.Outcome.TheVariants as outcome
 use Rattle.m2_read.specs.declared.reading.Read.{Read}
 use Rattle.m2_read.specs.declared.reading.Read.TheVariants as read
-use Rattle.m2_check.specs.declared.done.Done.{Done}
-use Rattle.m2_check.specs.declared.done.Done.TheVariants as jobs
+use Rattle.m2_compile.specs.declared.outcome.BodyModule.{BodyModule}
+use Rattle.m2_compile.specs.declared.outcome.Compiled.{Compiled}
+use Rattle.m2_compile.specs.declared.outcome.Compiled.TheVariants as jobs
 use Rattle.m2c.specs.Order.{AreInOrder}
 use Rattle.m2_read.specs.Reading.{AreRead}
-use Rattle.m2_jobs.specs.Jobs.{done_all}
-use Rattle.m2c.specs.Modules.{program_at}
+use Rattle.m2_jobs.specs.Jobs.{all_compiled}
+use Rattle.m2c.specs.Modules.{result_of, modules_at, program_of}
 
 -- ---- what is told
 
@@ -79,28 +80,40 @@ modules trees = map (λ f. f.1) trees
 
 -- ---- jobs
 
-abbrev pub name_in : Option (List ℕ × Module) → List ℕ
-name_in None = []
-name_in (Some f) = f.0
+-- the rule that a module breaks
+abbrev pub refusal_in : (file : List ℕ) → Option Compiled → List Told
+refusal_in file (Some (jobs.Refused f)) = told_at file f.pos.line f.pos.col f.number ∷ []
+refusal_in file (Some (jobs.Defined t)) = []
+refusal_in file (Some (jobs.Built b)) = []
+refusal_in file (Some jobs.Blocked) = []
+refusal_in file None = []
 
--- 99 at the begin of a file with a module that is not compiled so far
-abbrev pub unknown_in : (file : List ℕ) → Done → List Told
-unknown_in file jobs.Known = []
-unknown_in file jobs.Unknown = told_at file 1 1 99 ∷ []
-unknown_in file jobs.Blocked = []
+-- the rules that the modules of these files break, of which the first has this place
+abbrev pub refused_from : (result : ℕ → Option Compiled) → ℕ → List (List ℕ × Module) → List Told
+refused_from result n [] = []
+refused_from result n (f ∷ fs) = refusal_in f.0 (result n) ++ refused_from result (n + 1) fs
 
-abbrev pub unknown_of : List (List ℕ × Module) → (files : List ℕ) → List Done → List Told
-unknown_of trees files dones = each_two (λ f d. unknown_in (name_in (slice_get trees f)) d) files dones
+-- what became of the module of a file
+abbrev pub result_at : List (List ℕ × Module) → (files : List ℕ) → (jobs : List (List ℕ)) → (file : ℕ) → Option Compiled
+result_at trees files all_jobs = result_of files (all_compiled (modules trees) files all_jobs)
 
--- these are told of the jobs of a graph
-abbrev pub unknown : List (List ℕ × Module) → (files : List ℕ) → (jobs : List (List ℕ)) → List Told
-unknown trees files all_jobs = unknown_of trees files (done_all (modules trees) files all_jobs)
+-- the rules that modules break, in the order in which the files were given
+abbrev pub refused_by : List (List ℕ × Module) → (files : List ℕ) → (jobs : List (List ℕ)) → List Told
+refused_by trees files all_jobs = refused_from (result_at trees files all_jobs) 0 trees
+
+-- the modules that start
+abbrev pub started : List (List ℕ × Module) → (files : List ℕ) → (jobs : List (List ℕ)) → (starts : List ℕ) → List BodyModule
+started trees files all_jobs starts = modules_at (result_at trees files all_jobs) starts
 
 -- ---- modules
 
 -- a body's name, and the bytes of its module
 abbrev pub built_of : Body → List ℕ × List ℕ
 built_of b = (b.name, module_spelling (body_module b))
+
+-- the same of what a job built
+abbrev pub named_bytes : BodyModule → List ℕ × List ℕ
+named_bytes m = (m.source.name, m.bytes)
 
 -- the same of what a build hands out
 abbrev pub named : String Global × Vec ℕ → List ℕ × List ℕ
@@ -130,29 +143,29 @@ pub record HaveGraph (files : List SourceFile) (trees : List (List ℕ × Module
   pub is_graph : IsGraph (numbered 0 trees) numbers all_jobs starts
   pub each : CompileEach (numbered 0 trees) numbers
 
--- modules are not compiled so far
+-- modules break rules
 pub record AreUncompiled (files : List SourceFile) (refusals : List Refusal) : Type 0 where
   pub trees : List (List ℕ × Module)
   pub numbers : List ℕ
   pub all_jobs : List (List ℕ)
   pub starts : List ℕ
   pub graph : HaveGraph files trees numbers all_jobs starts
-  pub some : unknown trees numbers all_jobs ≢ []
-  pub told : AreTold (unknown trees numbers all_jobs) refusals
+  pub some : refused_by trees numbers all_jobs ≢ []
+  pub told : AreTold (refused_by trees numbers all_jobs) refusals
 
--- all modules are compiled, and those that are reached do what the program does
+-- no module breaks a rule, and those that are reached do what the program does
 pub record IsProgram (files : List SourceFile) (pages : ℕ) (link : List ℕ) (built : List (List ℕ × List ℕ)) : Type 0 where
   pub trees : List (List ℕ × Module)
   pub numbers : List ℕ
   pub all_jobs : List (List ℕ)
   pub starts : List ℕ
   pub graph : HaveGraph files trees numbers all_jobs starts
-  pub none : unknown trees numbers all_jobs ≡ []
-  pub code : IsCode (program_at (modules trees) starts) pages link built
-  pub keeps : Keeps (program_at (modules trees) starts) link (map (λ m. m.1) built)
+  pub none : refused_by trees numbers all_jobs ≡ []
+  pub code : IsCode (program_of (started trees numbers all_jobs starts)) pages link built
+  pub keeps : Keeps (program_of (started trees numbers all_jobs starts)) link (map (λ m. m.1) built)
 
 -- The outcome of a build of these files. Rules of tokens and of the grammar come first, then those of imports, and then
--- what is not compiled so far.
+-- those of modules.
 abbrev pub IsBuilt : List SourceFile → (pages : ℕ) → Outcome → Type 0
 IsBuilt files pages (outcome.Refused refusals) = AreUnread files refusals.items ⊎ (AreUngraphed files refusals ⊎ AreUncompiled files refusals.items)
 IsBuilt files pages (outcome.Built link built) = IsProgram files pages link.items (map named built.items)

@@ -2,6 +2,7 @@
 
 ghost use Rattle.std.specs.Prelude.{◌≡◌, ◌<◌, ◌≤◌, ◌⊎◌, ◌↔◌, IfOk, IsErrOf};
 ghost use Rattle.m2c.specs.Build.{AreAlike, IsBuilt};
+ghost use Rattle.m2c.specs.Limits.{max_workers, max_pages};
 
 use crate::outcome::outcome_of;
 use m2_jobs::Crew;
@@ -12,12 +13,18 @@ use std::alloc::{AllocError, Global};
 use std::thread::Threads;
 use thiserror::Error;
 
+/// How many threads may work.
+pub const MAX_WORKERS: usize = 64;
+
+/// How many pages of 65536 bytes a program's memory may have.
+pub const MAX_PAGES: u32 = 1024;
+
 /// What a build is asked for.
 #[derive(Clone, Copy, Debug)]
 pub struct Options {
-    /// How many threads work, from 1 to 64.
+    /// How many threads work, from 1 to `MAX_WORKERS`.
     pub workers: usize,
-    /// How many pages of 65536 bytes the memory has, from 1 to 1024.
+    /// How many pages of 65536 bytes the memory has, from 1 to `MAX_PAGES`.
     pub pages: u32,
 }
 
@@ -47,6 +54,21 @@ pub enum BuildFault {
     NoMemory,
 }
 
+impl BuildFault {
+    ghost use Rattle.m2c.specs.FaultNumber.{number_of};
+
+    /// The number by which the fault is told.
+    pub fn number(self) -> u32
+        ensures { result ≡ number_of self }
+    {
+        match self {
+            BuildFault::Workers => 70,
+            BuildFault::Pages => 73,
+            BuildFault::NoMemory => 90,
+        }
+    }
+}
+
 impl From<AllocError> for BuildFault {
     ghost use Rattle.m2c.specs.declared.files.BuildFault.TheVariants.{NoMemory};
 
@@ -63,8 +85,9 @@ impl From<AllocError> for BuildFault {
 /// - the rule of tokens (1 to 7) or of the grammar (10 to 13) that a text breaks first, with its place;
 /// - if no text breaks one, the rules of imports (20 to 25) that files break, one for each such file (see
 ///   `m2_graph::Graph::of`);
-/// - if there is none of these either, 99 at the begin of each file with a module that is not compiled so far, but for
-///   those that need a definition that is not.
+/// - if there is none of these either, the least rule that each module breaks (30 to 38, 40, 42, 43 and 52, in
+///   definitions), and 99 at the begin of each file with a body that is not compiled so far, but nothing for a module
+///   that needs another of which something is told.
 ///
 /// A program of which nothing is told is compiled to the module link and, in start order, the modules that are reached
 /// from the program module. They do what the program does.
@@ -82,19 +105,20 @@ pub fn build<R: Threads + Sync, G: Gate>(
     options: Options,
     gate: &G,
 ) -> Result<Outcome, BuildFault>
-    ensures workers { IsErrOf result BuildFault.Workers ↔ ((options.workers < 1) ⊎ (64 < options.workers)) }
-    ensures pages { (1 ≤ options.workers) × (options.workers ≤ 64)
-        → IsErrOf result BuildFault.Pages ↔ ((options.pages < 1) ⊎ (1024 < options.pages)) }
+    ensures workers { IsErrOf result BuildFault.Workers
+        ↔ ((options.workers < 1) ⊎ (max_workers < options.workers)) }
+    ensures pages { (1 ≤ options.workers) × (options.workers ≤ max_workers)
+        → IsErrOf result BuildFault.Pages ↔ ((options.pages < 1) ⊎ (max_pages < options.pages)) }
     // The outcome that the files have; the modules do what the program does.
     ensures built { IfOk result (IsBuilt files.now options.pages) }
     // The files have one outcome, so workers, gates and schedules have no part in it.
     ensures one { IfOk result
         (λ o. (other : Outcome) → IsBuilt files.now options.pages other → AreAlike o other) }
 {
-    if options.workers < 1 || options.workers > 64 {
+    if options.workers < 1 || options.workers > MAX_WORKERS {
         return Err(BuildFault::Workers);
     }
-    if options.pages < 1 || options.pages > 1024 {
+    if options.pages < 1 || options.pages > MAX_PAGES {
         return Err(BuildFault::Pages);
     }
     let crew = Crew {

@@ -6,8 +6,9 @@ mod modules;
 mod order;
 mod outcome;
 mod refusals;
+mod results;
 mod texts;
 
-pub use files::{BuildFault, Options, Outcome, build};
+pub use files::{BuildFault, MAX_PAGES, MAX_WORKERS, Options, Outcome, build};
 pub use m2_read::SourceFile;
 pub use m2_worker::Gate;

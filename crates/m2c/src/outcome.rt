@@ -1,105 +1,93 @@
 //! The outcome of a build.
 
-ghost use Rattle.std.specs.Prelude.{◌≡◌, ◌≤◌, ◌<◌, ◌++◌, ◌∷◌, [], length, map, All, IfOk, OnOk};
-ghost use Rattle.std.specs.String.{string_bytes};
-ghost use Rattle.wasm_binary.specs.Binary.{module_spelling};
+ghost use Rattle.std.specs.Prelude.{◌≡◌, ◌≤◌, [], length, map, IfOk};
 ghost use Rattle.m2_graph.specs.Files.{numbered};
-ghost use Rattle.m2_graph.specs.Graph.{IsGraph};
-ghost use Rattle.m2_scheme.specs.Scheme.{body_module};
-ghost use Rattle.m2_emit.specs.Sources.{body, program};
-ghost use Rattle.m2_headline.specs.Suits.{IsName};
-ghost use Rattle.m2c.specs.Build.{built_of, named, told, refused_of, trees_of, unknown, AreTrees, HaveGraph, IsBuilt};
-ghost use Rattle.m2_jobs.specs.Lent.{lent};
+ghost use Rattle.m2_graph.specs.Graph.{CompileEach};
+ghost use Rattle.m2_graph.specs.Jobs.{ArePlaces};
+ghost use Rattle.m2_jobs.specs.Jobs.{all_compiled};
+ghost use Rattle.m2_jobs.specs.Lent.{lent, modules_lent};
 ghost use Rattle.m2_read.specs.Reading.{AreRead};
+ghost use Rattle.m2c.specs.Limits.{max_pages};
+ghost use Rattle.m2c.specs.Build.{refused_by, started, AreTrees, HaveGraph, IsBuilt};
 
 use crate::files::Outcome;
-use crate::modules::program_at;
+use crate::modules::{copies_of, names_of};
 use crate::order::in_order;
-use crate::refusals::{refused_of, unknown_of};
+use crate::refusals::refused_of;
+use crate::results::{modules_at, places_of, refused_by};
 use crate::texts::trees_of;
-use m2_emit::{Source, emit, emit_link};
+use m2_compile::{BodyModule, Compiled};
+use m2_emit::emit_link;
 use m2_graph::{Graph, GraphError};
 use m2_jobs::Crew;
 use m2_read::{Read, SourceFile};
-use m2_tree::{Module, Refusal};
+use m2_tree::Module;
 use m2_worker::Gate;
 use std::alloc::{AllocError, AllocFailed, Global};
 use std::thread::Threads;
 
-fn name_of(alloc: Global, source: &Source) -> Result<String, AllocError>
-    requires { IsName source.now.name }
-    ensures { IfOk result (λ name. string_bytes name ≡ source.now.name) }
-{
-    String::from_utf8_lossy(alloc, source.name.as_bytes())
-}
-
-/// Adds a module, under its name.
-fn add_module(
-    alloc: Global,
-    modules: &mut Vec<(String, Vec<u8>)>,
-    source: &Source,
-) -> Result<(), AllocError>
-    requires { IsName source.now.name }
-    ensures module { OnOk result
-        (map named modules.new.items ≡ map named modules.old.items
-        ++ (source.now.name, module_spelling (body_module (body source.now))) ∷ []) }
-    ensures small { OnOk result (All (λ b. b < 256) source.now.printed) }
-{
-    let name = name_of(alloc, source)?;
-    let bytes = emit(alloc, source)?;
-    modules.push((name, bytes))?;
-    Ok(())
-}
-
-/// The modules of bodies, under their names.
-fn emit_all(alloc: Global, sources: &[Source]) -> Result<Vec<(String, Vec<u8>)>, AllocError>
-    requires { All (λ s. IsName s.name) sources.now }
-    ensures modules { IfOk result (λ ms. map named ms.items ≡ map built_of (program sources.now)) }
-    ensures small { OnOk result (All (λ s. All (λ b. b < 256) s.printed) sources.now) }
-{
-    let mut modules = Vec::new(alloc);
-    for source in sources {
-        add_module(alloc, &mut modules, source)?;
-    }
-    Ok(modules)
-}
-
-/// The modules of the program that a graph has, where each module is compiled so far.
-fn compile(
+/// The modules of the program that a graph has, where no module breaks a rule.
+fn program(
     alloc: Global,
     files: &[SourceFile],
     trees: &[(&str, &Module)],
     graph: &Graph,
+    modules: &[&BodyModule],
     pages: u32,
 ) -> Result<Outcome, AllocError>
     requires least { 1 ≤ pages }
-    requires most { pages ≤ 1024 }
+    requires most { pages ≤ max_pages }
     requires graph { HaveGraph files.now (lent trees.now) graph.now.files.items
         (map (λ j. j.items) graph.now.jobs.items) graph.now.starts.items }
-    requires none { unknown (lent trees.now) graph.now.files.items (map (λ j. j.items) graph.now.jobs.items)
-        ≡ [] }
+    requires none { refused_by (lent trees.now) graph.now.files.items
+        (map (λ j. j.items) graph.now.jobs.items) ≡ [] }
+    requires modules { map (λ m. m.now) modules.now
+        ≡ started (lent trees.now) graph.now.files.items
+        (map (λ j. j.items) graph.now.jobs.items) graph.now.starts.items }
     ensures { IfOk result (IsBuilt files.now pages) }
 {
-    let sources = program_at(alloc, trees, graph.start_order())?;
-    let link = emit_link(alloc, &sources, pages)?;
-    let modules = emit_all(alloc, &sources)?;
+    let names = names_of(alloc, modules)?;
+    let link = emit_link(alloc, &names, pages)?;
+    let modules = copies_of(alloc, modules)?;
     Ok(Outcome::Built { link, modules })
 }
 
-/// What is told of the jobs of a graph.
-fn unknown<R: Threads + Sync, G: Gate>(
-    crew: &Crew<'_, R, G>,
+/// The places of the jobs of files.
+fn places_in(
+    alloc: Global,
     trees: &[(&str, &Module)],
     graph: &Graph,
-) -> Result<Vec<Refusal>, AllocError>
-    requires { IsGraph (numbered 0 (lent trees.now)) graph.now.files.items
-        (map (λ j. j.items) graph.now.jobs.items) graph.now.starts.items }
-    ensures { IfOk result (λ rs.
-        map told rs.items ≡ unknown (lent trees.now) graph.now.files.items
-        (map (λ j. j.items) graph.now.jobs.items)) }
+) -> Result<Vec<Option<usize>>, AllocError>
+    requires { CompileEach (numbered 0 (lent trees.now)) graph.now.files.items }
+    ensures { IfOk result (λ places. ArePlaces graph.now.files.items places.items) }
 {
-    let dones = crew.done_all(trees, graph)?;
-    unknown_of(crew.alloc, trees, graph.files(), &dones)
+    places_of(alloc, trees.len(), graph.files())
+}
+
+/// The outcome of files with this graph, whose jobs came to these results.
+fn of_results(
+    alloc: Global,
+    files: &[SourceFile],
+    trees: &[(&str, &Module)],
+    graph: &Graph,
+    results: &[Compiled],
+    pages: u32,
+) -> Result<Outcome, AllocError>
+    requires least { 1 ≤ pages }
+    requires most { pages ≤ max_pages }
+    requires graph { HaveGraph files.now (lent trees.now) graph.now.files.items
+        (map (λ j. j.items) graph.now.jobs.items) graph.now.starts.items }
+    requires results { results.now ≡ all_compiled (modules_lent trees.now) graph.now.files.items
+        (map (λ j. j.items) graph.now.jobs.items) }
+    ensures { IfOk result (IsBuilt files.now pages) }
+{
+    let places = places_in(alloc, trees, graph)?;
+    let refusals = refused_by(alloc, trees, &places, results)?;
+    if !refusals.is_empty() {
+        return Ok(Outcome::Refused(in_order(refusals)?));
+    }
+    let modules = modules_at(alloc, results, &places, graph.start_order())?;
+    program(alloc, files, trees, graph, &modules, pages)
 }
 
 /// The outcome of files with this graph.
@@ -111,16 +99,13 @@ fn of_graph<R: Threads + Sync, G: Gate>(
     pages: u32,
 ) -> Result<Outcome, AllocError>
     requires least { 1 ≤ pages }
-    requires most { pages ≤ 1024 }
+    requires most { pages ≤ max_pages }
     requires graph { HaveGraph files.now (lent trees.now) graph.now.files.items
         (map (λ j. j.items) graph.now.jobs.items) graph.now.starts.items }
     ensures { IfOk result (IsBuilt files.now pages) }
 {
-    let refusals = unknown(crew, trees, graph)?;
-    if !refusals.is_empty() {
-        return Ok(Outcome::Refused(in_order(refusals)?));
-    }
-    compile(crew.alloc, files, trees, graph, pages)
+    let results = crew.compile_all(trees, graph)?;
+    of_results(crew.alloc, files, trees, graph, &results, pages)
 }
 
 /// The outcome of files whose texts have trees.
@@ -131,7 +116,7 @@ fn of_trees<R: Threads + Sync, G: Gate>(
     pages: u32,
 ) -> Result<Outcome, AllocError>
     requires least { 1 ≤ pages }
-    requires most { pages ≤ 1024 }
+    requires most { pages ≤ max_pages }
     requires trees { AreTrees files.now (lent trees.now) }
     ensures { IfOk result (IsBuilt files.now pages) }
 {
@@ -150,7 +135,7 @@ fn of_reads<R: Threads + Sync, G: Gate>(
     pages: u32,
 ) -> Result<Outcome, AllocError>
     requires least { 1 ≤ pages }
-    requires most { pages ≤ 1024 }
+    requires most { pages ≤ max_pages }
     requires read { AreRead files.now reads.now }
     requires count { length files.now ≡ length reads.now }
     ensures { IfOk result (IsBuilt files.now pages) }
@@ -170,7 +155,7 @@ pub fn outcome_of<R: Threads + Sync, G: Gate>(
     pages: u32,
 ) -> Result<Outcome, AllocError>
     requires least { 1 ≤ pages }
-    requires most { pages ≤ 1024 }
+    requires most { pages ≤ max_pages }
     ensures { IfOk result (IsBuilt files.now pages) }
 {
     let reads = crew.read_all(files)?;

@@ -1,16 +1,15 @@
-use Rattle.std.proofs.Common.{◌≡◌, ◌++◌, List, [], sym, ap, ◌∙◌, arith, drop}
+use Rattle.std.proofs.Common.{◌++◌, sym, ap, ◌∙◌, arith}
 use Rattle.std.proofs.lemmas.List.{drop_all, append-nil}
-use Rattle.wasm_tree.specs.declared.code.Op.{Op}
 use Rattle.wasm_tree.specs.Code.{tree}
-use Rattle.m2_emit.specs.Sources.{program}
+use Rattle.m2_emit.specs.Sources.{named}
 use Rattle.m2_emit.proofs.Lists.{call_ops, calls}
 use Rattle.m2_emit.proofs.code.body_calls.Goals as goal
 
 pub returns : goal.returns
 returns c =
     let ops = c.loop.ops.items in
-    let sources = c.args.sources.now in
-    let none = drop_all c.loop.index sources (omega (arith, c.loop-test.false)) in
-    let last = ap (λ rest. ops ++ call_ops c.loop.global (program rest)) none in
+    let modules = c.args.modules.now in
+    let none = drop_all c.loop.index modules (omega (arith, c.loop-test.false)) in
+    let last = ap (λ rest. ops ++ call_ops c.loop.global (named rest)) none in
     let is = sym (append-nil ops) ∙ sym last ∙ c.loop.invariant.1 in
-    c.new.ensures ∙ ap tree is ∙ calls 3 (program sources)
+    c.new.ensures ∙ ap tree is ∙ calls 3 (named modules)

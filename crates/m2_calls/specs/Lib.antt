@@ -1,0 +1,4 @@
+pub mod Callees
+pub mod Actuals
+pub mod Functions
+pub mod Effects

@@ -1,0 +1,249 @@
+//! What assignments and standard procedures do.
+
+ghost use Rattle.std.specs.Prelude.{◌≡◌};
+ghost use Rattle.m2_judged.specs.Judged.{least};
+ghost use Rattle.m2_calls.specs.Effects.{target_of, target_at, stored, assigned_to, assigned, changed_as, changed, set_as, set_variable, untyped, known_amount, amount, element_known, element, change_by, membership_of, put};
+
+use m2_computed::{Accepted, Class, Computed, Designated, class_of, suited, value_suited};
+use m2_judged::{Judged, both, told};
+use m2_tree::Pos;
+use m2_typed::{
+    CARDINAL, CHAR, Change, INTEGER, Membership, Place, TypeNo, TypedExpr, TypedStmt, Types,
+    is_numeric,
+};
+use m2_values::{Ordinal, whole_number};
+
+/// The left side of an assignment.
+#[derive(Drop)]
+pub enum Target {
+    Variable(TypeNo, Place),
+    /// An open array, to which nothing can be assigned.
+    Open,
+}
+
+fn target_of(at: Pos, designated: Designated) -> Judged<Target>
+    ensures { result ≡ target_of least at designated }
+{
+    match designated {
+        Designated::Variable(t, place) => Ok(Target::Variable(t, place)),
+        Designated::Open(_, _) => Ok(Target::Open),
+        Designated::Value(_) => told(at, 40),
+        Designated::Type(_) => told(at, 40),
+        Designated::Procedure(_) => told(at, 40),
+        Designated::Nested(_) => told(at, 40),
+        Designated::Standard(_) => told(at, 40),
+        Designated::Module(_) => told(at, 40),
+    }
+}
+
+/// The left side of an assignment at a place: 40 where it is no variable.
+pub fn target_at(at: Pos, designated: Judged<Designated>) -> Judged<Target>
+    ensures { result ≡ target_at least at designated }
+{
+    match designated {
+        Err(fault) => Err(fault),
+        Ok(designated) => target_of(at, designated),
+    }
+}
+
+fn stored(t: TypeNo, place: Place, accepted: Accepted) -> TypedStmt
+    ensures { result ≡ stored t place accepted }
+{
+    match accepted {
+        Accepted::Value(e) => TypedStmt::Assign(place, t, e),
+        Accepted::Whole(from) => TypedStmt::Copy(place, from, t),
+        Accepted::Text(text) => TypedStmt::CopyText(place, t, text),
+    }
+}
+
+fn assigned_to(types: &Types, target: Target, at: Pos, value: Computed) -> Judged<TypedStmt>
+    ensures { result ≡ assigned_to least types.now target at value }
+{
+    match target {
+        Target::Open => told(at, 41),
+        Target::Variable(t, place) => match suited(41, types, t, at, value) {
+            Err(fault) => Err(fault),
+            Ok(accepted) => Ok(stored(t, place, accepted)),
+        },
+    }
+}
+
+/// An assignment of a value at a place: 41 where it is not assignment compatible, and 52 where a constant is out of range.
+pub fn assigned(
+    types: &Types,
+    target: Judged<Target>,
+    at: Pos,
+    value: Judged<Computed>,
+) -> Judged<TypedStmt>
+    ensures { result ≡ assigned least types.now target at value }
+{
+    match both(target, value) {
+        Err(fault) => Err(fault),
+        Ok((target, value)) => assigned_to(types, target, at, value),
+    }
+}
+
+fn changed_as(at: Pos, t: TypeNo, place: Place, class: Class) -> Judged<(TypeNo, Place)>
+    ensures { result ≡ changed_as least at t place class }
+{
+    match class {
+        Class::Scalar(_) => Ok((t, place)),
+        Class::Set => told(at, 44),
+        Class::Procedure => told(at, 44),
+        Class::Whole => told(at, 44),
+    }
+}
+
+/// The variable of INC or DEC: 44 where it is no scalar variable.
+pub fn changed(types: &Types, at: Pos, designated: Designated) -> Judged<(TypeNo, Place)>
+    ensures { result ≡ changed least types.now at designated }
+{
+    match designated {
+        Designated::Variable(t, place) => changed_as(at, t, place, class_of(types, t)),
+        Designated::Value(_) => told(at, 44),
+        Designated::Open(_, _) => told(at, 44),
+        Designated::Type(_) => told(at, 44),
+        Designated::Procedure(_) => told(at, 44),
+        Designated::Nested(_) => told(at, 44),
+        Designated::Standard(_) => told(at, 44),
+        Designated::Module(_) => told(at, 44),
+    }
+}
+
+fn set_as(at: Pos, place: Place, class: Class) -> Judged<Place>
+    ensures { result ≡ set_as least at place class }
+{
+    match class {
+        Class::Set => Ok(place),
+        Class::Scalar(_) => told(at, 44),
+        Class::Procedure => told(at, 44),
+        Class::Whole => told(at, 44),
+    }
+}
+
+/// The variable of INCL or EXCL: 44 where it is no BITSET variable.
+pub fn set_variable(types: &Types, at: Pos, designated: Designated) -> Judged<Place>
+    ensures { result ≡ set_variable least types.now at designated }
+{
+    match designated {
+        Designated::Variable(t, place) => set_as(at, place, class_of(types, t)),
+        Designated::Value(_) => told(at, 44),
+        Designated::Open(_, _) => told(at, 44),
+        Designated::Type(_) => told(at, 44),
+        Designated::Procedure(_) => told(at, 44),
+        Designated::Nested(_) => told(at, 44),
+        Designated::Standard(_) => told(at, 44),
+        Designated::Module(_) => told(at, 44),
+    }
+}
+
+/// The type of a number for which nothing is asked.
+pub fn untyped(a: Ordinal) -> TypeNo
+    ensures { result ≡ untyped a.number a.sort }
+{
+    match a.sort {
+        Some(t) => t,
+        None => { if a.number < 0 { INTEGER } else { CARDINAL } }
+    }
+}
+
+fn known_amount(at: Pos, a: Option<Ordinal>) -> Judged<TypedExpr>
+    ensures { result ≡ known_amount least at a }
+{
+    match a {
+        None => told(at, 43),
+        Some(a) => Ok(TypedExpr::Constant(untyped(a), a.number)),
+    }
+}
+
+/// An INTEGER, a CARDINAL or a number at a place, else 43.
+pub fn amount(at: Pos, value: Computed) -> Judged<TypedExpr>
+    ensures { result ≡ amount least at value }
+{
+    match value {
+        Computed::Constant(value) => known_amount(at, whole_number(&value)),
+        Computed::Scalar(_, base, e) => {
+            if !is_numeric(base) {
+                return told(at, 43);
+            }
+            Ok(e)
+        }
+        Computed::Set(_) => told(at, 43),
+        Computed::Routine(_, _) => told(at, 43),
+        Computed::Procedure(_) => told(at, 43),
+        Computed::Whole(_, _) => told(at, 43),
+        Computed::Untaken => told(at, 43),
+    }
+}
+
+fn element_known(at: Pos, a: Option<Ordinal>) -> Judged<TypedExpr>
+    ensures { result ≡ element_known least at a }
+{
+    match a {
+        None => told(at, 43),
+        Some(a) => {
+            if !(0 <= a.number && a.number <= 31) {
+                return told(at, 52);
+            }
+            Ok(TypedExpr::Constant(untyped(a), a.number))
+        }
+    }
+}
+
+/// The element of INCL or EXCL at a place: 43 where it is no number, and 52 where a constant is not from 0 to 31.
+pub fn element(at: Pos, value: Computed) -> Judged<TypedExpr>
+    ensures { result ≡ element least at value }
+{
+    match value {
+        Computed::Constant(value) => element_known(at, whole_number(&value)),
+        Computed::Scalar(_, base, e) => {
+            if !is_numeric(base) {
+                return told(at, 43);
+            }
+            Ok(e)
+        }
+        Computed::Set(_) => told(at, 43),
+        Computed::Routine(_, _) => told(at, 43),
+        Computed::Procedure(_) => told(at, 43),
+        Computed::Whole(_, _) => told(at, 43),
+        Computed::Untaken => told(at, 43),
+    }
+}
+
+/// INC or DEC of a variable by an amount.
+pub fn change_by(
+    change: Change,
+    variable: Judged<(TypeNo, Place)>,
+    amount: Judged<TypedExpr>,
+) -> Judged<TypedStmt>
+    ensures { result ≡ change_by least change variable amount }
+{
+    match both(variable, amount) {
+        Err(fault) => Err(fault),
+        Ok(((t, place), amount)) => Ok(TypedStmt::Change(change, place, t, amount)),
+    }
+}
+
+/// INCL or EXCL of a set and an element.
+pub fn membership_of(
+    membership: Membership,
+    set: Judged<Place>,
+    element: Judged<TypedExpr>,
+) -> Judged<TypedStmt>
+    ensures { result ≡ membership_of least membership set element }
+{
+    match both(set, element) {
+        Err(fault) => Err(fault),
+        Ok((place, element)) => Ok(TypedStmt::Membership(membership, place, element)),
+    }
+}
+
+/// Put of a value at a place: 43 where it is no CHAR.
+pub fn put(types: &Types, at: Pos, value: Computed) -> Judged<TypedStmt>
+    ensures { result ≡ put least types.now at value }
+{
+    match value_suited(43, types, CHAR, at, value) {
+        Err(fault) => Err(fault),
+        Ok(e) => Ok(TypedStmt::Put(e)),
+    }
+}

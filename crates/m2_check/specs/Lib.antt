@@ -1,2 +1,0 @@
-pub mod Fragment
-pub mod Dones

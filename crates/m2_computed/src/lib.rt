@@ -1,0 +1,22 @@
+//! What one step of an expression in a body makes of values that are known: names, operators, components, and what places take.
+#![tactic(auto)]
+
+mod agree;
+mod class;
+mod computed;
+mod operate;
+mod pieces;
+mod places;
+mod select;
+mod side;
+mod sign;
+
+pub use agree::headings_agree;
+pub use class::{Class, array_of, class_of, signature_of};
+pub use computed::{Computed, Designated, designated_by, given, loaded, slot_of, taken};
+pub use operate::combined;
+pub use pieces::of_value;
+pub use places::{Accepted, bases_suit, sort_suits, suited, text_fits, value_suited};
+pub use select::{Subscripted, field, indexed, indices};
+pub use side::{Amount, Side, known_of, side_of};
+pub use sign::{negated, signed};

@@ -1,0 +1,181 @@
+//! Components of variables.
+
+ghost use Rattle.std.specs.Prelude.{◌≡◌, IfOk};
+ghost use Rattle.std.specs.Option.{option_copied};
+ghost use Rattle.m2_judged.specs.Judged.{least};
+ghost use Rattle.m2_computed.specs.Selection.{numbered_field, field_named, record_field, component, field, array_indexed, indices, asked, picked, with_index, indexed};
+
+use crate::class::array_of;
+use crate::computed::{Computed, Designated};
+use crate::places::value_suited;
+use m2_judged::{Judged, both, fields_of, told};
+use m2_tree::{Boxed, Ident, Pos};
+use m2_typed::{CARDINAL, Dictionary, Place, Slot, TypeNo, TypedExpr, Types};
+use std::alloc::{AllocError, Global};
+
+/// The number and the type of a field.
+fn numbered_field(fields: &Dictionary<TypeNo>, name: &[u8]) -> Option<(usize, TypeNo)>
+    ensures { result ≡ numbered_field name.now fields.now }
+{
+    let number = fields.place(name)?;
+    let (_, of) = fields.get(number)?;
+    Some((number, *of))
+}
+
+fn field_named(at: Pos, found: Option<(usize, TypeNo)>) -> Judged<(usize, TypeNo)>
+    ensures { result ≡ field_named least at found }
+{
+    match found {
+        None => told(at, 30),
+        Some(found) => Ok(found),
+    }
+}
+
+fn record_field(
+    at: Pos,
+    name: &Ident,
+    fields: Option<&Dictionary<TypeNo>>,
+) -> Judged<(usize, TypeNo)>
+    ensures { result ≡ record_field least at name.now (option_copied fields.entry) }
+{
+    match fields {
+        None => told(at, 40),
+        Some(fields) => field_named(name.pos, numbered_field(fields, name.name.as_bytes())),
+    }
+}
+
+fn component(
+    alloc: Global,
+    types: &Types,
+    at: Pos,
+    name: &Ident,
+    t: TypeNo,
+    place: Place,
+) -> Result<Judged<Designated>, AllocError>
+    ensures { IfOk result (λ d. d ≡ component least types.now at name.now t place) }
+{
+    match record_field(at, name, fields_of(types, t)) {
+        Err(fault) => Ok(Err(fault)),
+        Ok((number, of)) => {
+            let record = Boxed::new(alloc, place)?;
+            Ok(Ok(Designated::Variable(of, Place::Field(record, t, number))))
+        }
+    }
+}
+
+/// A field of what stands before a point: 40 at the point where that is no record, and 30 at a name that it lacks.
+pub fn field(
+    alloc: Global,
+    types: &Types,
+    at: Pos,
+    name: &Ident,
+    from: Designated,
+) -> Result<Judged<Designated>, AllocError>
+    ensures { IfOk result (λ d. d ≡ field least types.now at name.now from) }
+{
+    match from {
+        Designated::Variable(t, place) => component(alloc, types, at, name, t, place),
+        Designated::Value(_) => Ok(told(at, 40)),
+        Designated::Open(_, _) => Ok(told(at, 40)),
+        Designated::Type(_) => Ok(told(at, 40)),
+        Designated::Procedure(_) => Ok(told(at, 40)),
+        Designated::Nested(_) => Ok(told(at, 40)),
+        Designated::Standard(_) => Ok(told(at, 40)),
+        Designated::Module(_) => Ok(told(at, 40)),
+    }
+}
+
+/// What takes an index.
+#[derive(Drop)]
+pub enum Subscripted {
+    /// An array: its type, the types of its index and its elements, and where it stands.
+    Array(TypeNo, TypeNo, TypeNo, Place),
+    /// A formal ARRAY OF these elements.
+    Open(TypeNo, Slot),
+}
+
+fn array_indexed(
+    at: Pos,
+    t: TypeNo,
+    place: Place,
+    array: Option<(TypeNo, TypeNo)>,
+) -> Judged<Subscripted>
+    ensures { result ≡ array_indexed least at t place array }
+{
+    match array {
+        None => told(at, 40),
+        Some((index, element)) => Ok(Subscripted::Array(t, index, element, place)),
+    }
+}
+
+/// What stands before a bracket: 40 at the bracket where that is no array.
+pub fn indices(types: &Types, at: Pos, from: Designated) -> Judged<Subscripted>
+    ensures { result ≡ indices least types.now at from }
+{
+    match from {
+        Designated::Variable(t, place) => array_indexed(at, t, place, array_of(types, t)),
+        Designated::Open(t, slot) => Ok(Subscripted::Open(t, slot)),
+        Designated::Value(_) => told(at, 40),
+        Designated::Type(_) => told(at, 40),
+        Designated::Procedure(_) => told(at, 40),
+        Designated::Nested(_) => told(at, 40),
+        Designated::Standard(_) => told(at, 40),
+        Designated::Module(_) => told(at, 40),
+    }
+}
+
+fn asked(array: &Subscripted) -> TypeNo
+    ensures { result ≡ asked array.now }
+{
+    match array {
+        Subscripted::Array(_, index, _, _) => *index,
+        Subscripted::Open(_, _) => CARDINAL,
+    }
+}
+
+fn picked(alloc: Global, array: Subscripted, index: TypedExpr) -> Result<Designated, AllocError>
+    ensures { IfOk result (λ d. d ≡ picked index array) }
+{
+    let index = Boxed::new(alloc, index)?;
+    match array {
+        Subscripted::Array(t, _, element, place) => {
+            let whole = Boxed::new(alloc, place)?;
+            Ok(Designated::Variable(element, Place::Element(whole, t, index)))
+        }
+        Subscripted::Open(t, slot) => {
+            Ok(Designated::Variable(t, Place::OpenElement(slot, t, index)))
+        }
+    }
+}
+
+fn with_index(
+    alloc: Global,
+    types: &Types,
+    at: Pos,
+    array: Subscripted,
+    index: Computed,
+) -> Result<Judged<Designated>, AllocError>
+    ensures { IfOk result (λ d. d ≡ with_index least types.now at array index) }
+{
+    match value_suited(41, types, asked(&array), at, index) {
+        Err(fault) => Ok(Err(fault)),
+        Ok(e) => Ok(Ok(picked(alloc, array, e)?)),
+    }
+}
+
+/// An element of an array, by an index at a place. An index that is not assignment compatible is 41, and a constant one
+/// that the array does not have is 52, both at the index.
+pub fn indexed(
+    alloc: Global,
+    types: &Types,
+    array: Judged<Subscripted>,
+    at: Pos,
+    index: Judged<Computed>,
+) -> Result<Judged<Designated>, AllocError>
+    ensures { IfOk result (λ d. d ≡ indexed least types.now array at index) }
+{
+    match both(array, index) {
+        Err(fault) => Ok(Err(fault)),
+        Ok((array, index)) => with_index(alloc, types, at, array, index),
+    }
+}

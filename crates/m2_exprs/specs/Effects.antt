@@ -1,0 +1,81 @@
+-- Calls as statements.
+use Rattle.std.specs.Prelude.{ℤ, pos, List, [], ◌∷◌, length, Result, Ok}
+use Rattle.m2_tree.specs.declared.pos.Pos.{Pos}
+use Rattle.m2_typed.specs.declared.types.TypeNo.{TypeNo}
+use Rattle.m2_typed.specs.declared.computed.TypedExpr.{TypedExpr}
+use Rattle.m2_typed.specs.declared.computed.TypedExpr.TheVariants as expr
+use Rattle.m2_typed.specs.declared.computed.Argument.{Argument}
+use Rattle.m2_typed.specs.declared.meaning.Standard.{Standard}
+use Rattle.m2_typed.specs.declared.meaning.Standard.TheVariants.{Abs, Cap, Chr, High, Max, Min, Odd, Ord, Val, Inc, Dec, Incl, Excl, Halt, Put}
+use Rattle.m2_typed.specs.declared.statement.Change.{Change}
+use Rattle.m2_typed.specs.declared.statement.Change.TheVariants.{Increase, Decrease}
+use Rattle.m2_typed.specs.declared.statement.Membership.{Membership}
+use Rattle.m2_typed.specs.declared.statement.Membership.TheVariants.{Include, Exclude}
+use Rattle.m2_typed.specs.declared.statement.TypedStmt.{TypedStmt}
+use Rattle.m2_typed.specs.declared.statement.TypedStmt.TheVariants as step
+use Rattle.m2_typed.specs.Types.{cardinal}
+use Rattle.m2_judged.specs.Judged.{Gathers, told, ◌▷◌}
+use Rattle.m2_judged.specs.declared.scope.Scope.{Scope}
+use Rattle.m2_computed.specs.declared.computed.Designated.{Designated}
+use Rattle.m2_computed.specs.Classes.{signature_at}
+use Rattle.m2_calls.specs.declared.callee.Callee.{Callee}
+use Rattle.m2_calls.specs.declared.callee.Called.{Called}
+use Rattle.m2_calls.specs.declared.callee.Called.TheVariants as called
+use Rattle.m2_calls.specs.Callees.{callee_of, proper_of, call_by}
+use Rattle.m2_calls.specs.Effects.{changed, amount, change_by, set_variable, element, membership_of, put}
+use Rattle.m2_exprs.specs.Meanings.{Meant, value_of, actuals, formals_of}
+
+abbrev pub call_done : {T : Type 0} → Callee → Result (List Argument) T → Result TypedStmt T
+call_done c args = args ▷ λ xs. Ok (step.Call (call_by xs c))
+
+module _ (g : Gathers) where
+  abbrev pub routine_done : Scope g.Told → Pos → TypeNo → Callee → List (Meant g.Told) → Result TypedStmt g.Told
+  routine_done s at h c args = proper_of g at (signature_at s.types h) (length args) ▷ λ fine. call_done c (actuals g s (formals_of (signature_at s.types h)) args)
+
+  -- by 1, where nothing is written
+  abbrev pub changed_by : Scope g.Told → Pos → Change → List (Meant g.Told) → Result TypedStmt g.Told
+  changed_by s at o [] = told g at 42
+  changed_by s at o (v ∷ []) = change_by g o (v.means s ▷ changed g s.types v.fixed.at) (Ok (expr.Constant cardinal (pos 1)))
+  changed_by s at o (v ∷ n ∷ []) = change_by g o (v.means s ▷ changed g s.types v.fixed.at) (value_of g s n ▷ amount g n.fixed.at)
+  changed_by s at o (v ∷ n ∷ x ∷ xs) = told g at 42
+
+  abbrev pub member_by : Scope g.Told → Pos → Membership → List (Meant g.Told) → Result TypedStmt g.Told
+  member_by s at o [] = told g at 42
+  member_by s at o (v ∷ []) = told g at 42
+  member_by s at o (v ∷ n ∷ []) = membership_of g o (v.means s ▷ set_variable g s.types v.fixed.at) (value_of g s n ▷ element g n.fixed.at)
+  member_by s at o (v ∷ n ∷ x ∷ xs) = told g at 42
+
+  abbrev pub halted : Pos → List (Meant g.Told) → Result TypedStmt g.Told
+  halted at [] = Ok step.Halt
+  halted at (x ∷ xs) = told g at 42
+
+  abbrev pub put_by : Scope g.Told → Pos → List (Meant g.Told) → Result TypedStmt g.Told
+  put_by s at [] = told g at 42
+  put_by s at (x ∷ []) = value_of g s x ▷ put g s.types x.fixed.at
+  put_by s at (x ∷ y ∷ xs) = told g at 42
+
+  -- functions are no statements
+  abbrev pub standard_done : Scope g.Told → Pos → List (Meant g.Told) → Standard → Result TypedStmt g.Told
+  standard_done s at args Abs = told g at 40
+  standard_done s at args Cap = told g at 40
+  standard_done s at args Chr = told g at 40
+  standard_done s at args High = told g at 40
+  standard_done s at args Max = told g at 40
+  standard_done s at args Min = told g at 40
+  standard_done s at args Odd = told g at 40
+  standard_done s at args Ord = told g at 40
+  standard_done s at args Val = told g at 40
+  standard_done s at args Inc = changed_by s at Increase args
+  standard_done s at args Dec = changed_by s at Decrease args
+  standard_done s at args Incl = member_by s at Include args
+  standard_done s at args Excl = member_by s at Exclude args
+  standard_done s at args Halt = halted at args
+  standard_done s at args Put = put_by s at args
+
+  abbrev pub done_as : Scope g.Told → Pos → List (Meant g.Told) → Called → Result TypedStmt g.Told
+  done_as s at args (called.Routine h c) = routine_done s at h c args
+  done_as s at args (called.Standard f) = standard_done s at args f
+
+  -- a call of a designator as a statement
+  abbrev pub done_by : Scope g.Told → Meant g.Told → List (Meant g.Told) → Result TypedStmt g.Told
+  done_by s d args = d.means s ▷ callee_of g s.types d.fixed.at ▷ done_as s d.fixed.at args

@@ -1,0 +1,258 @@
+//! Calls as statements.
+
+ghost use Rattle.std.specs.Prelude.{◌≡◌, IfOk, map};
+ghost use Rattle.m2_judged.specs.Judged.{least, ◌▷◌};
+ghost use Rattle.m2_calls.specs.Effects.{changed, set_variable, amount, element};
+ghost use Rattle.m2_exprs.specs.Meanings.{meant, head, value_of};
+ghost use Rattle.m2_exprs.specs.Effects.{call_done, routine_done, changed_by, member_by, halted, put_by, standard_done, done_as, done_by};
+
+use crate::body::{actuals, designated, stands_for, value_of};
+use crate::pieces::{first_of, formals_of, place_of};
+use m2_calls::{
+    Called, Callee, amount, call_by, callee_of, change_by, changed, element, membership_of,
+    proper_of, put, set_variable,
+};
+use m2_computed::signature_of;
+use m2_judged::{Fault, Judged, Scope, told};
+use m2_tree::{Designator, Expr, Items, Pos};
+use m2_typed::{
+    Argument, CARDINAL, Change, Membership, Place, Standard, TypeNo, TypedExpr, TypedStmt,
+};
+use std::alloc::{AllocError, Global};
+
+fn call_done(callee: Callee, arguments: Judged<Items<Argument>>) -> Judged<TypedStmt>
+    ensures { result ≡ call_done callee arguments }
+{
+    match arguments {
+        Err(fault) => Err(fault),
+        Ok(arguments) => Ok(TypedStmt::Call(call_by(callee, arguments))),
+    }
+}
+
+/// A call of a procedure with this heading.
+#[tactic(auto, using(crate::proofs::Variants::actuals_is, crate::proofs::Variants::count_is))]
+fn routine_done(
+    alloc: Global,
+    scope: &Scope<Fault>,
+    at: Pos,
+    heading: TypeNo,
+    callee: Callee,
+    args: &[Expr],
+) -> Result<Judged<TypedStmt>, AllocError>
+    ensures { IfOk result
+        (λ j. j ≡ routine_done least scope.now at heading callee (map (meant least) args.now)) }
+{
+    let signature = signature_of(&scope.types, heading);
+    match proper_of(at, signature, args.len()) {
+        Err(fault) => Ok(Err(fault)),
+        Ok(()) => {
+            let arguments = actuals(alloc, scope, formals_of(signature), args)?;
+            Ok(call_done(callee, arguments))
+        }
+    }
+}
+
+/// The variable of INC or DEC.
+fn changed_at(
+    alloc: Global,
+    scope: &Scope<Fault>,
+    arg: &Expr,
+) -> Result<Judged<(TypeNo, Place)>, AllocError>
+    ensures { IfOk result
+        (λ j. j ≡ ((meant least arg.now).means scope.now
+        ▷ changed least scope.now.types (meant least arg.now).fixed.at)) }
+{
+    match stands_for(alloc, scope, arg)? {
+        Err(fault) => Ok(Err(fault)),
+        Ok(designated) => Ok(changed(&scope.types, place_of(arg), designated)),
+    }
+}
+
+/// The amount of INC or DEC.
+fn amount_at(
+    alloc: Global,
+    scope: &Scope<Fault>,
+    arg: &Expr,
+) -> Result<Judged<TypedExpr>, AllocError>
+    ensures { IfOk result
+        (λ j. j ≡ (value_of least scope.now (meant least arg.now)
+        ▷ amount least (meant least arg.now).fixed.at)) }
+{
+    match value_of(alloc, scope, arg)? {
+        Err(fault) => Ok(Err(fault)),
+        Ok(value) => Ok(amount(place_of(arg), value)),
+    }
+}
+
+/// INC and DEC.
+fn changed_by(
+    alloc: Global,
+    scope: &Scope<Fault>,
+    at: Pos,
+    change: Change,
+    args: &[Expr],
+) -> Result<Judged<TypedStmt>, AllocError>
+    ensures { IfOk result
+        (λ j. j ≡ changed_by least scope.now at change (map (meant least) args.now)) }
+{
+    match args {
+        [] => Ok(told(at, 42)),
+        [variable] => {
+            let variable = changed_at(alloc, scope, variable)?;
+            Ok(change_by(change, variable, Ok(TypedExpr::Constant(CARDINAL, 1))))
+        }
+        [variable, by] => {
+            let variable = changed_at(alloc, scope, variable)?;
+            let by = amount_at(alloc, scope, by)?;
+            Ok(change_by(change, variable, by))
+        }
+        [_, _, _, ..] => Ok(told(at, 42)),
+    }
+}
+
+/// The set of INCL or EXCL.
+fn set_at(alloc: Global, scope: &Scope<Fault>, arg: &Expr) -> Result<Judged<Place>, AllocError>
+    ensures { IfOk result
+        (λ j. j ≡ ((meant least arg.now).means scope.now
+        ▷ set_variable least scope.now.types (meant least arg.now).fixed.at)) }
+{
+    match stands_for(alloc, scope, arg)? {
+        Err(fault) => Ok(Err(fault)),
+        Ok(designated) => Ok(set_variable(&scope.types, place_of(arg), designated)),
+    }
+}
+
+/// The element of INCL or EXCL.
+fn element_at(
+    alloc: Global,
+    scope: &Scope<Fault>,
+    arg: &Expr,
+) -> Result<Judged<TypedExpr>, AllocError>
+    ensures { IfOk result
+        (λ j. j ≡ (value_of least scope.now (meant least arg.now)
+        ▷ element least (meant least arg.now).fixed.at)) }
+{
+    match value_of(alloc, scope, arg)? {
+        Err(fault) => Ok(Err(fault)),
+        Ok(value) => Ok(element(place_of(arg), value)),
+    }
+}
+
+/// INCL and EXCL.
+fn member_by(
+    alloc: Global,
+    scope: &Scope<Fault>,
+    at: Pos,
+    membership: Membership,
+    args: &[Expr],
+) -> Result<Judged<TypedStmt>, AllocError>
+    ensures { IfOk result
+        (λ j. j ≡ member_by least scope.now at membership (map (meant least) args.now)) }
+{
+    match args {
+        [] => Ok(told(at, 42)),
+        [_] => Ok(told(at, 42)),
+        [set, arg] => {
+            let set = set_at(alloc, scope, set)?;
+            let element = element_at(alloc, scope, arg)?;
+            Ok(membership_of(membership, set, element))
+        }
+        [_, _, _, ..] => Ok(told(at, 42)),
+    }
+}
+
+fn halted(at: Pos, args: &[Expr]) -> Judged<TypedStmt>
+    ensures { result ≡ halted least at (map (meant least) args.now) }
+{
+    match args {
+        [] => Ok(TypedStmt::Halt),
+        [_, ..] => told(at, 42),
+    }
+}
+
+/// `Console.Put`.
+fn put_by(
+    alloc: Global,
+    scope: &Scope<Fault>,
+    at: Pos,
+    args: &[Expr],
+) -> Result<Judged<TypedStmt>, AllocError>
+    ensures { IfOk result (λ j. j ≡ put_by least scope.now at (map (meant least) args.now)) }
+{
+    match args {
+        [] => Ok(told(at, 42)),
+        [arg] => match value_of(alloc, scope, arg)? {
+            Err(fault) => Ok(Err(fault)),
+            Ok(value) => Ok(put(&scope.types, place_of(arg), value)),
+        },
+        [_, _, ..] => Ok(told(at, 42)),
+    }
+}
+
+/// A call of a standard procedure.
+fn standard_done(
+    alloc: Global,
+    scope: &Scope<Fault>,
+    at: Pos,
+    args: &[Expr],
+    standard: Standard,
+) -> Result<Judged<TypedStmt>, AllocError>
+    ensures { IfOk result
+        (λ j. j ≡ standard_done least scope.now at (map (meant least) args.now) standard) }
+{
+    match standard {
+        Standard::Inc => changed_by(alloc, scope, at, Change::Increase, args),
+        Standard::Dec => changed_by(alloc, scope, at, Change::Decrease, args),
+        Standard::Incl => member_by(alloc, scope, at, Membership::Include, args),
+        Standard::Excl => member_by(alloc, scope, at, Membership::Exclude, args),
+        Standard::Halt => Ok(halted(at, args)),
+        Standard::Put => put_by(alloc, scope, at, args),
+        Standard::Abs
+        | Standard::Cap
+        | Standard::Chr
+        | Standard::High
+        | Standard::Max
+        | Standard::Min
+        | Standard::Odd
+        | Standard::Ord
+        | Standard::Val => Ok(told(at, 40)),
+    }
+}
+
+fn done_as(
+    alloc: Global,
+    scope: &Scope<Fault>,
+    at: Pos,
+    args: &[Expr],
+    called: Called,
+) -> Result<Judged<TypedStmt>, AllocError>
+    ensures { IfOk result (λ j. j ≡ done_as least scope.now at (map (meant least) args.now) called) }
+{
+    match called {
+        Called::Routine(heading, callee) => {
+            routine_done(alloc, scope, at, heading, callee, args)
+        }
+        Called::Standard(standard) => standard_done(alloc, scope, at, args, standard),
+    }
+}
+
+/// A call of a designator as a statement. What is no procedure, and a function, are 40 at the designator, a wrong number
+/// of arguments is 42 there; each argument is judged for itself.
+pub fn done_by(
+    alloc: Global,
+    scope: &Scope<Fault>,
+    designator: &Designator,
+    args: &[Expr],
+) -> Result<Judged<TypedStmt>, AllocError>
+    ensures { IfOk result
+        (λ j. j ≡ done_by least scope.now (head least designator.now) (map (meant least) args.now)) }
+{
+    let at = first_of(designator);
+    match designated(alloc, scope, designator)? {
+        Err(fault) => Ok(Err(fault)),
+        Ok(designated) => match callee_of(&scope.types, at, designated) {
+            Err(fault) => Ok(Err(fault)),
+            Ok(called) => done_as(alloc, scope, at, args, called),
+        },
+    }
+}

@@ -1,0 +1,307 @@
+//! One step each, of parts that are known.
+
+ghost use Rattle.std.specs.Prelude.{◌≡◌, IfOk};
+ghost use Rattle.std.specs.Option.{option_copied};
+ghost use Rattle.m2_judged.specs.Judged.{least, ◌▷◌};
+ghost use Rattle.m2_calls.specs.Functions.{type_named, high_of, unary_at};
+ghost use Rattle.m2_exprs.specs.Meanings.{meant, head, of_computed, taken_at, signed_first, related, named, member_of, field_of, field_at, index_at, formals_of, argument_by, call_given, as_constant};
+
+use m2_calls::{Callee, Unary, actual, call_by, high_of, type_named, unary_at};
+use m2_computed::{
+    Computed, Designated, combined, designated_by, field, given, indexed, indices, signed, taken,
+};
+use m2_constants::{constant_of, member};
+use m2_judged::{Fault, Judged, Scope, looked_up, told};
+use m2_tree::{Boxed, Designator, Expr, Ident, Items, Operator, Pos, RelOp, Sign};
+use m2_typed::{Argument, Formal, Scalar, Signature, Standard, TypeNo, TypedExpr, Types};
+use m2_values::BinaryOp;
+use std::alloc::{AllocError, Global};
+
+/// The place of an expression's first token.
+#[tactic(auto, using(crate::proofs::Variants::variants))]
+pub fn place_of(e: &Expr) -> Pos
+    ensures { result ≡ (meant least e.now).fixed.at }
+{
+    m2_constants::place_of(e)
+}
+
+/// The place of a designator's first token.
+#[tactic(auto, using(crate::proofs::Variants::variants))]
+pub fn first_of(designator: &Designator) -> Pos
+    ensures { result ≡ (head least designator.now).fixed.at }
+{
+    designator.name.pos
+}
+
+/// A constant expression as it stands.
+#[tactic(auto, using(crate::proofs::Variants::variants))]
+pub fn as_constant(
+    alloc: Global,
+    scope: &Scope<Fault>,
+    e: &Expr,
+) -> Result<Judged<Designated>, AllocError>
+    ensures { IfOk result (λ d. d ≡ as_constant least scope.now (meant least e.now).fixed) }
+{
+    match constant_of(alloc, scope, e)? {
+        Err(fault) => Ok(Err(fault)),
+        Ok(value) => Ok(Ok(Designated::Value(Computed::Constant(value)))),
+    }
+}
+
+/// A value stands for itself.
+pub fn of_computed(value: Judged<Computed>) -> Judged<Designated>
+    ensures { result ≡ of_computed value }
+{
+    match value {
+        Err(fault) => Err(fault),
+        Ok(value) => Ok(Designated::Value(value)),
+    }
+}
+
+/// What stands at a place, taken as a value.
+pub fn taken_at(types: &Types, at: Pos, designated: Judged<Designated>) -> Judged<Computed>
+    ensures { result ≡ taken_at least types.now at designated }
+{
+    match designated {
+        Err(fault) => Err(fault),
+        Ok(designated) => taken(types, at, designated),
+    }
+}
+
+/// The first term of a sum with its sign.
+pub fn signed_first(
+    alloc: Global,
+    sign: Option<Operator<Sign>>,
+    value: Judged<Computed>,
+) -> Result<Judged<Computed>, AllocError>
+    ensures { IfOk result (λ v. v ≡ signed_first least sign value) }
+{
+    match sign {
+        None => Ok(value),
+        Some(operator) => signed(alloc, operator.op, operator.pos, value),
+    }
+}
+
+/// A relation between two expressions that have these values.
+pub fn related(
+    alloc: Global,
+    types: &Types,
+    first: &Expr,
+    left: Judged<Computed>,
+    operator: &Operator<RelOp>,
+    second: &Expr,
+    right: Judged<Computed>,
+) -> Result<Judged<Computed>, AllocError>
+    ensures { IfOk result (λ v. v ≡ related least types.now operator.now
+        (meant least first.now).fixed.at left (meant least second.now).fixed.at right) }
+{
+    let relation = BinaryOp::Relation(operator.op);
+    let at = place_of(first);
+    let other_at = place_of(second);
+    combined(
+        alloc,
+        types,
+        relation,
+        operator.pos,
+        at,
+        left,
+        other_at,
+        right,
+    )
+}
+
+/// What the first name of a designator stands for.
+pub fn named(
+    alloc: Global,
+    scope: &Scope<Fault>,
+    name: &Ident,
+) -> Result<Judged<Designated>, AllocError>
+    ensures { IfOk result (λ d. d ≡ named least scope.now name.now) }
+{
+    match looked_up(scope, name)? {
+        Err(fault) => Ok(Err(fault)),
+        Ok(meaning) => designated_by(alloc, scope.level, name.pos, meaning),
+    }
+}
+
+fn member_of(
+    alloc: Global,
+    scope: &Scope<Fault>,
+    place: usize,
+    name: &Ident,
+) -> Result<Judged<Designated>, AllocError>
+    ensures { IfOk result (λ d. d ≡ member_of least scope.now place name.now) }
+{
+    match member(scope, place, name)? {
+        Err(fault) => Ok(Err(fault)),
+        Ok(meaning) => designated_by(alloc, scope.level, name.pos, meaning),
+    }
+}
+
+fn field_of(
+    alloc: Global,
+    scope: &Scope<Fault>,
+    at: Pos,
+    name: &Ident,
+    from: Designated,
+) -> Result<Judged<Designated>, AllocError>
+    ensures { IfOk result (λ d. d ≡ field_of least scope.now at name.now from) }
+{
+    match from {
+        Designated::Module(place) => member_of(alloc, scope, place, name),
+        Designated::Value(value) => {
+            field(alloc, &scope.types, at, name, Designated::Value(value))
+        }
+        Designated::Variable(t, place) => {
+            field(
+                alloc,
+                &scope.types,
+                at,
+                name,
+                Designated::Variable(t, place),
+            )
+        }
+        Designated::Open(t, slot) => {
+            field(alloc, &scope.types, at, name, Designated::Open(t, slot))
+        }
+        Designated::Type(t) => field(alloc, &scope.types, at, name, Designated::Type(t)),
+        Designated::Procedure(procedure) => {
+            field(
+                alloc,
+                &scope.types,
+                at,
+                name,
+                Designated::Procedure(procedure),
+            )
+        }
+        Designated::Nested(procedure) => {
+            field(alloc, &scope.types, at, name, Designated::Nested(procedure))
+        }
+        Designated::Standard(standard) => {
+            field(
+                alloc,
+                &scope.types,
+                at,
+                name,
+                Designated::Standard(standard),
+            )
+        }
+    }
+}
+
+/// A name of a module, or a field of a record.
+pub fn field_at(
+    alloc: Global,
+    scope: &Scope<Fault>,
+    at: Pos,
+    name: &Ident,
+    from: Judged<Designated>,
+) -> Result<Judged<Designated>, AllocError>
+    ensures { IfOk result (λ d. d ≡ field_at least scope.now at name.now from) }
+{
+    match from {
+        Err(fault) => Ok(Err(fault)),
+        Ok(from) => field_of(alloc, scope, at, name, from),
+    }
+}
+
+/// An element of an array.
+pub fn index_at(
+    alloc: Global,
+    types: &Types,
+    at: Pos,
+    from: Judged<Designated>,
+    other_at: Pos,
+    index: Judged<Computed>,
+) -> Result<Judged<Designated>, AllocError>
+    ensures { IfOk result (λ d. d ≡ index_at least types.now at from other_at index) }
+{
+    let array = match from {
+        Err(fault) => Err(fault),
+        Ok(from) => indices(types, at, from),
+    };
+    indexed(alloc, types, array, other_at, index)
+}
+
+/// The formals of a procedure.
+pub fn formals_of(signature: Option<&Signature>) -> &[Formal]
+    ensures { result.now ≡ formals_of (option_copied signature.entry) }
+{
+    match signature {
+        None => &[],
+        Some(signature) => signature.formals.as_slice(),
+    }
+}
+
+/// An argument at a place, for a formal.
+pub fn argument_by(
+    types: &Types,
+    formal: Option<Formal>,
+    at: Pos,
+    designated: Judged<Designated>,
+) -> Judged<Argument>
+    ensures { result ≡ argument_by least types.now formal at designated }
+{
+    match formal {
+        None => told(at, 42),
+        Some(formal) => match designated {
+            Err(fault) => Err(fault),
+            Ok(designated) => actual(types, formal, at, designated),
+        },
+    }
+}
+
+/// What a call of a function gives.
+pub fn call_given(
+    alloc: Global,
+    types: &Types,
+    t: TypeNo,
+    callee: Callee,
+    arguments: Judged<Items<Argument>>,
+) -> Result<Judged<Computed>, AllocError>
+    ensures { IfOk result (λ v. v ≡ call_given least types.now t callee arguments) }
+{
+    match arguments {
+        Err(fault) => Ok(Err(fault)),
+        Ok(arguments) => {
+            let call = Boxed::new(alloc, call_by(callee, arguments))?;
+            Ok(Ok(given(types, t, TypedExpr::Call(t, call))))
+        }
+    }
+}
+
+/// An argument that names a type.
+pub fn type_at(types: &Types, at: Pos, designated: Judged<Designated>) -> Judged<(TypeNo, Scalar)>
+    ensures { result ≡ (designated ▷ type_named least types.now at) }
+{
+    match designated {
+        Err(fault) => Err(fault),
+        Ok(designated) => type_named(types, at, designated),
+    }
+}
+
+/// HIGH of an argument.
+pub fn high_at(at: Pos, designated: Judged<Designated>) -> Judged<Computed>
+    ensures { result ≡ (designated ▷ high_of least at) }
+{
+    match designated {
+        Err(fault) => Err(fault),
+        Ok(designated) => high_of(at, designated),
+    }
+}
+
+/// A standard function of an argument.
+pub fn unary_of(
+    alloc: Global,
+    standard: Standard,
+    function: Unary,
+    at: Pos,
+    value: Judged<Computed>,
+) -> Result<Judged<Computed>, AllocError>
+    ensures { IfOk result (λ v. v ≡ (value ▷ unary_at least standard function at)) }
+{
+    match value {
+        Err(fault) => Ok(Err(fault)),
+        Ok(value) => unary_at(alloc, standard, function, at, value),
+    }
+}

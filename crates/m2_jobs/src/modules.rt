@@ -1,0 +1,62 @@
+//! The work of the jobs of a graph.
+
+ghost use Rattle.std.specs.Prelude.{◌≡◌, ◌<◌, ◌≤◌, ◌^◌, length, map, slice_get, IfOk};
+ghost use Rattle.m2_jobs.specs.Jobs.{compiled_in, compiled_at};
+ghost use Rattle.m2_jobs.specs.Lent.{modules_lent};
+
+use m2_compile::{Compiled, compile, not_yet};
+use m2_tree::Module;
+use m2_worker::Work;
+use sqlite_items::at;
+use std::alloc::{AllocError, Global};
+
+/// What becomes of the module in this place.
+fn compiled_in(
+    alloc: Global,
+    trees: &[(&str, &Module)],
+    file: usize,
+    job: usize,
+    needed: &[&Compiled],
+) -> Result<Compiled, AllocError>
+    requires { job < 2 ^ 32 }
+    ensures { IfOk result (λ c.
+        c ≡ compiled_in (slice_get (modules_lent trees.now) file) job
+        (map (λ n. n.now) needed.now)) }
+{
+    match at(trees, file) {
+        None => Ok(not_yet()),
+        Some(tree) => compile(alloc, tree.1, job as u32, needed),
+    }
+}
+
+/// The work of the jobs of a graph: what becomes of each module, from what becomes of those that it needs.
+#[derive(Clone, Copy)]
+pub struct Modules<'a> {
+    /// Where memory comes from.
+    pub alloc: Global,
+    /// The trees of all files, with the files' names.
+    pub trees: &'a [(&'a str, &'a Module)],
+    /// The place of the file of each job.
+    pub files: &'a [usize],
+    /// The jobs that each job needs.
+    pub jobs: &'a [Vec<usize>],
+    pub ghost each: { length files.now ≡ length jobs.now },
+    pub ghost few: { length jobs.now ≤ 1024 },
+}
+
+impl Work for Modules<'_> {
+    type Out = Compiled;
+
+    ghost graph = { λ w. map (λ job. job.items) w.jobs.now };
+
+    ghost defines = { λ w job outs c.
+        c ≡ compiled_at (modules_lent w.trees.now) w.files.now job outs };
+
+    fn run(&self, job: usize, prerequisites: &[&Compiled]) -> Result<Compiled, AllocError> {
+        compiled_in(self.alloc, self.trees, self.files[job], job, prerequisites)
+    }
+
+    fn copy(&self, out: &Compiled) -> Result<Compiled, AllocError> {
+        out.share()
+    }
+}

@@ -1,0 +1,9 @@
+pub mod Walks
+pub mod Capping
+pub mod Rows
+pub mod Known
+pub mod Framed
+pub mod Variants
+pub mod Bodies
+pub mod Sized
+pub mod Fitted

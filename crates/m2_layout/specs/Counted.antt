@@ -1,0 +1,24 @@
+-- How many characters texts have, counted in 32 bits.
+use Rattle.std.specs.Prelude.{ℕ, ◌+◌}
+use Rattle.m2_typed.specs.declared.computed.Argument.{Argument}
+use Rattle.m2_typed.specs.declared.statement.TypedStmt.{TypedStmt}
+use Rattle.m2_typed.specs.declared.statement.TypedArm.{TypedArm}
+use Rattle.m2_typed.specs.declared.typed_module.Which.{Which}
+use Rattle.m2_typed.specs.declared.typed_module.TypedModule.{TypedModule}
+use Rattle.m2_layout.specs.Capped.{capped}
+use Rattle.m2_layout.specs.Texts.{Texts, characters, texts_passed, texts_in, texts_armed, which_texts}
+
+abbrev pub counted : Texts → ℕ
+counted ts = capped (characters ts)
+
+abbrev pub with_argument : ℕ → Argument → ℕ
+with_argument n x = capped (n + counted (texts_passed x))
+
+abbrev pub with_stmt : ℕ → TypedStmt → ℕ
+with_stmt n x = capped (n + counted (texts_in x))
+
+abbrev pub with_arm : ℕ → TypedArm → ℕ
+with_arm n x = capped (n + counted (texts_armed x))
+
+abbrev pub with_which : TypedModule → ℕ → Which → ℕ
+with_which m n w = capped (n + counted (which_texts m w))

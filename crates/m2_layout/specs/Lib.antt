@@ -1,0 +1,13 @@
+pub mod Types
+pub mod Sizes
+pub mod Shapes
+pub mod Frames
+pub mod Texts
+pub mod Capped
+pub mod Steps
+pub mod Extents
+pub mod Making
+pub mod Rows
+pub mod Counted
+pub mod Layouts
+pub mod Fitting

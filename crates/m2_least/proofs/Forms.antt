@@ -1,0 +1,60 @@
+-- The forms that definitions are made of.
+use Rattle.std.proofs.Common.{◌≡◌, ℕ, Bool, true, false, cond, List, [], ◌∷◌, ◌++◌, Result, sym, subst}
+use Rattle.std.specs.Prelude.{map}
+use Rattle.std.specs.List.{fold}
+use Rattle.m2_tree.specs.declared.pos.Pos.{Pos}
+use Rattle.m2_judged.specs.declared.fault.Fault.{Fault}
+use Rattle.m2_judged.specs.Judged.{every, least, lesser, told, told_where, both, beside, ◌▷◌}
+use Rattle.m2_least.specs.Least.{Tells, fine, is_refused}
+use Rattle.m2_least.specs.Beside.{Pairwise, none, more}
+use Rattle.m2_least.proofs.Order.{least_of_both, least_of_one}
+
+pub told_tells : {A : Type 0} (at : Pos) (n : ℕ) → Tells {A = A} (told least at n) (told every at n)
+told_tells at n = let f : Fault = record { pos = at; number = n } in is_refused f (f ∷ []) (least_of_one f)
+
+pub where_tells : {A : Type 0} (b : Bool) (at : Pos) (n : ℕ) {x : Result A Fault} {x' : Result A (List Fault)} → Tells x x' → Tells (told_where least b at n x) (told_where every b at n x')
+where_tells true at n h = told_tells at n
+where_tells false at n h = h
+
+pub both_tells : {A B : Type 0} {x : Result A Fault} {x' : Result A (List Fault)} {y : Result B Fault} {y' : Result B (List Fault)} → Tells x x' → Tells y y' → Tells (both least x y) (both every x' y')
+both_tells (fine a) (fine b) = fine (a, b)
+both_tells (fine a) (is_refused g gs q) = is_refused g gs q
+both_tells (is_refused f fs p) (fine b) = is_refused f fs p
+both_tells (is_refused f fs p) (is_refused g gs q) = is_refused (lesser f g) (fs ++ gs) (least_of_both f g fs gs p q)
+
+pub then_tells : {A B : Type 0} {x : Result A Fault} {x' : Result A (List Fault)} {k : A → Result B Fault} {k' : A → Result B (List Fault)} → Tells x x' → ((a : A) → Tells (k a) (k' a)) → Tells (x ▷ k) (x' ▷ k')
+then_tells (fine a) h = h a
+then_tells (is_refused f fs p) h = is_refused f fs p
+
+pub beside_tells : {x : Result (Unit {0}) Fault} {x' : Result (Unit {0}) (List Fault)} {y : Result (Unit {0}) Fault} {y' : Result (Unit {0}) (List Fault)} → Tells x x' → Tells y y' → Tells (beside least x y) (beside every x' y')
+beside_tells p q = then_tells (both_tells p q) (λ x. fine tt)
+
+-- ---- tests
+
+pub cond_keeps : {A B : Type 0} (R : A → B → Type 0) (b : Bool) {x y : A} {x' y' : B} → R x x' → R y y' → R (cond b x y) (cond b x' y')
+cond_keeps R true p q = p
+cond_keeps R false p q = q
+
+pub cond_same : {A B : Type 0} (R : A → B → Type 0) {b b' : Bool} {x y : A} {x' y' : B} → b ≡ b' → R x x' → R y y' → R (cond b x y) (cond b' x' y')
+cond_same R {b = b} {x = x} {y = y} {x' = x'} {y' = y'} e p q = subst (λ (c : Bool). R (cond b x y) (cond c x' y')) e (cond_keeps R b p q)
+
+-- ---- lists
+
+-- one step after another
+pub fold_pairwise : {A B X Y : Type 0} (R : A → B → Type 0) (S : X → Y → Type 0) (f : A → X → A) (g : B → Y → B) → ((a : A) (b : B) (x : X) (y : Y) → R a b → S x y → R (f a x) (g b y))
+    → {xs : List X} {ys : List Y} → Pairwise S xs ys → (a : A) (b : B) → R a b → R (fold f a xs) (fold g b ys)
+fold_pairwise R S f g h none a b r = r
+fold_pairwise R S f g h (more {a = x} {b = y} s ss) a b r = fold_pairwise R S f g h ss (f a x) (g b y) (h a b x y r s)
+
+-- the same, over one list
+pub fold_keeps : {A B X : Type 0} (R : A → B → Type 0) (f : A → X → A) (g : B → X → B) → ((a : A) (b : B) (x : X) → R a b → R (f a x) (g b x)) → (xs : List X) (a : A) (b : B) → R a b → R (fold f a xs) (fold g b xs)
+fold_keeps R f g h [] a b r = r
+fold_keeps R f g h (x ∷ xs) a b r = fold_keeps R f g h xs (f a x) (g b x) (h a b x r)
+
+pub pairwise_maps : {X Y A B : Type 0} (R : A → B → Type 0) (h : X → Y) (f : Y → A) (g : Y → B) → ((x : X) → R (f (h x)) (g (h x))) → (xs : List X) → Pairwise R (map f (map h xs)) (map g (map h xs))
+pairwise_maps R h f g p [] = none
+pairwise_maps R h f g p (x ∷ xs) = more (p x) (pairwise_maps R h f g p xs)
+
+-- what holds of two holds of what is equal to these
+pub carry : {A B : Type 0} (R : A → B → Type 0) {a a' : A} {b b' : B} → a ≡ a' → b ≡ b' → R a' b' → R a b
+carry R {a = a} {b' = b'} p q r = subst (R a) (sym q) (subst (λ x. R x b') (sym p) r)

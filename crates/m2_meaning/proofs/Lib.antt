@@ -1,0 +1,6 @@
+pub mod After
+pub mod Evaluated
+pub mod Turns
+pub mod Done
+pub mod Ran
+pub mod Alone

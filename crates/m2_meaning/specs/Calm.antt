@@ -1,0 +1,75 @@
+-- Expressions without calls: they change nothing, and print nothing.
+use Rattle.std.specs.Prelude.{◌≡◌, ℕ, Bool, true, false, ◌||◌}
+use Rattle.m2_typed.specs.declared.computed.Argument.{Argument-F}
+use Rattle.m2_typed.specs.declared.computed.Argument.TheOpen as layer
+use Rattle.m2_typed.specs.declared.computed.Call.{Call-F}
+use Rattle.m2_typed.specs.declared.computed.Place.{Place, Place-F, fold-Place}
+use Rattle.m2_typed.specs.declared.computed.TypedExpr.{TypedExpr, TypedExpr-F, fold-TypedExpr}
+use Rattle.m2_meaning.specs.Answer.{State, Answer, Gave, Ended}
+use Rattle.m2_meaning.specs.Around.{Modules, Around}
+use Rattle.m2_meaning.specs.Expressions.{Asks, value, locate}
+
+-- ---- whether there is a call in an expression
+
+abbrev pub argument_calls : Argument-F Bool Bool Bool Bool → Bool
+argument_calls (layer.Value t e) = e
+argument_calls (layer.Place d) = d
+argument_calls (layer.Array t d) = d
+argument_calls (layer.Open slot) = false
+argument_calls (layer.Text text) = false
+
+abbrev pub call_calls : Call-F Bool Bool Bool Bool → Bool
+call_calls c = true
+
+abbrev pub place_calls : Place-F Bool Bool Bool Bool → Bool
+place_calls (layer.Global v) = false
+place_calls (layer.Local slot) = false
+place_calls (layer.Alias slot) = false
+place_calls (layer.With k) = false
+place_calls (layer.Field d t k) = d
+place_calls (layer.Element d t i) = d || i
+place_calls (layer.OpenElement slot t i) = i
+
+abbrev pub expr_calls : TypedExpr-F Bool Bool Bool Bool → Bool
+expr_calls (layer.Constant t n) = false
+expr_calls (layer.Load t d) = d
+expr_calls (layer.Procedure p) = false
+expr_calls (layer.Plus t e) = e
+expr_calls (layer.Negate e) = e
+expr_calls (layer.Arithmetic op t a b) = a || b
+expr_calls (layer.Compare op a b) = a || b
+expr_calls (layer.Not e) = e
+expr_calls (layer.And a b) = a || b
+expr_calls (layer.Or a b) = a || b
+expr_calls (layer.Combine op a b) = a || b
+expr_calls (layer.Include op a b) = a || b
+expr_calls (layer.In a b) = a || b
+expr_calls (layer.Abs t e) = e
+expr_calls (layer.Cap e) = e
+expr_calls (layer.Chr e) = e
+expr_calls (layer.Odd e) = e
+expr_calls (layer.Ord e) = e
+expr_calls (layer.Val t e) = e
+expr_calls (layer.High slot) = false
+expr_calls (layer.Call t c) = c
+
+unfoldable pub calls : TypedExpr → Bool
+calls = fold-TypedExpr Bool Bool Bool Bool argument_calls call_calls place_calls expr_calls
+
+unfoldable pub calls_at : Place → Bool
+calls_at = fold-Place Bool Bool Bool Bool argument_calls call_calls place_calls expr_calls
+
+-- ---- the laws
+
+-- a value, or a fault, and all is as it was
+pub data Leaves {A : Type 0} (st : State) : Answer A → Type 0 where
+  gives : (v : A) → Leaves st (Gave v st)
+  ends : (k : ℕ) → Leaves st (Ended k st.out)
+
+-- an expression without calls changes nothing and prints nothing
+abbrev pub ChangesNothing : Type 0
+ChangesNothing = (p : Modules) (ask : Asks) (e : TypedExpr) (a : Around) (st : State) → calls e ≡ false → Leaves st (value p ask e a st)
+
+-- nor does a designator without calls
+abbrev pub FindsAlone : Type 0
+FindsAlone = (p : Modules) (ask : Asks) (d : Place) (a : Around) (st : State) → calls_at d ≡ false → Leaves st (locate p ask d a st)

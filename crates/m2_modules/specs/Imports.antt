@@ -1,0 +1,40 @@
+-- The modules that a body stands on.
+use Rattle.std.specs.Prelude.{ℕ, cond, List, [], ◌∷◌, ◌++◌, codes, Option, Some, None, slice_get}
+use Rattle.std.specs.List.{fold}
+use Rattle.m2_tree.specs.declared.decl.Import.{Import}
+use Rattle.m2_typed.specs.declared.table.Table.{Table}
+use Rattle.m2_typed.specs.declared.typed_module.Imported.{Imported}
+use Rattle.m2_typed.specs.Names.{found, entered, same_name}
+use Rattle.m2_types.specs.Export.{with_import_of}
+use Rattle.m2_modules.specs.Own.{exported_variables}
+
+-- ---- names: those that the definition imports, and then those that the body imports, each once
+
+abbrev pub with_import_copy : List (List ℕ × ℕ) → List ℕ × ℕ → List (List ℕ × ℕ)
+with_import_copy so e = entered e.0 e.1 so
+
+abbrev pub definition_imports : Option Table → List (List ℕ × ℕ)
+definition_imports None = []
+definition_imports (Some own) = fold with_import_copy [] own.imports
+
+abbrev pub all_imports : (modules : List (List ℕ × ℕ)) → List Table → Option Table → List Import → List (List ℕ × ℕ)
+all_imports modules tables own is = fold (with_import_of modules tables) (definition_imports own) is
+
+-- ---- their variables. Console has none, and no instance.
+
+abbrev pub imported_as : Table → Imported
+imported_as t = record { name = t.name; number = t.number; variables = exported_variables t.exported }
+
+abbrev pub with_table_of : List Imported → Option Table → List Imported
+with_table_of so None = so
+with_table_of so (Some t) = cond (same_name t.name (codes "Console")) so (so ++ imported_as t ∷ [])
+
+abbrev pub with_place_of : List Table → List Imported → Option ℕ → List Imported
+with_place_of tables so None = so
+with_place_of tables so (Some k) = with_table_of so (slice_get tables k)
+
+abbrev pub with_module_of : (modules : List (List ℕ × ℕ)) → List Table → List Imported → List ℕ × ℕ → List Imported
+with_module_of modules tables so e = with_place_of tables so (found e.0 modules)
+
+abbrev pub typed_imports : (modules : List (List ℕ × ℕ)) → List Table → List (List ℕ × ℕ) → List Imported
+typed_imports modules tables names = fold (with_module_of modules tables) [] names

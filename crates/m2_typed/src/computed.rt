@@ -1,0 +1,156 @@
+//! Variables and values of bodies, with every name replaced by what it means and a type at every value.
+
+use crate::meaning::{Procedure, Variable};
+use crate::shared::Shared;
+use crate::types::TypeNo;
+use m2_tree::{Boxed, Items, Quoted};
+
+/// A formal or a variable of a procedure.
+#[derive(Clone, Copy, Debug, PartialEq, Eq)]
+pub struct Slot {
+    /// How many procedures outwards it is declared: 0 in the procedure itself.
+    pub up: usize,
+    /// Its number among the formals and then the variables of that procedure, from 0.
+    pub number: usize,
+}
+
+/// A procedure that is declared in a procedure.
+#[derive(Clone, Copy, Debug, PartialEq, Eq)]
+pub struct LocalProcedure {
+    /// How many procedures outwards it is declared: 0 in the procedure that calls it.
+    pub up: usize,
+    /// Its number among all such procedures of the module, in the order of their headings, from 0.
+    pub number: usize,
+    /// Its heading as a procedure type.
+    pub heading: TypeNo,
+}
+
+/// An operator on two INTEGERs or two CARDINALs.
+#[derive(Clone, Copy, Debug, PartialEq, Eq)]
+pub enum Arithmetic {
+    Add,
+    Subtract,
+    Multiply,
+    /// DIV.
+    Divide,
+    /// MOD.
+    Remainder,
+}
+
+/// A relation between two values of one scalar type.
+#[derive(Clone, Copy, Debug, PartialEq, Eq)]
+pub enum Comparison {
+    Equal,
+    Unequal,
+    Less,
+    AtMost,
+    Greater,
+    AtLeast,
+}
+
+/// An operator on two sets.
+#[derive(Clone, Copy, Debug, PartialEq, Eq)]
+pub enum SetOperator {
+    Union,
+    Difference,
+    Intersection,
+    /// The elements that are in one of both.
+    SymmetricDifference,
+}
+
+/// Which of two sets holds the other.
+#[derive(Clone, Copy, Debug, PartialEq, Eq)]
+pub enum Inclusion {
+    /// The second holds the first.
+    Within,
+    /// The first holds the second.
+    Around,
+}
+
+/// Where a value stands: a variable, or a component of one.
+#[cycle(computed)]
+#[derive(Drop)]
+pub enum Place {
+    /// A variable of a module.
+    Global(Variable),
+    /// A variable or a value formal of a procedure, but no open array.
+    Local(Slot),
+    /// What a VAR formal stands for.
+    Alias(Slot),
+    /// The record of a WITH around this place, by its number among these, the outermost first, from 0.
+    With(usize),
+    /// A record, its type, and the number of the field.
+    Field(Boxed<Place>, TypeNo, usize),
+    /// An array, its type, and the index.
+    Element(Boxed<Place>, TypeNo, Boxed<TypedExpr>),
+    /// A formal ARRAY OF these elements, and the index.
+    OpenElement(Slot, TypeNo, Boxed<TypedExpr>),
+}
+
+/// An expression.
+#[cycle(computed)]
+#[derive(Drop)]
+pub enum TypedExpr {
+    /// A constant of a scalar type by its ordinal number, or of BITSET, where element k is there if bit k is 1.
+    Constant(TypeNo, i64),
+    /// What a variable of this scalar type holds.
+    Load(TypeNo, Place),
+    /// A procedure as a value.
+    Procedure(Procedure),
+    /// The same value, of the base type of its operand: `+x`.
+    Plus(TypeNo, Boxed<TypedExpr>),
+    /// `-x` of INTEGER.
+    Negate(Boxed<TypedExpr>),
+    /// The base type, and the operands.
+    Arithmetic(Arithmetic, TypeNo, Boxed<TypedExpr>, Boxed<TypedExpr>),
+    Compare(Comparison, Boxed<TypedExpr>, Boxed<TypedExpr>),
+    Not(Boxed<TypedExpr>),
+    /// The second operand is evaluated only where the first is TRUE.
+    And(Boxed<TypedExpr>, Boxed<TypedExpr>),
+    /// The second operand is evaluated only where the first is FALSE.
+    Or(Boxed<TypedExpr>, Boxed<TypedExpr>),
+    Combine(SetOperator, Boxed<TypedExpr>, Boxed<TypedExpr>),
+    Include(Inclusion, Boxed<TypedExpr>, Boxed<TypedExpr>),
+    /// The element and the set: `x IN s`.
+    In(Boxed<TypedExpr>, Boxed<TypedExpr>),
+    /// ABS, of this base type.
+    Abs(TypeNo, Boxed<TypedExpr>),
+    Cap(Boxed<TypedExpr>),
+    Chr(Boxed<TypedExpr>),
+    Odd(Boxed<TypedExpr>),
+    Ord(Boxed<TypedExpr>),
+    /// VAL: the value as one of this type.
+    Val(TypeNo, Boxed<TypedExpr>),
+    /// The greatest index of a formal ARRAY OF.
+    High(Slot),
+    /// What a function gives, of this type.
+    Call(TypeNo, Boxed<Call>),
+}
+
+/// A call of a procedure with its arguments.
+#[cycle(computed)]
+#[derive(Drop)]
+pub enum Call {
+    /// A procedure of a module.
+    Module(Procedure, Items<Argument>),
+    /// A procedure of a procedure.
+    Nested(LocalProcedure, Items<Argument>),
+    /// The procedure that a variable of this procedure type holds. The variable is read before the arguments.
+    Variable(TypeNo, Place, Items<Argument>),
+}
+
+/// An argument of a call.
+#[cycle(computed)]
+#[derive(Drop)]
+pub enum Argument {
+    /// A value for a value formal of this scalar type.
+    Value(TypeNo, TypedExpr),
+    /// A variable for a VAR formal, or an array or a record for a value formal, which is copied.
+    Place(Place),
+    /// An array of this type for a formal ARRAY OF.
+    Array(TypeNo, Place),
+    /// An open array for a formal ARRAY OF.
+    Open(Slot),
+    /// A string for a formal ARRAY OF CHAR.
+    Text(Shared<Quoted>),
+}

@@ -1,0 +1,72 @@
+//! Statements of bodies.
+
+use crate::computed::{Call, Place, TypedExpr};
+use crate::shared::Shared;
+use crate::types::TypeNo;
+use m2_tree::{Items, Quoted};
+
+/// INC and DEC.
+#[derive(Clone, Copy, Debug, PartialEq, Eq)]
+pub enum Change {
+    Increase,
+    Decrease,
+}
+
+/// INCL and EXCL.
+#[derive(Clone, Copy, Debug, PartialEq, Eq)]
+pub enum Membership {
+    Include,
+    Exclude,
+}
+
+/// The values that a label of a CASE stands for, both bounds included.
+#[derive(Clone, Copy, Debug, PartialEq, Eq)]
+pub struct Label {
+    pub low: i64,
+    pub high: i64,
+}
+
+/// A statement.
+#[cycle(statement)]
+#[derive(Drop)]
+pub enum TypedStmt {
+    /// A variable, its scalar type, and the value that it gets.
+    Assign(Place, TypeNo, TypedExpr),
+    /// A variable and another one of the same array or record type, whose components it gets.
+    Copy(Place, Place, TypeNo),
+    /// An array of CHAR, its type, and the string that it gets.
+    CopyText(Place, TypeNo, Shared<Quoted>),
+    Call(Call),
+    /// `Console.Put`.
+    Put(TypedExpr),
+    /// The variable of INC or DEC, its type, and by how much it changes.
+    Change(Change, Place, TypeNo, TypedExpr),
+    /// The set of INCL or EXCL, and the element.
+    Membership(Membership, Place, TypedExpr),
+    Halt,
+    /// The condition, what is done then, and what is done else, if ELSE or ELSIF stands. An ELSIF is an IF in the ELSE.
+    If(TypedExpr, Items<TypedStmt>, Option<Items<TypedStmt>>),
+    /// The selector, the arms, and what is done where no label has its value, if ELSE stands.
+    Case(TypedExpr, Items<TypedArm>, Option<Items<TypedStmt>>),
+    While(TypedExpr, Items<TypedStmt>),
+    Repeat(Items<TypedStmt>, TypedExpr),
+    Loop(Items<TypedStmt>),
+    /// Leaves the innermost LOOP.
+    Exit,
+    /// RETURN of a module body or of a procedure that gives nothing.
+    Return,
+    /// RETURN of a function: the type of its result, and the value.
+    Give(TypeNo, TypedExpr),
+    /// The control variable, its type, the start, the limit, the step, and what is repeated.
+    For(Place, TypeNo, TypedExpr, TypedExpr, i64, Items<TypedStmt>),
+    /// The record, and the statements in which `Place::With` means it.
+    With(Place, Items<TypedStmt>),
+}
+
+/// The labels and the statements of an arm of a CASE.
+#[cycle(statement)]
+#[derive(Drop)]
+pub struct TypedArm {
+    pub labels: Items<Label>,
+    pub body: Items<TypedStmt>,
+}

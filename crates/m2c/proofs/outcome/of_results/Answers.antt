@@ -1,0 +1,53 @@
+use Rattle.std.proofs.Common.{◌≡◌, ℕ, true, List, [], ◌∷◌, length, map, vec_len, inr, refl, sym, ap, ◌∙◌, arith}
+use Rattle.std.specs.Global.{Vec}
+use Rattle.std.proofs.lemmas.Bool.{eq-eqb, eqb-true}
+use Rattle.m2_tree.specs.declared.refusal.Refusal.{Refusal}
+use Rattle.std.specs.Borrow.{Bor}
+use Rattle.m2_compile.specs.declared.outcome.BodyModule.{BodyModule}
+use Rattle.m2_jobs.specs.Lent.{lent}
+use Rattle.m2c.specs.Build.{told, refused_by}
+use Rattle.m2c.proofs.Two.{none_told}
+use Rattle.m2c.proofs.Graphs.{refusals_are, started_are}
+use Rattle.m2c.proofs.outcome.of_results.Goals as goal
+
+abbrev items_of : Vec ℕ → List ℕ
+items_of v = v.items
+
+no_items : (rs : List Refusal) → length rs ≡ 0 → rs ≡ []
+no_items [] e = refl
+no_items (r ∷ rs) e = absurd (omega (arith, e))
+
+pub returns-then-not-is_empty : goal.returns-then-not-is_empty
+returns-then-not-is_empty c =
+    let g = c.args.graph.now in
+    let rs = c.in_ok-refusals.refusals in
+    let all : map told rs.items ≡ refused_by (lent c.args.trees.now) g.files.items (map items_of g.jobs.items) =
+    refusals_are c.args.trees.now g.files.items (map items_of g.jobs.items) c.in_ok-places.places.items _ c.args.results.now c.in_ok-places.ensures c.deref.ensures.value c.requires.results _ c.in_ok-refusals.ensures
+    in
+    inr (inr (record {
+      trees = lent c.args.trees.now;
+      numbers = g.files.items;
+      all_jobs = map items_of g.jobs.items;
+      starts = g.starts.items;
+      graph = c.requires.graph;
+      some = λ e. let none : rs.items ≡ [] = none_told rs.items (all ∙ e) in
+          let zero : vec_len rs ≡ 0 = omega (arith, rs.ok.0, ap (λ (xs : List Refusal). length xs) none) in
+          let empty : c.is_empty.result ≡ true = c.is_empty.ensures ∙ eq-eqb (vec_len rs) 0 zero in
+          absurd (let other = c.if-not-is_empty.true in cc);
+      told = (rs.items, all, c.in_ok-in_order.ensures);
+    }))
+
+pub program-requires-clause-none : goal.program-requires-clause-none
+program-requires-clause-none c =
+    let g = c.args.graph.now in
+    let rs = c.in_ok-refusals.refusals in
+    let all : map told rs.items ≡ refused_by (lent c.args.trees.now) g.files.items (map items_of g.jobs.items) =
+    refusals_are c.args.trees.now g.files.items (map items_of g.jobs.items) c.in_ok-places.places.items _ c.args.results.now c.in_ok-places.ensures c.deref.ensures.value c.requires.results _ c.in_ok-refusals.ensures
+    in
+    let empty : rs.items ≡ [] = no_items rs.items (let zero : vec_len rs ≡ 0 = eqb-true (vec_len rs) 0 (sym c.is_empty.ensures ∙ c.if-not-is_empty.false) in omega (arith, rs.ok.0, zero)) in
+    sym all ∙ ap (map told) empty
+
+pub program-requires-clause-modules : goal.program-requires-clause-modules
+program-requires-clause-modules c =
+    let g = c.args.graph.now in
+    ap (λ (bs : List (Bor BodyModule)). map (λ m. m.now) bs) c.deref-3.ensures.value ∙ started_are c.args.trees.now g.files.items (map items_of g.jobs.items) c.in_ok-places.places.items _ c.args.results.now c.in_ok-places.ensures c.deref-2.ensures.value c.requires.results _ _ g.starts.items c.in_ok-modules.ensures c.start_order.ensures

@@ -1,0 +1,163 @@
+//! What the jobs of a build came to, file by file.
+
+ghost use Rattle.std.specs.Prelude.{◌≡◌, ◌<◌, ◌++◌, ℕ, ◌==◌, Some, None, All, cond, length, map, replicate, slice_get, IfOk, OnOk};
+ghost use Rattle.std.specs.Option.{option_and_then, option_copied};
+ghost use Rattle.m2_graph.specs.Jobs.{place_of, ArePlaces};
+ghost use Rattle.m2_graph.specs.Parts.{or_first};
+ghost use Rattle.m2_jobs.specs.Lent.{lent};
+ghost use Rattle.m2c.specs.Build.{refusal_in, refused_from, told};
+ghost use Rattle.m2c.specs.Modules.{module_in, modules_at};
+
+use crate::refusals::refusal;
+use m2_compile::{BodyModule, Compiled};
+use m2_tree::{Module, Refusal};
+use std::alloc::{AllocError, Global};
+
+/// No job for each of this many files.
+fn no_places(alloc: Global, count: usize) -> Result<Vec<Option<usize>>, AllocError>
+    ensures { IfOk result (λ places. places.items ≡ replicate count None) }
+{
+    vec![in alloc; None; count]
+}
+
+/// Gives a file its job, unless it has one.
+fn put_place(places: &mut [Option<usize>], file: usize, job: usize)
+    requires { file < length places.old }
+    ensures len { length places.new ≡ length places.old }
+    ensures places { (k : ℕ)
+        → place_of places.new k
+        ≡ or_first (place_of places.old k) (cond (file == k) (Some job) None) }
+{
+    if places[file].is_none() {
+        places[file] = Some(job);
+    }
+}
+
+/// For each of `count` files its job, where the file of each job is given.
+pub fn places_of(
+    alloc: Global,
+    count: usize,
+    files: &[usize],
+) -> Result<Vec<Option<usize>>, AllocError>
+    requires { All (λ file. file < count) files.now }
+    ensures { IfOk result (λ places. ArePlaces files.now places.items) }
+{
+    let mut places = no_places(alloc, count)?;
+    for (job, file) in files.iter().enumerate() {
+        put_place(&mut places, *file, job);
+    }
+    Ok(places)
+}
+
+/// The place of a file's job.
+fn place_of(places: &[Option<usize>], file: usize) -> Option<usize>
+    ensures { result ≡ place_of places.now file }
+{
+    if file < places.len() {
+        places[file]
+    } else {
+        None
+    }
+}
+
+/// What became of the module of a file.
+fn result_of<'a>(
+    results: &'a [Compiled],
+    places: &[Option<usize>],
+    file: usize,
+) -> Option<&'a Compiled>
+    ensures { option_copied result
+        ≡ option_and_then (slice_get results.now) (place_of places.now file) }
+{
+    let job = place_of(places, file)?;
+    results.get(job)
+}
+
+/// Adds the rule that a module breaks.
+fn add_refusal(
+    alloc: Global,
+    refusals: &mut Vec<Refusal>,
+    file: &str,
+    became: Option<&Compiled>,
+) -> Result<(), AllocError>
+    ensures { OnOk result
+        (map told refusals.new.items
+        ≡ map told refusals.old.items ++ refusal_in file.now (option_copied became.entry)) }
+{
+    match became {
+        None => Ok(()),
+        Some(compiled) => match compiled {
+            Compiled::Defined(_) | Compiled::Built(_) | Compiled::Blocked => Ok(()),
+            Compiled::Refused(fault) => {
+                let told = refusal(alloc, file, fault.pos, fault.number)?;
+                refusals.push(told)?;
+                Ok(())
+            }
+        },
+    }
+}
+
+/// The rules that modules break, in order of the files.
+pub fn refused_by(
+    alloc: Global,
+    trees: &[(&str, &Module)],
+    places: &[Option<usize>],
+    results: &[Compiled],
+) -> Result<Vec<Refusal>, AllocError>
+    ensures { IfOk result (λ rs.
+        map told rs.items
+        ≡ refused_from
+        (λ file. option_and_then (slice_get results.now) (place_of places.now file)) 0
+        (lent trees.now)) }
+{
+    let mut refusals = Vec::new(alloc);
+    for file in 0..trees.len() {
+        add_refusal(
+            alloc,
+            &mut refusals,
+            trees[file].0,
+            result_of(results, places, file),
+        )?;
+    }
+    Ok(refusals)
+}
+
+/// Adds the module of a body.
+fn add_module<'a>(
+    modules: &mut Vec<&'a BodyModule>,
+    became: Option<&'a Compiled>,
+) -> Result<(), AllocError>
+    ensures { OnOk result
+        (map (λ m. m.now) modules.new.items
+        ≡ map (λ m. m.now) modules.old.items ++ module_in (option_copied became.entry)) }
+{
+    match became {
+        None => Ok(()),
+        Some(compiled) => match compiled {
+            Compiled::Built(module) => {
+                modules.push(module.get())?;
+                Ok(())
+            }
+            Compiled::Defined(_) | Compiled::Refused(_) | Compiled::Blocked => Ok(()),
+        },
+    }
+}
+
+/// The modules of the bodies in these files.
+pub fn modules_at<'a>(
+    alloc: Global,
+    results: &'a [Compiled],
+    places: &[Option<usize>],
+    starts: &[usize],
+) -> Result<Vec<&'a BodyModule>, AllocError>
+    ensures { IfOk result (λ ms.
+        map (λ m. m.now) ms.items
+        ≡ modules_at (λ file. option_and_then (slice_get results.now) (place_of places.now file))
+        starts.now) }
+{
+    let mut modules = Vec::new(alloc);
+    for file in starts {
+        add_module(&mut modules, result_of(results, places, *file))?;
+    }
+    Ok(modules)
+}

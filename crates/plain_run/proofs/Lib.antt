@@ -1,0 +1,4 @@
+pub mod Layers
+pub mod Spreads
+pub mod Puts
+pub mod Stores
