@@ -125,7 +125,10 @@ fn tells_what_is_refused(rt: HostRuntime) -> Result<(), Fail> {
 fn tells_what_is_not_compiled_so_far(rt: HostRuntime) -> Result<(), Fail> {
     let alloc = rt.alloc();
     let rows = [
-        ("MODULE M; BEGIN Put(101C) END M.", "b.mod:1:1: refusal 99;"),
+        (
+            "MODULE M; BEGIN Put(101C) END M.",
+            "b.mod:1:17: refusal 30;",
+        ),
         (
             "MODULE M; VAR i: CARDINAL; END M.",
             "b.mod:1:1: refusal 99;",
@@ -138,6 +141,36 @@ fn tells_what_is_not_compiled_so_far(rt: HostRuntime) -> Result<(), Fail> {
         let files = [file(alloc, "b.mod", text)?];
         let told = told(&rt, alloc, &files, 1)?;
         assert_eq!(rt; told.as_str(), expected, "{text}");
+    }
+    Ok(())
+}
+
+#[test]
+fn tells_what_bodies_break(rt: HostRuntime) -> Result<(), Fail> {
+    let alloc = rt.alloc();
+    let files = [
+        file(
+            alloc,
+            "a.mod",
+            "IMPLEMENTATION MODULE A; VAR i: INTEGER; BEGIN i := i + c END A.",
+        )?,
+        file(
+            alloc,
+            "a.def",
+            "DEFINITION MODULE A; VAR c: CARDINAL; END A.",
+        )?,
+        file(
+            alloc,
+            "p.mod",
+            "MODULE P; IMPORT A; BEGIN WHILE TRUE DO EXIT END END P.",
+        )?,
+    ];
+    for workers in [1, 8] {
+        let text = told(&rt, alloc, &files, workers)?;
+        assert_eq!(rt;
+            text.as_str(),
+            "a.mod:1:55: refusal 40;p.mod:1:41: refusal 45;"
+        );
     }
     Ok(())
 }

@@ -1,5 +1,5 @@
 -- What becomes of a module, from what became of those that it needs.
-use Rattle.std.specs.Prelude.{ℕ, Bool, true, false, cond, nat_le, List, [], ◌∷◌, Option, Some, None, Result, Ok, Err, length}
+use Rattle.std.specs.Prelude.{ℕ, Bool, true, false, cond, nat_le, List, [], ◌∷◌, Option, Some, None, Result, Ok, Err, length, drop}
 use Rattle.std.specs.List.{flat_map, list_all}
 use Rattle.m2_tree.specs.declared.decl.Block.{Block}
 use Rattle.m2_tree.specs.declared.decl.Contents.{Contents}
@@ -10,9 +10,11 @@ use Rattle.m2_scheme.specs.Scheme.{body_module}
 use Rattle.m2_emit.specs.declared.source.Source.{Source}
 use Rattle.m2_emit.specs.Sources.{body}
 use Rattle.m2_typed.specs.declared.table.Table.{Table}
+use Rattle.m2_typed.specs.declared.typed_module.TypedModule.{TypedModule}
 use Rattle.m2_judged.specs.declared.fault.Fault.{Fault}
 use Rattle.m2_judged.specs.Judged.{least}
 use Rattle.m2_types.specs.Compiled as types
+use Rattle.m2_check.specs.Checks.{checked}
 use Rattle.m2_compile.specs.declared.outcome.BodyModule.{BodyModule}
 use Rattle.m2_compile.specs.declared.outcome.Compiled.{Compiled}
 use Rattle.m2_compile.specs.declared.outcome.Compiled.TheVariants.{Defined, Built, Refused, Blocked}
@@ -43,6 +45,11 @@ of_definition (Err f) = Refused f
 
 -- ---- bodies
 
+-- the tables of a body's imports, which stand behind that of its own definition
+abbrev pub tables_behind : Option Table → List Table → List Table
+tables_behind None tables = tables
+tables_behind (Some own) tables = drop 1 tables
+
 -- so far only bodies are compiled whose definition exports nothing
 abbrev pub exports_nothing : Option Table → Bool
 exports_nothing None = true
@@ -70,15 +77,21 @@ abbrev pub of_source : Option Source → Compiled
 of_source None = Refused not_yet
 of_source (Some s) = Built (built s)
 
-abbrev pub of_body : Module → Block → List Table → Compiled
-of_body m b tables = of_source (source_of m (own_table m tables) b)
+-- A body that breaks no rule is compiled, where it is compiled so far.
+abbrev pub of_checked : Result TypedModule Fault → Option Source → Compiled
+of_checked (Ok t) s = of_source s
+of_checked (Err f) s = Refused f
+
+abbrev pub of_body : Module → (number : ℕ) → Block → List Table → Compiled
+of_body m number b tables =
+    let own = own_table m tables in of_checked (checked least number m own (tables_behind own tables)) (source_of m own b)
 
 -- ---- modules
 
 abbrev pub of_contents : Module → (number : ℕ) → List Table → Contents → Compiled
 of_contents m number tables (contents.Definition defs) = of_definition (types.compiled least number m tables)
-of_contents m number tables (contents.Implementation b) = of_body m b tables
-of_contents m number tables (contents.Program b) = of_body m b tables
+of_contents m number tables (contents.Implementation b) = of_body m number b tables
+of_contents m number tables (contents.Program b) = of_body m number b tables
 
 -- A module is blocked where one that it needs is refused or blocked.
 abbrev pub compiled : Module → (number : ℕ) → List Compiled → Compiled

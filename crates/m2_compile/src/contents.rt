@@ -8,8 +8,9 @@ ghost use Rattle.m2_compile.specs.Compiling.{compiled, exports_nothing, not_yet,
 ghost use Rattle.m2_compile.specs.declared.outcome.Compiled.TheVariants.{Built, Refused};
 
 use crate::fragment::{MOST, printed_of};
-use crate::imported::{imported_by, own_table};
+use crate::imported::{imported_by, own_table, tables_behind};
 use crate::outcome::{BodyModule, Compiled, are_sound, tables_of};
+use m2_check::check;
 use m2_emit::{Source, emit};
 use m2_judged::Fault;
 use m2_tree::{Block, Contents, Items, Module, Pos};
@@ -96,24 +97,31 @@ fn built(alloc: Global, source: Source) -> Result<Compiled, AllocError>
     Ok(Compiled::Built(module))
 }
 
+/// A body that breaks no rule gives its module, where it is compiled so far.
 fn body(
     alloc: Global,
     tree: &Module,
+    number: u32,
     block: &Block,
     tables: &[Shared<Table>],
 ) -> Result<Compiled, AllocError>
-    ensures { IfOk result (λ c. c ≡ of_body tree.now block.now tables.now) }
+    ensures { IfOk result (λ c. c ≡ of_body tree.now number block.now tables.now) }
 {
-    match source_of(alloc, tree, own_table(tree, tables), block)? {
-        None => Ok(not_yet()),
-        Some(source) => built(alloc, source),
+    let own = own_table(tree, tables);
+    let imports = tables_behind(alloc, own, tables)?;
+    match check(alloc, number, tree, own, imports)? {
+        Err(fault) => Ok(Compiled::Refused(fault)),
+        Ok(_) => match source_of(alloc, tree, own, block)? {
+            None => Ok(not_yet()),
+            Some(source) => built(alloc, source),
+        },
     }
 }
 
 /// What becomes of the module of a job, from what became of the modules that it needs: of its own definition if it is a
 /// body, and of the definitions that it imports, in this order. It is blocked where one of these is refused or blocked.
-/// Else a definition gives its table, in which its types are known by the job's number, or breaks a rule. A body gives its
-/// module, where it is compiled so far. The only error is that memory ran out.
+/// Else each is checked, with its types known by the job's number, and told of where it breaks a rule. A definition gives its
+/// table; a body gives its module, where it is compiled so far. The only error is that memory ran out.
 pub fn compile(
     alloc: Global,
     tree: &Module,
@@ -128,7 +136,7 @@ pub fn compile(
     let tables = tables_of(alloc, needed)?;
     match &tree.contents {
         Contents::Definition(_) => definition(alloc, tree, number, tables),
-        Contents::Implementation(block) => body(alloc, tree, block, tables.as_slice()),
-        Contents::Program(block) => body(alloc, tree, block, tables.as_slice()),
+        Contents::Implementation(block) => body(alloc, tree, number, block, tables.as_slice()),
+        Contents::Program(block) => body(alloc, tree, number, block, tables.as_slice()),
     }
 }

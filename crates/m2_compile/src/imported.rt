@@ -7,6 +7,7 @@ ghost use Rattle.m2_graph.specs.Imports.{named_by};
 ghost use Rattle.m2_graph.specs.Refused.{is_console};
 ghost use Rattle.m2_typed.specs.Names.{found};
 ghost use Rattle.m2_types.specs.Steps.{if_some};
+ghost use Rattle.m2_compile.specs.Compiling.{tables_behind};
 ghost use Rattle.m2_compile.specs.Imported.{own_table, with_name, with_ident, with_entry, with_own, imported_by, pushed};
 
 use m2_tree::{Ident, Import, Items, Module};
@@ -26,6 +27,33 @@ pub fn own_table<'a>(tree: &Module, tables: &'a [Shared<Table>]) -> Option<&'a T
                 None
             }
         }
+    }
+}
+
+/// The same tables once more.
+fn shared(alloc: Global, tables: &[Shared<Table>]) -> Result<Items<Shared<Table>>, AllocError>
+    ensures { IfOk result (λ all. all ≡ tables.now) }
+{
+    let mut all = Items::new(alloc);
+    for table in tables {
+        all.push(table.share()?)?;
+    }
+    Ok(all)
+}
+
+/// The tables of a body's imports, which stand behind that of its own definition.
+pub fn tables_behind(
+    alloc: Global,
+    own: Option<&Table>,
+    tables: &[Shared<Table>],
+) -> Result<Items<Shared<Table>>, AllocError>
+    ensures { IfOk result
+        (λ behind. behind ≡ tables_behind (option_copied own.entry) tables.now) }
+{
+    match (own, tables) {
+        (None, _) => shared(alloc, tables),
+        (Some(_), []) => Ok(Items::new(alloc)),
+        (Some(_), [_, behind @ ..]) => shared(alloc, behind),
     }
 }
 

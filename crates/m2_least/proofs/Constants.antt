@@ -48,13 +48,13 @@ as_constant_tells at denoted.Procedure = told_tells at 34
 as_constant_tells at (denoted.Standard f) = told_tells at 34
 as_constant_tells at (denoted.Module k) = told_tells at 34
 
-constant_by_tells : (at : Pos) {d : Result Denoted Fault} {d' : Result Denoted (List Fault)} → Tells d d' → Tells (constant_by least at d) (constant_by every at d')
+pub constant_by_tells : (at : Pos) {d : Result Denoted Fault} {d' : Result Denoted (List Fault)} → Tells d d' → Tells (constant_by least at d) (constant_by every at d')
 constant_by_tells at p = then_tells p (λ d. as_constant_tells at d)
 
-of_value_tells : {v : Result Value Fault} {v' : Result Value (List Fault)} → Tells v v' → Tells (of_value v) (of_value v')
+pub of_value_tells : {v : Result Value Fault} {v' : Result Value (List Fault)} → Tells v v' → Tells (of_value v) (of_value v')
 of_value_tells p = then_tells p (λ x. fine (denoted.Value x))
 
-is_bitset_tells : (at : Pos) (m : Meaning) → Tells (is_bitset least at m) (is_bitset every at m)
+pub is_bitset_tells : (at : Pos) (m : Meaning) → Tells (is_bitset least at m) (is_bitset every at m)
 is_bitset_tells at (meaning.Type t n) = where_tells (not (are_same t bitset)) at 33 (fine tt)
 is_bitset_tells at (meaning.Constant v) = told_tells at 33
 is_bitset_tells at (meaning.Variable v) = told_tells at 33
@@ -83,7 +83,7 @@ member_tells tables k name = exported_tells name.pos (exported_by name.name (sli
 
 -- ---- standard procedures
 
-scalar_type_tells : (at : Pos) (t : TypeNo) (s : Option Scalar) → Tells (scalar_type least at t s) (scalar_type every at t s)
+pub scalar_type_tells : (at : Pos) (t : TypeNo) (s : Option Scalar) → Tells (scalar_type least at t s) (scalar_type every at t s)
 scalar_type_tells at t None = told_tells at 33
 scalar_type_tells at t (Some s) = fine (t, s)
 
@@ -98,7 +98,7 @@ type_part_tells types at (denoted.Module k) = told_tells at 33
 type_argument_tells : (types : Types) (at : Pos) {d : Result Denoted Fault} {d' : Result Denoted (List Fault)} → Tells d d' → Tells (type_argument least types at d) (type_argument every types at d')
 type_argument_tells types at p = then_tells p (λ d. type_part_tells types at d)
 
-unary_of_tells : (f : Standard) (at : Pos) (v : Value) → Tells (unary_of least f at v) (unary_of every f at v)
+pub unary_of_tells : (f : Standard) (at : Pos) (v : Value) → Tells (unary_of least f at v) (unary_of every f at v)
 unary_of_tells standard.Abs at v = absolute_tells at v
 unary_of_tells standard.Cap at v = capital_tells at v
 unary_of_tells standard.Chr at v = character_tells at v

@@ -47,14 +47,14 @@ type_goes p d =
 
 -- ---- variables
 
-begun_name_goes : {st : One} {st' : All} → StateBeside st st' → (name : Ident) → StateBeside (begun_name least st name) (begun_name every st' name)
+pub begun_name_goes : {st : One} {st' : All} → StateBeside st st' → (name : Ident) → StateBeside (begun_name least st name) (begun_name every st' name)
 begun_name_goes p name = let b = begun_goes name p.scope in goes b.scope (beside_tells p.told b.told)
 
-with_variable_type_beside : {s : Scope Fault} {s' : Scope (List Fault)} → ScopeBeside s s' → {t : Result TypeNo Fault} {t' : Result TypeNo (List Fault)} → Tells t t' → ScopeBeside (with_variable_type s t) (with_variable_type s' t')
+pub with_variable_type_beside : {s : Scope Fault} {s' : Scope (List Fault)} → ScopeBeside s s' → {t : Result TypeNo Fault} {t' : Result TypeNo (List Fault)} → Tells t t' → ScopeBeside (with_variable_type s t) (with_variable_type s' t')
 with_variable_type_beside (scopes tables ty v h own outer) (fine t) = scopes _ _ _ _ own outer
 with_variable_type_beside b (is_refused f fs l) = b
 
-variable_meaning_tells : {s : Scope Fault} {s' : Scope (List Fault)} → ScopeBeside s s' → {t : Result TypeNo Fault} {t' : Result TypeNo (List Fault)} → Tells t t'
+pub variable_meaning_tells : {s : Scope Fault} {s' : Scope (List Fault)} → ScopeBeside s s' → {t : Result TypeNo Fault} {t' : Result TypeNo (List Fault)} → Tells t t'
     → Tells (variable_meaning s.types.home (length s.variables) t) (variable_meaning s'.types.home (length s'.variables) t')
 variable_meaning_tells (scopes tables ty v h own outer) p = then_tells p (λ x. fine _)
 
@@ -72,15 +72,15 @@ variables_goes p v =
 
 -- ---- procedures
 
-with_procedure_type_beside : {s : Scope Fault} {s' : Scope (List Fault)} → ScopeBeside s s' → {t : Result TypeNo Fault} {t' : Result TypeNo (List Fault)} → Tells t t' → ScopeBeside (with_procedure_type s t) (with_procedure_type s' t')
+pub with_procedure_type_beside : {s : Scope Fault} {s' : Scope (List Fault)} → ScopeBeside s s' → {t : Result TypeNo Fault} {t' : Result TypeNo (List Fault)} → Tells t t' → ScopeBeside (with_procedure_type s t) (with_procedure_type s' t')
 with_procedure_type_beside (scopes tables ty v h own outer) (fine t) = scopes _ _ _ _ own outer
 with_procedure_type_beside b (is_refused f fs l) = b
 
-procedure_meaning_tells : {s : Scope Fault} {s' : Scope (List Fault)} → ScopeBeside s s' → {t : Result TypeNo Fault} {t' : Result TypeNo (List Fault)} → Tells t t'
+pub procedure_meaning_tells : {s : Scope Fault} {s' : Scope (List Fault)} → ScopeBeside s s' → {t : Result TypeNo Fault} {t' : Result TypeNo (List Fault)} → Tells t t'
     → Tells (procedure_meaning s.types.home (length s.procedures) t) (procedure_meaning s'.types.home (length s'.procedures) t')
 procedure_meaning_tells (scopes tables ty v h own outer) p = then_tells p (λ x. fine _)
 
-declared_procedure_goes : {s : Scope Fault} {s' : Scope (List Fault)} → ScopeBeside s s' → (name : Ident) {t : Result TypeNo Fault} {t' : Result TypeNo (List Fault)} → Tells t t' → StateBeside (declared_procedure least s name t) (declared_procedure every s' name t')
+pub declared_procedure_goes : {s : Scope Fault} {s' : Scope (List Fault)} → ScopeBeside s s' → (name : Ident) {t : Result TypeNo Fault} {t' : Result TypeNo (List Fault)} → Tells t t' → StateBeside (declared_procedure least s name t) (declared_procedure every s' name t')
 declared_procedure_goes b name p = declared_goes name (procedure_meaning_tells b p) (with_procedure_type_beside b p)
 
 pub procedure_goes : {st : One} {st' : All} → StateBeside st st' → (h : Heading) → StateBeside (with_procedure least st h) (with_procedure every st' h)

@@ -55,7 +55,7 @@ first_scope_beside home tables = scopes _ _ _ _ none (more (block _ predeclared_
 
 -- ---- imports
 
-join_goes : {r : Result (Unit {0}) Fault} {r' : Result (Unit {0}) (List Fault)} → Tells r r' → {one : Scope Fault × Result (Unit {0}) Fault} {one' : Scope (List Fault) × Result (Unit {0}) (List Fault)} → StateBeside one one'
+pub join_goes : {r : Result (Unit {0}) Fault} {r' : Result (Unit {0}) (List Fault)} → Tells r r' → {one : Scope Fault × Result (Unit {0}) Fault} {one' : Scope (List Fault) × Result (Unit {0}) (List Fault)} → StateBeside one one'
     → StateBeside (one.0, beside least r one.1) (one'.0, beside every r' one'.1)
 join_goes t p = goes p.scope (beside_tells t p.told)
 
@@ -66,7 +66,7 @@ module_found_tells at (Some k) = fine k
 module_named_tells : (modules : List (List ℕ × ℕ)) (name : Ident) → Tells (module_named least modules name) (module_named every modules name)
 module_named_tells modules name = module_found_tells name.pos (found name.name modules)
 
-with_module_as_goes : {s : Scope Fault} {s' : Scope (List Fault)} → ScopeBeside s s' → (name : Ident) {k : Result ℕ Fault} {k' : Result ℕ (List Fault)} → Tells k k' → StateBeside (with_module_as least s name k) (with_module_as every s' name k')
+pub with_module_as_goes : {s : Scope Fault} {s' : Scope (List Fault)} → ScopeBeside s s' → (name : Ident) {k : Result ℕ Fault} {k' : Result ℕ (List Fault)} → Tells k k' → StateBeside (with_module_as least s name k) (with_module_as every s' name k')
 with_module_as_goes b name (fine k) = imported_goes name.pos name.name (Module k) (fine (meaning.Module k)) b
 with_module_as_goes b name (is_refused f fs l) = goes b (is_refused f fs l)
 

@@ -125,11 +125,11 @@ under_tells o at p at' q = then_tells (both_tells (both_tells o (both_tells p q)
 pub data KeptBeside {X A : Type 0} : X × Result A Fault → X × Result A (List Fault) → Type 0 where
   is_kept : (x : X) {r : Result A Fault} {r' : Result A (List Fault)} → Tells r r' → KeptBeside (x, r) (x, r')
 
-join_kept : {X : Type 0} {r : Result (Unit {0}) Fault} {r' : Result (Unit {0}) (List Fault)} → Tells r r' → {one : X × Result (Unit {0}) Fault} {one' : X × Result (Unit {0}) (List Fault)} → KeptBeside one one'
+pub join_kept : {X : Type 0} {r : Result (Unit {0}) Fault} {r' : Result (Unit {0}) (List Fault)} → Tells r r' → {one : X × Result (Unit {0}) Fault} {one' : X × Result (Unit {0}) (List Fault)} → KeptBeside one one'
     → KeptBeside (one.0, beside least r one.1) (one'.0, beside every r' one'.1)
 join_kept t (is_kept x u) = is_kept x (beside_tells t u)
 
-told_of : {X A : Type 0} {st : X × Result A Fault} {st' : X × Result A (List Fault)} → KeptBeside st st' → Tells st.1 st'.1
+pub told_of : {X A : Type 0} {st : X × Result A Fault} {st' : X × Result A (List Fault)} → KeptBeside st st' → Tells st.1 st'.1
 told_of (is_kept x t) = t
 
 with_field_kept : (t : TypeNo) (cells : ℕ) (fs : Fields) (name : Ident) → KeptBeside (with_field least t cells fs name) (with_field every t cells fs name)
@@ -144,13 +144,13 @@ names_kept t cells names fs u = fold_keeps KeptBeside (with_name least t cells) 
 
 -- ---- procedure types
 
-formal_of_tells : {s : Scope Fault} {s' : Scope (List Fault)} → ScopeBeside s s' → (is_var : Bool) (f : FormalType) → Tells (formal_of least s is_var f) (formal_of every s' is_var f)
+pub formal_of_tells : {s : Scope Fault} {s' : Scope (List Fault)} → ScopeBeside s s' → (is_var : Bool) (f : FormalType) → Tells (formal_of least s is_var f) (formal_of every s' is_var f)
 formal_of_tells b is_var f = then_tells (named_type_tells b f.of) (λ t. fine _)
 
 result_in_tells : (types : Types) (at : Pos) (t : TypeNo) → Tells (result_in least types at t) (result_in every types at t)
 result_in_tells types at t = where_tells (not (is_result types t)) at 33 (fine (Some t))
 
-result_of_tells : {s : Scope Fault} {s' : Scope (List Fault)} → ScopeBeside s s' → (q : Option Qualified) → Tells (result_of least s q) (result_of every s' q)
+pub result_of_tells : {s : Scope Fault} {s' : Scope (List Fault)} → ScopeBeside s s' → (q : Option Qualified) → Tells (result_of least s q) (result_of every s' q)
 result_of_tells b None = fine None
 result_of_tells (scopes t types v p {level = lv} {withs = ws} own outer) (Some q) = then_tells (named_type_tells (scopes t types v p {level = lv} {withs = ws} own outer) q) (λ x. result_in_tells types (first_of q) x)
 

@@ -35,7 +35,7 @@ entered_beside name p none = more (entry name p) none
 entered_beside name p (more (entry n q) rest) = cond_keeps (Pairwise EntryBeside) (same_name name n) (more (entry n p) rest) (more (entry n q) (entered_beside name p rest))
 
 -- the places of names agree
-lengths_same : {es : List (List ℕ × Known Fault)} {es' : List (List ℕ × Known (List Fault))} → Pairwise EntryBeside es es' → length es ≡ length es'
+pub lengths_same : {es : List (List ℕ × Known Fault)} {es' : List (List ℕ × Known (List Fault))} → Pairwise EntryBeside es es' → length es ≡ length es'
 lengths_same none = refl
 lengths_same (more e rest) = ap suc (lengths_same rest)
 
@@ -50,7 +50,7 @@ placed n most = cond (nat_lt n most) (Some n) None
 placed_same : {n n' most most' : ℕ} → n ≡ n' → most ≡ most' → placed n most ≡ placed n' most'
 placed_same {n' = n'} {most = most} p q = ap (λ (x : ℕ). placed x most) p ∙ ap (placed n') q
 
-place_same : (name : List ℕ) {es : List (List ℕ × Known Fault)} {es' : List (List ℕ × Known (List Fault))} → Pairwise EntryBeside es es' → place_of name es ≡ place_of name es'
+pub place_same : (name : List ℕ) {es : List (List ℕ × Known Fault)} {es' : List (List ℕ × Known (List Fault))} → Pairwise EntryBeside es es' → place_of name es ≡ place_of name es'
 unfolding placed
 place_same name p = placed_same (least_place name p) (lengths_same p)
 
@@ -64,15 +64,15 @@ seen_beside : (seen : ℕ) {es : List (List ℕ × Known Fault)} {es' : List (Li
 seen_beside seen q None = nothing
 seen_beside seen q (Some k) = entry_at (nat_lt k seen) k q
 
-in_block_beside : (name : List ℕ) {b : Block Fault} {b' : Block (List Fault)} → BlockBeside b b' → Optionwise SightBeside (in_block name b) (in_block name b')
+pub in_block_beside : (name : List ℕ) {b : Block Fault} {b' : Block (List Fault)} → BlockBeside b b' → Optionwise SightBeside (in_block name b) (in_block name b')
 in_block_beside name (block seen {names = names} {names' = names'} p) =
     subst (λ (k : Option ℕ). Optionwise SightBeside (seen_at seen names (place_of name names)) (seen_at seen names' k)) (place_same name p) (seen_beside seen p (place_of name names))
 
-or_outside_beside : {n f : Sight Fault} {n' f' : Sight (List Fault)} → Optionwise SightBeside n n' → Optionwise SightBeside f f' → Optionwise SightBeside (or_outside n f) (or_outside n' f')
+pub or_outside_beside : {n f : Sight Fault} {n' f' : Sight (List Fault)} → Optionwise SightBeside n n' → Optionwise SightBeside f f' → Optionwise SightBeside (or_outside n f) (or_outside n' f')
 or_outside_beside nothing q = q
 or_outside_beside (something k) q = something k
 
-outside_beside : (name : List ℕ) {bs : List (Block Fault)} {bs' : List (Block (List Fault))} → Pairwise BlockBeside bs bs' → Optionwise SightBeside (known_outside name bs) (known_outside name bs')
+pub outside_beside : (name : List ℕ) {bs : List (Block Fault)} {bs' : List (Block (List Fault))} → Pairwise BlockBeside bs bs' → Optionwise SightBeside (known_outside name bs) (known_outside name bs')
 outside_beside name p = fold_pairwise (Optionwise SightBeside) BlockBeside (nearer name) (nearer name) (λ a b x y r q. or_outside_beside (in_block_beside name q) r) p None None nothing
 
 or_around_beside : {k : Option (Known Fault)} {k' : Option (Known (List Fault))} {f : Sight Fault} {f' : Sight (List Fault)} → Optionwise KnownBeside k k' → Optionwise SightBeside f f' → Optionwise SightBeside (or_around k f) (or_around k' f')
@@ -82,7 +82,7 @@ or_around_beside (something k) q = something (sight true k)
 pub known_beside : (name : List ℕ) {s : Scope Fault} {s' : Scope (List Fault)} → ScopeBeside s s' → Optionwise SightBeside (known name s) (known name s')
 known_beside name (scopes t ty v p own outer) = or_around_beside (found_beside name own) (outside_beside name outer)
 
-means_seen_tells : (at : Pos) (seen : Bool) {k : Known Fault} {k' : Known (List Fault)} → KnownBeside k k' → Tells (means_seen least at k seen) (means_seen every at k' seen)
+pub means_seen_tells : (at : Pos) (seen : Bool) {k : Known Fault} {k' : Known (List Fault)} → KnownBeside k k' → Tells (means_seen least at k seen) (means_seen every at k' seen)
 means_seen_tells at seen known_later = told_tells at 30
 means_seen_tells at seen known_ahead = fine meaning.Ahead
 means_seen_tells at seen known_begun = told_tells at 30
@@ -102,7 +102,7 @@ looked_up_tells name (scopes t ty v p {withs = withs} own outer) = means_or_tell
 
 -- ---- declarations
 
-is_free_same : {k : Option (Known Fault)} {k' : Option (Known (List Fault))} → Optionwise KnownBeside k k' → is_free k ≡ is_free k'
+pub is_free_same : {k : Option (Known Fault)} {k' : Option (Known (List Fault))} → Optionwise KnownBeside k k' → is_free k ≡ is_free k'
 is_free_same nothing = refl
 is_free_same (something known_later) = refl
 is_free_same (something known_ahead) = refl
@@ -110,7 +110,7 @@ is_free_same (something known_begun) = refl
 is_free_same (something (known_headed m)) = refl
 is_free_same (something (known_declared o m)) = refl
 
-is_begun_same : {k : Option (Known Fault)} {k' : Option (Known (List Fault))} → Optionwise KnownBeside k k' → is_begun k ≡ is_begun k'
+pub is_begun_same : {k : Option (Known Fault)} {k' : Option (Known (List Fault))} → Optionwise KnownBeside k k' → is_begun k ≡ is_begun k'
 is_begun_same nothing = refl
 is_begun_same (something known_later) = refl
 is_begun_same (something known_ahead) = refl
@@ -132,7 +132,7 @@ with_known_beside name k (scopes t ty v p own outer) = scopes t ty v p (entered_
 pub own_beside : (name : List ℕ) {s : Scope Fault} {s' : Scope (List Fault)} → ScopeBeside s s' → Optionwise KnownBeside (found name s.own) (found name s'.own)
 own_beside name (scopes t ty v p own outer) = found_beside name own
 
-unless_declared_goes : (name : Ident) {k : Known Fault} {k' : Known (List Fault)} → KnownBeside k k' → {s : Scope Fault} {s' : Scope (List Fault)} → ScopeBeside s s' → StateBeside (unless_declared least s name k) (unless_declared every s' name k')
+pub unless_declared_goes : (name : Ident) {k : Known Fault} {k' : Known (List Fault)} → KnownBeside k k' → {s : Scope Fault} {s' : Scope (List Fault)} → ScopeBeside s s' → StateBeside (unless_declared least s name k) (unless_declared every s' name k')
 unless_declared_goes name k b = cond_same StateBeside (is_free_same (own_beside name.name b)) (goes (with_known_beside name.name k b) (fine tt)) (goes b (told_tells name.pos 31))
 
 pub declared_goes : (name : Ident) {m : Result Meaning Fault} {m' : Result Meaning (List Fault)} → Tells m m' → {s : Scope Fault} {s' : Scope (List Fault)} → ScopeBeside s s' → StateBeside (declared least s name m) (declared every s' name m')
@@ -153,7 +153,7 @@ imported_goes at name o m b = cond_same StateBeside (is_again_same o (own_beside
 
 -- ---- names that a block declares
 
-unless_marked_beside : (name : List ℕ) {k : Known Fault} {k' : Known (List Fault)} → KnownBeside k k' → {s : Scope Fault} {s' : Scope (List Fault)} → ScopeBeside s s'
+pub unless_marked_beside : (name : List ℕ) {k : Known Fault} {k' : Known (List Fault)} → KnownBeside k k' → {s : Scope Fault} {s' : Scope (List Fault)} → ScopeBeside s s'
     → {o : Option (Known Fault)} {o' : Option (Known (List Fault))} → Optionwise KnownBeside o o' → ScopeBeside (unless_marked name k s o) (unless_marked name k' s' o')
 unless_marked_beside name k b nothing = with_known_beside name k b
 unless_marked_beside name k b (something x) = b

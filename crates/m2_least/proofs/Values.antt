@@ -159,10 +159,10 @@ applied_tells And at sort x y = fine _
 applied_tells Or at sort x y = fine _
 applied_tells (Relation r) at sort x y = fine _
 
-divisor_tells : (op : BinaryOp) (at : Pos) (y : ℤ) → Tells (divisor least op at y) (divisor every op at y)
+pub divisor_tells : (op : BinaryOp) (at : Pos) (y : ℤ) → Tells (divisor least op at y) (divisor every op at y)
 divisor_tells op at y = where_tells (is_division op && int_lt y (pos 1)) at 52 (fine tt)
 
-fitting_tells : (sort : Option TypeNo) (at : Pos) (a : Ordinal) → Tells (fitting least sort at a) (fitting every sort at a)
+pub fitting_tells : (sort : Option TypeNo) (at : Pos) (a : Ordinal) → Tells (fitting least sort at a) (fitting every sort at a)
 fitting_tells sort at a = where_tells (is_misfit sort a.sort a.number) at 52 (fine tt)
 
 operated_tells : (op : BinaryOp) (spot : Pos) (sort : Option TypeNo) (at : Pos) (a : Ordinal) (at' : Pos) (b : Ordinal) → Tells (operated least op spot sort at a at' b) (operated every op spot sort at a at' b)

@@ -21,13 +21,15 @@ use Rattle.m2_typed.specs.Names.{entered}
 use Rattle.m2_judged.specs.declared.fault.Fault.{Fault}
 use Rattle.m2_judged.specs.Judged.{least}
 use Rattle.m2_types.specs.Compiled as types
+use Rattle.m2_check.specs.Checks.{checked}
+use Rattle.m2_typed.specs.declared.typed_module.TypedModule.{TypedModule}
 use Rattle.m2_emit.specs.declared.source.Source.{Source}
 use Rattle.m2_headline.specs.Suits.{IsName}
 use Rattle.m2_compile.specs.declared.outcome.Compiled.{Compiled}
 use Rattle.m2_compile.specs.declared.outcome.Compiled.TheVariants.{Defined, Built, Refused, Blocked}
 use Rattle.m2_compile.specs.Fragment.{most, is_word, suits, few, printed, printed_of, statements}
 use Rattle.m2_compile.specs.Imported.{own_table, Names, with_name, with_ident, with_entry, with_own, imported_by}
-use Rattle.m2_compile.specs.Compiling.{is_sound, table_in, tables_of, of_definition, of_source, source_of, source_with, exports_nothing, short, built, of_contents, compiled}
+use Rattle.m2_compile.specs.Compiling.{is_sound, table_in, tables_of, of_definition, of_source, of_checked, source_of, source_with, tables_behind, exports_nothing, short, built, of_contents, compiled}
 use Rattle.m2_types.specs.Export.{imported_modules}
 use Rattle.m2_jobs.specs.Jobs.{compiled_in}
 use Rattle.m2c.proofs.Fragments.{word_is_name}
@@ -87,10 +89,17 @@ from_source m own b h = by (source_of m own b) refl
     by None e = absurd (h _ (ap of_source e))
     by (Some s) e = record { source = s; is = is_source m own b s e; becomes = ap of_source e }
 
+from_checked : (m : Module) (own : Option Table) (b : Block) (r : Result TypedModule Fault) → IsUnrefused (of_checked r (source_of m own b)) → IsBody m own (of_checked r (source_of m own b))
+from_checked m own b (Ok t) h = from_source m own b h
+from_checked m own b (Err f) h = absurd (h f refl)
+
+abbrev checked_of : Module → ℕ → List Table → Result TypedModule Fault
+checked_of m n ts = checked least n m (own_table m ts) (tables_behind (own_table m ts) ts)
+
 from_contents : (m : Module) (n : ℕ) (ts : List Table) (c : Contents) → is_definition_part c ≡ false → IsUnrefused (of_contents m n ts c) → IsBody m (own_table m ts) (of_contents m n ts c)
 from_contents m n ts (contents.Definition ds) is h = absurd (false≢true (sym is))
-from_contents m n ts (contents.Implementation b) is h = from_source m (own_table m ts) b h
-from_contents m n ts (contents.Program b) is h = from_source m (own_table m ts) b h
+from_contents m n ts (contents.Implementation b) is h = from_checked m (own_table m ts) b (checked_of m n ts) h
+from_contents m n ts (contents.Program b) is h = from_checked m (own_table m ts) b (checked_of m n ts) h
 
 pub body_of : (m : Module) (n : ℕ) (needed : List Compiled) → is_definition m ≡ false → list_all is_sound needed ≡ true → IsUnrefused (compiled m n needed) → IsBody m (own_table m (tables_of needed)) (compiled m n needed)
 body_of m n needed is sound h =
@@ -116,10 +125,14 @@ no_table : (trees : List Module) (s : Option Source) → HasTable trees (of_sour
 no_table trees None = All-nil (IsKnown trees)
 no_table trees (Some s) = All-nil (IsKnown trees)
 
+checked_table : (trees : List Module) (r : Result TypedModule Fault) (s : Option Source) → HasTable trees (of_checked r s)
+checked_table trees (Ok t) s = no_table trees s
+checked_table trees (Err f) s = All-nil (IsKnown trees)
+
 contents_table : (trees : List Module) (m : Module) (n : ℕ) (ts : List Table) (c : Contents) → Among trees m → HasTable trees (of_contents m n ts c)
 contents_table trees m n ts (contents.Definition ds) there = one_table trees m n ts there (types.compiled least n m ts) refl
-contents_table trees m n ts (contents.Implementation b) there = no_table trees (source_of m (own_table m ts) b)
-contents_table trees m n ts (contents.Program b) there = no_table trees (source_of m (own_table m ts) b)
+contents_table trees m n ts (contents.Implementation b) there = checked_table trees (checked_of m n ts) (source_of m (own_table m ts) b)
+contents_table trees m n ts (contents.Program b) there = checked_table trees (checked_of m n ts) (source_of m (own_table m ts) b)
 
 tree_table : (trees : List Module) (m : Module) (n : ℕ) (needed : List Compiled) → Among trees m → HasTable trees (compiled m n needed)
 tree_table trees m n needed there = by (list_all is_sound needed)

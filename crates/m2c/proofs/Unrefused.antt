@@ -20,10 +20,12 @@ use Rattle.m2_judged.specs.declared.fault.Fault.{Fault}
 use Rattle.m2_emit.specs.declared.source.Source.{Source}
 use Rattle.m2_compile.specs.declared.outcome.Compiled.{Compiled}
 use Rattle.m2_compile.specs.declared.outcome.Compiled.TheVariants.{Defined, Built, Refused, Blocked}
-use Rattle.m2_compile.specs.Compiling.{is_sound, tables_of, of_definition, of_source, source_of, of_contents, not_yet, compiled}
+use Rattle.m2_compile.specs.Compiling.{is_sound, tables_of, of_definition, of_source, of_checked, source_of, tables_behind, of_contents, not_yet, compiled}
 use Rattle.m2_compile.specs.Imported.{own_table}
 use Rattle.m2_judged.specs.Judged.{least}
 use Rattle.m2_types.specs.Compiled as types
+use Rattle.m2_check.specs.Checks.{checked}
+use Rattle.m2_typed.specs.declared.typed_module.TypedModule.{TypedModule}
 use Rattle.m2_jobs.specs.Jobs.{compiled_in, compiled_at, all_compiled}
 use Rattle.m2c.specs.Modules.{result_of}
 use Rattle.m2c.specs.Build.{refusal_in, refused_from, refused_by, result_at, modules}
@@ -42,10 +44,17 @@ source_sound : (s : Option Source) → IsUnrefused (of_source s) → is_sound (o
 source_sound None h = absurd (h not_yet refl)
 source_sound (Some s) h = refl
 
+checked_sound : (r : Result TypedModule Fault) (s : Option Source) → IsUnrefused (of_checked r s) → is_sound (of_checked r s) ≡ true
+checked_sound (Ok t) s h = source_sound s h
+checked_sound (Err f) s h = absurd (h f refl)
+
+abbrev checked_of : Module → ℕ → List Table → Result TypedModule Fault
+checked_of m n ts = checked least n m (own_table m ts) (tables_behind (own_table m ts) ts)
+
 contents_sound : (m : Module) (n : ℕ) (ts : List Table) (c : Contents) → IsUnrefused (of_contents m n ts c) → is_sound (of_contents m n ts c) ≡ true
 contents_sound m n ts (contents.Definition ds) h = definition_sound (types.compiled least n m ts) h
-contents_sound m n ts (contents.Implementation b) h = source_sound (source_of m (own_table m ts) b) h
-contents_sound m n ts (contents.Program b) h = source_sound (source_of m (own_table m ts) b) h
+contents_sound m n ts (contents.Implementation b) h = checked_sound (checked_of m n ts) (source_of m (own_table m ts) b) h
+contents_sound m n ts (contents.Program b) h = checked_sound (checked_of m n ts) (source_of m (own_table m ts) b) h
 
 -- a module whose needed ones are sound is compiled by its contents
 pub compiled_is : (m : Module) (n : ℕ) (needed : List Compiled) → list_all is_sound needed ≡ true → compiled m n needed ≡ of_contents m n (tables_of needed) m.contents

@@ -1,0 +1,16 @@
+//! Holds what `build` tells of files against rows that others made (`data/cases.txt`). That a body is not compiled so far
+//! (99) is left out.
+#![tactic(auto)]
+
+mod rows;
+
+use anyhow::{Result, bail};
+
+fn main(rt: HostRuntime) -> Result<()> {
+    let count = rows::check_all(&rt)?;
+    println!(rt; "{} rows as expected", count.right)?;
+    if count.wrong > 0 {
+        bail!("some rows are not as expected");
+    }
+    Ok(())
+}

@@ -1,0 +1,130 @@
+//! Rows of files, each with all that is to be told of them.
+
+use anyhow::{Context, Result};
+use m2c::{Gate, Options, Outcome, SourceFile, build};
+use std::alloc::Global;
+use std::fs;
+use std::rt::Files;
+use std::thread::Threads;
+
+/// Lets each worker in.
+struct Always;
+
+impl Gate for Always {
+    fn enter(&self, _job: usize) -> bool {
+        true
+    }
+}
+
+/// How many rows are as expected, and how many are not.
+#[derive(Clone, Copy)]
+pub struct Count {
+    pub right: u32,
+    pub wrong: u32,
+}
+
+/// A row as far as it is read: its files, the text of the last one, and what is to be told of them, a line for each.
+#[derive(Drop)]
+struct Row {
+    files: Vec<SourceFile>,
+    name: String,
+    text: String,
+    expected: String,
+}
+
+fn empty_row(alloc: Global) -> Row {
+    Row {
+        files: Vec::new(alloc),
+        name: String::new(alloc),
+        text: String::new(alloc),
+        expected: String::new(alloc),
+    }
+}
+
+/// Takes the text as that of the file that was named last.
+fn with_file(alloc: Global, row: &mut Row) -> Result<()> {
+    if row.name.is_empty() {
+        return Ok(());
+    }
+    row.files.push(SourceFile {
+        name: String::from_str(alloc, row.name.as_str())?,
+        bytes: Vec::from_slice(alloc, row.text.as_bytes())?,
+    })?;
+    row.name = String::new(alloc);
+    row.text = String::new(alloc);
+    Ok(())
+}
+
+fn with_line(alloc: Global, row: &mut Row, line: &str) -> Result<()> {
+    if let Some(name) = line.strip_prefix("%f ") {
+        with_file(alloc, row)?;
+        row.name.push_str(name)?;
+    } else if let Some(refusal) = line.strip_prefix("%! ") {
+        row.expected.push_str(refusal)?;
+        row.expected.push_str("\n")?;
+    } else {
+        if !row.text.is_empty() {
+            row.text.push_str("\n")?;
+        }
+        row.text.push_str(line)?;
+    }
+    Ok(())
+}
+
+/// What is told of the files, a line for each, but for bodies that are not compiled so far.
+fn told<R: Threads + Sync>(rt: &R, alloc: Global, files: &[SourceFile]) -> Result<String> {
+    let options = Options {
+        workers: 2,
+        pages: 16,
+    };
+    let mut text = String::new(alloc);
+    if let Outcome::Refused(refusals) = build(rt, alloc, files, options, &Always)? {
+        for refusal in refusals.as_slice() {
+            let line = format!(in alloc; "{refusal}")?;
+            if !line.as_str().ends_with("refusal 99") {
+                text.push_str(line.as_str())?;
+                text.push_str("\n")?;
+            }
+        }
+    }
+    Ok(text)
+}
+
+fn counted<R: Threads + Sync + Eprint>(
+    rt: &R,
+    alloc: Global,
+    count: Count,
+    row: &Row,
+) -> Result<Count> {
+    let answer = told(rt, alloc, &row.files)?;
+    if answer.as_str() == row.expected.as_str() {
+        return Ok(Count {
+            right: count.right.saturating_add(1),
+            wrong: count.wrong,
+        });
+    }
+    eprintln!(rt; "expected {}, told {answer}", row.expected)?;
+    Ok(Count {
+        right: count.right,
+        wrong: count.wrong.saturating_add(1),
+    })
+}
+
+/// Builds the files of each row, and compares what is told of them.
+pub fn check_all<R: Threads + Sync + Files + Eprint + AllocGlobal>(rt: &R) -> Result<Count> {
+    let alloc = rt.alloc();
+    let bytes = fs::read(rt, "cases.txt").context("cannot read the rows")?;
+    let all = String::from_utf8(bytes)?;
+    let mut count = Count { right: 0, wrong: 0 };
+    let mut row = empty_row(alloc);
+    for line in all.as_str().lines() {
+        if line == "%%" {
+            with_file(alloc, &mut row)?;
+            count = counted(rt, alloc, count, &row)?;
+            row = empty_row(alloc);
+        } else {
+            with_line(alloc, &mut row, line)?;
+        }
+    }
+    Ok(count)
+}

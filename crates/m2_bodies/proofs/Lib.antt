@@ -1,0 +1,2 @@
+pub mod Variants
+pub mod Whole

@@ -1,0 +1,4 @@
+pub mod Judging
+pub mod Inside
+pub mod Bodies
+pub mod Checked

@@ -1,0 +1,31 @@
+//! The module of a body, or the least of all rules that are broken in it.
+
+ghost use Rattle.std.specs.Prelude.{◌≡◌, IfOk};
+ghost use Rattle.std.specs.Option.{option_copied};
+ghost use Rattle.m2_judged.specs.Judged.{every, least};
+ghost use Rattle.m2_check.specs.Checks.{checked};
+ghost use Rattle.m2_least.specs.Least.{Tells};
+
+use m2_judged::Judged;
+use m2_tree::{Items, Module};
+use m2_typed::{Shared, Table, TypedModule};
+use std::alloc::{AllocError, Global};
+
+/// What `m2_check::check` answers. It is a typed module exactly where no rule is broken, and else the least of all rules
+/// that are, by place and then by number.
+pub fn check(
+    alloc: Global,
+    number: u32,
+    tree: &Module,
+    own: Option<&Table>,
+    imports: Items<Shared<Table>>,
+) -> Result<Judged<TypedModule>, AllocError>
+    // It is what the definition gives.
+    ensures exact { IfOk result
+        (λ j. j ≡ checked least number tree.now (option_copied own.entry) imports) }
+    // It is told beside all broken rules.
+    ensures told { IfOk result
+        (λ j. Tells j (checked every number tree.now (option_copied own.entry) imports)) }
+{
+    m2_check::check(alloc, number, tree, own, imports)
+}

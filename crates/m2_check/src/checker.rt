@@ -1,0 +1,52 @@
+//! Program and implementation modules, checked.
+
+ghost use Rattle.std.specs.Prelude.{◌≡◌, IfOk};
+ghost use Rattle.std.specs.Option.{option_copied};
+ghost use Rattle.m2_judged.specs.Judged.{least};
+ghost use Rattle.m2_check.specs.Checks.{judged, checked};
+
+use m2_bodies::{Statements, check_with};
+use m2_judged::{Fault, Judged, Scope};
+use m2_steps::Around;
+use m2_stmts::statements;
+use m2_tree::{Items, Module, Stmt};
+use m2_typed::{Shared, Table, TypeNo, TypedModule, TypedStmt};
+use std::alloc::{AllocError, Global};
+
+/// Judges the statements of a body.
+struct Checker;
+
+impl Statements for Checker {
+    ghost judged = { λ checker. judged least };
+
+    fn check(
+        &self,
+        alloc: Global,
+        scope: &mut Scope<Fault>,
+        returns: &Option<Judged<TypeNo>>,
+        body: &[Stmt],
+    ) -> Result<Judged<Items<TypedStmt>>, AllocError> {
+        let around = Around {
+            gives: *returns,
+            in_loop: false,
+        };
+        statements(alloc, scope, &around, body)
+    }
+}
+
+/// Checks a program module or an implementation module, from the tables of the definitions that it
+/// imports and, for an implementation, from the table of its own definition. It answers the module
+/// where no rule is broken, and else the least rule that is, by place and then by number. The only
+/// error is that memory ran out.
+pub fn check(
+    alloc: Global,
+    number: u32,
+    tree: &Module,
+    own: Option<&Table>,
+    imports: Items<Shared<Table>>,
+) -> Result<Judged<TypedModule>, AllocError>
+    ensures { IfOk result
+        (λ j. j ≡ checked least number tree.now (option_copied own.entry) imports) }
+{
+    check_with(alloc, &Checker, number, tree, own, imports)
+}

@@ -1,0 +1,6 @@
+//! Program and implementation modules, checked with the statements of their bodies.
+#![tactic(auto)]
+
+mod checker;
+
+pub use checker::check;

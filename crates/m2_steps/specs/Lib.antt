@@ -1,0 +1,4 @@
+pub mod Lists
+pub mod Simple
+pub mod Labels
+pub mod Control

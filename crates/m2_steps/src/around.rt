@@ -1,0 +1,38 @@
+//! What stands around a statement.
+
+ghost use Rattle.std.specs.Prelude.{◌≡◌};
+ghost use Rattle.m2_judged.specs.Judged.{least};
+ghost use Rattle.m2_steps.specs.Simple.{in_loop, exited};
+
+use m2_judged::{Fault, Judged, told};
+use m2_tree::Pos;
+use m2_typed::{TypeNo, TypedStmt};
+
+/// What stands around a statement.
+#[derive(Clone, Copy)]
+pub struct Around<T> {
+    /// The type of the result, where the body is one of a function.
+    pub gives: Option<Result<TypeNo, T>>,
+    /// Whether a LOOP of the body stands around it.
+    pub in_loop: bool,
+}
+
+/// The same, inside a LOOP.
+pub fn in_loop(around: &Around<Fault>) -> Around<Fault>
+    ensures { result ≡ in_loop around.now }
+{
+    Around {
+        gives: around.gives,
+        in_loop: true,
+    }
+}
+
+/// EXIT: 45 where no LOOP stands around it.
+pub fn exited(at: Pos, around: &Around<Fault>) -> Judged<TypedStmt>
+    ensures { result ≡ exited least at around.now }
+{
+    if !around.in_loop {
+        return told(at, 45);
+    }
+    Ok(TypedStmt::Exit)
+}

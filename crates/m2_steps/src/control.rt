@@ -1,0 +1,314 @@
+//! The control variable of a FOR, and from where to where it goes.
+
+ghost use Rattle.std.specs.Prelude.{◌≡◌, IfOk, Some};
+ghost use Rattle.m2_judged.specs.Judged.{least};
+ghost use Rattle.m2_computed.specs.declared.side.Side.TheVariants as side;
+ghost use Rattle.m2_exprs.specs.Meanings.{meant, value_of};
+ghost use Rattle.m2_steps.specs.Simple.{meant_if};
+ghost use Rattle.m2_steps.specs.Control.{controlled, is_own, control_by, control_of, start_at, limit_number, limit_by, limit_at, is_zero, step_number, step_by, step_of, type_of, base_of, course, course_of, repeated_for};
+
+use m2_computed::{
+    Amount, Class, Computed, Side, bases_suit, class_of, side_of, slot_of, sort_suits, value_suited,
+};
+use m2_constants::constant_of;
+use m2_exprs::{place_of, value_of};
+use m2_judged::{Fault, Judged, Scope, both, looked_up, told};
+use m2_tree::{Boxed, Expr, Ident, Items, Pos};
+use m2_typed::{LocalKind, Meaning, Place, TypeNo, TypedExpr, TypedStmt, Types, Value};
+use m2_values::{Ordinal, fits, whole_number};
+use std::alloc::{AllocError, Global};
+
+/// The control variable of a FOR.
+#[derive(Drop)]
+pub struct Control {
+    pub of: TypeNo,
+    /// What its type computes in.
+    pub base: TypeNo,
+    pub place: Place,
+}
+
+/// What stands before the DO of a FOR.
+#[derive(Drop)]
+pub struct Course {
+    pub control: Control,
+    pub start: TypedExpr,
+    pub limit: TypedExpr,
+    /// The step.
+    pub by: i64,
+}
+
+fn controlled(types: &Types, at: Pos, t: TypeNo, place: Place) -> Judged<Control>
+    ensures { result ≡ controlled least types.now at t place }
+{
+    match class_of(types, t) {
+        Class::Scalar(scalar) => Ok(Control {
+            of: t,
+            base: scalar.base,
+            place,
+        }),
+        Class::Set => told(at, 47),
+        Class::Procedure => told(at, 47),
+        Class::Whole => told(at, 47),
+    }
+}
+
+fn is_own(kind: LocalKind) -> bool
+    ensures { result ≡ is_own kind }
+{
+    match kind {
+        LocalKind::Variable => true,
+        LocalKind::Value | LocalKind::Alias | LocalKind::Open => false,
+    }
+}
+
+fn control_by(scope: &Scope<Fault>, at: Pos, meaning: Meaning) -> Judged<Control>
+    ensures { result ≡ control_by least scope.now at meaning }
+{
+    match meaning {
+        Meaning::Variable(variable) => {
+            if variable.home != scope.types.home {
+                return told(at, 47);
+            }
+            controlled(&scope.types, at, variable.of, Place::Global(variable))
+        }
+        Meaning::Local(variable) => {
+            if !(is_own(variable.kind) && variable.level == scope.level) {
+                return told(at, 47);
+            }
+            let slot = slot_of(scope.level, variable);
+            controlled(&scope.types, at, variable.of, Place::Local(slot))
+        }
+        Meaning::Ahead => told(at, 30),
+        Meaning::Constant(_) => told(at, 47),
+        Meaning::Type(_, _) => told(at, 47),
+        Meaning::Field(_) => told(at, 47),
+        Meaning::Procedure(_) => told(at, 47),
+        Meaning::LocalProcedure(_) => told(at, 47),
+        Meaning::Standard(_) => told(at, 47),
+        Meaning::Module(_) => told(at, 47),
+    }
+}
+
+fn control_of(scope: &Scope<Fault>, name: &Ident) -> Result<Judged<Control>, AllocError>
+    ensures { IfOk result (λ j. j ≡ control_of least scope.now name.now) }
+{
+    match looked_up(scope, name)? {
+        Err(fault) => Ok(Err(fault)),
+        Ok(meaning) => Ok(control_by(scope, name.pos, meaning)),
+    }
+}
+
+fn start_at(types: &Types, at: Pos, t: Judged<TypeNo>, value: Judged<Computed>) -> Judged<TypedExpr>
+    ensures { result ≡ start_at least types.now at t value }
+{
+    match both(t, value) {
+        Err(fault) => Err(fault),
+        Ok((t, value)) => value_suited(41, types, t, at, value),
+    }
+}
+
+fn limit_number(base: TypeNo, at: Pos, n: i64, sort: Option<TypeNo>) -> Judged<TypedExpr>
+    ensures { result ≡ limit_number least base at n sort }
+{
+    match sort {
+        None => {
+            if !fits(Some(base), n) {
+                return told(at, 52);
+            }
+            Ok(TypedExpr::Constant(base, n))
+        }
+        Some(t) => Ok(TypedExpr::Constant(t, n)),
+    }
+}
+
+fn limit_amount(base: TypeNo, at: Pos, a: Amount) -> Judged<TypedExpr>
+    ensures { result ≡ limit_by least base at (Some (side.Scalar a)) }
+{
+    match a {
+        Amount::Known(a) => {
+            if !sort_suits(base, a.sort) {
+                return told(at, 41);
+            }
+            limit_number(base, at, a.number, a.sort)
+        }
+        Amount::Run(other, e) => {
+            if !bases_suit(base, other) {
+                return told(at, 41);
+            }
+            Ok(e)
+        }
+    }
+}
+
+fn limit_by(base: TypeNo, at: Pos, limit: Option<Side>) -> Judged<TypedExpr>
+    ensures { result ≡ limit_by least base at limit }
+{
+    match limit {
+        None => told(at, 41),
+        Some(Side::Scalar(a)) => limit_amount(base, at, a),
+        Some(Side::Set(_)) => told(at, 41),
+        Some(Side::Routine(_, _)) => told(at, 41),
+        Some(Side::Procedure(_)) => told(at, 41),
+    }
+}
+
+fn limit_at(at: Pos, base: Judged<TypeNo>, value: Judged<Computed>) -> Judged<TypedExpr>
+    ensures { result ≡ limit_at least at base value }
+{
+    match both(base, value) {
+        Err(fault) => Err(fault),
+        Ok((base, value)) => limit_by(base, at, side_of(value)),
+    }
+}
+
+fn is_zero(n: i64) -> bool
+    ensures { result ≡ is_zero n }
+{
+    !(n < 0 || 0 < n)
+}
+
+fn step_number(at: Pos, number: Option<Ordinal>) -> Judged<i64>
+    ensures { result ≡ step_number least at number }
+{
+    match number {
+        None => told(at, 40),
+        Some(a) => {
+            if is_zero(a.number) {
+                return told(at, 48);
+            }
+            Ok(a.number)
+        }
+    }
+}
+
+fn step_by(at: Pos, value: &Value) -> Judged<i64>
+    ensures { result ≡ step_by least at value.now }
+{
+    step_number(at, whole_number(value))
+}
+
+/// The step: a constant, or else 1.
+#[tactic(auto, using(m2_exprs::proofs::Variants::fixed_of))]
+fn step_of(
+    alloc: Global,
+    scope: &Scope<Fault>,
+    by: &Option<Boxed<Expr>>,
+) -> Result<Judged<i64>, AllocError>
+    ensures { IfOk result (λ j. j ≡ step_of least scope.now (meant_if least by.now)) }
+{
+    match by {
+        None => Ok(Ok(1)),
+        Some(by) => {
+            let by = by.get();
+            match constant_of(alloc, scope, by)? {
+                Err(fault) => Ok(Err(fault)),
+                Ok(value) => Ok(step_by(place_of(by), &value)),
+            }
+        }
+    }
+}
+
+fn type_of(control: &Judged<Control>) -> Judged<TypeNo>
+    ensures { result ≡ type_of control.now }
+{
+    match control {
+        Err(fault) => Err(*fault),
+        Ok(control) => Ok(control.of),
+    }
+}
+
+fn base_of(control: &Judged<Control>) -> Judged<TypeNo>
+    ensures { result ≡ base_of control.now }
+{
+    match control {
+        Err(fault) => Err(*fault),
+        Ok(control) => Ok(control.base),
+    }
+}
+
+fn joined(
+    control: Judged<Control>,
+    start: Judged<TypedExpr>,
+    limit: Judged<TypedExpr>,
+    by: Judged<i64>,
+) -> Judged<Course>
+    ensures { result ≡ course least control start limit by }
+{
+    match both(both(control, start), both(limit, by)) {
+        Err(fault) => Err(fault),
+        Ok(((control, start), (limit, by))) => Ok(Course {
+            control,
+            start,
+            limit,
+            by,
+        }),
+    }
+}
+
+/// The start of a FOR.
+fn start_of(
+    alloc: Global,
+    scope: &Scope<Fault>,
+    control: &Judged<Control>,
+    e: &Expr,
+) -> Result<Judged<TypedExpr>, AllocError>
+    ensures { IfOk result (λ j. j ≡ start_at least scope.now.types (meant least e.now).fixed.at
+        (type_of control.now) (value_of least scope.now (meant least e.now))) }
+{
+    let value = value_of(alloc, scope, e)?;
+    Ok(start_at(&scope.types, place_of(e), type_of(control), value))
+}
+
+/// The limit of a FOR.
+fn limit_of(
+    alloc: Global,
+    scope: &Scope<Fault>,
+    control: &Judged<Control>,
+    e: &Expr,
+) -> Result<Judged<TypedExpr>, AllocError>
+    ensures { IfOk result (λ j. j ≡ limit_at least (meant least e.now).fixed.at
+        (base_of control.now) (value_of least scope.now (meant least e.now))) }
+{
+    let value = value_of(alloc, scope, e)?;
+    Ok(limit_at(place_of(e), base_of(control), value))
+}
+
+/// What stands before the DO of a FOR. The control variable is a scalar variable of the module, or of the procedure
+/// itself: else 47. The start is assignment compatible with it, and the limit has a type that goes with its own: else
+/// 41. The step is a constant whole number, else 34 or 40, and not zero: else 48. A number out of range is 52.
+pub fn course_of(
+    alloc: Global,
+    scope: &Scope<Fault>,
+    name: &Ident,
+    start: &Expr,
+    limit: &Expr,
+    by: &Option<Boxed<Expr>>,
+) -> Result<Judged<Course>, AllocError>
+    ensures { IfOk result (λ j. j ≡ course_of least scope.now name.now (meant least start.now)
+        (meant least limit.now) (meant_if least by.now)) }
+{
+    let control = control_of(scope, name)?;
+    let start = start_of(alloc, scope, &control, start)?;
+    let limit = limit_of(alloc, scope, &control, limit)?;
+    let by = step_of(alloc, scope, by)?;
+    Ok(joined(control, start, limit, by))
+}
+
+/// FOR.
+pub fn repeated_for(course: Judged<Course>, body: Judged<Items<TypedStmt>>) -> Judged<TypedStmt>
+    ensures { result ≡ repeated_for least course body }
+{
+    match both(course, body) {
+        Err(fault) => Err(fault),
+        Ok((course, body)) => {
+            let Course {
+                control,
+                start,
+                limit,
+                by,
+            } = course;
+            let Control { of, base: _, place } = control;
+            Ok(TypedStmt::For(place, of, start, limit, by, body))
+        }
+    }
+}

@@ -1,0 +1,314 @@
+//! Labels of CASE.
+
+ghost use Rattle.std.specs.Prelude.{◌≡◌, IfOk, Some, Ok};
+ghost use Rattle.m2_judged.specs.Judged.{least, ◌▷◌};
+ghost use Rattle.m2_exprs.specs.Meanings.{meant};
+ghost use Rattle.m2_values.specs.Common.{common};
+ghost use Rattle.m2_computed.specs.Classes.{class_at};
+ghost use Rattle.m2_steps.specs.Labels.{ordinal_in, of_type, no_constant, value_bound, variable_bound, bound_by, bound_of, is_of_base, number_fits, suits_base, bound_suits, single, ordered_if, are_ordered, spanned, label_between, item_label, with_new, with_label, with_item, labels_in};
+
+use crate::lists::with_next;
+use m2_computed::{Class, Computed, Designated, class_of};
+use m2_exprs::{place_of, stands_for};
+use m2_judged::{Fault, Judged, Scope, beside, both, told};
+use m2_labels::Ranges;
+use m2_tree::{Expr, Item, Items, Pos};
+use m2_typed::{Label, TypeNo, Types, are_same, is_numeric};
+use m2_values::{Operand, Ordinal, common, fits, operand_of};
+use std::alloc::{AllocError, Global};
+
+fn ordinal_in(at: Pos, operand: Option<Operand>) -> Judged<Ordinal>
+    ensures { result ≡ ordinal_in least at operand }
+{
+    match operand {
+        None => told(at, 40),
+        Some(Operand::Set(_)) => told(at, 40),
+        Some(Operand::Scalar(a)) => Ok(a),
+    }
+}
+
+fn of_type(alike: bool, at: Pos) -> Judged<()>
+    ensures { result ≡ of_type least alike at }
+{
+    if !alike {
+        return told(at, 40);
+    }
+    Ok(())
+}
+
+/// A bound that is no constant: 49 at the label, and 40 at the bound where it has another base type than the selector.
+fn no_constant(alike: bool, label: Pos, at: Pos) -> Judged<Ordinal>
+    ensures { result ≡ no_constant least alike label at }
+{
+    let unknown: Judged<Ordinal> = told(label, 49);
+    match both(of_type(alike, at), unknown) {
+        Err(fault) => Err(fault),
+        Ok(((), a)) => Ok(a),
+    }
+}
+
+fn value_bound(base: TypeNo, label: Pos, at: Pos, value: Computed) -> Judged<Ordinal>
+    ensures { result ≡ value_bound least base label at value }
+{
+    match value {
+        Computed::Constant(value) => ordinal_in(at, operand_of(&value)),
+        Computed::Scalar(_, other, _) => no_constant(are_same(other, base), label, at),
+        Computed::Set(_) => no_constant(false, label, at),
+        Computed::Routine(_, _) => no_constant(false, label, at),
+        Computed::Procedure(_) => no_constant(false, label, at),
+        Computed::Whole(_, _) => no_constant(false, label, at),
+        Computed::Untaken => no_constant(false, label, at),
+    }
+}
+
+fn variable_bound(base: TypeNo, label: Pos, at: Pos, class: Class) -> Judged<Ordinal>
+    ensures { result ≡ variable_bound least base label at class }
+{
+    match class {
+        Class::Scalar(scalar) => no_constant(are_same(scalar.base, base), label, at),
+        Class::Set => no_constant(false, label, at),
+        Class::Procedure => no_constant(false, label, at),
+        Class::Whole => no_constant(false, label, at),
+    }
+}
+
+fn bound_by(
+    types: &Types,
+    base: TypeNo,
+    label: Pos,
+    at: Pos,
+    designated: Designated,
+) -> Judged<Ordinal>
+    ensures { result ≡ bound_by least types.now base label at designated }
+{
+    match designated {
+        Designated::Value(value) => value_bound(base, label, at, value),
+        Designated::Variable(t, _) => variable_bound(base, label, at, class_of(types, t)),
+        Designated::Open(_, _) => no_constant(false, label, at),
+        Designated::Type(_) => no_constant(false, label, at),
+        Designated::Procedure(_) => no_constant(false, label, at),
+        Designated::Nested(_) => no_constant(false, label, at),
+        Designated::Standard(_) => no_constant(false, label, at),
+        Designated::Module(_) => no_constant(false, label, at),
+    }
+}
+
+/// A bound of a label at a place.
+fn bound_of(
+    alloc: Global,
+    scope: &Scope<Fault>,
+    base: TypeNo,
+    label: Pos,
+    e: &Expr,
+) -> Result<Judged<Ordinal>, AllocError>
+    ensures { IfOk result (λ j. j ≡ bound_of least scope.now base label (meant least e.now)) }
+{
+    match stands_for(alloc, scope, e)? {
+        Err(fault) => Ok(Err(fault)),
+        Ok(designated) => Ok(bound_by(&scope.types, base, label, place_of(e), designated)),
+    }
+}
+
+fn is_of_base(base: TypeNo, sort: Option<TypeNo>) -> bool
+    ensures { result ≡ is_of_base base sort }
+{
+    match sort {
+        None => is_numeric(base),
+        Some(t) => are_same(t, base),
+    }
+}
+
+fn number_fits(base: TypeNo, at: Pos, a: Ordinal) -> Judged<()>
+    ensures { result ≡ number_fits least base at a a.sort }
+{
+    match a.sort {
+        None => {
+            if !fits(Some(base), a.number) {
+                return told(at, 52);
+            }
+            Ok(())
+        }
+        Some(_) => Ok(()),
+    }
+}
+
+fn suits_base(base: TypeNo, at: Pos, a: Ordinal) -> Judged<()>
+    ensures { result ≡ suits_base least base at a }
+{
+    if !is_of_base(base, a.sort) {
+        return told(at, 40);
+    }
+    number_fits(base, at, a)
+}
+
+/// The rule that a bound is one of the base type.
+fn bound_suits(base: TypeNo, at: Pos, bound: Judged<Ordinal>) -> Judged<()>
+    ensures { result ≡ bound_suits least base at bound }
+{
+    match bound {
+        Err(fault) => Err(fault),
+        Ok(a) => suits_base(base, at, a),
+    }
+}
+
+/// A label of one value.
+fn single(base: TypeNo, at: Pos, bound: Judged<Ordinal>) -> Judged<Label>
+    ensures { result ≡ single least base at bound }
+{
+    match both(bound, bound_suits(base, at, bound)) {
+        Err(fault) => Err(fault),
+        Ok((a, ())) => Ok(Label {
+            low: a.number,
+            high: a.number,
+        }),
+    }
+}
+
+fn ordered_if(at: Pos, low: Ordinal, high: Ordinal) -> Judged<()>
+    ensures { result ≡ ordered_if least at low high (common low.sort high.sort) }
+{
+    match common(low.sort, high.sort) {
+        None => Ok(()),
+        Some(_) => {
+            if high.number < low.number {
+                return told(at, 35);
+            }
+            Ok(())
+        }
+    }
+}
+
+/// The rule that the bounds of a range are in order.
+fn are_ordered(at: Pos, low: Judged<Ordinal>, high: Judged<Ordinal>) -> Judged<()>
+    ensures { result ≡ are_ordered least at low high }
+{
+    match both(low, high) {
+        Err(fault) => Err(fault),
+        Ok((a, b)) => ordered_if(at, a, b),
+    }
+}
+
+/// A label of a range of values.
+fn spanned(
+    base: TypeNo,
+    at: Pos,
+    low: Judged<Ordinal>,
+    high_at: Pos,
+    high: Judged<Ordinal>,
+) -> Judged<Label>
+    ensures { result ≡ spanned least base at low high_at high }
+{
+    let suit = beside(bound_suits(base, at, low), bound_suits(base, high_at, high));
+    let fine = beside(suit, are_ordered(at, low, high));
+    match both(both(low, high), fine) {
+        Err(fault) => Err(fault),
+        Ok(((a, b), ())) => Ok(Label {
+            low: a.number,
+            high: b.number,
+        }),
+    }
+}
+
+/// A label that goes from one expression to another.
+#[tactic(auto, using(crate::proofs::Spans::range_is))]
+fn range_from(
+    alloc: Global,
+    scope: &Scope<Fault>,
+    base: TypeNo,
+    low: &Expr,
+    high: &Expr,
+) -> Result<Judged<Label>, AllocError>
+    ensures { IfOk result (λ j. j ≡ label_between least scope.now base (meant least low.now)
+        (Some (meant least high.now))) }
+{
+    let at = place_of(low);
+    let high_at = place_of(high);
+    let first = bound_of(alloc, scope, base, at, low)?;
+    let last = bound_of(alloc, scope, base, at, high)?;
+    Ok(spanned(base, at, first, high_at, last))
+}
+
+/// What an item of a list of labels stands for.
+fn label_of(
+    alloc: Global,
+    scope: &Scope<Fault>,
+    base: TypeNo,
+    item: &Item,
+) -> Result<Judged<Label>, AllocError>
+    ensures { IfOk result (λ j. j ≡ item_label least scope.now base item.now) }
+{
+    match &item.high {
+        None => {
+            let at = place_of(&item.low);
+            let bound = bound_of(alloc, scope, base, at, &item.low)?;
+            Ok(single(base, at, bound))
+        }
+        Some(high) => range_from(alloc, scope, base, &item.low, high),
+    }
+}
+
+/// Takes a label in: 49 where another has a value of it.
+fn with_new(
+    at: Pos,
+    ranges: &mut Ranges,
+    done: Judged<Items<Label>>,
+    label: Label,
+) -> Result<Judged<Items<Label>>, AllocError>
+    ensures { IfOk result (λ j. (ranges.new, j) ≡ with_new least at (ranges.old, done) label) }
+{
+    let next = if ranges.take(label.low, label.high)? {
+        Ok(label)
+    } else {
+        told(at, 49)
+    };
+    with_next(done, next)
+}
+
+fn with_label(
+    at: Pos,
+    ranges: &mut Ranges,
+    done: Judged<Items<Label>>,
+    label: Judged<Label>,
+) -> Result<Judged<Items<Label>>, AllocError>
+    ensures { IfOk result (λ j. (ranges.new, j) ≡ with_label least at (ranges.old, done) label) }
+{
+    match label {
+        Err(fault) => with_next(done, Err(fault)),
+        Ok(label) => with_new(at, ranges, done, label),
+    }
+}
+
+fn with_item(
+    alloc: Global,
+    scope: &Scope<Fault>,
+    base: TypeNo,
+    ranges: &mut Ranges,
+    done: Judged<Items<Label>>,
+    item: &Item,
+) -> Result<Judged<Items<Label>>, AllocError>
+    ensures { IfOk result
+        (λ j. (ranges.new, j) ≡ with_item least scope.now base (ranges.old, done) item.now) }
+{
+    let label = label_of(alloc, scope, base, item)?;
+    with_label(place_of(&item.low), ranges, done, label)
+}
+
+/// The labels of an arm, with the values of the labels of the arms before it. A bound is a constant: else 49 at the label.
+/// It has the base type of the selector: else 40, and 52 where it is out of range. A range whose bounds are not in order is
+/// 35, and a label with a value of another is 49.
+pub fn labels_in(
+    alloc: Global,
+    scope: &Scope<Fault>,
+    base: TypeNo,
+    ranges: &mut Ranges,
+    items: &[Item],
+) -> Result<Judged<Items<Label>>, AllocError>
+    ensures { IfOk result
+        (λ j. (ranges.new, j) ≡ labels_in least scope.now base ranges.old items.now) }
+{
+    let mut labels = Ok(Items::new(alloc));
+    for item in items {
+        labels = with_item(alloc, scope, base, ranges, labels, item)?;
+    }
+    Ok(labels)
+}

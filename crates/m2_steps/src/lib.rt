@@ -1,0 +1,17 @@
+//! The steps of checking the statements of bodies: each judges one form of a statement, of parts that are known.
+#![tactic(auto)]
+
+mod around;
+mod control;
+mod label;
+mod lists;
+mod simple;
+
+pub use around::{Around, exited, in_loop};
+pub use control::{Control, Course, course_of, repeated_for};
+pub use label::labels_in;
+pub use lists::{
+    armed, cased, chosen, chosen_else, looped, repeated_until, repeated_while, standing, with_next,
+    within,
+};
+pub use simple::{assignment, called, close, condition, open, record_of, returned, selected};

@@ -1,0 +1,137 @@
+//! Lists of statements, and statements around them.
+
+ghost use Rattle.std.specs.Prelude.{◌≡◌, IfOk};
+ghost use Rattle.m2_judged.specs.Judged.{least};
+ghost use Rattle.m2_steps.specs.Lists.{with_next, standing, chosen, chosen_else, cased, armed, repeated_while, repeated_until, looped, within};
+
+use m2_judged::{Judged, both};
+use m2_tree::Items;
+use m2_typed::{Label, Place, TypedArm, TypedExpr, TypedStmt};
+use std::alloc::{AllocError, Global};
+
+/// One more of a list.
+pub fn with_next<A: Drop>(
+    done: Judged<Items<A>>,
+    next: Judged<A>,
+) -> Result<Judged<Items<A>>, AllocError>
+    ensures { IfOk result (λ j. j ≡ with_next least done next) }
+{
+    match both(done, next) {
+        Err(fault) => Ok(Err(fault)),
+        Ok((mut all, last)) => {
+            all.push(last)?;
+            Ok(Ok(all))
+        }
+    }
+}
+
+/// The statements behind an ELSE.
+pub fn standing(body: Judged<Items<TypedStmt>>) -> Judged<Option<Items<TypedStmt>>>
+    ensures { result ≡ standing body }
+{
+    match body {
+        Err(fault) => Err(fault),
+        Ok(body) => Ok(Some(body)),
+    }
+}
+
+/// IF: the condition, what is done then, and what follows.
+pub fn chosen(
+    condition: Judged<TypedExpr>,
+    body: Judged<Items<TypedStmt>>,
+    rest: Judged<Option<Items<TypedStmt>>>,
+) -> Judged<TypedStmt>
+    ensures { result ≡ chosen least condition body rest }
+{
+    match both(condition, both(body, rest)) {
+        Err(fault) => Err(fault),
+        Ok((condition, (body, rest))) => Ok(TypedStmt::If(condition, body, rest)),
+    }
+}
+
+/// ELSIF: an IF that stands alone behind an ELSE.
+pub fn chosen_else(
+    alloc: Global,
+    inner: Judged<TypedStmt>,
+) -> Result<Judged<Option<Items<TypedStmt>>>, AllocError>
+    ensures { IfOk result (λ j. j ≡ chosen_else inner) }
+{
+    match inner {
+        Err(fault) => Ok(Err(fault)),
+        Ok(inner) => {
+            let mut body = Items::new(alloc);
+            body.push(inner)?;
+            Ok(Ok(Some(body)))
+        }
+    }
+}
+
+/// CASE: the selector, the arms, and what stands behind the ELSE.
+pub fn cased(
+    selector: TypedExpr,
+    arms: Judged<Items<TypedArm>>,
+    otherwise: Judged<Option<Items<TypedStmt>>>,
+) -> Judged<TypedStmt>
+    ensures { result ≡ cased least selector arms otherwise }
+{
+    match both(arms, otherwise) {
+        Err(fault) => Err(fault),
+        Ok((arms, otherwise)) => Ok(TypedStmt::Case(selector, arms, otherwise)),
+    }
+}
+
+/// An arm of a CASE.
+pub fn armed(labels: Judged<Items<Label>>, body: Judged<Items<TypedStmt>>) -> Judged<TypedArm>
+    ensures { result ≡ armed least labels body }
+{
+    match both(labels, body) {
+        Err(fault) => Err(fault),
+        Ok((labels, body)) => Ok(TypedArm { labels, body }),
+    }
+}
+
+/// WHILE.
+pub fn repeated_while(
+    condition: Judged<TypedExpr>,
+    body: Judged<Items<TypedStmt>>,
+) -> Judged<TypedStmt>
+    ensures { result ≡ repeated_while least condition body }
+{
+    match both(condition, body) {
+        Err(fault) => Err(fault),
+        Ok((condition, body)) => Ok(TypedStmt::While(condition, body)),
+    }
+}
+
+/// REPEAT.
+pub fn repeated_until(
+    body: Judged<Items<TypedStmt>>,
+    condition: Judged<TypedExpr>,
+) -> Judged<TypedStmt>
+    ensures { result ≡ repeated_until least body condition }
+{
+    match both(body, condition) {
+        Err(fault) => Err(fault),
+        Ok((body, condition)) => Ok(TypedStmt::Repeat(body, condition)),
+    }
+}
+
+/// LOOP.
+pub fn looped(body: Judged<Items<TypedStmt>>) -> Judged<TypedStmt>
+    ensures { result ≡ looped body }
+{
+    match body {
+        Err(fault) => Err(fault),
+        Ok(body) => Ok(TypedStmt::Loop(body)),
+    }
+}
+
+/// WITH a record.
+pub fn within(place: Place, body: Judged<Items<TypedStmt>>) -> Judged<TypedStmt>
+    ensures { result ≡ within place body }
+{
+    match body {
+        Err(fault) => Err(fault),
+        Ok(body) => Ok(TypedStmt::With(place, body)),
+    }
+}

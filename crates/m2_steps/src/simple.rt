@@ -1,0 +1,203 @@
+//! Statements without others inside, and the parts of statements that stand before others.
+
+ghost use Rattle.std.specs.Prelude.{◌≡◌, IfOk, OnOk, map};
+ghost use Rattle.std.specs.Option.{is_some};
+ghost use Rattle.m2_judged.specs.Judged.{least};
+ghost use Rattle.m2_judged.specs.Scopes.{fields_at};
+ghost use Rattle.m2_exprs.specs.Meanings.{meant, head};
+ghost use Rattle.m2_exprs.specs.Effects.{done_by};
+ghost use Rattle.m2_steps.specs.Simple.{meant_if, given_back, returned, condition, assignment, or_none, selector_amount, selector_of, selected, record_by, record_of, opened, closed};
+
+use m2_calls::{assigned, target_at, untyped};
+use m2_computed::{Amount, Computed, Designated, Side, side_of, value_suited};
+use m2_exprs::{designated, done_by, first_of, place_of, value_of};
+use m2_judged::{Fault, Judged, OpenedRecord, Scope, both, fields_of, told};
+use m2_tree::{Designator, Expr, Items, Pos};
+use m2_typed::{BOOLEAN, Place, TypeNo, TypedExpr, TypedStmt, Types};
+use std::alloc::{AllocError, Global};
+
+fn given_back(
+    types: &Types,
+    t: Judged<TypeNo>,
+    at: Pos,
+    value: Judged<Computed>,
+) -> Judged<TypedStmt>
+    ensures { result ≡ given_back least types.now t at value }
+{
+    match both(t, value) {
+        Err(fault) => Err(fault),
+        Ok((t, value)) => match value_suited(41, types, t, at, value) {
+            Err(fault) => Err(fault),
+            Ok(e) => Ok(TypedStmt::Give(t, e)),
+        },
+    }
+}
+
+/// RETURN at a place. A value in a body that gives none, and none in a function, are 46. A value that is not assignment
+/// compatible with the type of the result is 41, and a constant out of range is 52.
+pub fn returned(
+    alloc: Global,
+    scope: &Scope<Fault>,
+    at: Pos,
+    gives: Option<Judged<TypeNo>>,
+    value: &Option<Expr>,
+) -> Result<Judged<TypedStmt>, AllocError>
+    ensures { IfOk result
+        (λ j. j ≡ returned least scope.now at gives (meant_if least value.now)) }
+{
+    match gives {
+        None => match value {
+            None => Ok(Ok(TypedStmt::Return)),
+            Some(_) => Ok(told(at, 46)),
+        },
+        Some(t) => match value {
+            None => Ok(told(at, 46)),
+            Some(e) => {
+                let value = value_of(alloc, scope, e)?;
+                Ok(given_back(&scope.types, t, place_of(e), value))
+            }
+        },
+    }
+}
+
+/// A condition: 40 where it is no BOOLEAN.
+pub fn condition(
+    alloc: Global,
+    scope: &Scope<Fault>,
+    e: &Expr,
+) -> Result<Judged<TypedExpr>, AllocError>
+    ensures { IfOk result (λ j. j ≡ condition least scope.now (meant least e.now)) }
+{
+    match value_of(alloc, scope, e)? {
+        Err(fault) => Ok(Err(fault)),
+        Ok(value) => Ok(value_suited(40, &scope.types, BOOLEAN, place_of(e), value)),
+    }
+}
+
+/// An assignment. What is no variable is 40, what is not assignment compatible is 41, and a constant out of range is 52.
+pub fn assignment(
+    alloc: Global,
+    scope: &Scope<Fault>,
+    designator: &Designator,
+    e: &Expr,
+) -> Result<Judged<TypedStmt>, AllocError>
+    ensures { IfOk result
+        (λ j. j ≡ assignment least scope.now (head least designator.now) (meant least e.now)) }
+{
+    let target = target_at(first_of(designator), designated(alloc, scope, designator)?);
+    let value = value_of(alloc, scope, e)?;
+    Ok(assigned(&scope.types, target, place_of(e), value))
+}
+
+/// A call as a statement. Where there are no brackets there are no arguments.
+pub fn called(
+    alloc: Global,
+    scope: &Scope<Fault>,
+    designator: &Designator,
+    args: &Option<Items<Expr>>,
+) -> Result<Judged<TypedStmt>, AllocError>
+    ensures { IfOk result (λ j. j ≡ done_by least scope.now (head least designator.now)
+        (map (meant least) (or_none args.now))) }
+{
+    match args {
+        None => done_by(alloc, scope, designator, &[]),
+        Some(args) => done_by(alloc, scope, designator, args.as_slice()),
+    }
+}
+
+fn selector_amount(a: Amount) -> (TypeNo, TypedExpr)
+    ensures { result ≡ selector_amount a }
+{
+    match a {
+        Amount::Known(a) => {
+            let t = untyped(a);
+            (t, TypedExpr::Constant(t, a.number))
+        }
+        Amount::Run(base, e) => (base, e),
+    }
+}
+
+fn selector_of(at: Pos, side: Option<Side>) -> Judged<(TypeNo, TypedExpr)>
+    ensures { result ≡ selector_of least at side }
+{
+    match side {
+        None => told(at, 40),
+        Some(Side::Scalar(a)) => Ok(selector_amount(a)),
+        Some(Side::Set(_)) => told(at, 40),
+        Some(Side::Routine(_, _)) => told(at, 40),
+        Some(Side::Procedure(_)) => told(at, 40),
+    }
+}
+
+/// The selector of a CASE with its base type: 40 where it is no scalar.
+pub fn selected(
+    alloc: Global,
+    scope: &Scope<Fault>,
+    e: &Expr,
+) -> Result<Judged<(TypeNo, TypedExpr)>, AllocError>
+    ensures { IfOk result (λ j. j ≡ selected least scope.now (meant least e.now)) }
+{
+    match value_of(alloc, scope, e)? {
+        Err(fault) => Ok(Err(fault)),
+        Ok(value) => Ok(selector_of(place_of(e), side_of(value))),
+    }
+}
+
+fn is_record(types: &Types, t: TypeNo) -> bool
+    ensures { result ≡ is_some (fields_at types.now t) }
+{
+    match fields_of(types, t) {
+        None => false,
+        Some(_) => true,
+    }
+}
+
+fn record_by(types: &Types, at: Pos, designated: Designated) -> Judged<(TypeNo, Place)>
+    ensures { result ≡ record_by least types.now at designated }
+{
+    match designated {
+        Designated::Variable(t, place) => {
+            if !is_record(types, t) {
+                return told(at, 40);
+            }
+            Ok((t, place))
+        }
+        Designated::Value(_) => told(at, 40),
+        Designated::Open(_, _) => told(at, 40),
+        Designated::Type(_) => told(at, 40),
+        Designated::Procedure(_) => told(at, 40),
+        Designated::Nested(_) => told(at, 40),
+        Designated::Standard(_) => told(at, 40),
+        Designated::Module(_) => told(at, 40),
+    }
+}
+
+/// The record of a WITH with its type: 40 where it is no variable of a record type.
+pub fn record_of(
+    alloc: Global,
+    scope: &Scope<Fault>,
+    designator: &Designator,
+) -> Result<Judged<(TypeNo, Place)>, AllocError>
+    ensures { IfOk result (λ j. j ≡ record_of least scope.now (head least designator.now)) }
+{
+    match designated(alloc, scope, designator)? {
+        Err(fault) => Ok(Err(fault)),
+        Ok(designated) => Ok(record_by(&scope.types, first_of(designator), designated)),
+    }
+}
+
+/// Puts the fields of a record of this type before all other names.
+pub fn open(scope: &mut Scope<Fault>, t: TypeNo) -> Result<(), AllocError>
+    ensures { OnOk result (scope.new ≡ opened scope.old t) }
+{
+    let number = scope.withs.len();
+    scope.withs.push(OpenedRecord { number, of: t })
+}
+
+/// Takes back what was opened last.
+#[tactic(auto, using(crate::proofs::Closing::front_push))]
+pub fn close(scope: &mut Scope<Fault>)
+    ensures { scope.new ≡ closed scope.old }
+{
+    let _last = scope.withs.pop();
+}

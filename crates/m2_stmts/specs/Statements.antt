@@ -1,0 +1,106 @@
+-- What statements of bodies mean: each is a typed statement, or breaks rules.
+use Rattle.std.specs.Prelude.{ℤ, List, [], map, Option, Some, None, Result, Ok}
+use Rattle.std.specs.List.{fold}
+use Rattle.m2_tree.specs.declared.expr.Expr.{Expr}
+use Rattle.m2_tree.specs.declared.stmt.Rest.{Rest, Rest-F, fold-Rest}
+use Rattle.m2_tree.specs.declared.stmt.Rest.TheOpen as layer
+use Rattle.m2_tree.specs.declared.stmt.Stmt.{Stmt, Stmt-F, fold-Stmt}
+use Rattle.m2_tree.specs.declared.stmt.Arm.{Arm, Arm-F, fold-Arm}
+use Rattle.m2_typed.specs.declared.types.TypeNo.{TypeNo}
+use Rattle.m2_typed.specs.declared.statement.TypedStmt.{TypedStmt}
+use Rattle.m2_typed.specs.declared.statement.TypedArm.{TypedArm}
+use Rattle.m2_judged.specs.Judged.{Gathers, ◌▷◌}
+use Rattle.m2_judged.specs.declared.scope.Scope.{Scope}
+use Rattle.m2_exprs.specs.Meanings.{Meant, meant, head}
+use Rattle.m2_exprs.specs.Effects.{done_by}
+use Rattle.m2_steps.specs.declared.around.Around.{Around}
+use Rattle.m2_steps.specs.Lists.{with_next, standing, chosen, chosen_else, cased, armed, repeated_while, repeated_until, looped, within}
+use Rattle.m2_steps.specs.Simple.{meant_if, in_loop, exited, returned, condition, assignment, or_none, selected, record_of, opened}
+use Rattle.m2_steps.specs.Labels.{labels_in}
+use Rattle.m2_steps.specs.Control.{course_of, repeated_for}
+
+-- a statement, in a scope and at a place of a body
+abbrev pub Judges : Type 0 → Type 0
+Judges T = Scope T → Around T → Result TypedStmt T
+
+-- what follows the first part of an IF
+abbrev pub JudgesRest : Type 0 → Type 0
+JudgesRest T = Scope T → Around T → Result (Option (List TypedStmt)) T
+
+-- an arm, with the base type of the selector and the values of the labels before it
+abbrev pub JudgesArm : Type 0 → Type 0
+JudgesArm T = Scope T → Around T → TypeNo → List (ℤ × ℤ) → List (ℤ × ℤ) × Result TypedArm T
+
+-- the values of the labels so far, and the arms
+abbrev pub Arms : Type 0 → Type 0
+Arms T = List (ℤ × ℤ) × Result (List TypedArm) T
+
+module _ (g : Gathers) where
+  abbrev pub args_meant : Option (List Expr) → List (Meant g.Told)
+  args_meant args = map (meant g) (or_none args)
+
+  -- ---- one after another
+
+  abbrev pub with_stmt : Scope g.Told → Around g.Told → Result (List TypedStmt) g.Told → Judges g.Told → Result (List TypedStmt) g.Told
+  with_stmt s w so x = with_next g so (x s w)
+
+  abbrev pub all_of : Scope g.Told → Around g.Told → List (Judges g.Told) → Result (List TypedStmt) g.Told
+  all_of s w xs = fold (with_stmt s w) (Ok []) xs
+
+  abbrev pub all_if : Scope g.Told → Around g.Told → Option (List (Judges g.Told)) → Result (Option (List TypedStmt)) g.Told
+  all_if s w None = Ok None
+  all_if s w (Some xs) = standing (all_of s w xs)
+
+  abbrev pub with_arm : Scope g.Told → Around g.Told → TypeNo → Arms g.Told → JudgesArm g.Told → Arms g.Told
+  with_arm s w base st a = let r = a s w base st.0 in (r.0, with_next g st.1 r.1)
+
+  -- no two labels of the arms have a value in common
+  abbrev pub arms_of : Scope g.Told → Around g.Told → TypeNo → List (JudgesArm g.Told) → Result (List TypedArm) g.Told
+  arms_of s w base arms = (fold (with_arm s w base) ([], Ok []) arms).1
+
+  -- ---- the layers
+
+  -- the arms are judged where the selector has a type that labels can have
+  abbrev pub stmt_layer : Stmt-F (JudgesRest g.Told) (Judges g.Told) (JudgesArm g.Told) → Judges g.Told
+  stmt_layer (layer.Assign d e) s w = assignment g s (head g d) (meant g e)
+  stmt_layer (layer.Call d args) s w = done_by g s (head g d) (args_meant args)
+  stmt_layer (layer.If c body rest) s w = chosen g (condition g s (meant g c)) (all_of s w body) (rest s w)
+  stmt_layer (layer.Case e arms otherwise) s w = selected g s (meant g e) ▷ λ x. cased g x.1 (arms_of s w x.0 arms) (all_if s w otherwise)
+  stmt_layer (layer.While c body) s w = repeated_while g (condition g s (meant g c)) (all_of s w body)
+  stmt_layer (layer.Repeat body c) s w = repeated_until g (all_of s w body) (condition g s (meant g c))
+  stmt_layer (layer.Loop body) s w = looped (all_of s (in_loop w) body)
+  stmt_layer (layer.Exit at) s w = exited g at w
+  stmt_layer (layer.Return at e) s w = returned g s at w.gives (meant_if g e)
+  stmt_layer (layer.For name start limit by body) s w = repeated_for g (course_of g s name (meant g start) (meant g limit) (meant_if g by)) (all_of s w body)
+  stmt_layer (layer.With d body) s w = record_of g s (head g d) ▷ λ r. within r.1 (all_of (opened s r.0) w body)
+
+  -- an ELSIF is an IF in the ELSE
+  abbrev pub rest_layer : Rest-F (JudgesRest g.Told) (Judges g.Told) (JudgesArm g.Told) → JudgesRest g.Told
+  rest_layer (layer.Elsif c body rest) s w = chosen_else (chosen g (condition g s (meant g c)) (all_of s w body) (rest s w))
+  rest_layer (layer.Else body) s w = all_if s w body
+
+  abbrev pub arm_layer : Arm-F (JudgesRest g.Told) (Judges g.Told) (JudgesArm g.Told) → JudgesArm g.Told
+  arm_layer a s w base ranges = let labels = labels_in g s base ranges a.labels in (labels.0, armed g labels.1 (all_of s w a.body))
+
+  -- ---- what each means
+
+  unfoldable pub rest : Rest → JudgesRest g.Told
+  rest = fold-Rest (JudgesRest g.Told) (Judges g.Told) (JudgesArm g.Told) rest_layer stmt_layer arm_layer
+
+  unfoldable pub stmt : Stmt → Judges g.Told
+  stmt = fold-Stmt (JudgesRest g.Told) (Judges g.Told) (JudgesArm g.Told) rest_layer stmt_layer arm_layer
+
+  unfoldable pub arm : Arm → JudgesArm g.Told
+  arm = fold-Arm (JudgesRest g.Told) (Judges g.Told) (JudgesArm g.Told) rest_layer stmt_layer arm_layer
+
+  abbrev pub with_written : Scope g.Told → Around g.Told → Result (List TypedStmt) g.Told → Stmt → Result (List TypedStmt) g.Told
+  with_written s w so x = with_next g so (stmt x s w)
+
+  abbrev pub statements : Scope g.Told → Around g.Told → List Stmt → Result (List TypedStmt) g.Told
+  statements s w xs = fold (with_written s w) (Ok []) xs
+
+  abbrev pub with_written_arm : Scope g.Told → Around g.Told → TypeNo → Arms g.Told → Arm → Arms g.Told
+  with_written_arm s w base st x = let r = arm x s w base st.0 in (r.0, with_next g st.1 r.1)
+
+  abbrev pub arms : Scope g.Told → Around g.Told → TypeNo → List Arm → Result (List TypedArm) g.Told
+  arms s w base xs = (fold (with_written_arm s w base) ([], Ok []) xs).1

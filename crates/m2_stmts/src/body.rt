@@ -1,0 +1,376 @@
+//! What statements of bodies mean.
+
+ghost use Rattle.std.specs.Prelude.{◌≡◌, None, Ok, IfOk, OnOk};
+ghost use Rattle.m2_judged.specs.Judged.{least, ◌▷◌};
+ghost use Rattle.m2_exprs.specs.Meanings.{meant, head};
+ghost use Rattle.m2_steps.specs.Lists.{standing, chosen, cased, repeated_while, repeated_until, looped, within};
+ghost use Rattle.m2_steps.specs.Simple.{meant_if, in_loop, condition, selected, record_of, opened};
+ghost use Rattle.m2_steps.specs.Control.{course_of, repeated_for};
+ghost use Rattle.m2_stmts.specs.Statements.{stmt, rest, arm, statements, arms};
+
+use m2_judged::{Fault, Judged, Scope};
+use m2_labels::Ranges;
+use m2_steps::{
+    Around, armed, assignment, called, cased, chosen, chosen_else, close, condition, course_of,
+    exited, in_loop, labels_in, looped, open, record_of, repeated_for, repeated_until,
+    repeated_while, returned, selected, standing, with_next, within,
+};
+use m2_tree::{Arm, Boxed, Designator, Expr, Ident, Items, Rest, Stmt};
+use m2_typed::{TypeNo, TypedArm, TypedExpr, TypedStmt};
+use std::alloc::{AllocError, Global};
+
+/// Judges statements, one after another.
+#[cycle(body)]
+pub fn statements(
+    alloc: Global,
+    scope: &mut Scope<Fault>,
+    around: &Around<Fault>,
+    body: &[Stmt],
+) -> Result<Judged<Items<TypedStmt>>, AllocError>
+    ensures stays { OnOk result (scope.new ≡ scope.old) }
+    ensures means { IfOk result (λ j. j ≡ statements least scope.old around.now body.now) }
+{
+    let mut done = Ok(Items::new(alloc));
+    for written in body {
+        let judged = statement(alloc, scope, around, written)?;
+        done = with_next(done, judged)?;
+    }
+    Ok(done)
+}
+
+/// Judges a statement.
+#[cycle(body)]
+#[tactic(auto, using(crate::proofs::Variants::variants))]
+fn statement(
+    alloc: Global,
+    scope: &mut Scope<Fault>,
+    around: &Around<Fault>,
+    written: &Stmt,
+) -> Result<Judged<TypedStmt>, AllocError>
+    ensures stays { OnOk result (scope.new ≡ scope.old) }
+    ensures means { IfOk result (λ j. j ≡ stmt least written.now scope.old around.now) }
+{
+    match written {
+        Stmt::Assign(designator, e) => assignment(alloc, scope, designator, e),
+        Stmt::Call(designator, args) => called(alloc, scope, designator, args),
+        Stmt::If(e, body, further) => {
+            let first = tested(alloc, scope, around, body.as_slice(), e)?;
+            if_rest(alloc, scope, around, further.get(), first)
+        }
+        Stmt::Case(e, all, otherwise) => match otherwise {
+            None => case_alone(alloc, scope, around, all.as_slice(), e),
+            Some(body) => {
+                let first = case_arms(alloc, scope, around, all.as_slice(), e)?;
+                case_else(alloc, scope, around, body.as_slice(), first)
+            }
+        },
+        Stmt::While(e, body) => while_of(alloc, scope, around, body.as_slice(), e),
+        Stmt::Repeat(body, e) => repeat_of(alloc, scope, around, body.as_slice(), e),
+        Stmt::Loop(body) => loop_of(alloc, scope, around, body.as_slice()),
+        Stmt::Exit(at) => Ok(exited(*at, around)),
+        Stmt::Return(at, e) => returned(alloc, scope, *at, around.gives, e),
+        Stmt::For(name, start, limit, by, body) => {
+            for_of(
+                alloc,
+                scope,
+                around,
+                body.as_slice(),
+                name,
+                start.get(),
+                limit.get(),
+                by,
+            )
+        }
+        Stmt::With(whole, body) => with_of(alloc, scope, around, body.as_slice(), whole),
+    }
+}
+
+/// Judges a condition, and the statements that depend on it.
+#[cycle(body)]
+fn tested(
+    alloc: Global,
+    scope: &mut Scope<Fault>,
+    around: &Around<Fault>,
+    body: &[Stmt],
+    e: &Expr,
+) -> Result<(Judged<TypedExpr>, Judged<Items<TypedStmt>>), AllocError>
+    ensures stays { OnOk result (scope.new ≡ scope.old) }
+    ensures means { IfOk result
+        (λ p. p ≡ (
+          condition least scope.old (meant least e.now),
+          statements least scope.old around.now body.now,
+        )) }
+{
+    let condition = condition(alloc, scope, e)?;
+    let body = statements(alloc, scope, around, body)?;
+    Ok((condition, body))
+}
+
+/// Judges what follows the first part of an IF.
+#[cycle(body)]
+fn if_rest(
+    alloc: Global,
+    scope: &mut Scope<Fault>,
+    around: &Around<Fault>,
+    written: &Rest,
+    first: (Judged<TypedExpr>, Judged<Items<TypedStmt>>),
+) -> Result<Judged<TypedStmt>, AllocError>
+    ensures stays { OnOk result (scope.new ≡ scope.old) }
+    ensures means { IfOk result
+        (λ j. j ≡ chosen least first.0 first.1 (rest least written.now scope.old around.now)) }
+{
+    let further = rest(alloc, scope, around, written)?;
+    let (condition, body) = first;
+    Ok(chosen(condition, body, further))
+}
+
+/// Judges the selector and the arms of a CASE.
+#[cycle(body)]
+fn case_arms(
+    alloc: Global,
+    scope: &mut Scope<Fault>,
+    around: &Around<Fault>,
+    all: &[Arm],
+    selector: &Expr,
+) -> Result<Judged<(TypedExpr, Judged<Items<TypedArm>>)>, AllocError>
+    ensures stays { OnOk result (scope.new ≡ scope.old) }
+    ensures means { IfOk result (λ j. j ≡ (selected least scope.old (meant least selector.now)
+        ▷ λ x. Ok (x.1, arms least scope.old around.now x.0 all.now))) }
+{
+    match selected(alloc, scope, selector)? {
+        Err(fault) => Ok(Err(fault)),
+        Ok((base, e)) => {
+            let done = arms(alloc, scope, around, all, base)?;
+            Ok(Ok((e, done)))
+        }
+    }
+}
+
+/// Judges a CASE without an ELSE.
+#[cycle(body)]
+fn case_alone(
+    alloc: Global,
+    scope: &mut Scope<Fault>,
+    around: &Around<Fault>,
+    all: &[Arm],
+    selector: &Expr,
+) -> Result<Judged<TypedStmt>, AllocError>
+    ensures stays { OnOk result (scope.new ≡ scope.old) }
+    ensures means { IfOk result (λ j. j ≡ (selected least scope.old (meant least selector.now)
+        ▷ λ x. cased least x.1 (arms least scope.old around.now x.0 all.now) (Ok None))) }
+{
+    match case_arms(alloc, scope, around, all, selector)? {
+        Err(fault) => Ok(Err(fault)),
+        Ok((e, done)) => Ok(cased(e, done, Ok(None))),
+    }
+}
+
+/// Judges the ELSE of a CASE.
+#[cycle(body)]
+fn case_else(
+    alloc: Global,
+    scope: &mut Scope<Fault>,
+    around: &Around<Fault>,
+    body: &[Stmt],
+    first: Judged<(TypedExpr, Judged<Items<TypedArm>>)>,
+) -> Result<Judged<TypedStmt>, AllocError>
+    ensures stays { OnOk result (scope.new ≡ scope.old) }
+    ensures means { IfOk result (λ j. j ≡ (first
+        ▷ λ x. cased least x.0 x.1
+        (standing (statements least scope.old around.now body.now)))) }
+{
+    match first {
+        Err(fault) => Ok(Err(fault)),
+        Ok((e, done)) => {
+            let body = statements(alloc, scope, around, body)?;
+            Ok(cased(e, done, standing(body)))
+        }
+    }
+}
+
+/// Judges a WHILE.
+#[cycle(body)]
+fn while_of(
+    alloc: Global,
+    scope: &mut Scope<Fault>,
+    around: &Around<Fault>,
+    body: &[Stmt],
+    e: &Expr,
+) -> Result<Judged<TypedStmt>, AllocError>
+    ensures stays { OnOk result (scope.new ≡ scope.old) }
+    ensures means { IfOk result (λ j. j ≡ repeated_while least
+        (condition least scope.old (meant least e.now))
+        (statements least scope.old around.now body.now)) }
+{
+    let (condition, body) = tested(alloc, scope, around, body, e)?;
+    Ok(repeated_while(condition, body))
+}
+
+/// Judges a REPEAT.
+#[cycle(body)]
+fn repeat_of(
+    alloc: Global,
+    scope: &mut Scope<Fault>,
+    around: &Around<Fault>,
+    body: &[Stmt],
+    e: &Expr,
+) -> Result<Judged<TypedStmt>, AllocError>
+    ensures stays { OnOk result (scope.new ≡ scope.old) }
+    ensures means { IfOk result (λ j. j ≡ repeated_until least
+        (statements least scope.old around.now body.now)
+        (condition least scope.old (meant least e.now))) }
+{
+    let (condition, body) = tested(alloc, scope, around, body, e)?;
+    Ok(repeated_until(body, condition))
+}
+
+/// Judges a LOOP.
+#[cycle(body)]
+fn loop_of(
+    alloc: Global,
+    scope: &mut Scope<Fault>,
+    around: &Around<Fault>,
+    body: &[Stmt],
+) -> Result<Judged<TypedStmt>, AllocError>
+    ensures stays { OnOk result (scope.new ≡ scope.old) }
+    ensures means { IfOk result
+        (λ j. j ≡ looped (statements least scope.old (in_loop around.now) body.now)) }
+{
+    let inside = in_loop(around);
+    let body = statements(alloc, scope, &inside, body)?;
+    Ok(looped(body))
+}
+
+/// Judges a FOR.
+#[cycle(body)]
+fn for_of(
+    alloc: Global,
+    scope: &mut Scope<Fault>,
+    around: &Around<Fault>,
+    body: &[Stmt],
+    name: &Ident,
+    start: &Expr,
+    limit: &Expr,
+    by: &Option<Boxed<Expr>>,
+) -> Result<Judged<TypedStmt>, AllocError>
+    ensures stays { OnOk result (scope.new ≡ scope.old) }
+    ensures means { IfOk result (λ j. j ≡ repeated_for least
+        (course_of least scope.old name.now (meant least start.now) (meant least limit.now)
+        (meant_if least by.now)) (statements least scope.old around.now body.now)) }
+{
+    let course = course_of(alloc, scope, name, start, limit, by)?;
+    let body = statements(alloc, scope, around, body)?;
+    Ok(repeated_for(course, body))
+}
+
+/// Judges a WITH.
+#[cycle(body)]
+fn with_of(
+    alloc: Global,
+    scope: &mut Scope<Fault>,
+    around: &Around<Fault>,
+    body: &[Stmt],
+    whole: &Designator,
+) -> Result<Judged<TypedStmt>, AllocError>
+    ensures stays { OnOk result (scope.new ≡ scope.old) }
+    ensures means { IfOk result (λ j. j ≡ (record_of least scope.old (head least whole.now)
+        ▷ λ r. within r.1 (statements least (opened scope.old r.0) around.now body.now))) }
+{
+    match record_of(alloc, scope, whole)? {
+        Err(fault) => Ok(Err(fault)),
+        Ok((t, place)) => {
+            let body = opened_body(alloc, scope, around, body, t)?;
+            Ok(within(place, body))
+        }
+    }
+}
+
+/// Judges statements in which the fields of a record of this type stand for themselves.
+#[cycle(body)]
+#[tactic(auto, using(m2_steps::proofs::Closing::closed_opened))]
+fn opened_body(
+    alloc: Global,
+    scope: &mut Scope<Fault>,
+    around: &Around<Fault>,
+    body: &[Stmt],
+    t: TypeNo,
+) -> Result<Judged<Items<TypedStmt>>, AllocError>
+    ensures stays { OnOk result (scope.new ≡ scope.old) }
+    ensures means { IfOk result
+        (λ j. j ≡ statements least (opened scope.old t) around.now body.now) }
+{
+    open(scope, t)?;
+    let judged = statements(alloc, scope, around, body)?;
+    close(scope);
+    Ok(judged)
+}
+
+/// Judges what follows a part of an IF.
+#[cycle(body)]
+#[tactic(auto, using(crate::proofs::Variants::variants))]
+fn rest(
+    alloc: Global,
+    scope: &mut Scope<Fault>,
+    around: &Around<Fault>,
+    written: &Rest,
+) -> Result<Judged<Option<Items<TypedStmt>>>, AllocError>
+    ensures stays { OnOk result (scope.new ≡ scope.old) }
+    ensures means { IfOk result (λ j. j ≡ rest least written.now scope.old around.now) }
+{
+    match written {
+        Rest::Elsif(e, body, further) => {
+            let first = tested(alloc, scope, around, body.as_slice(), e)?;
+            let step = if_rest(alloc, scope, around, further.get(), first)?;
+            chosen_else(alloc, step)
+        }
+        Rest::Else(otherwise) => match otherwise {
+            None => Ok(Ok(None)),
+            Some(body) => {
+                let body = statements(alloc, scope, around, body.as_slice())?;
+                Ok(standing(body))
+            }
+        },
+    }
+}
+
+/// Judges the arms of a CASE whose selector has this base type. No two of their labels have a
+/// value in common.
+#[cycle(body)]
+fn arms(
+    alloc: Global,
+    scope: &mut Scope<Fault>,
+    around: &Around<Fault>,
+    all: &[Arm],
+    base: TypeNo,
+) -> Result<Judged<Items<TypedArm>>, AllocError>
+    ensures stays { OnOk result (scope.new ≡ scope.old) }
+    ensures means { IfOk result (λ j. j ≡ arms least scope.old around.now base all.now) }
+{
+    let mut ranges = Ranges::new(alloc);
+    let mut done = Ok(Items::new(alloc));
+    for written in all {
+        let judged = arm(alloc, scope, around, written, base, &mut ranges)?;
+        done = with_next(done, judged)?;
+    }
+    Ok(done)
+}
+
+/// Judges an arm of a CASE, and takes in the values of its labels.
+#[cycle(body)]
+#[tactic(auto, using(crate::proofs::Variants::arm_is))]
+fn arm(
+    alloc: Global,
+    scope: &mut Scope<Fault>,
+    around: &Around<Fault>,
+    written: &Arm,
+    base: TypeNo,
+    ranges: &mut Ranges,
+) -> Result<Judged<TypedArm>, AllocError>
+    ensures stays { OnOk result (scope.new ≡ scope.old) }
+    ensures means { IfOk result
+        (λ j. (ranges.new, j) ≡ arm least written.now scope.old around.now base ranges.old) }
+{
+    let labels = labels_in(alloc, scope, base, ranges, written.labels.as_slice())?;
+    let body = statements(alloc, scope, around, written.body.as_slice())?;
+    Ok(armed(labels, body))
+}

@@ -1,0 +1,6 @@
+//! Statements of bodies.
+#![tactic(auto)]
+
+mod body;
+
+pub use body::statements;
