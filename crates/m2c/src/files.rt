@@ -85,9 +85,9 @@ impl From<AllocError> for BuildFault {
 /// - the rule of tokens (1 to 7) or of the grammar (10 to 13) that a text breaks first, with its place;
 /// - if no text breaks one, the rules of imports (20 to 25) that files break, one for each such file (see
 ///   `m2_graph::Graph::of`);
-/// - if there is none of these either, the least rule that each module breaks (30 to 38, 40, 42, 43 and 52, in
-///   definitions), and 99 at the begin of each file with a body that is not compiled so far, but nothing for a module
-///   that needs another of which something is told.
+/// - if there is none of these either, the least rule that each module breaks (24, 30 to 38, 40 to 53), and 99 at the
+///   begin of each file with a body that breaks none and is not compiled so far, but nothing for a module that needs
+///   another of which something is told.
 ///
 /// A program of which nothing is told is compiled to the module link and, in start order, the modules that are reached
 /// from the program module. They do what the program does.
