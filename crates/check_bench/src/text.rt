@@ -8,11 +8,6 @@ const FIRST: &[u8; 26] = b"abcdefghijklmnopqrstuvwxyz";
 
 const LETTERS: &[u8; 62] = b"abcdefghijklmnopqrstuvwxyzABCDEFGHIJKLMNOPQRSTUVWXYZ0123456789";
 
-const DECIMAL: &[u8; 10] = b"0123456789";
-
-/// No number has more.
-const DIGITS: usize = 7;
-
 /// No name is longer.
 const LETTERS_OF_ONE: usize = 12;
 
@@ -32,24 +27,23 @@ pub fn push_name(text: &mut Vec<u8>, number: usize) -> Result<(), AllocError> {
 }
 
 /// Adds a number in decimal digits.
-fn push_decimal(text: &mut Vec<u8>, number: usize) -> Result<(), AllocError> {
-    let mut place = 1_000_000usize;
-    for _ in 0..DIGITS {
-        if number >= place || place == 1 {
-            text.push(DECIMAL[number / place % 10])?;
-        }
-        place = (place / 10).max(1);
-    }
-    Ok(())
+fn push_decimal(alloc: Global, text: &mut Vec<u8>, number: usize) -> Result<(), AllocError> {
+    let digits = format!(in alloc; "{number}")?;
+    text.extend_from_slice(digits.as_bytes())
 }
 
 /// Adds what a template stands for.
-fn fill(text: &mut Vec<u8>, template: &str, number: usize) -> Result<(), AllocError> {
+fn fill(
+    alloc: Global,
+    text: &mut Vec<u8>,
+    template: &str,
+    number: usize,
+) -> Result<(), AllocError> {
     for byte in template.as_bytes() {
         match *byte {
             b'@' => push_name(text, number)?,
             b'<' => push_name(text, number.saturating_sub(1))?,
-            b'#' => push_decimal(text, number)?,
+            b'#' => push_decimal(alloc, text, number)?,
             other => text.push(other)?,
         }
     }
@@ -71,9 +65,9 @@ pub fn of_row(alloc: Global, row: &Row, size: usize) -> Result<Vec<u8>, AllocErr
             break;
         }
         if is_between(row, number) {
-            fill(&mut text, row.between, number)?;
+            fill(alloc, &mut text, row.between, number)?;
         } else {
-            fill(&mut text, row.again, number)?;
+            fill(alloc, &mut text, row.again, number)?;
         }
     }
     text.extend_from_slice(row.end.as_bytes())?;
