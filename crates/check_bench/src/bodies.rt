@@ -3,11 +3,11 @@
 use crate::rows::Row;
 
 /// Procedures, statements and expressions.
-pub const BODIES: [Row; 42] = [
+pub const BODIES: [Row; 41] = [
     Row {
         name: "arms",
         before: "MODULE M; VAR x: CARDINAL; BEGIN CASE x OF 0:",
-        again: "|#:",
+        again: "|%:",
         group: 0,
         between: "",
         end: " END END M.",
@@ -15,7 +15,7 @@ pub const BODIES: [Row; 42] = [
     Row {
         name: "labels",
         before: "MODULE M; VAR x: CARDINAL; BEGIN CASE x OF 0",
-        again: ",#",
+        again: ",%",
         group: 0,
         between: "",
         end: ": END END M.",
@@ -31,7 +31,7 @@ pub const BODIES: [Row; 42] = [
     Row {
         name: "labels that are ranges",
         before: "MODULE M; VAR x: CARDINAL; BEGIN CASE x OF 0",
-        again: ",#..#",
+        again: ",%..%",
         group: 0,
         between: "",
         end: ": END END M.",
@@ -87,7 +87,7 @@ pub const BODIES: [Row; 42] = [
     Row {
         name: "constants used in turn",
         before: "MODULE M; ",
-        again: "CONST @='a';VAR v@:CHAR;PROCEDURE P@;BEGIN v@:=@ END P@;",
+        again: "CONST @='a';VAR V@:CHAR;PROCEDURE P@;BEGIN V@:=@ END P@;",
         group: 0,
         between: "",
         end: "END M.",
@@ -203,14 +203,6 @@ pub const BODIES: [Row; 42] = [
         group: 0,
         between: "",
         end: " END M.",
-    },
-    Row {
-        name: "ELSIF",
-        before: "MODULE M; VAR b: BOOLEAN; BEGIN IF b THEN b:=b",
-        again: " ELSIF b THEN b:=b",
-        group: 0,
-        between: "",
-        end: " END END M.",
     },
     Row {
         name: "WHILE",
@@ -335,7 +327,7 @@ pub const BODIES: [Row; 42] = [
     Row {
         name: "a typical body",
         before: "MODULE M;\nIMPORT D;\nFROM D IMPORT t, a;\n",
-        again: "\nTYPE\n  Row@ = ARRAY [0..9] OF CARDINAL;\n  Node@ = RECORD key, count: CARDINAL; rows: Row@ END;\nVAR\n  nodes@: ARRAY [0..63] OF Node@; used@: CARDINAL;\n\n(* Finds a key among the nodes; the number of nodes where there is none. *)\nPROCEDURE Find@(key: CARDINAL): CARDINAL;\n  VAR at: CARDINAL;\nBEGIN\n  at := 0;\n  WHILE (at < used@) AND (nodes@[at].key # key) DO\n    INC(at)\n  END;\n  RETURN at\nEND Find@;\n\nPROCEDURE Insert@(key: CARDINAL; VAR done: BOOLEAN);\n  VAR at, i: CARDINAL;\nBEGIN\n  at := Find@(key);\n  done := at < 64;\n  IF done THEN\n    WITH nodes@[at] DO\n      count := count + 1;\n      FOR i := 0 TO 9 DO rows[i] := rows[i] * 2 + key MOD 10 END\n    END;\n    IF at = used@ THEN INC(used@) END\n  END\nEND Insert@;\n",
+        again: "\nTYPE\n  Row@ = ARRAY [0..9] OF CARDINAL;\n  Node@ = RECORD key, count: CARDINAL; rows: Row@ END;\nVAR\n  nodes@: ARRAY [0..63] OF Node@; used@: CARDINAL;\n\n(* Finds a key among the nodes; the number of nodes where there is none. *)\nPROCEDURE Find@(key: CARDINAL): CARDINAL;\n  VAR at: CARDINAL;\nBEGIN\n  at := 0;\n  WHILE (used@ > at) AND (nodes@[at].key # key) DO\n    INC(at)\n  END;\n  RETURN at\nEND Find@;\n\nPROCEDURE Insert@(key: CARDINAL; VAR done: BOOLEAN);\n  VAR at, i: CARDINAL;\nBEGIN\n  at := Find@(key);\n  done := 64 > at;\n  IF done THEN\n    WITH nodes@[at] DO\n      count := count + 1;\n      FOR i := 0 TO 9 DO rows[i] := rows[i] * 2 + key MOD 10 END\n    END;\n    IF at = used@ THEN INC(used@) END\n  END\nEND Insert@;\n",
         group: 0,
         between: "",
         end: "END M.",

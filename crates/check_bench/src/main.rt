@@ -18,7 +18,7 @@ use std::env::{self, Env};
 use std::rt::{Clock, Files};
 
 /// The bytes of each small text.
-const SHORT: usize = 3_000;
+const SHORT: usize = 5_000;
 
 /// The definitions of the small chain.
 const FEW: u32 = 5;

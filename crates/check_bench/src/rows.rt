@@ -1,7 +1,7 @@
 //! Texts of definitions in which one construct repeats.
 
 /// A text: what stands before, the construct as it repeats, after how many what else stands there, and the end. In these
-/// `@` stands for a new name, `<` for the one before it, and `#` for a new number.
+/// `@` stands for a new name, `<` for the one before it, and `%` for a new number.
 #[derive(Clone, Copy)]
 pub struct Row {
     pub name: &'static str,

@@ -43,7 +43,7 @@ fn fill(
         match *byte {
             b'@' => push_name(text, number)?,
             b'<' => push_name(text, number.saturating_sub(1))?,
-            b'#' => push_decimal(alloc, text, number)?,
+            b'%' => push_decimal(alloc, text, number)?,
             other => text.push(other)?,
         }
     }
@@ -59,7 +59,7 @@ fn is_between(row: &Row, number: usize) -> bool {
 pub fn of_row(alloc: Global, row: &Row, size: usize) -> Result<Vec<u8>, AllocError> {
     let mut text = Vec::from_slice(alloc, row.before.as_bytes())?;
     let longest = row.again.len().max(row.between.len());
-    let room = longest.saturating_mul(2).saturating_add(row.end.len());
+    let room = longest.saturating_mul(4).saturating_add(row.end.len());
     for number in 1..size {
         if text.len().saturating_add(room) >= size {
             break;
