@@ -7,12 +7,14 @@ build:
 	tools/build_program m2c_cli m2c
 	tools/build_program m2run_cli m2run
 
-# Compiles examples/hello, runs it, and runs it again on node's own engine where node is there.
+# Compiles examples/hello and examples/hanoi and runs them, and runs hello again on node's own engine where node is there.
 example: build
-	mkdir -p build/hello
+	mkdir -p build/hello build/hanoi
 	build/m2c --out build/hello examples/hello/Hello.mod
-	ls -l build/hello
+	build/m2c --out build/hanoi examples/hanoi/Hanoi.mod lib/InOut.def lib/InOut.mod
+	ls -l build/hello build/hanoi
 	build/m2run build/hello
+	build/m2run build/hanoi
 	if command -v node; then node hosts/node/run.mjs build/hello; fi
 
 # Tries the two programs on command lines, files and streams, good and bad, and on the outside examples of modules.

@@ -1,5 +1,4 @@
-//! Holds what `build` tells of files against rows that others made (`data/cases.txt`). That a body is not compiled so far
-//! (99) is left out.
+//! Holds what `build` tells of files against rows that others made (`data/cases.txt`).
 #![tactic(auto)]
 
 mod rows;

@@ -71,7 +71,7 @@ fn with_line(alloc: Global, row: &mut Row, line: &str) -> Result<()> {
     Ok(())
 }
 
-/// What is told of the files, a line for each, but for bodies that are not compiled so far.
+/// What is told of the files, a line for each.
 fn told<R: Threads + Sync>(rt: &R, alloc: Global, files: &[SourceFile]) -> Result<String> {
     let options = Options {
         workers: 2,
@@ -81,10 +81,8 @@ fn told<R: Threads + Sync>(rt: &R, alloc: Global, files: &[SourceFile]) -> Resul
     if let Outcome::Refused(refusals) = build(rt, alloc, files, options, &Always)? {
         for refusal in refusals.as_slice() {
             let line = format!(in alloc; "{refusal}")?;
-            if !line.as_str().ends_with("refusal 99") {
-                text.push_str(line.as_str())?;
-                text.push_str("\n")?;
-            }
+            text.push_str(line.as_str())?;
+            text.push_str("\n")?;
         }
     }
     Ok(text)

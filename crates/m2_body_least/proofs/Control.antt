@@ -4,7 +4,8 @@ use Rattle.m2_tree.specs.declared.pos.Pos.{Pos}
 use Rattle.m2_tree.specs.declared.name.Ident.{Ident}
 use Rattle.m2_typed.specs.declared.types.TypeNo.{TypeNo}
 use Rattle.m2_typed.specs.declared.computed.Place.{Place}
-use Rattle.m2_typed.specs.declared.computed.Place.TheVariants as place
+use Rattle.m2_typed.specs.declared.computed.Root.TheVariants as root
+use Rattle.m2_typed.specs.Chains.{rooted}
 use Rattle.m2_typed.specs.declared.computed.TypedExpr.{TypedExpr}
 use Rattle.m2_typed.specs.declared.meaning.Meaning.{Meaning}
 use Rattle.m2_typed.specs.declared.meaning.Meaning.TheVariants as meaning
@@ -53,8 +54,8 @@ controlled_tells types at t d = controlled_as_tells at t d (class_at types t)
 pub control_by_tells : {s : Scope Fault} {s' : Scope (List Fault)} → ScopeBeside s s' → (at : Pos) → (p2 : Meaning) → Tells (control_by least s at p2) (control_by every s' at p2)
 control_by_tells s at (meaning.Constant v) = told_tells at 47
 control_by_tells s at (meaning.Type t n) = told_tells at 47
-control_by_tells (scopes tables types vars procs {level = level} {withs = withs} own outer) at (meaning.Variable v) = where_tells (not (v.home == types.home)) at 47 (controlled_tells types at v.of (place.Global v))
-control_by_tells (scopes tables types vars procs {level = level} {withs = withs} own outer) at (meaning.Local v) = where_tells (not (is_own v.kind && (v.level == level))) at 47 (controlled_tells types at v.of (place.Local (slot_of level v)))
+control_by_tells (scopes tables types vars procs {level = level} {withs = withs} own outer) at (meaning.Variable v) = where_tells (not (v.home == types.home)) at 47 (controlled_tells types at v.of (rooted (root.Global v)))
+control_by_tells (scopes tables types vars procs {level = level} {withs = withs} own outer) at (meaning.Local v) = where_tells (not (is_own v.kind && (v.level == level))) at 47 (controlled_tells types at v.of (rooted (root.Local (slot_of level v))))
 control_by_tells s at (meaning.Field f) = told_tells at 47
 control_by_tells s at (meaning.Procedure p) = told_tells at 47
 control_by_tells s at (meaning.LocalProcedure p) = told_tells at 47

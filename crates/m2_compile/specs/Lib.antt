@@ -1,3 +1,2 @@
-pub mod Fragment
-pub mod Imported
+pub mod Own
 pub mod Compiling

@@ -3,9 +3,8 @@
 #![tactic(auto)]
 
 mod contents;
-mod fragment;
-mod imported;
 mod outcome;
+mod tables;
 
-pub use contents::{compile, not_yet};
-pub use outcome::{BodyModule, Compiled};
+pub use contents::compile;
+pub use outcome::Compiled;

@@ -4,20 +4,11 @@ ghost use Rattle.std.specs.Prelude.{◌≡◌, IfOk, OnOk, ◌++◌, map};
 ghost use Rattle.std.specs.List.{list_all};
 ghost use Rattle.m2_compile.specs.Compiling.{is_sound, table_in, tables_of};
 
-use m2_emit::Source;
+use m2_emit::ModuleBytes;
 use m2_judged::Fault;
 use m2_tree::Items;
 use m2_typed::{Shared, Table};
 use std::alloc::{AllocError, Global};
-
-/// The module that a body is compiled to.
-#[derive(Drop)]
-pub struct BodyModule {
-    /// What it is compiled from.
-    pub source: Source,
-    /// Its encoding.
-    pub bytes: Items<u8>,
-}
 
 /// What becomes of a module.
 #[derive(Drop)]
@@ -25,8 +16,8 @@ pub enum Compiled {
     /// The table of a definition.
     Defined(Shared<Table>),
     /// The module of a body.
-    Built(Shared<BodyModule>),
-    /// The least rule that it breaks, or 99 where it is not compiled so far.
+    Built(Shared<ModuleBytes>),
+    /// The least rule that it breaks, or 60 where its storage is too large.
     Refused(Fault),
     /// One that it needs is refused or blocked.
     Blocked,

@@ -9,12 +9,14 @@ use Rattle.m2_typed.specs.declared.computed.Comparison.{Comparison}
 use Rattle.m2_typed.specs.declared.computed.Comparison.TheVariants as comparison
 use Rattle.m2_typed.specs.declared.computed.SetOperator.TheVariants.{Union, Difference, Intersection, SymmetricDifference}
 use Rattle.m2_typed.specs.declared.computed.Inclusion.TheVariants.{Within, Around}
+use Rattle.m2_typed.specs.declared.computed.Link.TheVariants as link
 use Rattle.m2_typed.specs.declared.computed.TypedExpr.{TypedExpr}
 use Rattle.m2_typed.specs.declared.computed.TypedExpr.TheVariants as expr
 use Rattle.m2_typed.specs.declared.meaning.Procedure.{Procedure}
 use Rattle.m2_typed.specs.declared.meaning.Value.{Value}
 use Rattle.m2_typed.specs.declared.known_types.Types.{Types}
 use Rattle.m2_typed.specs.Types.{are_same, boolean}
+use Rattle.m2_typed.specs.Chains.{linked}
 use Rattle.m2_judged.specs.Judged.{Gathers, told, told_where, both, beside, ◌▷◌}
 use Rattle.m2_values.specs.declared.operand.Operand.{Operand}
 use Rattle.m2_values.specs.declared.operator.BinaryOp.{BinaryOp}
@@ -122,9 +124,9 @@ is_in (Relation rel.In) = true
 -- ---- scalars
 
 abbrev pub built : TypeNo → TypedExpr → TypedExpr → Step → Computed
-built t x y (step.Arithmetic o) = value.Scalar t t (expr.Arithmetic o t x y)
-built t x y step.And = truth_of (expr.And x y)
-built t x y step.Or = truth_of (expr.Or x y)
+built t x y (step.Arithmetic o) = value.Scalar t t (linked x (link.Arithmetic o t y))
+built t x y step.And = truth_of (linked x (link.And y))
+built t x y step.Or = truth_of (linked x (link.Or y))
 built t x y (step.Compare c) = truth_of (expr.Compare c x y)
 
 abbrev pub fitting_of : (g : Gathers) → Option TypeNo → Pos → Amount → Result (Unit {0}) g.Told
@@ -160,7 +162,7 @@ member g op spot at a s =
     (element_fits g at a ▷ λ fine. Ok (truth_of (expr.In (run_of (or_cardinal (sort_of a)) a) s)))
 
 abbrev pub set_built : TypedExpr → TypedExpr → SetStep → Computed
-set_built x y (set_step.Combine o) = value.Set (expr.Combine o x y)
+set_built x y (set_step.Combine o) = value.Set (linked x (link.Combine o y))
 set_built x y (set_step.Compare c) = truth_of (expr.Compare c x y)
 set_built x y (set_step.Include i) = truth_of (expr.Include i x y)
 

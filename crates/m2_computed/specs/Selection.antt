@@ -6,10 +6,12 @@ use Rattle.m2_tree.specs.declared.name.Ident.{Ident}
 use Rattle.m2_typed.specs.declared.types.TypeNo.{TypeNo}
 use Rattle.m2_typed.specs.declared.computed.Slot.{Slot}
 use Rattle.m2_typed.specs.declared.computed.Place.{Place}
-use Rattle.m2_typed.specs.declared.computed.Place.TheVariants as place
+use Rattle.m2_typed.specs.declared.computed.Component.TheVariants as part
+use Rattle.m2_typed.specs.declared.computed.Root.TheVariants as root
 use Rattle.m2_typed.specs.declared.computed.TypedExpr.{TypedExpr}
 use Rattle.m2_typed.specs.declared.known_types.Types.{Types}
 use Rattle.m2_typed.specs.Types.{cardinal}
+use Rattle.m2_typed.specs.Chains.{behind, rooted}
 use Rattle.m2_typed.specs.Names.{place_of}
 use Rattle.m2_judged.specs.Judged.{Gathers, told, both, ◌▷◌}
 use Rattle.m2_judged.specs.Scopes.{fields_at}
@@ -40,7 +42,7 @@ record_field g at name None = told g at 40
 record_field g at name (Some fs) = field_named g name.pos (numbered_field name.name fs)
 
 abbrev pub component : (g : Gathers) → Types → Pos → Ident → TypeNo → Place → Result Designated g.Told
-component g types at name t d = record_field g at name (fields_at types t) ▷ λ f. Ok (designated.Variable f.1 (place.Field d t f.0))
+component g types at name t d = record_field g at name (fields_at types t) ▷ λ f. Ok (designated.Variable f.1 (behind d (part.Field t f.0)))
 
 -- only variables have components
 abbrev pub field : (g : Gathers) → Types → Pos → Ident → Designated → Result Designated g.Told
@@ -75,8 +77,8 @@ asked (indexes.Array t i e d) = i
 asked (indexes.Open t slot) = cardinal
 
 abbrev pub picked : TypedExpr → Subscripted → Designated
-picked x (indexes.Array t i e d) = designated.Variable e (place.Element d t x)
-picked x (indexes.Open t slot) = designated.Variable t (place.OpenElement slot t x)
+picked x (indexes.Array t i e d) = designated.Variable e (behind d (part.Element t x))
+picked x (indexes.Open t slot) = designated.Variable t (behind (rooted (root.Open slot)) (part.OpenElement slot t x))
 
 abbrev pub with_index : (g : Gathers) → Types → Pos → Subscripted → Computed → Result Designated g.Told
 with_index g types at a x = value_suited g 41 types (asked a) at x ▷ λ e. Ok (picked e a)

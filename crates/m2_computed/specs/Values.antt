@@ -5,7 +5,8 @@ use Rattle.m2_typed.specs.declared.types.TypeNo.{TypeNo}
 use Rattle.m2_typed.specs.declared.computed.Slot.{Slot}
 use Rattle.m2_typed.specs.declared.computed.LocalProcedure.{LocalProcedure}
 use Rattle.m2_typed.specs.declared.computed.Place.{Place}
-use Rattle.m2_typed.specs.declared.computed.Place.TheVariants as place
+use Rattle.m2_typed.specs.declared.computed.Component.TheVariants as part
+use Rattle.m2_typed.specs.declared.computed.Root.TheVariants as root
 use Rattle.m2_typed.specs.declared.computed.TypedExpr.{TypedExpr}
 use Rattle.m2_typed.specs.declared.computed.TypedExpr.TheVariants as expr
 use Rattle.m2_typed.specs.declared.meaning.LocalKind.{LocalKind}
@@ -16,6 +17,7 @@ use Rattle.m2_typed.specs.declared.meaning.OpenedField.{OpenedField}
 use Rattle.m2_typed.specs.declared.meaning.Meaning.{Meaning}
 use Rattle.m2_typed.specs.declared.meaning.Meaning.TheVariants as meaning
 use Rattle.m2_typed.specs.declared.known_types.Types.{Types}
+use Rattle.m2_typed.specs.Chains.{behind, rooted}
 use Rattle.m2_judged.specs.Judged.{Gathers, told}
 use Rattle.m2_computed.specs.declared.class.Class.{Class}
 use Rattle.m2_computed.specs.declared.class.Class.TheVariants as class
@@ -31,14 +33,14 @@ abbrev pub slot_of : (level : ℕ) → LocalVariable → Slot
 slot_of level v = record { up = level - v.level; number = v.number }
 
 abbrev pub local_by : (level : ℕ) → LocalVariable → LocalKind → Designated
-local_by level v kind.Variable = designated.Variable v.of (place.Local (slot_of level v))
-local_by level v kind.Value = designated.Variable v.of (place.Local (slot_of level v))
-local_by level v kind.Alias = designated.Variable v.of (place.Alias (slot_of level v))
+local_by level v kind.Variable = designated.Variable v.of (rooted (root.Local (slot_of level v)))
+local_by level v kind.Value = designated.Variable v.of (rooted (root.Local (slot_of level v)))
+local_by level v kind.Alias = designated.Variable v.of (rooted (root.Alias (slot_of level v)))
 local_by level v kind.Open = designated.Open v.of (slot_of level v)
 
 -- a field of the record of a WITH
 abbrev pub opened_by : OpenedField → Designated
-opened_by f = designated.Variable f.of (place.Field (place.With f.with) f.whole f.number)
+opened_by f = designated.Variable f.of (behind (rooted (root.With f.with)) (part.Field f.whole f.number))
 
 abbrev pub nested_by : (level : ℕ) → NestedProcedure → LocalProcedure
 nested_by level p = record { up = level - p.level; number = p.number; heading = p.heading }
@@ -46,7 +48,7 @@ nested_by level p = record { up = level - p.level; number = p.number; heading = 
 abbrev pub designated_by : (g : Gathers) → (level : ℕ) → Pos → Meaning → Result Designated g.Told
 designated_by g level at (meaning.Constant v) = Ok (designated.Value (value.Constant v))
 designated_by g level at (meaning.Type t n) = Ok (designated.Type t)
-designated_by g level at (meaning.Variable v) = Ok (designated.Variable v.of (place.Global v))
+designated_by g level at (meaning.Variable v) = Ok (designated.Variable v.of (rooted (root.Global v)))
 designated_by g level at (meaning.Local v) = Ok (local_by level v v.kind)
 designated_by g level at (meaning.Field f) = Ok (opened_by f)
 designated_by g level at (meaning.Procedure p) = Ok (designated.Procedure p)

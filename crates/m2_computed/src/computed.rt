@@ -6,10 +6,10 @@ ghost use Rattle.m2_computed.specs.Values.{slot_of, local_by, opened_by, nested_
 
 use crate::class::{Class, class_of};
 use m2_judged::{Judged, told};
-use m2_tree::{Boxed, Pos};
+use m2_tree::Pos;
 use m2_typed::{
-    LocalKind, LocalProcedure, LocalVariable, Meaning, NestedProcedure, OpenedField, Place,
-    Procedure, Slot, Standard, TypeNo, TypedExpr, Types, Value,
+    Component, LocalKind, LocalProcedure, LocalVariable, Meaning, NestedProcedure, OpenedField,
+    Place, Procedure, Root, Slot, Standard, TypeNo, TypedExpr, Types, Value, behind, rooted,
 };
 use std::alloc::{AllocError, Global};
 
@@ -57,14 +57,14 @@ pub fn slot_of(level: usize, variable: LocalVariable) -> Slot
     }
 }
 
-fn local_by(level: usize, variable: LocalVariable) -> Designated
+fn local_by(alloc: Global, level: usize, variable: LocalVariable) -> Designated
     ensures { result ≡ local_by level variable variable.kind }
 {
     let slot = slot_of(level, variable);
     match variable.kind {
-        LocalKind::Variable => Designated::Variable(variable.of, Place::Local(slot)),
-        LocalKind::Value => Designated::Variable(variable.of, Place::Local(slot)),
-        LocalKind::Alias => Designated::Variable(variable.of, Place::Alias(slot)),
+        LocalKind::Variable => Designated::Variable(variable.of, rooted(alloc, Root::Local(slot))),
+        LocalKind::Value => Designated::Variable(variable.of, rooted(alloc, Root::Local(slot))),
+        LocalKind::Alias => Designated::Variable(variable.of, rooted(alloc, Root::Alias(slot))),
         LocalKind::Open => Designated::Open(variable.of, slot),
     }
 }
@@ -72,8 +72,9 @@ fn local_by(level: usize, variable: LocalVariable) -> Designated
 fn opened_by(alloc: Global, field: OpenedField) -> Result<Designated, AllocError>
     ensures { IfOk result (λ d. d ≡ opened_by field) }
 {
-    let record = Boxed::new(alloc, Place::With(field.with))?;
-    Ok(Designated::Variable(field.of, Place::Field(record, field.whole, field.number)))
+    let record = rooted(alloc, Root::With(field.with));
+    let place = behind(record, Component::Field(field.whole, field.number))?;
+    Ok(Designated::Variable(field.of, place))
 }
 
 fn nested_by(level: usize, procedure: NestedProcedure) -> LocalProcedure
@@ -99,9 +100,10 @@ pub fn designated_by(
         Meaning::Constant(value) => Ok(Ok(Designated::Value(Computed::Constant(value)))),
         Meaning::Type(t, _) => Ok(Ok(Designated::Type(t))),
         Meaning::Variable(variable) => {
-            Ok(Ok(Designated::Variable(variable.of, Place::Global(variable))))
+            let place = rooted(alloc, Root::Global(variable));
+            Ok(Ok(Designated::Variable(variable.of, place)))
         }
-        Meaning::Local(variable) => Ok(Ok(local_by(level, variable))),
+        Meaning::Local(variable) => Ok(Ok(local_by(alloc, level, variable))),
         Meaning::Field(field) => Ok(Ok(opened_by(alloc, field)?)),
         Meaning::Procedure(procedure) => Ok(Ok(Designated::Procedure(procedure))),
         Meaning::LocalProcedure(procedure) => {

@@ -13,7 +13,8 @@ use crate::side::{Amount, Side, known_of, or_cardinal, run_of, side_of, sort_of}
 use m2_judged::{Judged, beside, both, told};
 use m2_tree::{Pos, RelOp};
 use m2_typed::{
-    Arithmetic, Comparison, Inclusion, Procedure, SetOperator, TypeNo, TypedExpr, Types, are_same,
+    Arithmetic, Comparison, Inclusion, Link, Procedure, SetOperator, TypeNo, TypedExpr, Types,
+    are_same, linked,
 };
 use m2_values::{BinaryOp, Operand, binary, common, divisor, fitting, is_number, takes};
 use std::alloc::{AllocError, Global};
@@ -136,16 +137,17 @@ fn built(
 ) -> Result<Computed, AllocError>
     ensures { IfOk result (λ v. v ≡ built t x y step) }
 {
-    let (first, second) = boxed(alloc, x, y)?;
     match step {
-        Step::Arithmetic(arithmetic) => Ok(Computed::Scalar(
-            t,
-            t,
-            TypedExpr::Arithmetic(arithmetic, t, first, second),
-        )),
-        Step::And => Ok(truth_of(TypedExpr::And(first, second))),
-        Step::Or => Ok(truth_of(TypedExpr::Or(first, second))),
-        Step::Compare(comparison) => { Ok(truth_of(TypedExpr::Compare(comparison, first, second))) }
+        Step::Arithmetic(arithmetic) => {
+            let e = linked(alloc, x, Link::Arithmetic(arithmetic, t, y))?;
+            Ok(Computed::Scalar(t, t, e))
+        }
+        Step::And => Ok(truth_of(linked(alloc, x, Link::And(y))?)),
+        Step::Or => Ok(truth_of(linked(alloc, x, Link::Or(y))?)),
+        Step::Compare(comparison) => {
+            let (first, second) = boxed(alloc, x, y)?;
+            Ok(truth_of(TypedExpr::Compare(comparison, first, second)))
+        }
     }
 }
 
@@ -273,15 +275,16 @@ fn set_built(
 ) -> Result<Computed, AllocError>
     ensures { IfOk result (λ v. v ≡ set_built x y step) }
 {
-    let (first, second) = boxed(alloc, x, y)?;
     match step {
         SetStep::Combine(operator) => {
-            Ok(Computed::Set(TypedExpr::Combine(operator, first, second)))
+            Ok(Computed::Set(linked(alloc, x, Link::Combine(operator, y))?))
         }
         SetStep::Compare(comparison) => {
+            let (first, second) = boxed(alloc, x, y)?;
             Ok(truth_of(TypedExpr::Compare(comparison, first, second)))
         }
         SetStep::Include(inclusion) => {
+            let (first, second) = boxed(alloc, x, y)?;
             Ok(truth_of(TypedExpr::Include(inclusion, first, second)))
         }
     }

@@ -9,8 +9,10 @@ use crate::class::array_of;
 use crate::computed::{Computed, Designated};
 use crate::places::value_suited;
 use m2_judged::{Judged, both, fields_of, told};
-use m2_tree::{Boxed, Ident, Pos};
-use m2_typed::{CARDINAL, Dictionary, Place, Slot, TypeNo, TypedExpr, Types};
+use m2_tree::{Ident, Pos};
+use m2_typed::{
+    CARDINAL, Component, Dictionary, Place, Root, Slot, TypeNo, TypedExpr, Types, behind, rooted,
+};
 use std::alloc::{AllocError, Global};
 
 /// The number and the type of a field.
@@ -45,7 +47,6 @@ fn record_field(
 }
 
 fn component(
-    alloc: Global,
     types: &Types,
     at: Pos,
     name: &Ident,
@@ -57,15 +58,14 @@ fn component(
     match record_field(at, name, fields_of(types, t)) {
         Err(fault) => Ok(Err(fault)),
         Ok((number, of)) => {
-            let record = Boxed::new(alloc, place)?;
-            Ok(Ok(Designated::Variable(of, Place::Field(record, t, number))))
+            let place = behind(place, Component::Field(t, number))?;
+            Ok(Ok(Designated::Variable(of, place)))
         }
     }
 }
 
 /// A field of what stands before a point: 40 at the point where that is no record, and 30 at a name that it lacks.
 pub fn field(
-    alloc: Global,
     types: &Types,
     at: Pos,
     name: &Ident,
@@ -74,7 +74,7 @@ pub fn field(
     ensures { IfOk result (λ d. d ≡ field least types.now at name.now from) }
 {
     match from {
-        Designated::Variable(t, place) => component(alloc, types, at, name, t, place),
+        Designated::Variable(t, place) => component(types, at, name, t, place),
         Designated::Value(_) => Ok(told(at, 40)),
         Designated::Open(_, _) => Ok(told(at, 40)),
         Designated::Type(_) => Ok(told(at, 40)),
@@ -136,14 +136,15 @@ fn asked(array: &Subscripted) -> TypeNo
 fn picked(alloc: Global, array: Subscripted, index: TypedExpr) -> Result<Designated, AllocError>
     ensures { IfOk result (λ d. d ≡ picked index array) }
 {
-    let index = Boxed::new(alloc, index)?;
     match array {
         Subscripted::Array(t, _, element, place) => {
-            let whole = Boxed::new(alloc, place)?;
-            Ok(Designated::Variable(element, Place::Element(whole, t, index)))
+            let place = behind(place, Component::Element(t, index))?;
+            Ok(Designated::Variable(element, place))
         }
         Subscripted::Open(t, slot) => {
-            Ok(Designated::Variable(t, Place::OpenElement(slot, t, index)))
+            let whole = rooted(alloc, Root::Open(slot));
+            let place = behind(whole, Component::OpenElement(slot, t, index))?;
+            Ok(Designated::Variable(t, place))
         }
     }
 }

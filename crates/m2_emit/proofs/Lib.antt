@@ -1,2 +1,4 @@
 pub mod Lists
-pub mod Named
+pub mod Operations
+pub mod Fits
+pub mod Procedures

@@ -1,37 +1,49 @@
 //! The bytes of modules.
 
-ghost use Rattle.std.specs.Prelude.{◌≡◌, ◌≤◌, ◌<◌, All, IfOk, OnOk, length};
+ghost use Rattle.std.specs.Prelude.{◌≡◌, ◌≤◌, IfOk, map};
 ghost use Rattle.wasm_binary.specs.Binary.{module_spelling};
-ghost use Rattle.m2_scheme.specs.Scheme.{body_module, link_module};
-ghost use Rattle.m2_emit.specs.Sources.{body};
-ghost use Rattle.m2_meaning.specs.Program.{Program, names};
+ghost use Rattle.m2_layout.specs.Layouts.{IsLayout, AllFits};
+ghost use Rattle.m2_scheme.specs.Modules.{link_of};
+ghost use Rattle.m2_emit.specs.Emitted.{emitted, parts};
 
-use crate::body::body_module;
-use crate::link::link_module;
-use crate::source::Source;
-use m2_tree::Name;
+use crate::emitted::ModuleBytes;
+use crate::link::link_of;
+use crate::module::{module_of, slots_of};
+use m2_layout::Layout;
+use m2_tree::Items;
+use m2_typed::TypedModule;
 use std::alloc::{AllocError, Global};
 use wasm_binary::write_module;
 
-/// The bytes of a body's module. The error is that memory ran out.
-pub fn emit(alloc: Global, source: &Source) -> Result<Vec<u8>, AllocError>
-    ensures spelled { IfOk result (λ bytes. bytes.items ≡ module_spelling (body_module (body source.now))) }
-    // What it prints are bytes.
-    ensures small { OnOk result (All (λ b. b < 256) source.now.printed) }
+/// The bytes of a body's module, and what link needs of it. The layout is the module's, and nothing of it is too large, as
+/// `layout_of` answers it. The only error is that memory ran out, or that a number does not fit into 32 bits.
+pub fn emit(
+    alloc: Global,
+    module_body: &TypedModule,
+    layout: &Layout,
+) -> Result<ModuleBytes, AllocError>
+    requires layout { IsLayout module_body.now layout.now }
+    requires fits { AllFits module_body.now }
+    ensures { IfOk result (λ x. x ≡ emitted module_body.now) }
 {
-    let tree = body_module(alloc, source)?;
-    write_module(alloc, &tree)
+    let tree = module_of(alloc, module_body, layout)?;
+    let bytes = write_module(alloc, &tree)?;
+    Ok(ModuleBytes {
+        name: module_body.name.clone()?,
+        bytes: Items::from_vec(bytes),
+        variables: layout.variables.size,
+        texts: layout.texts,
+        slots: slots_of(module_body)?,
+    })
 }
 
-/// The bytes of the module link for the modules of these names, which are in start order: it has so many pages (of 65536
-/// bytes) of memory, and runs the bodies. The error is that memory ran out.
-pub fn emit_link(alloc: Global, modules: &[Name], pages: u32) -> Result<Vec<u8>, AllocError>
-    requires count { length modules.now ≤ 1024 }
-    requires pages { pages ≤ 1024 }
-    // It is the module link of each program whose bodies have these names.
-    ensures { IfOk result (λ bytes.
-        (p : Program) → names p ≡ modules.now → bytes.items ≡ module_spelling (link_module p pages)) }
+/// The bytes of the module link for these modules, which are in start order: it has so many pages (of 65536 bytes) of
+/// memory, and runs the bodies. The only error is that memory ran out, or that a number does not fit into 32 bits.
+pub fn emit_link(alloc: Global, modules: &[&ModuleBytes], pages: u32) -> Result<Vec<u8>, AllocError>
+    requires { pages ≤ 1024 }
+    ensures { let ms = parts (map (λ m. m.now) modules.now) in
+        IfOk result (λ bytes. bytes.items ≡ module_spelling (link_of ms pages)) }
 {
-    let tree = link_module(alloc, modules, pages)?;
+    let tree = link_of(alloc, modules, pages)?;
     write_module(alloc, &tree)
 }

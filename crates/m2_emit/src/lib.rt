@@ -1,12 +1,20 @@
 //! The modules that a program is compiled to: one for each body, and the module link that runs them.
+//!
+//! - `specs/Emitted` says what is emitted for a module, and what link needs of it.
 #![tactic(auto)]
 
-mod body;
 mod bytes;
 mod code;
+mod emitted;
+mod functions;
+mod helpers;
+mod imports;
 mod link;
+mod module;
+mod numbers;
 mod parts;
-mod source;
+mod segments;
+mod types;
 
 pub use bytes::{emit, emit_link};
-pub use source::Source;
+pub use emitted::ModuleBytes;

@@ -1,45 +1,99 @@
 //! The module link.
 
-ghost use Rattle.std.specs.Prelude.{◌≡◌, ◌≤◌, ◌+◌, ◌*◌, ◌<◌, ◌^◌, ◌++◌, ◌∷◌, [], IfOk, OnOk, Some, length};
+ghost use Rattle.std.specs.Prelude.{◌≡◌, ◌≤◌, ◌+◌, ◌*◌, ◌<◌, ◌^◌, ◌++◌, ◌∷◌, [], IfOk, OnOk, Some, map};
+ghost use Rattle.wasm_tree.specs.declared.code.Op.TheVariants as op;
 ghost use Rattle.wasm_tree.specs.declared.kinds.ValueType.TheVariants as types;
 ghost use Rattle.wasm_tree.specs.declared.module.ExportKind.TheVariants as exported;
-ghost use Rattle.m2_scheme.specs.Scheme.{base_name, body_calls, constant_global, exported_as, link_exports, link_globals, link_module, module_exports, module_globals, tab_name, text_name, type_from};
-ghost use Rattle.m2_emit.specs.Sources.{named};
+ghost use Rattle.m2_scheme.specs.Scheme.{base_name, constant_global, exported_as, tab_name, text_name, type_from};
+ghost use Rattle.m2_scheme.specs.Modules.{all_slots, calls_from, exports_from, globals_from, helper, link_of, stack_begin};
+ghost use Rattle.m2_emit.specs.Emitted.{parts, link_exports};
 
-use crate::code::body_calls;
+use crate::emitted::ModuleBytes;
+use crate::helpers::helper;
+use crate::numbers::added;
 use crate::parts::{constant_global, exported_as, joined, one, type_from};
-use m2_tree::Name;
 use sqlite_items::Items;
 use std::alloc::{AllocError, Global};
 use wasm_tree::{
-    Body, Export, ExportKind, FuncType, Function, Global as Constant, Limits, MemoryType,
+    Code, Export, ExportKind, FuncType, Function, Global as Constant, Limits, MemoryType, Op,
     TableType, ValueType, WModule,
 };
 
-/// The places of a module's variables and texts, and its slot in the table.
-fn push_globals(alloc: Global, globals: &mut Items<Constant>, slot: u32) -> Result<(), AllocError>
+/// Where the stack begins: behind the variables and texts of all modules.
+fn stack_begin(modules: &[&ModuleBytes]) -> Result<u32, AllocError>
+    ensures { IfOk result (λ n. n ≡ stack_begin (parts (map (λ m. m.now) modules.now))) }
+{
+    let mut all = 0;
+    for module in modules {
+        all = added(all, added(module.variables, module.texts)?)?;
+    }
+    Ok(all)
+}
+
+/// The slots of all modules.
+fn all_slots(modules: &[&ModuleBytes]) -> Result<u32, AllocError>
+    ensures { IfOk result (λ n. n ≡ all_slots (parts (map (λ m. m.now) modules.now))) }
+{
+    let mut all = 0;
+    for module in modules {
+        all = added(all, module.slots)?;
+    }
+    Ok(all)
+}
+
+/// Appends the places of a module's variables and texts, and its first slot.
+fn push_places(
+    alloc: Global,
+    globals: &mut Items<Constant>,
+    variables: u32,
+    texts: u32,
+    slot: u32,
+) -> Result<(), AllocError>
     ensures { OnOk result
         (globals.new
-        ≡ globals.old ++ constant_global 0 ∷ constant_global 0 ∷ constant_global slot ∷ []) }
+        ≡ globals.old ++ constant_global variables ∷ constant_global texts
+        ∷ constant_global slot ∷ []) }
 {
-    globals.push(constant_global(alloc, 0)?)?;
-    globals.push(constant_global(alloc, 0)?)?;
+    globals.push(constant_global(alloc, variables)?)?;
+    globals.push(constant_global(alloc, texts)?)?;
     globals.push(constant_global(alloc, slot)?)?;
     Ok(())
 }
 
+/// Appends the places and slots of the modules.
+fn push_globals(
+    alloc: Global,
+    globals: &mut Items<Constant>,
+    modules: &[&ModuleBytes],
+) -> Result<(), AllocError>
+    ensures { OnOk result
+        (globals.new ≡ globals.old ++ globals_from 0 1 (parts (map (λ m. m.now) modules.now))) }
+{
+    let mut place = 0;
+    let mut slot = 1;
+    for module in modules {
+        let texts = added(place, module.variables)?;
+        push_places(alloc, globals, place, texts, slot)?;
+        place = added(texts, module.texts)?;
+        slot = added(slot, module.slots)?;
+    }
+    Ok(())
+}
+
 /// The end of the memory, and the places and slots of the modules.
-fn link_globals(alloc: Global, modules: &[Name], pages: u32) -> Result<Items<Constant>, AllocError>
-    requires count { length modules.now ≤ 1024 }
-    requires pages { pages ≤ 1024 }
-    ensures { IfOk result (λ globals. globals ≡ link_globals (named modules.now) pages) }
+fn link_globals(
+    alloc: Global,
+    modules: &[&ModuleBytes],
+    pages: u32,
+) -> Result<Items<Constant>, AllocError>
+    requires { pages ≤ 1024 }
+    ensures { IfOk result (λ globals.
+        globals
+        ≡ constant_global (65536 * pages)
+        ∷ globals_from 0 1 (parts (map (λ m. m.now) modules.now))) }
 {
     let mut globals = one(alloc, constant_global(alloc, 65536 * pages)?)?;
-    let mut slot = 1;
-    for _ in modules {
-        push_globals(alloc, &mut globals, slot)?;
-        slot += 1;
-    }
+    push_globals(alloc, &mut globals, modules)?;
     Ok(globals)
 }
 
@@ -58,7 +112,7 @@ fn exported_global(
     })
 }
 
-/// The three globals of a module, the first of which has this number.
+/// Appends the three globals of a module, the first of which has this number.
 fn push_exports(
     alloc: Global,
     exports: &mut Items<Export>,
@@ -77,25 +131,28 @@ fn push_exports(
     Ok(())
 }
 
+/// Appends the globals of the modules.
 fn push_modules(
     alloc: Global,
     exports: &mut Items<Export>,
-    modules: &[Name],
+    modules: &[&ModuleBytes],
 ) -> Result<(), AllocError>
-    requires { length modules.now ≤ 1024 }
-    ensures { OnOk result (exports.new ≡ exports.old ++ module_exports 1 (named modules.now)) }
+    ensures { OnOk result
+        (exports.new ≡ exports.old ++ exports_from 1 (parts (map (λ m. m.now) modules.now))) }
 {
     let mut global = 1;
-    for name in modules {
-        push_exports(alloc, exports, name.as_bytes(), global)?;
-        global += 3;
+    for module in modules {
+        let next = added(global, 3)?;
+        push_exports(alloc, exports, module.name.as_bytes(), global)?;
+        global = next;
     }
     Ok(())
 }
 
-fn link_exports(alloc: Global, modules: &[Name]) -> Result<Items<Export>, AllocError>
-    requires { length modules.now ≤ 1024 }
-    ensures { IfOk result (λ exports. exports ≡ link_exports (named modules.now)) }
+/// The memory, the table, the globals, and the function that runs the bodies.
+fn link_exports(alloc: Global, modules: &[&ModuleBytes]) -> Result<Items<Export>, AllocError>
+    ensures { IfOk result (λ exports.
+        exports ≡ link_exports (parts (map (λ m. m.now) modules.now))) }
 {
     let mut exports = one(alloc, exported_as(alloc, b"memory", ExportKind::Memory(0))?)?;
     exports.push(exported_as(alloc, b"table", ExportKind::Table(0))?)?;
@@ -105,22 +162,39 @@ fn link_exports(alloc: Global, modules: &[Name]) -> Result<Items<Export>, AllocE
     Ok(exports)
 }
 
-/// The function that calls the bodies.
-fn run_function(alloc: Global, modules: &[Name]) -> Result<Function, AllocError>
-    requires { length modules.now ≤ 1024 }
-    ensures { IfOk result (λ f.
-        f ≡ record {
-          type_index = 0;
-          body = record { locals = []; code = body_calls 3 (named modules.now) };
-        }) }
+/// Appends a call of the body whose slot is in this global, on a stack that begins here.
+fn push_call(ops: &mut Vec<Op>, stack: u32, global: u32) -> Result<(), AllocError>
+    ensures { OnOk result
+        (ops.new.items
+        ≡ ops.old.items ++ op.I32Const stack ∷ op.GlobalGet global ∷ op.CallIndirect 1 ∷ []) }
 {
-    Ok(Function {
-        type_index: 0,
-        body: Body {
-            locals: Items::new(alloc),
-            code: body_calls(alloc, modules)?,
-        },
-    })
+    ops.push(Op::I32Const(stack))?;
+    ops.push(Op::GlobalGet(global))?;
+    ops.push(Op::CallIndirect(1))?;
+    Ok(())
+}
+
+/// Calls of the bodies, one after another.
+fn calls(alloc: Global, stack: u32, modules: &[&ModuleBytes]) -> Result<Code, AllocError>
+    ensures { IfOk result (λ code.
+        code ≡ calls_from stack 3 (parts (map (λ m. m.now) modules.now))) }
+{
+    let mut ops = Vec::new(alloc);
+    let mut global = 3;
+    for _ in modules {
+        push_call(&mut ops, stack, global)?;
+        global = added(global, 3)?;
+    }
+    Ok(Code::new(ops))
+}
+
+/// The function that calls the bodies.
+fn run_function(alloc: Global, modules: &[&ModuleBytes]) -> Result<Function, AllocError>
+    ensures { let ms = parts (map (λ m. m.now) modules.now) in
+        IfOk result (λ f. f ≡ helper 0 (calls_from (stack_begin ms) 3 ms)) }
+{
+    let stack = stack_begin(modules)?;
+    Ok(helper(alloc, 0, calls(alloc, stack, modules)?))
 }
 
 fn link_types(alloc: Global) -> Result<Items<FuncType>, AllocError>
@@ -141,12 +215,11 @@ fn fixed(size: u32) -> Limits
 }
 
 /// The module link for these modules in start order, with so many pages of memory.
-pub fn link_module(alloc: Global, modules: &[Name], pages: u32) -> Result<WModule, AllocError>
-    requires count { length modules.now ≤ 1024 }
-    requires pages { pages ≤ 1024 }
-    ensures { IfOk result (λ m. m ≡ link_module (named modules.now) pages) }
+pub fn link_of(alloc: Global, modules: &[&ModuleBytes], pages: u32) -> Result<WModule, AllocError>
+    requires { pages ≤ 1024 }
+    ensures { IfOk result (λ m. m ≡ link_of (parts (map (λ m. m.now) modules.now)) pages) }
 {
-    let slots = fixed(1 + modules.len() as u32);
+    let slots = fixed(added(1, all_slots(modules)?)?);
     Ok(WModule {
         types: link_types(alloc)?,
         imports: Items::new(alloc),

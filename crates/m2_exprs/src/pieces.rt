@@ -149,42 +149,20 @@ fn field_of(
 {
     match from {
         Designated::Module(place) => member_of(alloc, scope, place, name),
-        Designated::Value(value) => {
-            field(alloc, &scope.types, at, name, Designated::Value(value))
-        }
+        Designated::Value(value) => { field(&scope.types, at, name, Designated::Value(value)) }
         Designated::Variable(t, place) => {
-            field(
-                alloc,
-                &scope.types,
-                at,
-                name,
-                Designated::Variable(t, place),
-            )
+            field(&scope.types, at, name, Designated::Variable(t, place))
         }
-        Designated::Open(t, slot) => {
-            field(alloc, &scope.types, at, name, Designated::Open(t, slot))
-        }
-        Designated::Type(t) => field(alloc, &scope.types, at, name, Designated::Type(t)),
+        Designated::Open(t, slot) => { field(&scope.types, at, name, Designated::Open(t, slot)) }
+        Designated::Type(t) => field(&scope.types, at, name, Designated::Type(t)),
         Designated::Procedure(procedure) => {
-            field(
-                alloc,
-                &scope.types,
-                at,
-                name,
-                Designated::Procedure(procedure),
-            )
+            field(&scope.types, at, name, Designated::Procedure(procedure))
         }
         Designated::Nested(procedure) => {
-            field(alloc, &scope.types, at, name, Designated::Nested(procedure))
+            field(&scope.types, at, name, Designated::Nested(procedure))
         }
         Designated::Standard(standard) => {
-            field(
-                alloc,
-                &scope.types,
-                at,
-                name,
-                Designated::Standard(standard),
-            )
+            field(&scope.types, at, name, Designated::Standard(standard))
         }
     }
 }

@@ -1,5 +1,5 @@
 -- The two modules have spellings.
-use Rattle.std.proofs.Common.{◌≡◌, ℕ, zero, suc, ◌+◌, ◌-◌, ◌*◌, ◌/◌, ◌^◌, ◌<◌, ◌≤◌, Bool, true, ltb, ◌&&◌, List, [], ◌∷◌, ◌++◌, length, codes, Some, refl, arith, inl, inr}
+use Rattle.std.proofs.Common.{◌≡◌, ℕ, zero, suc, ◌+◌, ◌-◌, ◌*◌, ◌/◌, ◌^◌, ◌<◌, ◌≤◌, Bool, true, false, ltb, ◌&&◌, List, [], ◌∷◌, ◌++◌, length, codes, Some, None, refl, arith, inl, inr}
 use Rattle.std.specs.Prelude.{All}
 use Rattle.std.specs.List.{flat_map, list_all, AllByRecursion as ByRecursion}
 use Rattle.std.specs.Str.{is_utf8}
@@ -16,20 +16,30 @@ use Rattle.wasm_tree.specs.declared.module.ImportKind.{ImportKind}
 use Rattle.wasm_tree.specs.declared.module.ImportKind.TheVariants as imported
 use Rattle.wasm_tree.specs.declared.module.Locals.{Locals}
 use Rattle.wasm_tree.specs.declared.module.Body.{Body}
-use Rattle.wasm_tree.specs.declared.kinds.ValueType.TheVariants.{I32}
+use Rattle.wasm_tree.specs.declared.kinds.ValueType.TheVariants.{I32, I64}
 use Rattle.wasm_tree.specs.declared.module.Function.{Function}
 use Rattle.wasm_tree.specs.declared.module.WModule.{WModule}
 use Rattle.wasm_tree.specs.Format.{Format}
 use Rattle.wasm_bytes.specs.Number.{groups, signed_groups, shifted, unsigned}
 use Rattle.wasm_bytes.specs.Parts.{section_fits, section, name}
-use Rattle.wasm_code.specs.Instructions.{value_type, instr_spelling, instr_fits, code}
+use Rattle.wasm_code.specs.Instructions.{value_type, block_type, instr_spelling, instr_fits, code}
 use Rattle.wasm_binary.specs.Binary.{func_type, limits, table_type, memory_type, import_kind, import, global, export_kind, export, element, locals, body, bodies_spelling, types_of, module_fits}
 use Rattle.wasm_tree.specs.declared.instr.Instr.{Instr}
-use Rattle.wasm_tree.specs.declared.instr.Instr.TheVariants.{Call, CallIndirect, GlobalGet, I32Const, I64Const}
-use Rattle.wasm_code.proofs.Spelled.{spelled-Call, spelled-CallIndirect, spelled-GlobalGet, spelled-I32Const, spelled-I64Const}
-use Rattle.wasm_code.proofs.Fitting.{fits-Call, fits-CallIndirect, fits-GlobalGet, fits-I32Const, fits-I64Const}
-use Rattle.m2_meaning.specs.Program.{Program, Body as Compiled, Stmt, Put, names}
-use Rattle.m2_scheme.specs.Scheme.{link_module, module_exports, module_globals, body_calls, body_module, body_code, body_locals, imported_globals, host_imports, constant_global, exported_as, base_name, text_name, tab_name, from_link}
+use Rattle.wasm_tree.specs.declared.instr.Instr.TheVariants as instr
+use Rattle.wasm_tree.specs.declared.instr.Instr.TheVariants.{Call, CallIndirect, GlobalGet, I32Const, I64Const, LocalGet, LocalSet, LocalTee, Br, BrIf}
+use Rattle.wasm_tree.specs.declared.instr.Numeric.{Numeric}
+use Rattle.wasm_tree.specs.declared.instr.Numeric.TheVariants as numeric
+use Rattle.wasm_tree.specs.declared.instr.Relation.TheVariants.{LtS, GtS, GtU}
+use Rattle.wasm_tree.specs.declared.instr.Operation.TheVariants as operation
+use Rattle.wasm_tree.specs.declared.instr.Load.{Load}
+use Rattle.wasm_tree.specs.declared.instr.Load.TheVariants as load
+use Rattle.wasm_tree.specs.declared.instr.StoreWidth.TheVariants as width
+use Rattle.wasm_tree.specs.declared.instr.StoreWidth.{StoreWidth}
+use Rattle.wasm_code.proofs.Spelled.{spelled-Block, spelled-Loop, spelled-If-None, spelled-Unreachable, spelled-Br, spelled-BrIf, spelled-Call, spelled-CallIndirect, spelled-LocalGet, spelled-LocalSet, spelled-LocalTee, spelled-GlobalGet, spelled-Load, spelled-Store, spelled-I32Const, spelled-I64Const, spelled-Numeric}
+use Rattle.wasm_code.proofs.Fitting.{all_fit, fits-Block, fits-Loop, fits-If-None, fits-Unreachable, fits-Br, fits-BrIf, fits-Call, fits-CallIndirect, fits-LocalGet, fits-LocalSet, fits-LocalTee, fits-GlobalGet, fits-Load, fits-Store, fits-I32Const, fits-I64Const, fits-Numeric}
+use Rattle.m2_scheme.specs.Scheme.{imported_globals, host_imports, constant_global, exported_as, base_name, text_name, tab_name, from_link}
+use Rattle.m2_headline.proofs.Programs.{Program, Body as Compiled, names, puts_code, link_module, module_exports, module_globals, body_calls, body_module, body_code, body_locals}
+use Rattle.m2_scheme.specs.Helpers.{raise, copy_turn, copy_code, fill_turn, fill_code, check_tests, check_code, divisor_checked, div_rest, mod_rest}
 use Rattle.m2_headline.proofs.Names.{◌▪◌, among_all, IsName, IsAmong, IsBody, AreBytes}
 
 -- ---- how long spellings are
@@ -64,42 +74,104 @@ flat_map_length f (x ∷ xs) n h =
 
 -- ---- code
 
--- an instruction fits, in at most 11 bytes
+-- an instruction without code inside it fits, in at most 11 bytes
 abbrev IsSlight : Instr → Type 0
-IsSlight i = (instr_fits i 4096 ≡ true) × (length (instr_spelling i) ≤ 11)
+IsSlight i = ((levels : ℕ) → instr_fits i levels ≡ true) × (length (instr_spelling i) ≤ 11)
 
 abbrev AreSlight : List Instr → Type 0
 AreSlight [] = Unit {0}
 AreSlight (i ∷ is) = IsSlight i × AreSlight is
 
 slight-I32Const : (n : ℕ) → n < 2 ^ 32 → IsSlight (I32Const n)
-slight-I32Const n lt = (rw (fits-I32Const n 4096) (lt-ltb n (2 ^ 32) lt), rw (spelled-I32Const n) (omega (arith, signed_groups_length 5 (2 ^ 32 - 1) n)))
+slight-I32Const n lt = (λ l. rw (fits-I32Const n l) (lt-ltb n (2 ^ 32) lt), rw (spelled-I32Const n) (omega (arith, signed_groups_length 5 (2 ^ 32 - 1) n)))
 
 slight-I64Const : (n : ℕ) → n < 2 ^ 64 → IsSlight (I64Const n)
-slight-I64Const n lt = (rw (fits-I64Const n 4096) (lt-ltb n (2 ^ 64) lt), rw (spelled-I64Const n) (omega (arith, signed_groups_length 10 (2 ^ 64 - 1) n)))
+slight-I64Const n lt = (λ l. rw (fits-I64Const n l) (lt-ltb n (2 ^ 64) lt), rw (spelled-I64Const n) (omega (arith, signed_groups_length 10 (2 ^ 64 - 1) n)))
 
 slight-Call : (f : ℕ) → f < 2 ^ 32 → IsSlight (Call f)
-slight-Call f lt = (rw (fits-Call f 4096) (lt-ltb f (2 ^ 32) lt), rw (spelled-Call f) (omega (arith, groups_length 10 f)))
+slight-Call f lt = (λ l. rw (fits-Call f l) (lt-ltb f (2 ^ 32) lt), rw (spelled-Call f) (omega (arith, groups_length 10 f)))
 
 slight-GlobalGet : (g : ℕ) → g < 2 ^ 32 → IsSlight (GlobalGet g)
-slight-GlobalGet g lt = (rw (fits-GlobalGet g 4096) (lt-ltb g (2 ^ 32) lt), rw (spelled-GlobalGet g) (omega (arith, groups_length 10 g)))
+slight-GlobalGet g lt = (λ l. rw (fits-GlobalGet g l) (lt-ltb g (2 ^ 32) lt), rw (spelled-GlobalGet g) (omega (arith, groups_length 10 g)))
+
+slight-LocalGet : (g : ℕ) → g < 2 ^ 32 → IsSlight (LocalGet g)
+slight-LocalGet g lt = (λ l. rw (fits-LocalGet g l) (lt-ltb g (2 ^ 32) lt), rw (spelled-LocalGet g) (omega (arith, groups_length 10 g)))
+
+slight-LocalSet : (g : ℕ) → g < 2 ^ 32 → IsSlight (LocalSet g)
+slight-LocalSet g lt = (λ l. rw (fits-LocalSet g l) (lt-ltb g (2 ^ 32) lt), rw (spelled-LocalSet g) (omega (arith, groups_length 10 g)))
+
+slight-LocalTee : (g : ℕ) → g < 2 ^ 32 → IsSlight (LocalTee g)
+slight-LocalTee g lt = (λ l. rw (fits-LocalTee g l) (lt-ltb g (2 ^ 32) lt), rw (spelled-LocalTee g) (omega (arith, groups_length 10 g)))
+
+slight-Br : (g : ℕ) → g < 2 ^ 32 → IsSlight (Br g)
+slight-Br g lt = (λ l. rw (fits-Br g l) (lt-ltb g (2 ^ 32) lt), rw (spelled-Br g) (omega (arith, groups_length 10 g)))
+
+slight-BrIf : (g : ℕ) → g < 2 ^ 32 → IsSlight (BrIf g)
+slight-BrIf g lt = (λ l. rw (fits-BrIf g l) (lt-ltb g (2 ^ 32) lt), rw (spelled-BrIf g) (omega (arith, groups_length 10 g)))
+
+slight-Load : (x : Load) → IsSlight (instr.Load x)
+slight-Load x = (λ l. fits-Load x l, rw (spelled-Load x) (omega arith))
+
+slight-Store : (x : StoreWidth) → IsSlight (instr.Store x)
+slight-Store x = (λ l. fits-Store x l, rw (spelled-Store x) (omega arith))
+
+slight-Numeric : (x : Numeric) → IsSlight (instr.Numeric x)
+slight-Numeric x = (λ l. fits-Numeric x l, rw (spelled-Numeric x) (omega arith))
+
+slight-Unreachable : IsSlight instr.Unreachable
+slight-Unreachable = (λ l. fits-Unreachable l, rw (spelled-Unreachable) (omega arith))
 
 slight-CallIndirect : (t : ℕ) → t < 128 → IsSlight (CallIndirect t)
 unfolding groups
-slight-CallIndirect t lt = (rw (fits-CallIndirect t 4096) (lt-ltb t (2 ^ 32) (omega arith)), rw (spelled-CallIndirect t, lt-ltb t 128 lt) (omega arith))
+slight-CallIndirect t lt = (λ l. rw (fits-CallIndirect t l) (lt-ltb t (2 ^ 32) (omega arith)), rw (spelled-CallIndirect t, lt-ltb t 128 lt) (omega arith))
 
-code_fit : (is : List Instr) → AreSlight is → code.fits is ≡ true
+-- code fits within so many levels, in at most so many bytes
+abbrev Fit : (levels : ℕ) → List Instr → (bytes : ℕ) → Type 0
+Fit levels is n = (all_fit levels is ≡ true) × (length (flat_map instr_spelling is) ≤ n)
+
+fit_slight : (levels : ℕ) (is : List Instr) → AreSlight is → Fit levels is (11 * length is)
+fit_slight levels [] slight = (refl, omega arith)
+fit_slight levels (i ∷ is) slight =
+    let rest = fit_slight levels is slight.1 in
+    (and_from _ _ (slight.0.0 levels) rest.0, simp length-append (omega (arith, slight.0.1, rest.1)))
+
+fit_more : (levels : ℕ) (i : Instr) (is : List Instr) (m n : ℕ) → instr_fits i levels ≡ true → length (instr_spelling i) ≤ m → Fit levels is n → Fit levels (i ∷ is) (m + n)
+fit_more levels i is m n fits le rest = (and_from _ _ fits rest.0, simp length-append (omega (arith, le, rest.1)))
+
+fit_append : (levels : ℕ) (is js : List Instr) (m n : ℕ) → Fit levels is m → Fit levels js n → Fit levels (is ++ js) (m + n)
+fit_append levels [] js m n h k = (k.0, omega (arith, k.1))
+fit_append levels (i ∷ is) js m n h k =
+    let parts = and_parts (instr_fits i levels) (all_fit levels is) h.0 in
+    let here : length (instr_spelling i) + length (flat_map instr_spelling is) ≤ m = omega (arith, h.1, length-append (instr_spelling i) (flat_map instr_spelling is)) in
+    let rest = fit_append levels is js (m - length (instr_spelling i)) n (parts.1, omega (arith, here)) k in
+    (and_from _ _ parts.0 rest.0, omega (arith, here, rest.1, length-append (instr_spelling i) (flat_map instr_spelling (is ++ js))))
+  where
+    and_parts : (a b : Bool) → (a && b) ≡ true → (a ≡ true) × (b ≡ true)
+    and_parts true b e = (refl, e)
+    and_parts false b e = absurd (cc e)
+
+block_fit : (levels : ℕ) (is : List Instr) (n : ℕ) → Fit levels is n → Fit (suc levels) (instr.Block None is ∷ []) (n + 3)
+unfolding block_type
+block_fit levels is n h =
+    let h' = fit_more (suc levels) (instr.Block None is) [] (n + 3) 0 (rw (fits-Block None is levels) h.0) (rw (spelled-Block None is) (simp length-append (omega (arith, h.1)))) (refl, omega arith) in (h'.0, omega (arith, h'.1))
+
+loop_fit : (levels : ℕ) (is : List Instr) (n : ℕ) → Fit levels is n → Fit (suc levels) (instr.Loop None is ∷ []) (n + 3)
+unfolding block_type
+loop_fit levels is n h =
+    let h' = fit_more (suc levels) (instr.Loop None is) [] (n + 3) 0 (rw (fits-Loop None is levels) h.0) (rw (spelled-Loop None is) (simp length-append (omega (arith, h.1)))) (refl, omega arith) in (h'.0, omega (arith, h'.1))
+
+if_fit : (levels : ℕ) (is : List Instr) (n : ℕ) → Fit levels is n → Fit (suc levels) (instr.If None is None ∷ []) (n + 3)
+unfolding block_type
+if_fit levels is n h =
+    let h' = fit_more (suc levels) (instr.If None is None) [] (n + 3) 0 (rw (fits-If-None None is levels) h.0) (rw (spelled-If-None None is) (simp length-append (omega (arith, h.1)))) (refl, omega arith) in (h'.0, omega (arith, h'.1))
+
+code_fit : (is : List Instr) (n : ℕ) → Fit 4096 is n → code.fits is ≡ true
 unfolding code
-code_fit [] slight = refl
-code_fit (i ∷ is) slight = and_from _ _ slight.0.0 (code_fit is slight.1)
+code_fit is n h = h.0
 
-instrs_length : (is : List Instr) → AreSlight is → length (flat_map instr_spelling is) ≤ 11 * length is
-instrs_length [] slight = omega arith
-instrs_length (i ∷ is) slight = simp length-append (omega (arith, slight.0.1, instrs_length is slight.1))
-
-code_length : (is : List Instr) → AreSlight is → length (code.spelling is) ≤ 11 * length is + 1
+code_length : (is : List Instr) (n : ℕ) → Fit 4096 is n → length (code.spelling is) ≤ n + 1
 unfolding code
-code_length is slight = simp length-append (omega (arith, instrs_length is slight))
+code_length is n h = simp length-append (omega (arith, h.1))
 
 -- ---- sections
 
@@ -160,8 +232,8 @@ import_good from bs k first short fits le = (
 global_good : (n : ℕ) → n < 2 ^ 32 → Good global (constant_global n)
 unfolding global value_type
 global_good n lt =
-    let slight : AreSlight (I32Const n ∷ []) = (slight-I32Const n lt, tt) in
-    (code_fit (I32Const n ∷ []) slight, simp length-append (omega (arith, code_length (I32Const n ∷ []) slight)))
+    let fit = fit_slight 4096 (I32Const n ∷ []) (slight-I32Const n lt, tt) in
+    (code_fit (I32Const n ∷ []) 11 fit, simp length-append (omega (arith, code_length (I32Const n ∷ []) 11 fit)))
 
 memory_good : (n : ℕ) → n < 2 ^ 32 → Good memory_type (record { limits = record { min = n; max = Some n } })
 unfolding memory_type limits
@@ -170,25 +242,22 @@ memory_good n lt = (rw (lt-ltb n (2 ^ 32) lt) refl, simp length-append (omega (a
 -- ---- functions
 
 -- a function with few groups of locals
-module _ (ls : List Locals) (is : List Instr) (short : length (locals.spelling ls) ≤ 20) (slight : AreSlight is) where
+module _ (ls : List Locals) (is : List Instr) (n : ℕ) (short : length (locals.spelling ls) ≤ 20) (fit : Fit 4096 is n) where
   abbrev whole : Body
   whole = record { locals = ls; code = is }
 
-  inner_length : length (locals.spelling ls ++ code.spelling is) ≤ 11 * length is + 21
-  inner_length = simp length-append (omega (arith, short, code_length is slight))
+  inner_length : length (locals.spelling ls ++ code.spelling is) ≤ n + 21
+  inner_length = simp length-append (omega (arith, short, code_length is n fit))
 
-  body_fit : locals.fits ls ≡ true → length is ≤ 4000000 → body.fits whole ≡ true
+  body_fit : locals.fits ls ≡ true → n ≤ 50000000 → body.fits whole ≡ true
   unfolding body
-  body_fit fit size = and_from _ _ (and_from _ _ fit (code_fit is slight)) (lt-ltb _ (2 ^ 32) (omega (arith, inner_length)))
+  body_fit fits size = and_from _ _ (and_from _ _ fits (code_fit is n fit)) (lt-ltb _ (2 ^ 32) (omega (arith, inner_length)))
 
-  body_length : length (body.spelling whole) ≤ 11 * length is + 31
+  body_length : length (body.spelling whole) ≤ n + 31
   unfolding body
   body_length =
       simp (length-append (groups 10 (length (locals.spelling ls ++ code.spelling is))) (locals.spelling ls ++ code.spelling is))
       (omega (arith, inner_length, groups_length 10 (length (locals.spelling ls ++ code.spelling is))))
-
-abbrev own_body : List Stmt → Body
-own_body ss = record { locals = body_locals; code = body_code ss }
 
 locals_length : length (locals.spelling body_locals) ≤ 20
 unfolding locals groups value_type
@@ -214,12 +283,12 @@ calls_count : (g : ℕ) (p : Program) → length (body_calls g p) ≡ 3 * length
 calls_count g [] = refl
 calls_count g (b ∷ bs) = omega (arith, calls_count (g + 3) bs)
 
-offset_slight : AreSlight (GlobalGet 3 ∷ [])
-offset_slight = (slight-GlobalGet 3 (omega arith), tt)
+offset_fit : Fit 4096 (GlobalGet 3 ∷ []) 11
+offset_fit = fit_slight 4096 (GlobalGet 3 ∷ []) (slight-GlobalGet 3 (omega arith), tt)
 
-own_element_good : Good element (record { table = 0; offset = GlobalGet 3 ∷ []; functions = 2 ∷ [] })
+own_element_good : Good element (record { table = 0; offset = GlobalGet 3 ∷ []; functions = 7 ∷ [] })
 unfolding element groups
-own_element_good = (and_from _ _ refl (and_from _ _ (code_fit (GlobalGet 3 ∷ []) offset_slight) refl), simp length-append (omega (arith, code_length (GlobalGet 3 ∷ []) offset_slight)))
+own_element_good = (and_from _ _ refl (and_from _ _ (code_fit (GlobalGet 3 ∷ []) 11 offset_fit) refl), simp length-append (omega (arith, code_length (GlobalGet 3 ∷ []) 11 offset_fit)))
 
 table_good : (n : ℕ) → n < 2 ^ 32 → Good table_type (record { limits = record { min = n; max = Some n } })
 unfolding table_type limits
@@ -231,8 +300,8 @@ table_good n lt = (rw (lt-ltb n (2 ^ 32) lt) refl, simp length-append (omega (ar
 abbrev many_fit : (a b c d e f g h i j k : Bool) → Type 0
 many_fit a b c d e f g h i j k = (a && b && c && d && e && f && g && h && i && j && k) ≡ true
 
-all_fit : (a b c d e f g h i j k : Bool) → a ≡ true → b ≡ true → c ≡ true → d ≡ true → e ≡ true → f ≡ true → g ≡ true → h ≡ true → i ≡ true → j ≡ true → k ≡ true → many_fit a b c d e f g h i j k
-all_fit a b c d e f g h i j k ea eb ec ed ee ef eg eh ei ej ek = rw (ea, eb, ec, ed, ee, ef, eg, eh, ei, ej, ek) refl
+parts_fit : (a b c d e f g h i j k : Bool) → a ≡ true → b ≡ true → c ≡ true → d ≡ true → e ≡ true → f ≡ true → g ≡ true → h ≡ true → i ≡ true → j ≡ true → k ≡ true → many_fit a b c d e f g h i j k
+parts_fit a b c d e f g h i j k ea eb ec ed ee ef eg eh ei ej ek = rw (ea, eb, ec, ed, ee, ef, eg, eh, ei, ej, ek) refl
 
 -- the names under which a module's globals are exported
 short_name : (word bs : List ℕ) → list_all small word ≡ true → length word ≤ 5 → IsName bs → IsShort (word ++ bs)
@@ -275,11 +344,14 @@ module _ (p : Program) (pages : ℕ) (named : AreNamed p) (count : length p ≤ 
   abbrev run_body : Body
   run_body = record { locals = []; code = body_calls 3 p }
 
+  run_fit : Fit 4096 (body_calls 3 p) (11 * length (body_calls 3 p))
+  run_fit = fit_slight 4096 (body_calls 3 p) (calls_slight 3 p (omega (arith, count)))
+
   run_fits : body.fits run_body ≡ true
-  run_fits = body_fit [] (body_calls 3 p) no_locals_length (calls_slight 3 p (omega (arith, count))) no_locals_fit (omega (arith, calls_count 3 p, count))
+  run_fits = body_fit [] (body_calls 3 p) (11 * length (body_calls 3 p)) no_locals_length run_fit no_locals_fit (omega (arith, calls_count 3 p, count))
 
   run_length : length (body.spelling run_body) ≤ 40000
-  run_length = omega (arith, body_length [] (body_calls 3 p) no_locals_length (calls_slight 3 p (omega (arith, count))), calls_count 3 p, count)
+  run_length = omega (arith, body_length [] (body_calls 3 p) (11 * length (body_calls 3 p)) no_locals_length run_fit, calls_count 3 p, count)
 
   types_fit : (section 1 func_type).fits link.types ≡ true
   unfolding groups func_type value_type
@@ -314,25 +386,108 @@ module _ (p : Program) (pages : ℕ) (named : AreNamed p) (count : length p ≤ 
 
   pub link_fits : module_fits link ≡ true
   unfolding module_fits
-  link_fits = all_fit _ _ _ _ _ _ _ _ _ _ _ types_fit refl uses_fit tables_fit memories_fit globals_fit exports_fit refl functions_fit code_fits refl
+  link_fits = parts_fit _ _ _ _ _ _ _ _ _ _ _ types_fit refl uses_fit tables_fit memories_fit globals_fit exports_fit refl functions_fit code_fits refl
+
+-- ---- the helpers
+
+op : Numeric → Instr
+op x = instr.Numeric x
+
+abbrev turn_back : List Instr
+turn_back = Br 0 ∷ []
+
+raise_fit : (x by : ℕ) (rest : List Instr) → x < 2 ^ 32 → by < 2 ^ 32 → AreSlight rest → AreSlight (raise x by rest)
+raise_fit x by rest lx lb h = (slight-LocalGet x lx, (slight-I32Const by lb, (slight-Numeric numeric.I32Add, (slight-LocalSet x lx, h))))
+
+copy_slight : AreSlight copy_turn
+copy_slight =
+    slight-LocalGet 2 (omega arith) ▪ slight-Numeric numeric.I32Eqz ▪ slight-BrIf 1 (omega arith) ▪ slight-LocalGet 0 (omega arith) ▪ slight-LocalGet 1 (omega arith) ▪ slight-Load load.I64From8U ▪ slight-Store width.One
+    ▪ raise_fit 0 1 (raise 1 1 (raise 2 4294967295 turn_back)) (omega arith) (omega arith) (raise_fit 1 1 (raise 2 4294967295 turn_back) (omega arith) (omega arith) (raise_fit 2 4294967295 turn_back (omega arith) (omega arith) (slight-Br 0 (omega arith), tt)))
+
+copy_fit : Fit 4096 copy_code 226
+copy_fit = block_fit 4095 (instr.Loop None copy_turn ∷ []) 223 (loop_fit 4094 copy_turn 220 (fit_slight 4094 copy_turn copy_slight))
+
+fill_slight : AreSlight fill_turn
+fill_slight =
+    slight-LocalGet 1 (omega arith) ▪ slight-Numeric numeric.I32Eqz ▪ slight-BrIf 1 (omega arith) ▪ slight-LocalGet 0 (omega arith) ▪ slight-I64Const 0 (omega arith) ▪ slight-Store width.One
+    ▪ raise_fit 0 1 (raise 1 4294967295 turn_back) (omega arith) (omega arith) (raise_fit 1 4294967295 turn_back (omega arith) (omega arith) (slight-Br 0 (omega arith), tt))
+
+fill_fit : Fit 4096 fill_code 171
+fill_fit = block_fit 4095 (instr.Loop None fill_turn ∷ []) 168 (loop_fit 4094 fill_turn 165 (fit_slight 4094 fill_turn fill_slight))
+
+abbrev fault_rest : List Instr
+fault_rest = LocalGet 3 ∷ Call 1 ∷ instr.Unreachable ∷ []
+
+tests_slight : AreSlight check_tests
+tests_slight =
+    slight-LocalGet 0 (omega arith) ▪ slight-LocalGet 1 (omega arith) ▪ slight-Numeric (numeric.I64Relation LtS) ▪ slight-BrIf 0 (omega arith)
+    ▪ slight-LocalGet 0 (omega arith) ▪ slight-LocalGet 2 (omega arith) ▪ slight-Numeric (numeric.I64Relation GtS) ▪ slight-BrIf 0 (omega arith) ▪ slight-Br 1 (omega arith) ▪ tt
+
+check_fit : Fit 4096 check_code 149
+check_fit =
+    let rest : Fit 4095 fault_rest 33 = fit_slight 4095 fault_rest (slight-LocalGet 3 (omega arith) ▪ slight-Call 1 (omega arith) ▪ slight-Unreachable ▪ tt) in
+    let inner : Fit 4095 (instr.Block None check_tests ∷ fault_rest) 135 = fit_append 4095 (instr.Block None check_tests ∷ []) fault_rest 102 33 (block_fit 4094 check_tests 99 (fit_slight 4094 check_tests tests_slight)) rest in
+    fit_append 4096 (instr.Block None (instr.Block None check_tests ∷ fault_rest) ∷ []) (LocalGet 0 ∷ []) 138 11 (block_fit 4095 (instr.Block None check_tests ∷ fault_rest) 135 inner)
+    (fit_slight 4096 (LocalGet 0 ∷ []) (slight-LocalGet 0 (omega arith), tt))
+
+divisor_slight : (rest : List Instr) → AreSlight rest → AreSlight (divisor_checked rest)
+divisor_slight rest h =
+    slight-LocalGet 1 (omega arith) ▪ slight-I64Const 1 (omega arith) ▪ slight-I64Const 4294967295 (omega arith) ▪ slight-I64Const 4 (omega arith) ▪ slight-Call 4 (omega arith) ▪ slight-LocalSet 1 (omega arith) ▪ h
+
+div_fit : Fit 4096 (divisor_checked div_rest) 176
+div_fit =
+    fit_slight 4096 (divisor_checked div_rest) (divisor_slight div_rest
+    (slight-LocalGet 0 (omega arith) ▪ slight-LocalGet 1 (omega arith) ▪ slight-Numeric (numeric.I64Operation operation.DivS) ▪ slight-LocalGet 0 (omega arith) ▪ slight-LocalGet 1 (omega arith) ▪ slight-Numeric (numeric.I64Operation operation.RemS)
+    ▪ slight-I64Const 0 (omega arith) ▪ slight-Numeric (numeric.I64Relation LtS) ▪ slight-Numeric numeric.I64ExtendI32U ▪ slight-Numeric (numeric.I64Operation operation.Sub) ▪ tt))
+
+mod_fit : Fit 4096 (divisor_checked mod_rest) 187
+mod_fit =
+    fit_slight 4096 (divisor_checked mod_rest) (divisor_slight mod_rest
+    (slight-LocalGet 0 (omega arith) ▪ slight-LocalGet 1 (omega arith) ▪ slight-Numeric (numeric.I64Operation operation.RemS) ▪ slight-LocalTee 2 (omega arith) ▪ slight-LocalGet 2 (omega arith)
+    ▪ slight-I64Const 0 (omega arith) ▪ slight-Numeric (numeric.I64Relation LtS) ▪ slight-Numeric numeric.I64ExtendI32U ▪ slight-LocalGet 1 (omega arith) ▪ slight-Numeric (numeric.I64Operation operation.Mul) ▪ slight-Numeric (numeric.I64Operation operation.Add) ▪ tt))
+
+abbrev one_local : List Locals
+one_local = record { count = 1; value_type = I64 } ∷ []
+
+one_length : length (locals.spelling one_local) ≤ 20
+unfolding locals groups value_type
+one_length = omega arith
+
+one_fit : locals.fits one_local ≡ true
+unfolding locals
+one_fit = refl
 
 -- ---- the body
 
-puts_slight : (ss : List Stmt) → AreBytes ss → AreSlight (body_code ss)
+puts_slight : (cs : List ℕ) → AreBytes cs → AreSlight (puts_code cs)
 puts_slight [] bytes = tt
-puts_slight (Put ch ∷ ss) bytes =
-    let lt : ch < 256 = bytes 0 (Put ch) (omega arith) in
-    (slight-I64Const ch (omega arith), (slight-Call 0 (omega arith), puts_slight ss (λ k d h. bytes (suc k) d (omega arith))))
+puts_slight (ch ∷ cs) bytes =
+    let lt : ch < 256 = bytes 0 ch (omega arith) in
+    (slight-I64Const ch (omega arith), (slight-Call 0 (omega arith), puts_slight cs (λ k d h. bytes (suc k) d (omega arith))))
 
-puts_count : (ss : List Stmt) → length (body_code ss) ≡ 2 * length ss
+puts_count : (cs : List ℕ) → length (puts_code cs) ≡ 2 * length cs
 puts_count [] = refl
-puts_count (Put ch ∷ ss) = omega (arith, puts_count ss)
+puts_count (ch ∷ cs) = omega (arith, puts_count cs)
 
-own_fits : (ss : List Stmt) → AreBytes ss → length ss ≤ 1048576 → body.fits (own_body ss) ≡ true
-own_fits ss bytes size = body_fit body_locals (body_code ss) locals_length (puts_slight ss bytes) locals_fit (omega (arith, puts_count ss))
+abbrev entry_code : List Instr
+entry_code = LocalGet 0 ∷ I32Const 16 ∷ op numeric.I32Add ∷ instr.LocalTee 1 ∷ GlobalGet 0 ∷ op (numeric.I32Relation GtU) ∷ []
 
-own_length : (ss : List Stmt) → AreBytes ss → length (body.spelling (own_body ss)) ≤ 22 * length ss + 41
-own_length ss bytes = omega (arith, puts_count ss, body_length body_locals (body_code ss) locals_length (puts_slight ss bytes))
+abbrev fault_code : List Instr
+fault_code = I64Const 8 ∷ Call 1 ∷ instr.Unreachable ∷ []
+
+abbrev clear_code : List Instr
+clear_code = LocalGet 0 ∷ I32Const 16 ∷ Call 3 ∷ []
+
+own_fit : (cs : List ℕ) → AreBytes cs → Fit 4096 (body_code cs) (66 + (36 + (33 + 11 * length (puts_code cs))))
+unfolding op
+own_fit cs bytes =
+    let puts = fit_slight 4096 (puts_code cs) (puts_slight cs bytes) in
+    let clear = fit_append 4096 clear_code (puts_code cs) 33 (11 * length (puts_code cs)) (fit_slight 4096 clear_code (slight-LocalGet 0 (omega arith) ▪ slight-I32Const 16 (omega arith) ▪ slight-Call 3 (omega arith) ▪ tt)) puts in
+    let limit = fit_append 4096 (instr.If None fault_code None ∷ []) (clear_code ++ puts_code cs) 36 (33 + 11 * length (puts_code cs))
+    (if_fit 4095 fault_code 33 (fit_slight 4095 fault_code (slight-I64Const 8 (omega arith) ▪ slight-Call 1 (omega arith) ▪ slight-Unreachable ▪ tt))) clear
+    in
+    fit_append 4096 entry_code (instr.If None fault_code None ∷ (clear_code ++ puts_code cs)) 66 (36 + (33 + 11 * length (puts_code cs)))
+    (fit_slight 4096 entry_code (slight-LocalGet 0 (omega arith) ▪ slight-I32Const 16 (omega arith) ▪ slight-Numeric numeric.I32Add ▪ slight-LocalTee 1 (omega arith) ▪ slight-GlobalGet 0 (omega arith) ▪ slight-Numeric (numeric.I32Relation GtU) ▪ tt)) limit
 
 -- a global that is imported from link
 link_good : (bs : List ℕ) → IsShort bs → Good import (from_link bs)
@@ -383,12 +538,40 @@ module _ (all : List (List ℕ)) (b : Compiled) (are_names : All IsName all) (su
   unfolding element
   own_elements_fit = section_fit element tree.elements (omega arith) (All-from_recursion (Good element) tree.elements (own_element_good, tt))
 
+  abbrev size : ℕ
+  size = 66 + (36 + (33 + 11 * length (puts_code b.printed)))
+
+  few_bytes : size ≤ 50000000
+  few_bytes = omega (arith, puts_count b.printed, suits.size)
+
+  abbrev plain : List Instr → Body
+  plain code = record { locals = []; code = code }
+
   own_functions_fit : list_all (λ (f : Function). body.fits f.body) tree.functions ≡ true
-  own_functions_fit = rw (own_fits b.statements suits.bytes suits.size) refl
+  own_functions_fit =
+      rw (
+        body_fit [] copy_code 226 no_locals_length copy_fit no_locals_fit (omega arith),
+        body_fit [] fill_code 171 no_locals_length fill_fit no_locals_fit (omega arith),
+        body_fit [] check_code 149 no_locals_length check_fit no_locals_fit (omega arith),
+        body_fit [] (divisor_checked div_rest) 176 no_locals_length div_fit no_locals_fit (omega arith),
+        body_fit one_local (divisor_checked mod_rest) 187 one_length mod_fit one_fit (omega arith),
+        body_fit body_locals (body_code b.printed) size locals_length (own_fit b.printed suits.bytes) locals_fit few_bytes,
+      ) refl
 
   own_code_fits : ltb (length (bodies_spelling tree.functions)) (2 ^ 32) ≡ true
-  own_code_fits = lt-ltb _ (2 ^ 32) (simp length-append (omega (arith, groups_length 10 1, own_length b.statements suits.bytes, suits.size)))
+  own_code_fits =
+      lt-ltb _ (2 ^ 32) (simp length-append (omega (
+        arith,
+        groups_length 10 6,
+        body_length [] copy_code 226 no_locals_length copy_fit,
+        body_length [] fill_code 171 no_locals_length fill_fit,
+        body_length [] check_code 149 no_locals_length check_fit,
+        body_length [] (divisor_checked div_rest) 176 no_locals_length div_fit,
+        body_length one_local (divisor_checked mod_rest) 187 one_length mod_fit,
+        body_length body_locals (body_code b.printed) size locals_length (own_fit b.printed suits.bytes),
+        few_bytes,
+      )))
 
   pub body_fits : module_fits tree ≡ true
   unfolding module_fits
-  body_fits = all_fit _ _ _ _ _ _ _ _ _ _ _ own_types_fit own_imports_fit own_uses_fit refl refl refl refl own_elements_fit own_functions_fit own_code_fits refl
+  body_fits = parts_fit _ _ _ _ _ _ _ _ _ _ _ own_types_fit own_imports_fit own_uses_fit refl refl refl refl own_elements_fit own_functions_fit own_code_fits refl

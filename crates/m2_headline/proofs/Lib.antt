@@ -1,3 +1,5 @@
+pub mod Programs
+pub mod Suits
 pub mod Names
 pub mod Validates
 pub mod Fits
@@ -5,5 +7,7 @@ pub mod Stores
 pub mod Links
 pub mod Placed
 pub mod Runs
+pub mod Prints
+pub mod Meets
 pub mod Kept
 pub mod Example

@@ -15,8 +15,8 @@ use Rattle.wasm_tree.specs.declared.store.Callee.TheVariants.{Put, Stop, Own}
 use Rattle.wasm_tree.specs.declared.store.Instance.{Instance}
 use Rattle.wasm_tree.specs.declared.store.Store.{Store}
 use Rattle.wasm_tree.specs.Linking.{each, Linked, with_functions, with_global, linked_one, host_store, no_instance, with_import, named}
-use Rattle.m2_meaning.specs.Program.{Program, Body, names}
-use Rattle.m2_scheme.specs.Scheme.{link_module, link_exports, module_globals, constant_global, body_module, body_imports, imported_globals, host_imports, base_name, text_name, tab_name, from_link, from_host, at_least_one}
+use Rattle.m2_scheme.specs.Scheme.{constant_global, imported_globals, host_imports, base_name, text_name, tab_name, from_link, from_host, at_least_one}
+use Rattle.m2_headline.proofs.Programs.{Program, Body, names, link_module, link_exports, module_globals, body_module, body_imports}
 use Rattle.m2_headline.proofs.Names.{IsAmong}
 use Rattle.m2_headline.proofs.Stores.{all, values, places, slots, base_at, text_at, tab_at, imported_places, own_places, store, global_place, link_value, place_within, base_found, text_found, tab_found}
 

@@ -6,7 +6,8 @@ use Rattle.std.proofs.lemmas.Bool.{eq-eqb, false≢true}
 use Rattle.std.proofs.lemmas.List.Elements.{All-head, All-tail}
 use Rattle.std.proofs.lemmas.Slice.Eq.{bytes_eq-Decides}
 use Rattle.m2_scheme.specs.Scheme.{base_name, text_name, tab_name}
-pub use Rattle.m2_headline.specs.Suits.{IsName, IsByte, AreBytes, IsAmong, IsBody, Suits}
+pub use Rattle.m2_headline.specs.Proved.{IsName, IsAmong}
+pub use Rattle.m2_headline.proofs.Suits.{AreBytes, IsBody, Suits}
 
 -- facts in a row, of a list written out
 infixr 20 ◌▪◌

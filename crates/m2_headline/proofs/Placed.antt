@@ -1,5 +1,5 @@
 -- The modules of bodies link.
-use Rattle.std.proofs.Common.{◌≡◌, ◌≢◌, ℕ, suc, ◌+◌, ◌*◌, ◌≤◌, Bool, true, false, leb, List, [], ◌∷◌, ◌++◌, length, Option, Some, None, Ok, refl, sym, ap, subst, ◌∙◌, append_assoc, replicate, map, codes, arith}
+use Rattle.std.proofs.Common.{◌≡◌, ◌≢◌, ℕ, zero, suc, ◌+◌, ◌*◌, ◌≤◌, Bool, true, false, leb, List, [], ◌∷◌, ◌++◌, length, Option, Some, None, Ok, refl, sym, ap, subst, ◌∙◌, append_assoc, replicate, map, codes, arith}
 use Rattle.std.specs.Prelude.{All, slice_get}
 use Rattle.std.specs.Str.{bytes_eq}
 use Rattle.std.proofs.lemmas.Bool.{le-leb}
@@ -8,6 +8,7 @@ use Rattle.std.proofs.lemmas.List.Elements.{All-head, All-tail}
 use Rattle.std.proofs.lemmas.Slice.Eq.{bytes_eq-Decides}
 use Rattle.wasm_tree.specs.declared.instr.Instr.TheVariants.{GlobalGet}
 use Rattle.wasm_tree.specs.declared.module.Element.{Element}
+use Rattle.wasm_tree.specs.declared.module.Function.{Function}
 use Rattle.wasm_tree.specs.declared.store.Value.TheVariants.{I32}
 use Rattle.wasm_tree.specs.declared.store.Callee.{Callee}
 use Rattle.wasm_tree.specs.declared.store.Callee.TheVariants.{Put, Stop, Own}
@@ -15,12 +16,12 @@ use Rattle.wasm_tree.specs.declared.store.Instance.{Instance}
 use Rattle.wasm_tree.specs.declared.store.Store.{Store}
 use Rattle.wasm_tree.specs.Validity.{AreDistinct}
 use Rattle.wasm_tree.specs.Machine.{Config, Going, Activation, pasted}
-use Rattle.wasm_tree.specs.Linking.{each, Linked, with_functions, with_element, linked_one, linked_from, link, named, host_store}
-use Rattle.m2_meaning.specs.Program.{Program, Body, names}
+use Rattle.wasm_tree.specs.Linking.{each, Linked, with_function, with_functions, with_element, linked_one, linked_from, link, named, host_store}
 use Rattle.wasm_tree.specs.declared.module.ExportKind.TheVariants as exported
-use Rattle.m2_scheme.specs.Scheme.{body_calls, body_module, module_exports, exported_as}
+use Rattle.m2_scheme.specs.Scheme.{exported_as}
+use Rattle.m2_headline.proofs.Programs.{Program, Body, names, body_calls, body_module, module_exports}
 use Rattle.m2_headline.proofs.Names.{IsAmong, IsBody, bytes_eq_same}
-use Rattle.m2_headline.proofs.Stores.{all, owns, slots, place_of, tab_at, own_places, imported_places, instances, link_instance, link_values, store, owns_more, slots_more, instances_more, owns_length, slots_length, slot_is}
+use Rattle.m2_headline.proofs.Stores.{all, own_from, numbers_from, owns, behind_helpers, slots, place_of, tab_at, own_places, imported_places, instances, link_instance, link_values, store, owns_more, slots_more, instances_more, owns_length, slots_length, slot_is}
 use Rattle.m2_headline.proofs.Links.{first_linked, body_imported}
 
 -- ---- where a module's own name stands
@@ -56,6 +57,34 @@ paste_at (x ∷ xs) ys y z =
     let e : suc (length xs) + 1 ≡ suc (length xs + 1) = omega arith in
     rw e (ap (λ (r : List _). x ∷ r) (paste_at xs ys y z))
 
+-- functions are added one by one
+functions_added : (m first : ℕ) (fs : List Function) (l : Linked)
+    → with_functions m first fs l ≡ record {
+      store = record l.store { functions = l.store.functions ++ own_from m first (length fs) };
+      instance = record l.instance { functions = l.instance.functions ++ numbers_from (length l.store.functions) (length fs) };
+    }
+unfolding with_functions
+functions_added m first [] l = ap (λ (x : List Callee). with_both x l.instance.functions) (sym (append-nil l.store.functions)) ∙ ap (with_both (l.store.functions ++ [])) (sym (append-nil l.instance.functions))
+  where
+    with_both : List Callee → List ℕ → Linked
+    with_both x y = record { store = record l.store { functions = x }; instance = record l.instance { functions = y } }
+functions_added m first (f ∷ fs) l =
+    functions_added m (suc first) fs (with_function (Own m first) l) ∙ ap (λ (n : ℕ). with_both (more ++ own_from m (suc first) (length fs)) (numbers ++ numbers_from n (length fs))) grown
+    ∙ ap (λ (x : List Callee). with_both x (numbers ++ numbers_from (suc (length l.store.functions)) (length fs))) (append_assoc l.store.functions (Own m first ∷ []) (own_from m (suc first) (length fs)))
+    ∙ ap (with_both (l.store.functions ++ own_from m first (suc (length fs)))) (append_assoc l.instance.functions (length l.store.functions ∷ []) (numbers_from (suc (length l.store.functions)) (length fs)))
+  where
+    with_both : List Callee → List ℕ → Linked
+    with_both x y = record { store = record l.store { functions = x }; instance = record l.instance { functions = y } }
+
+    more : List Callee
+    more = l.store.functions ++ Own m first ∷ []
+
+    numbers : List ℕ
+    numbers = l.instance.functions ++ length l.store.functions ∷ []
+
+    grown : length more ≡ suc (length l.store.functions)
+    grown = omega (arith, length-append l.store.functions (Own m first ∷ []))
+
 module _ (p : Program) (pages : ℕ) (before rest : Program) (b : Body) (is : p ≡ before ++ b ∷ rest) (distinct : AreDistinct (names p)) where
   abbrev k : ℕ
   k = length before
@@ -69,20 +98,28 @@ module _ (p : Program) (pages : ℕ) (before rest : Program) (b : Body) (is : p 
   slot_value : slice_get (link_values p pages) (tab_at p b.name) ≡ Some (I32 (1 + k))
   slot_value = ap (slice_get (link_values p pages)) tab_is ∙ ap (λ (q : Program). slice_get (link_values q pages) (suc (2 + 3 * k))) is ∙ slot_is 1 before rest b
 
+  -- the address of the module's first function
+  abbrev first_address : ℕ
+  first_address = suc (suc (suc (length (owns 1 before))))
+
+  address : first_address ≡ 3 + 6 * k
+  address = omega (arith, owns_length 1 before)
+
   abbrev old_slots : List (Option ℕ)
   old_slots = None ∷ (slots 3 before ++ replicate (suc (length rest)) None)
 
   abbrev new_slots : List (Option ℕ)
   new_slots = None ∷ (slots 3 (before ++ b ∷ []) ++ replicate (length rest) None)
 
-  slots_pasted : pasted old_slots (1 + k) (Some (3 + k) ∷ []) ≡ new_slots
-  slots_pasted =
+  slots_pasted : (a : ℕ) → a ≡ 3 + 6 * k → pasted old_slots (1 + k) (Some (behind_helpers a) ∷ []) ≡ new_slots
+  slots_pasted a e =
       let front : List (Option ℕ) = None ∷ slots 3 before in
       let length_is : 1 + k ≡ length front = omega (arith, slots_length 3 before) in
-      let at : pasted old_slots (1 + k) (Some (3 + k) ∷ []) ≡ front ++ Some (3 + k) ∷ replicate (length rest) None =
-      ap (λ (n : ℕ). pasted old_slots n (Some (3 + k) ∷ [])) length_is ∙ paste_at front (replicate (length rest) None) None (Some (3 + k))
+      let at : pasted old_slots (1 + k) (Some (behind_helpers a) ∷ []) ≡ front ++ Some (behind_helpers a) ∷ replicate (length rest) None =
+      ap (λ (n : ℕ). pasted old_slots n (Some (behind_helpers a) ∷ [])) length_is ∙ paste_at front (replicate (length rest) None) None (Some (behind_helpers a))
       in
-      at ∙ sym (ap (λ (s : List (Option ℕ)). None ∷ (s ++ replicate (length rest) None)) (slots_more 3 before b) ∙ ap (λ (s : List (Option ℕ)). None ∷ s) (append_assoc (slots 3 before) (Some (3 + k) ∷ []) (replicate (length rest) None)))
+      at ∙ ap (λ (n : ℕ). front ++ Some (behind_helpers n) ∷ replicate (length rest) None) e
+      ∙ sym (ap (λ (s : List (Option ℕ)). None ∷ (s ++ replicate (length rest) None)) (slots_more 3 before b) ∙ ap (λ (s : List (Option ℕ)). None ∷ s) (append_assoc (slots 3 before) (Some (behind_helpers (3 + 6 * k)) ∷ []) (replicate (length rest) None)))
 
   slots_fit : leb (1 + k + 1) (length old_slots) ≡ true
   slots_fit = le-leb (1 + k + 1) (length old_slots) (omega (arith, slots_length 3 before, length-append (slots 3 before) (replicate (suc (length rest)) None), length-replicate {A = Option ℕ} (suc (length rest)) None))
@@ -93,11 +130,11 @@ module _ (p : Program) (pages : ℕ) (before rest : Program) (b : Body) (is : p 
   abbrev places_of : List ℕ
   places_of = own_places p b.name ++ imported_places p b.imported
 
-  -- once the body's function is there
+  -- once the module's functions are there
   abbrev half : (m : ℕ) → Linked
   half m = record {
-    store = record there { functions = Put ∷ Stop ∷ Own 0 0 ∷ (owns 1 before ++ Own m 0 ∷ []) };
-    instance = record { functions = 0 ∷ 1 ∷ suc (suc (suc (length (owns 1 before)))) ∷ []; tables = 0 ∷ []; memories = 0 ∷ []; globals = places_of };
+    store = record there { functions = Put ∷ Stop ∷ Own 0 0 ∷ (owns 1 before ++ own_from m 0 6) };
+    instance = record { functions = 0 ∷ 1 ∷ numbers_from first_address 6; tables = 0 ∷ []; memories = 0 ∷ []; globals = places_of };
   }
 
   -- and its slot
@@ -105,36 +142,35 @@ module _ (p : Program) (pages : ℕ) (before rest : Program) (b : Body) (is : p 
   whole m s = record (half m) { store = record (half m).store { tables = record { slots = s; max = Some (1 + length p) } ∷ [] } }
 
   abbrev element : Element
-  element = record { table = 0; offset = GlobalGet 3 ∷ []; functions = 2 ∷ [] }
-
-  address : suc (suc (suc (length (owns 1 before)))) ≡ 3 + k
-  address = omega (arith, owns_length 1 before)
+  element = record { table = 0; offset = GlobalGet 3 ∷ []; functions = 7 ∷ [] }
 
   slot_filled : (m : ℕ) → with_element element (half m) ≡ Ok (whole m new_slots)
-  slot_filled m =
-      let e : pasted old_slots (1 + k) (Some (suc (suc (suc (length (owns 1 before))))) ∷ []) ≡ new_slots = ap (λ (a : ℕ). pasted old_slots (1 + k) (Some a ∷ [])) address ∙ slots_pasted in
-      rw (slot_value, slots_fit) (ap (λ (s : List (Option ℕ)). Ok (whole m s)) e)
+  slot_filled m = rw (slot_value, slots_fit) (ap (λ (s : List (Option ℕ)). Ok (whole m s)) (slots_pasted first_address address))
 
   -- the store with these functions of bodies, and these instances
   abbrev built : List Callee → List Instance → Store
   built f i = record (store p pages (before ++ b ∷ []) rest) { functions = Put ∷ Stop ∷ Own 0 0 ∷ f; instances = link_instance p ∷ i }
 
-  -- the instance, where its function has this address
+  -- the instance, where its first function has this address
   abbrev own_instance : ℕ → Instance
-  own_instance a = record { functions = 0 ∷ 1 ∷ a ∷ []; tables = 0 ∷ []; memories = 0 ∷ []; globals = places_of }
+  own_instance a = record { functions = 0 ∷ 1 ∷ numbers_from a 6; tables = 0 ∷ []; memories = 0 ∷ []; globals = places_of }
 
-  functions_are : (m : ℕ) → m ≡ 1 + k → owns 1 before ++ Own m 0 ∷ [] ≡ owns 1 (before ++ b ∷ [])
-  functions_are m e = ap (λ (n : ℕ). owns 1 before ++ Own n 0 ∷ []) e ∙ sym (owns_more 1 before b)
+  functions_are : (m : ℕ) → m ≡ 1 + k → owns 1 before ++ own_from m 0 6 ≡ owns 1 (before ++ b ∷ [])
+  functions_are m e = ap (λ (n : ℕ). owns 1 before ++ own_from n 0 6) e ∙ sym (owns_more 1 before b)
 
-  instances_are : instances p 3 before ++ own_instance (suc (suc (suc (length (owns 1 before))))) ∷ [] ≡ instances p 3 (before ++ b ∷ [])
+  instances_are : instances p 3 before ++ own_instance first_address ∷ [] ≡ instances p 3 (before ++ b ∷ [])
   instances_are = ap (λ (a : ℕ). instances p 3 before ++ own_instance a ∷ []) address ∙ sym (instances_more p 3 before b)
 
+  -- imports alone
+  abbrev bare : Linked
+  bare = record { store = there; instance = record { functions = 0 ∷ 1 ∷ []; tables = 0 ∷ []; memories = 0 ∷ []; globals = places_of } }
+
   pub body_linked : (m : ℕ) → m ≡ 1 + k → 1 ≤ pages → IsBody (names p) b → linked_one (all p pages) m (body_module b) there ≡ Ok (store p pages (before ++ b ∷ []) rest)
-  unfolding linked_one each with_functions
+  unfolding linked_one each
   body_linked m e le suits =
       let own : IsAmong (names p) b.name = subst (λ (q : Program). IsAmong (names q) b.name) (sym is) (own_among before rest b) in
-      rw (body_imported p pages before (b ∷ rest) b le own suits.imports, slot_filled m)
-      (ap (λ (f : List Callee). Ok (built f (instances p 3 before ++ own_instance (suc (suc (suc (length (owns 1 before))))) ∷ []))) (functions_are m e)
+      rw (body_imported p pages before (b ∷ rest) b le own suits.imports, functions_added m 0 (body_module b).functions bare, slot_filled m)
+      (ap (λ (f : List Callee). Ok (built f (instances p 3 before ++ own_instance first_address ∷ []))) (functions_are m e)
       ∙ ap (λ (i : List Instance). Ok (built (owns 1 (before ++ b ∷ [])) i)) instances_are)
 
 -- ---- all bodies

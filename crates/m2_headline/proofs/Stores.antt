@@ -14,8 +14,8 @@ use Rattle.wasm_tree.specs.declared.store.Callee.TheVariants.{Put, Stop, Own}
 use Rattle.wasm_tree.specs.declared.store.Instance.{Instance}
 use Rattle.wasm_tree.specs.declared.store.Store.{Store}
 use Rattle.wasm_tree.specs.Linking.{named}
-use Rattle.m2_meaning.specs.Program.{Program, Body, names}
-use Rattle.m2_scheme.specs.Scheme.{link_module, link_exports, module_exports, body_module, base_name, text_name, tab_name, exported_as}
+use Rattle.m2_scheme.specs.Scheme.{base_name, text_name, tab_name, exported_as}
+use Rattle.m2_headline.proofs.Programs.{Program, Body, names, link_module, link_exports, module_exports, body_module}
 use Rattle.m2_headline.proofs.Names.{IsAmong}
 
 abbrev pub all : Program → (pages : ℕ) → List WModule
@@ -31,13 +31,27 @@ abbrev pub places : (from : ℕ) → Program → List ℕ
 places from [] = []
 places from (b ∷ bs) = from ∷ (from + 1) ∷ (from + 2) ∷ places (from + 3) bs
 
+-- functions of a module, from this one on, and so many numbers in a row
+abbrev pub own_from : (m first : ℕ) → (count : ℕ) → List Callee
+own_from m first zero = []
+own_from m first (suc n) = Own m first ∷ own_from m (suc first) n
+
+abbrev pub numbers_from : (a : ℕ) → (count : ℕ) → List ℕ
+numbers_from a zero = []
+numbers_from a (suc n) = a ∷ numbers_from (suc a) n
+
+-- the five helpers of a module, and its body
 abbrev pub owns : (m : ℕ) → Program → List Callee
 owns m [] = []
-owns m (b ∷ bs) = Own m 0 ∷ owns (m + 1) bs
+owns m (b ∷ bs) = own_from m 0 6 ++ owns (m + 1) bs
+
+-- the body stands behind the helpers
+abbrev pub behind_helpers : ℕ → ℕ
+behind_helpers a = suc (suc (suc (suc (suc a))))
 
 abbrev pub slots : (address : ℕ) → Program → List (Option ℕ)
 slots a [] = []
-slots a (b ∷ bs) = Some a ∷ slots (a + 1) bs
+slots a (b ∷ bs) = Some (behind_helpers a) ∷ slots (a + 6) bs
 
 -- the place of a name among others
 abbrev pub place_of : (name : List ℕ) → List (List ℕ) → ℕ
@@ -60,11 +74,11 @@ abbrev pub own_places : Program → List ℕ → List ℕ
 own_places p m = 0 ∷ base_at p m ∷ text_at p m ∷ tab_at p m ∷ []
 
 abbrev pub body_instance : Program → (address : ℕ) → Body → Instance
-body_instance p a b = record { functions = 0 ∷ 1 ∷ a ∷ []; tables = 0 ∷ []; memories = 0 ∷ []; globals = own_places p b.name ++ imported_places p b.imported }
+body_instance p a b = record { functions = 0 ∷ 1 ∷ numbers_from a 6; tables = 0 ∷ []; memories = 0 ∷ []; globals = own_places p b.name ++ imported_places p b.imported }
 
 abbrev pub instances : Program → (address : ℕ) → Program → List Instance
 instances p a [] = []
-instances p a (b ∷ bs) = body_instance p a b ∷ instances p (a + 1) bs
+instances p a (b ∷ bs) = body_instance p a b ∷ instances p (a + 6) bs
 
 abbrev pub link_instance : Program → Instance
 link_instance p = record { functions = 2 ∷ []; tables = 0 ∷ []; memories = 0 ∷ []; globals = 0 ∷ places 1 p }
@@ -84,43 +98,44 @@ store p pages before rest = record {
 
 -- ---- one more module
 
-pub owns_more : (m : ℕ) (bs : Program) (b : Body) → owns m (bs ++ b ∷ []) ≡ owns m bs ++ Own (m + length bs) 0 ∷ []
+pub owns_more : (m : ℕ) (bs : Program) (b : Body) → owns m (bs ++ b ∷ []) ≡ owns m bs ++ own_from (m + length bs) 0 6
 owns_more m [] b = rw (e) refl
   where
     e : m + 0 ≡ m
     e = omega arith
-owns_more m (x ∷ bs) b = ap (λ (r : List Callee). Own m 0 ∷ r) (owns_more (m + 1) bs b ∙ ap (λ (n : ℕ). owns (m + 1) bs ++ Own n 0 ∷ []) e)
+owns_more m (x ∷ bs) b =
+    ap (λ (r : List Callee). own_from m 0 6 ++ r) (owns_more (m + 1) bs b ∙ ap (λ (n : ℕ). owns (m + 1) bs ++ own_from n 0 6) e)
   where
     e : m + 1 + length bs ≡ m + suc (length bs)
     e = omega arith
 
-pub slots_more : (a : ℕ) (bs : Program) (b : Body) → slots a (bs ++ b ∷ []) ≡ slots a bs ++ Some (a + length bs) ∷ []
+pub slots_more : (a : ℕ) (bs : Program) (b : Body) → slots a (bs ++ b ∷ []) ≡ slots a bs ++ Some (behind_helpers (a + 6 * length bs)) ∷ []
 slots_more a [] b = rw (e) refl
   where
     e : a + 0 ≡ a
     e = omega arith
-slots_more a (x ∷ bs) b = ap (λ (r : List (Option ℕ)). Some a ∷ r) (slots_more (a + 1) bs b ∙ ap (λ (n : ℕ). slots (a + 1) bs ++ Some n ∷ []) e)
+slots_more a (x ∷ bs) b = ap (λ (r : List (Option ℕ)). Some (behind_helpers a) ∷ r) (slots_more (a + 6) bs b ∙ ap (λ (n : ℕ). slots (a + 6) bs ++ Some (behind_helpers n) ∷ []) e)
   where
-    e : a + 1 + length bs ≡ a + suc (length bs)
+    e : a + 6 + 6 * length bs ≡ a + 6 * suc (length bs)
     e = omega arith
 
-pub instances_more : (p : Program) (a : ℕ) (bs : Program) (b : Body) → instances p a (bs ++ b ∷ []) ≡ instances p a bs ++ body_instance p (a + length bs) b ∷ []
+pub instances_more : (p : Program) (a : ℕ) (bs : Program) (b : Body) → instances p a (bs ++ b ∷ []) ≡ instances p a bs ++ body_instance p (a + 6 * length bs) b ∷ []
 instances_more p a [] b = rw (e) refl
   where
     e : a + 0 ≡ a
     e = omega arith
-instances_more p a (x ∷ bs) b = ap (λ (r : List Instance). body_instance p a x ∷ r) (instances_more p (a + 1) bs b ∙ ap (λ (n : ℕ). instances p (a + 1) bs ++ body_instance p n b ∷ []) e)
+instances_more p a (x ∷ bs) b = ap (λ (r : List Instance). body_instance p a x ∷ r) (instances_more p (a + 6) bs b ∙ ap (λ (n : ℕ). instances p (a + 6) bs ++ body_instance p n b ∷ []) e)
   where
-    e : a + 1 + length bs ≡ a + suc (length bs)
+    e : a + 6 + 6 * length bs ≡ a + 6 * suc (length bs)
     e = omega arith
 
-pub owns_length : (m : ℕ) (bs : Program) → length (owns m bs) ≡ length bs
+pub owns_length : (m : ℕ) (bs : Program) → length (owns m bs) ≡ 6 * length bs
 owns_length m [] = refl
-owns_length m (b ∷ bs) = ap suc (owns_length (m + 1) bs)
+owns_length m (b ∷ bs) = omega (arith, owns_length (m + 1) bs)
 
 pub slots_length : (a : ℕ) (bs : Program) → length (slots a bs) ≡ length bs
 slots_length a [] = refl
-slots_length a (b ∷ bs) = ap suc (slots_length (a + 1) bs)
+slots_length a (b ∷ bs) = ap suc (slots_length (a + 6) bs)
 
 -- ---- what stands where
 

@@ -1,5 +1,5 @@
 -- The modules are valid.
-use Rattle.std.proofs.Common.{◌≡◌, ◌≢◌, ℕ, zero, suc, ◌+◌, ◌*◌, ◌^◌, ◌<◌, ◌≤◌, List, [], ◌∷◌, ◌++◌, length, map, Some, None, Option, refl, sym, ap, subst, codes, arith}
+use Rattle.std.proofs.Common.{◌≡◌, ◌≢◌, ℕ, zero, suc, ◌+◌, ◌*◌, ◌^◌, ◌<◌, ◌≤◌, List, [], ◌∷◌, ◌++◌, length, map, Some, None, Option, refl, sym, ap, subst, ◌∙◌, codes, arith}
 use Rattle.std.specs.Prelude.{All, slice_get}
 use Rattle.std.specs.List.{filter_map, AllByRecursion as ByRecursion}
 use Rattle.std.proofs.lemmas.List.Elements.{All-nil, All-head, All-tail, All-from_recursion, All-weaker}
@@ -7,14 +7,23 @@ use Rattle.wasm_tree.specs.declared.kinds.ValueType.TheVariants.{I32, I64}
 use Rattle.wasm_tree.specs.declared.kinds.ValueType.{ValueType}
 use Rattle.wasm_tree.specs.declared.instr.Instr.{Instr, Instr-F, out-Instr}
 use Rattle.wasm_tree.specs.declared.instr.Instr.TheOpen as layer
-use Rattle.wasm_tree.specs.declared.instr.Instr.TheVariants.{Call, CallIndirect, GlobalGet, I32Const, I64Const, outs-Call, outs-CallIndirect, outs-GlobalGet, outs-I32Const, outs-I64Const}
+use Rattle.wasm_tree.specs.declared.instr.Instr.TheVariants.{Unreachable, Block, Loop, If, Br, BrIf, Call, CallIndirect, LocalGet, LocalSet, LocalTee, GlobalGet, Load, Store, I32Const, I64Const, Numeric, outs-Unreachable, outs-Block, outs-Loop, outs-If, outs-Br, outs-BrIf, outs-Call, outs-CallIndirect, outs-LocalGet, outs-LocalSet, outs-LocalTee, outs-GlobalGet, outs-Load, outs-Store, outs-I32Const, outs-I64Const, outs-Numeric}
+use Rattle.wasm_tree.specs.declared.instr.Numeric.{Numeric as Operator}
+use Rattle.wasm_tree.specs.declared.instr.Numeric.TheVariants as numeric
+use Rattle.wasm_tree.specs.declared.instr.Relation.TheVariants.{LtS, GtS, GtU}
+use Rattle.wasm_tree.specs.declared.instr.Operation.TheVariants as operation
+use Rattle.wasm_tree.specs.declared.instr.Load.{Load as Loads}
+use Rattle.wasm_tree.specs.declared.instr.StoreWidth.{StoreWidth}
+use Rattle.wasm_tree.specs.declared.kinds.FuncType.{FuncType}
+use Rattle.wasm_tree.specs.declared.module.Locals.{Locals}
 use Rattle.wasm_tree.specs.declared.module.Import.{Import}
 use Rattle.wasm_tree.specs.declared.module.Export.{Export}
 use Rattle.wasm_tree.specs.declared.module.ExportKind.TheVariants as exported
 use Rattle.wasm_tree.specs.declared.module.WModule.{WModule}
-use Rattle.wasm_tree.specs.Validity.{Context, context, initial_context, function_context, function_import, table_import, memory_import, IsPlain, is_constant, Plain, Leads, Empty, More, IsConstant, IsConstantOf, AreLimits, IsFuncType, IsImport, IsFunction, IsGlobal, IsExport, IsElement, IsData, AreDistinct, AreKinds, AreBodies, IsValid}
-use Rattle.m2_meaning.specs.Program.{Program, Body, Stmt, Put, names}
-use Rattle.m2_scheme.specs.Scheme.{link_module, module_exports, module_globals, exported_as, body_calls, body_module, body_code, body_locals, imported_globals, host_imports, base_name, text_name, tab_name, type_from}
+use Rattle.wasm_tree.specs.Validity.{Context, context, initial_context, function_context, function_import, table_import, memory_import, numeric_params, numeric_result, within, IsPlain, is_constant, Plain, Block as BlockTypes, Loop as LoopTypes, If as IfTypes, Leads, Empty, More, IsConstant, IsConstantOf, AreLimits, IsFuncType, IsImport, IsFunction, IsGlobal, IsExport, IsElement, IsData, AreDistinct, AreKinds, AreBodies, IsValid}
+use Rattle.m2_scheme.specs.Scheme.{exported_as, imported_globals, host_imports, base_name, text_name, tab_name, type_from, body_types}
+use Rattle.m2_headline.proofs.Programs.{Program, Body, names, puts_code, link_module, module_exports, module_globals, body_calls, body_module, body_code, body_locals}
+use Rattle.m2_scheme.specs.Helpers.{copy_turn, copy_code, fill_turn, fill_code, check_tests, check_code, divisor_checked, div_rest, mod_rest}
 use Rattle.m2_headline.proofs.Names.{◌▪◌, differ, base_apart, text_apart, tab_apart}
 
 some_is : {X : Type 0} (x y : X) → ◌≡◌ {A = Option X} (Some x) (Some y) → x ≡ y
@@ -202,6 +211,89 @@ globals_imported : (c : Context) (ms : List (List ℕ)) → 0 < length c.types �
 globals_imported c [] lt = (lt, (lt, tt))
 globals_imported c (m ∷ ms) lt = (tt, (tt, globals_imported c ms lt))
 
+-- ---- code, above operands s
+
+module _ {c : Context} where
+  get : (x : ℕ) (t : ValueType) (s : List ValueType) {is : List Instr} {after : List ValueType} → slice_get c.locals x ≡ Some t → Leads c is (s ++ t ∷ []) after → Leads c (LocalGet x ∷ is) (s ++ []) after
+  get x t s {is} {after} there on = lead c (LocalGet x) (layer.LocalGet x) is s [] (t ∷ []) after (outs-LocalGet x) (t, there, (refl, refl)) on
+
+  set : (x : ℕ) (t : ValueType) (s : List ValueType) {is : List Instr} {after : List ValueType} → slice_get c.locals x ≡ Some t → Leads c is (s ++ []) after → Leads c (LocalSet x ∷ is) (s ++ t ∷ []) after
+  set x t s {is} {after} there on = lead c (LocalSet x) (layer.LocalSet x) is s (t ∷ []) [] after (outs-LocalSet x) (t, there, (refl, refl)) on
+
+  tee : (x : ℕ) (t : ValueType) (s : List ValueType) {is : List Instr} {after : List ValueType} → slice_get c.locals x ≡ Some t → Leads c is (s ++ t ∷ []) after → Leads c (LocalTee x ∷ is) (s ++ t ∷ []) after
+  tee x t s {is} {after} there on = lead c (LocalTee x) (layer.LocalTee x) is s (t ∷ []) (t ∷ []) after (outs-LocalTee x) (t, there, (refl, refl)) on
+
+  glob : (x : ℕ) (s : List ValueType) {is : List Instr} {after : List ValueType} → slice_get c.globals x ≡ Some I32 → Leads c is (s ++ I32 ∷ []) after → Leads c (GlobalGet x ∷ is) (s ++ []) after
+  glob x s {is} {after} there on = lead c (GlobalGet x) (layer.GlobalGet x) is s [] (I32 ∷ []) after (outs-GlobalGet x) (I32, there, (refl, refl)) on
+
+  short : (n : ℕ) (s : List ValueType) {is : List Instr} {after : List ValueType} → Leads c is (s ++ I32 ∷ []) after → Leads c (I32Const n ∷ is) (s ++ []) after
+  short n s {is} {after} on = lead c (I32Const n) (layer.I32Const n) is s [] (I32 ∷ []) after (outs-I32Const n) (refl, refl) on
+
+  long : (n : ℕ) (s : List ValueType) {is : List Instr} {after : List ValueType} → Leads c is (s ++ I64 ∷ []) after → Leads c (I64Const n ∷ is) (s ++ []) after
+  long n s {is} {after} on = lead c (I64Const n) (layer.I64Const n) is s [] (I64 ∷ []) after (outs-I64Const n) (refl, refl) on
+
+  calc : (o : Operator) (s : List ValueType) {is : List Instr} {after : List ValueType} → Leads c is (s ++ numeric_result o ∷ []) after → Leads c (Numeric o ∷ is) (s ++ numeric_params o) after
+  calc o s {is} {after} on = lead c (Numeric o) (layer.Numeric o) is s (numeric_params o) (numeric_result o ∷ []) after (outs-Numeric o) (refl, refl) on
+
+  load : (l : Loads) (s : List ValueType) {is : List Instr} {after : List ValueType} → 0 < length c.memories → Leads c is (s ++ I64 ∷ []) after → Leads c (Load l ∷ is) (s ++ I32 ∷ []) after
+  load l s {is} {after} memory on = lead c (Load l) (layer.Load l) is s (I32 ∷ []) (I64 ∷ []) after (outs-Load l) (memory, (refl, refl)) on
+
+  store : (w : StoreWidth) (s : List ValueType) {is : List Instr} {after : List ValueType} → 0 < length c.memories → Leads c is (s ++ []) after → Leads c (Store w ∷ is) (s ++ I32 ∷ I64 ∷ []) after
+  store w s {is} {after} memory on = lead c (Store w) (layer.Store w) is s (I32 ∷ I64 ∷ []) [] after (outs-Store w) (memory, (refl, refl)) on
+
+  -- a branch to a label that takes nothing, above no operands
+  br : (l : ℕ) {is : List Instr} {after : List ValueType} → slice_get c.labels l ≡ Some [] → Leads c is [] after → Leads c (Br l ∷ is) [] after
+  br l {is} {after} there on = lead c (Br l) (layer.Br l) is [] [] [] after (outs-Br l) ([], [], there, refl) on
+
+  br_if : (l : ℕ) {is : List Instr} {after : List ValueType} → slice_get c.labels l ≡ Some [] → Leads c is [] after → Leads c (BrIf l ∷ is) (I32 ∷ []) after
+  br_if l {is} {after} there on = lead c (BrIf l) (layer.BrIf l) is [] (I32 ∷ []) [] after (outs-BrIf l) ([], there, (refl, refl)) on
+
+  stuck : {is : List Instr} {after : List ValueType} → Leads c is [] after → Leads c (Unreachable ∷ is) [] after
+  stuck {is} {after} on = lead c Unreachable layer.Unreachable is [] [] [] after outs-Unreachable tt on
+
+  done : (s : List ValueType) → Leads c [] s s
+  done s = Empty c s
+
+  block : (body : List Instr) {is : List Instr} {after : List ValueType} → Leads (within [] c) body [] [] → Leads c is [] after → Leads c (Block None body ∷ is) [] after
+  block body {is} {after} inner on = More c (Block None body) is [] [] [] after (BlockTypes c (Block None body) None body (outs-Block None body) inner) on
+
+  loop : (body : List Instr) {is : List Instr} {after : List ValueType} → Leads (within [] c) body [] [] → Leads c is [] after → Leads c (Loop None body ∷ is) [] after
+  loop body {is} {after} inner on = More c (Loop None body) is [] [] [] after (LoopTypes c (Loop None body) None body (outs-Loop None body) inner) on
+
+  only_if : (body : List Instr) {is : List Instr} {after : List ValueType} → Leads (within [] c) body [] [] → Leads c is [] after → Leads c (If None body None ∷ is) (I32 ∷ []) after
+  only_if body {is} {after} inner on =
+      More c (If None body None) is [] (I32 ∷ []) [] after (IfTypes c (If None body None) None body None (outs-If None body None) inner (Empty (within [] c) [])) on
+
+  -- a local is raised
+  up : (x by : ℕ) {is : List Instr} {after : List ValueType} → slice_get c.locals x ≡ Some I32 → Leads c is [] after → Leads c (LocalGet x ∷ I32Const by ∷ Numeric numeric.I32Add ∷ LocalSet x ∷ is) [] after
+  up x by there on = get x I32 [] there (short by (I32 ∷ []) (calc numeric.I32Add [] (set x I32 [] there on)))
+
+  call_typed : (f i : ℕ) (t : FuncType) (s : List ValueType) {is : List Instr} {after : List ValueType} → slice_get c.functions f ≡ Some i → slice_get c.types i ≡ Some t → Leads c is (s ++ t.results) after → Leads c (Call f ∷ is) (s ++ t.params) after
+  call_typed f i t s {is} {after} there typed on = lead c (Call f) (layer.Call f) is s t.params t.results after (outs-Call f) (i, t, there, typed, (refl, refl)) on
+
+-- ---- the helpers and the body
+
+abbrev put_type : FuncType
+put_type = type_from (I64 ∷ []) []
+
+abbrev copy_type : FuncType
+copy_type = type_from (I32 ∷ I32 ∷ I32 ∷ []) []
+
+abbrev fill_type : FuncType
+fill_type = type_from (I32 ∷ I32 ∷ []) []
+
+abbrev check_type : FuncType
+check_type = type_from (I64 ∷ I64 ∷ I64 ∷ I64 ∷ []) (I64 ∷ [])
+
+abbrev divide_type : FuncType
+divide_type = type_from (I64 ∷ I64 ∷ []) (I64 ∷ [])
+
+abbrev body_type : FuncType
+body_type = type_from (I32 ∷ []) []
+
+abbrev one_local : List Locals
+one_local = record { count = 1; value_type = I64 } ∷ []
+
 module _ (b : Body) where
   abbrev tree : WModule
   tree = body_module b
@@ -209,14 +301,23 @@ module _ (b : Body) where
   abbrev own : Context
   own = context tree
 
-  functions_are : own.functions ≡ 0 ∷ 0 ∷ 5 ∷ []
+  abbrev indices : List ℕ
+  indices = 0 ∷ 0 ∷ 1 ∷ 2 ∷ 3 ∷ 4 ∷ 4 ∷ 5 ∷ []
+
+  functions_are : own.functions ≡ indices
   functions_are = rw (rest_functions b.imported) refl
+
+  function_at : (f i : ℕ) → slice_get indices f ≡ Some i → slice_get own.functions f ≡ Some i
+  function_at f i e = ap (λ (fs : List ℕ). slice_get fs f) functions_are ∙ e
 
   tables_count : length own.tables ≡ 1
   tables_count = rw (rest_tables b.imported) refl
 
   memories_count : length own.memories ≡ 1
   memories_count = rw (rest_memories b.imported) refl
+
+  memory : 0 < length own.memories
+  memory = omega (arith, memories_count)
 
   body_kinds : AreKinds own tree
   body_kinds = record {
@@ -229,19 +330,62 @@ module _ (b : Body) where
     exports = All-nil (IsExport own);
   }
 
-  abbrev code_context : Context
-  code_context = function_context own (type_from (I32 ∷ []) []) body_locals
+  -- ---- code
 
-  put_typed : slice_get code_context.functions 0 ≡ Some 0
-  put_typed = ap (λ (fs : List ℕ). slice_get fs 0) functions_are
+  abbrev inside : FuncType → List Locals → Context
+  inside t groups = function_context own t groups
 
-  puts_lead : (ss : List Stmt) → Leads code_context (body_code ss) [] []
-  puts_lead [] = Empty code_context []
-  puts_lead (Put ch ∷ ss) =
-      let calls : Leads code_context (Call 0 ∷ body_code ss) (I64 ∷ []) [] =
-      lead code_context (Call 0) (layer.Call 0) (body_code ss) [] (I64 ∷ []) [] [] (outs-Call 0) (0, type_from (I64 ∷ []) [], put_typed, refl, (refl, refl)) (puts_lead ss)
-      in
-      lead code_context (I64Const ch) (layer.I64Const ch) (Call 0 ∷ body_code ss) [] [] (I64 ∷ []) [] (outs-I64Const ch) (refl, refl) calls
+  copy_leads : Leads (inside copy_type []) copy_code [] []
+  copy_leads =
+      block (Loop None copy_turn ∷ []) (loop copy_turn
+      (get 2 I32 [] refl (calc numeric.I32Eqz [] (br_if 1 refl (get 0 I32 [] refl (get 1 I32 (I32 ∷ []) refl (load _ (I32 ∷ []) memory (store _ [] memory
+      (up 0 1 refl (up 1 1 refl (up 2 4294967295 refl (br 0 refl (done []))))))))))))
+      (done [])) (done [])
+
+  fill_leads : Leads (inside fill_type []) fill_code [] []
+  fill_leads =
+      block (Loop None fill_turn ∷ []) (loop fill_turn
+      (get 1 I32 [] refl (calc numeric.I32Eqz [] (br_if 1 refl (get 0 I32 [] refl (long 0 (I32 ∷ []) (store _ [] memory
+      (up 0 1 refl (up 1 4294967295 refl (br 0 refl (done []))))))))))
+      (done [])) (done [])
+
+  tests_lead : Leads (within [] (within [] (inside check_type []))) check_tests [] []
+  tests_lead =
+      get 0 I64 [] refl (get 1 I64 (I64 ∷ []) refl (calc (numeric.I64Relation LtS) [] (br_if 0 refl
+      (get 0 I64 [] refl (get 2 I64 (I64 ∷ []) refl (calc (numeric.I64Relation GtS) [] (br_if 0 refl (br 1 refl (done [])))))))))
+
+  check_leads : Leads (inside check_type []) check_code [] (I64 ∷ [])
+  check_leads =
+      block (Block None check_tests ∷ LocalGet 3 ∷ Call 1 ∷ Unreachable ∷ [])
+      (block check_tests tests_lead (get 3 I64 [] refl (call_typed 1 0 put_type [] (function_at 1 0 refl) refl (stuck (done [])))))
+      (get 0 I64 [] refl (done (I64 ∷ [])))
+
+  divisor_leads : (groups : List Locals) (rest : List Instr) → Leads (inside divide_type groups) rest [] (I64 ∷ []) → Leads (inside divide_type groups) (divisor_checked rest) [] (I64 ∷ [])
+  divisor_leads groups rest on =
+      get 1 I64 [] refl (long 1 (I64 ∷ []) (long 4294967295 (I64 ∷ I64 ∷ []) (long 4 (I64 ∷ I64 ∷ I64 ∷ []) (call_typed 4 3 check_type [] (function_at 4 3 refl) refl (set 1 I64 [] refl on)))))
+
+  div_leads : Leads (inside divide_type []) (divisor_checked div_rest) [] (I64 ∷ [])
+  div_leads =
+      divisor_leads [] div_rest
+      (get 0 I64 [] refl (get 1 I64 (I64 ∷ []) refl (calc (numeric.I64Operation operation.DivS) [] (get 0 I64 (I64 ∷ []) refl (get 1 I64 (I64 ∷ I64 ∷ []) refl (calc (numeric.I64Operation operation.RemS) (I64 ∷ [])
+      (long 0 (I64 ∷ I64 ∷ []) (calc (numeric.I64Relation LtS) (I64 ∷ []) (calc numeric.I64ExtendI32U (I64 ∷ []) (calc (numeric.I64Operation operation.Sub) [] (done (I64 ∷ []))))))))))))
+
+  mod_leads : Leads (inside divide_type one_local) (divisor_checked mod_rest) [] (I64 ∷ [])
+  mod_leads =
+      divisor_leads one_local mod_rest
+      (get 0 I64 [] refl (get 1 I64 (I64 ∷ []) refl (calc (numeric.I64Operation operation.RemS) [] (tee 2 I64 [] refl (get 2 I64 (I64 ∷ []) refl
+      (long 0 (I64 ∷ I64 ∷ []) (calc (numeric.I64Relation LtS) (I64 ∷ []) (calc numeric.I64ExtendI32U (I64 ∷ []) (get 1 I64 (I64 ∷ I64 ∷ []) refl
+      (calc (numeric.I64Operation operation.Mul) (I64 ∷ []) (calc (numeric.I64Operation operation.Add) [] (done (I64 ∷ [])))))))))))))
+
+  puts_lead : (cs : List ℕ) → Leads (inside body_type body_locals) (puts_code cs) [] []
+  puts_lead [] = done []
+  puts_lead (ch ∷ cs) = long ch [] (call_typed 0 0 put_type [] (function_at 0 0 refl) refl (puts_lead cs))
+
+  body_leads : (cs : List ℕ) → Leads (inside body_type body_locals) (body_code cs) [] []
+  body_leads cs =
+      get 0 I32 [] refl (short 16 (I32 ∷ []) (calc numeric.I32Add [] (tee 1 I32 [] refl (glob 0 (I32 ∷ []) refl (calc (numeric.I32Relation GtU) []
+      (only_if (I64Const 8 ∷ Call 1 ∷ Unreachable ∷ []) (long 8 [] (call_typed 1 0 put_type [] (function_at 1 0 refl) refl (stuck (done []))))
+      (get 0 I32 [] refl (short 16 (I32 ∷ []) (call_typed 3 2 fill_type [] (function_at 3 2 refl) refl (puts_lead cs))))))))))
 
   body_offset : IsConstantOf own I32 (GlobalGet 3 ∷ [])
   body_offset = record {
@@ -249,13 +393,15 @@ module _ (b : Body) where
     typed = lead own (GlobalGet 3) (layer.GlobalGet 3) [] [] [] (I32 ∷ []) (I32 ∷ []) (outs-GlobalGet 3) (I32, refl, (refl, refl)) (Empty own (I32 ∷ []));
   }
 
-  third : 2 < length own.functions
-  third = rw functions_are (omega arith)
+  own_place : 7 < length own.functions
+  own_place = rw functions_are (omega arith)
 
   body_bodies : AreBodies own tree
   body_bodies = record {
-    functions = All-from_recursion (IsFunction own) tree.functions ((type_from (I32 ∷ []) [], refl, puts_lead b.statements), tt);
-    elements = All-from_recursion (IsElement own) tree.elements ((omega arith, body_offset, All-from_recursion (λ f. f < length own.functions) (2 ∷ []) (third, tt)), tt);
+    functions =
+        All-from_recursion (IsFunction own) tree.functions
+        ((copy_type, refl, copy_leads) ▪ (fill_type, refl, fill_leads) ▪ (check_type, refl, check_leads) ▪ (divide_type, refl, div_leads) ▪ (divide_type, refl, mod_leads) ▪ (body_type, refl, body_leads b.printed) ▪ tt);
+    elements = All-from_recursion (IsElement own) tree.elements ((omega (arith, tables_count), body_offset, All-from_recursion (λ f. f < length own.functions) (7 ∷ []) (own_place, tt)), tt);
     segments = All-nil (IsData own);
   }
 

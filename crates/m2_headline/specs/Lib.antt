@@ -1,3 +1,3 @@
-pub mod Suits
 pub mod Headline
+pub mod Proved
 pub mod Example

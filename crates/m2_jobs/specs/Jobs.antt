@@ -3,12 +3,12 @@ use Rattle.std.specs.Prelude.{ℕ, List, Option, Some, None, slice_get, slice_in
 use Rattle.m2_tree.specs.declared.decl.Module.{Module}
 use Rattle.m2_worker.specs.Results.{results}
 use Rattle.m2_compile.specs.declared.outcome.Compiled.{Compiled}
-use Rattle.m2_compile.specs.declared.outcome.Compiled.TheVariants.{Refused}
-use Rattle.m2_compile.specs.Compiling.{compiled, not_yet}
+use Rattle.m2_compile.specs.declared.outcome.Compiled.TheVariants.{Blocked}
+use Rattle.m2_compile.specs.Compiling.{compiled}
 
 -- what becomes of the module of a job, if there is one
 abbrev pub compiled_in : Option Module → (job : ℕ) → List Compiled → Compiled
-compiled_in None job needed = Refused not_yet
+compiled_in None job needed = Blocked
 compiled_in (Some m) job needed = compiled m job needed
 
 -- what becomes of a job, where the file of each job is given by its place

@@ -4,7 +4,7 @@ ghost use Rattle.std.specs.Prelude.{◌≡◌, ◌<◌, ◌≤◌, ◌^◌, leng
 ghost use Rattle.m2_jobs.specs.Jobs.{compiled_in, compiled_at};
 ghost use Rattle.m2_jobs.specs.Lent.{modules_lent};
 
-use m2_compile::{Compiled, compile, not_yet};
+use m2_compile::{Compiled, compile};
 use m2_tree::Module;
 use m2_worker::Work;
 use sqlite_items::at;
@@ -24,7 +24,7 @@ fn compiled_in(
         (map (λ n. n.now) needed.now)) }
 {
     match at(trees, file) {
-        None => Ok(not_yet()),
+        None => Ok(Compiled::Blocked),
         Some(tree) => compile(alloc, tree.1, job as u32, needed),
     }
 }

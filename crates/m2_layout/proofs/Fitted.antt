@@ -8,7 +8,6 @@ use Rattle.std.proofs.lemmas.Bool.{ltb-true, ltb-false, eqb-false}
 use Rattle.std.proofs.lemmas.Option.{slice_get_within}
 use Rattle.std.proofs.lemmas.List.{length-append, map-append, append-nil}
 use Rattle.std.proofs.Math.Nat.{suc-mul, mul-le-mul_right}
-use Rattle.std.proofs.lemmas.List.Sums.{fold-append}
 use Rattle.m2_typed.specs.declared.types.Home.{Home}
 use Rattle.m2_typed.specs.declared.types.Home.TheVariants.{Predeclared, Module}
 use Rattle.m2_typed.specs.declared.types.TypeNo.{TypeNo}
@@ -19,7 +18,7 @@ use Rattle.m2_typed.specs.Known.{predeclared_scalar}
 use Rattle.m2_layout.specs.Capped.{capped}
 use Rattle.m2_layout.specs.Types.{Ty, Cell, Hidden, Array, Nothing, Field, component}
 use Rattle.m2_layout.specs.Sizes.{Room, One, Two, Four, bytes_in, room_of, size, offset}
-use Rattle.m2_layout.specs.Shapes.{Trees, shape_tree, or_nothing, in_module, scalar_kind, scalar_tree, tree_from, with_made, module_trees, with_module, known_trees, tree}
+use Rattle.m2_layout.specs.Shapes.{Trees, shape_tree, or_nothing, in_module, scalar_kind, scalar_tree, tree_from, with_made, module_trees, with_module, other_trees, known_trees, tree}
 use Rattle.m2_layout.specs.Extents.{element_tree}
 use Rattle.m2_layout.specs.Layouts.{most}
 use Rattle.m2_layout.specs.Fitting.{type_fits, made_type, numbers_fit, module_fits, types_fit}
@@ -108,18 +107,20 @@ entry_fits types (e ∷ es) b f =
     (p.0, λ h k q. entry_case types e.0 (length e.1) h k (lookup (nat_eq h) (lengths es)) p.1 (r.1 h k) (nat_eq h e.0) refl q)
 
 module _ (types : Types) (fit : types_fit types ≡ true) where
-  abbrev modules : List (ℕ × List Made)
-  modules = types.others ++ (types.home, types.own) ∷ []
+  parts_fit : (fold (module_fits types) true types.others ≡ true) × (numbers_fit types types.home (length types.own) ≡ true)
+  parts_fit = both_true (fold (module_fits types) true types.others) (numbers_fit types types.home (length types.own)) fit
 
-  all_fit : fold (module_fits types) true modules ≡ true
-  all_fit = fold-append (module_fits types) true types.others ((types.home, types.own) ∷ []) ∙ fit
-
-  lengths_known : lengths (known_trees types) ≡ lengths modules
+  lengths_known : lengths (known_trees types) ≡ (types.home, length types.own) ∷ lengths types.others
   unfolding known_trees
-  lengths_known = known_lengths types [] modules
+  lengths_known =
+      ap (λ (n : ℕ). (types.home, n) ∷ lengths (other_trees types)) (trees_length types (other_trees types) types.home [] types.own ∙ from_none (length types.own))
+      ∙ ap (λ (es : List (ℕ × ℕ)). (types.home, length types.own) ∷ es) (known_lengths types [] types.others)
 
   of_length : (h k : ℕ) → option_map length (lookup (nat_eq h) (known_trees types)) ≡ Some k → numbers_fit types h k ≡ true
-  of_length h k q = (entry_fits types modules true all_fit).1 h k (ap (λ (es : List (ℕ × ℕ)). lookup (nat_eq h) es) (sym lengths_known) ∙ lookup_length (nat_eq h) (known_trees types) ∙ q)
+  of_length h k q =
+      entry_case types types.home (length types.own) h k (lookup (nat_eq h) (lengths types.others)) parts_fit.1
+      ((entry_fits types types.others true parts_fit.0).1 h k) (nat_eq h types.home) refl
+      (ap (λ (es : List (ℕ × ℕ)). lookup (nat_eq h) es) (sym lengths_known) ∙ lookup_length (nat_eq h) (known_trees types) ∙ q)
 
   at_number : (home n : ℕ) (ts : List Ty) → lookup (nat_eq home) (known_trees types) ≡ Some ts → (x : Option Ty) → slice_get ts n ≡ x → size (in_module (lookup (nat_eq home) (known_trees types)) n) ≤ most
   unfolding size

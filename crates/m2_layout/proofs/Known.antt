@@ -5,7 +5,6 @@ use Rattle.std.specs.List.{fold}
 use Rattle.std.specs.Map.{lookup}
 use Rattle.std.specs.Option.{option_map}
 use Rattle.std.proofs.lemmas.List.{length-map, map-append}
-use Rattle.std.proofs.lemmas.List.Sums.{fold-append}
 use Rattle.indexmap.specs.IndexMap.{insert_entry}
 use Rattle.m2_typed.specs.declared.types.Home.{Home}
 use Rattle.m2_typed.specs.declared.types.Home.TheVariants.{Predeclared, Module}
@@ -23,10 +22,10 @@ use Rattle.m2_layout.specs.declared.extent.Extent.TheVariants as extent
 use Rattle.m2_layout.specs.Capped.{capped}
 use Rattle.m2_layout.specs.Types.{Ty, Array, row}
 use Rattle.m2_layout.specs.Sizes.{size}
-use Rattle.m2_layout.specs.Shapes.{Trees, or_nothing, in_module, scalar_tree, tree_from, tree_in, shape_tree, with_made, module_trees, with_module, known_trees, elements_of}
+use Rattle.m2_layout.specs.Shapes.{Trees, or_nothing, in_module, scalar_tree, tree_from, tree_in, shape_tree, with_made, module_trees, with_module, other_trees, known_trees, elements_of}
 use Rattle.m2_layout.specs.Extents.{Known, extent_of, extent_from, extent_in, scalar_extent, size_in, begun, with_part, row_of, IsMade, AreExtents}
 use Rattle.m2_layout.specs.Extents.{or_nothing as or_none, in_module as among}
-use Rattle.m2_layout.specs.Making.{known_in, part_size, with_field, shape_extent, array_extent, next_type, with_type, added_if, added, known_extents}
+use Rattle.m2_layout.specs.Making.{known_in, part_size, with_field, shape_extent, array_extent, next_type, with_type, added_if, added, replaced, known_extents}
 use Rattle.m2_layout.specs.Making.{with_module as with_extents}
 use Rattle.m2_layout.proofs.Capping.{product_both}
 use Rattle.m2_layout.proofs.Rows.{parts, fields_row, row_is, size_is}
@@ -226,6 +225,47 @@ behind before known p home ts m = record {
       subst (λ (o : Option (List Ty)). IsMade (in_module o n)) (sym (at_end before home ts h)) (made_first (nat_eq h home) ts (lookup (nat_eq h) before) n m (p.are_made h n));
 }
 
+-- ---- the module's own types before all others
+
+one_place : (c : Bool) (xs ys : List Extent) (o : Option (List Extent)) → cond c (Some xs) o ≡ cond c (Some xs) (cond c (Some ys) o)
+one_place true xs ys o = refl
+one_place false xs ys o = refl
+
+two_places : (c d : Bool) (xs ys : List Extent) (o : Option (List Extent)) → (c ≡ true → d ≡ false) → cond c (Some ys) (cond d (Some xs) o) ≡ cond d (Some xs) (cond c (Some ys) o)
+two_places true true xs ys o f = cc (f refl)
+two_places true false xs ys o f = refl
+two_places false d xs ys o f = refl
+
+not_both : (home other h : ℕ) (d : Bool) → nat_eq h home ≡ d → h ≡ other → nat_eq home other ≡ false → nat_eq h home ≡ false
+not_both home other h false r s f = r
+not_both home other h true r s f =
+    let same : h ≡ home = eqb-true h home r in
+    let found : nat_eq home home ≡ true = subst (λ (n : ℕ). nat_eq n home ≡ true) same r in
+    let both : nat_eq home other ≡ true = subst (λ (n : ℕ). nat_eq home n ≡ true) (sym same ∙ s) found in
+    cc (both, f)
+
+insert_case : (b : Bool) (e : ℕ × List Extent) (es : Known) (home : ℕ) (xs : List Extent) (h : ℕ) → nat_eq home e.0 ≡ b
+    → lookup (nat_eq h) (insert_entry nat_eq es home xs) ≡ cond (nat_eq h home) (Some xs) (lookup (nat_eq h) es)
+    → lookup (nat_eq h) (cond b ((e.0, xs) ∷ es) (e ∷ insert_entry nat_eq es home xs)) ≡ cond (nat_eq h home) (Some xs) (cond (nat_eq h e.0) (Some e.1) (lookup (nat_eq h) es))
+insert_case true e es home xs h q rec =
+    subst (λ (n : ℕ). cond (nat_eq h n) (Some xs) (lookup (nat_eq h) es) ≡ cond (nat_eq h home) (Some xs) (cond (nat_eq h n) (Some e.1) (lookup (nat_eq h) es)))
+    (eqb-true home e.0 q) (one_place (nat_eq h home) xs e.1 (lookup (nat_eq h) es))
+insert_case false e es home xs h q rec =
+    ap (λ (o : Option (List Extent)). cond (nat_eq h e.0) (Some e.1) o) rec
+    ∙ two_places (nat_eq h e.0) (nat_eq h home) xs e.1 (lookup (nat_eq h) es)
+    (λ c. not_both home e.0 h (nat_eq h home) refl (eqb-true h e.0 c) q)
+
+insert_at : (es : Known) (home : ℕ) (xs : List Extent) (h : ℕ) → lookup (nat_eq h) (insert_entry nat_eq es home xs) ≡ cond (nat_eq h home) (Some xs) (lookup (nat_eq h) es)
+insert_at [] home xs h = refl
+insert_at (e ∷ es) home xs h = insert_case (nat_eq home e.0) e es home xs h refl (insert_at es home xs h)
+
+before_all : (before : Trees) (known : Known) → Beside before known → (home : ℕ) (ts : List Ty) → ListMade ts
+    → Beside ((home, ts) ∷ before) (insert_entry nat_eq known home (extents ts))
+before_all before known p home ts m = record {
+  at = λ h. insert_at known home (extents ts) h ∙ cond_at (nat_eq h home) ts (lookup (nat_eq h) known) (lookup (nat_eq h) before) (p.at h);
+  are_made = λ h n. cond_made (nat_eq h home) ts (lookup (nat_eq h) before) n m (p.are_made h n);
+}
+
 -- ---- all modules
 
 module _ (types : Types) where
@@ -242,11 +282,19 @@ module _ (types : Types) where
   none : Beside [] []
   none = record { at = λ h. refl; are_made = λ h n. tt }
 
+  abbrev other_extents : Known
+  other_extents = fold (with_extents types) [] types.others
+
+  others_beside : Beside (other_trees types) other_extents
+  others_beside = all_beside [] [] none types.others
+
   whole : Beside (known_trees types) (known_extents types)
   unfolding known_trees
   whole =
-      subst (λ (b : Trees). Beside b (known_extents types)) (sym (fold-append (with_module types) [] types.others ((types.home, types.own) ∷ [])))
-      (module_beside (fold (with_module types) [] types.others) (fold (with_extents types) [] types.others) (all_beside [] [] none types.others) (types.home, types.own))
+      subst (λ (k : Known). Beside ((types.home, module_trees types (other_trees types) types.home types.own) ∷ other_trees types) k)
+      (sym (ap replaced (own_is types (other_trees types) other_extents others_beside types.home [] types.own (λ n. tt))))
+      (before_all (other_trees types) other_extents others_beside types.home (module_trees types (other_trees types) types.home types.own)
+      (own_made types (other_trees types) other_extents others_beside types.home [] types.own (λ n. tt)))
 
   pub are_extents : AreExtents types (known_extents types)
   are_extents = record { of = in_is (known_trees types) (known_extents types) whole; are_made = made_in (known_trees types) (known_extents types) whole }

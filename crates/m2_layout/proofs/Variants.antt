@@ -2,7 +2,6 @@
 use Rattle.std.proofs.Common.{◌≡◌, ℕ, ℤ, ◌+◌, List, [], ◌∷◌, ◌++◌, map, length, ap, sym, ◌∙◌, arith, add_assoc, add-zero}
 use Rattle.std.specs.List.{fold}
 use Rattle.m2_typed.specs.declared.types.TypeNo.{TypeNo}
-use Rattle.m2_typed.specs.declared.meaning.Variable.{Variable}
 use Rattle.m2_typed.specs.declared.meaning.Procedure.{Procedure}
 use Rattle.m2_typed.specs.declared.computed.Slot.{Slot}
 use Rattle.m2_typed.specs.declared.computed.LocalProcedure.{LocalProcedure}
@@ -12,16 +11,19 @@ use Rattle.m2_typed.specs.declared.computed.SetOperator.{SetOperator}
 use Rattle.m2_typed.specs.declared.computed.Inclusion.{Inclusion}
 use Rattle.m2_typed.specs.declared.computed.TypedExpr.{TypedExpr, TypedExpr-F, out-TypedExpr, map-TypedExpr, fold_out-TypedExpr}
 use Rattle.m2_typed.specs.declared.computed.TypedExpr.TheVariants as ev
+use Rattle.m2_typed.specs.declared.computed.Component.{Component, Component-F, out-Component, map-Component, fold_out-Component}
+use Rattle.m2_typed.specs.declared.computed.Component.TheVariants as kv
+use Rattle.m2_typed.specs.declared.computed.Link.{Link, Link-F, out-Link, map-Link, fold_out-Link}
+use Rattle.m2_typed.specs.declared.computed.Link.TheVariants as lv
 use Rattle.m2_typed.specs.declared.computed.Place.{Place, Place-F, out-Place, map-Place, fold_out-Place}
-use Rattle.m2_typed.specs.declared.computed.Place.TheVariants as dv
 use Rattle.m2_typed.specs.declared.computed.Call.{Call, Call-F, out-Call, map-Call, fold_out-Call}
 use Rattle.m2_typed.specs.declared.computed.Call.TheVariants as cv
 use Rattle.m2_typed.specs.declared.computed.Argument.{Argument, Argument-F, out-Argument, map-Argument, fold_out-Argument}
 use Rattle.m2_typed.specs.declared.computed.Argument.TheOpen as layer
 use Rattle.m2_typed.specs.declared.computed.Argument.TheVariants as xv
 use Rattle.m2_layout.specs.Capped.{capped}
-use Rattle.m2_layout.specs.Texts.{Texts, joined, passed, characters, argument_texts, call_texts, place_texts, expr_texts, texts_of, texts_at, texts_called, texts_passed}
-use Rattle.m2_layout.specs.Counted.{counted, with_argument}
+use Rattle.m2_layout.specs.Texts.{Texts, joined, passed, characters, argument_texts, call_texts, component_texts, link_texts, place_texts, expr_texts, texts_of, texts_at, texts_called, texts_passed, texts_behind, texts_linked}
+use Rattle.m2_layout.specs.Counted.{counted, with_argument, with_component, with_link}
 use Rattle.m2_layout.proofs.Capping.{sum_both, from_nought}
 
 -- ---- lists of texts
@@ -49,35 +51,48 @@ walked f xs = walk f 0 xs ∙ from_nought (characters (joined (map f xs)))
 arguments : (xs : List Argument) → counted (joined (map texts_passed xs)) ≡ fold with_argument 0 xs
 arguments xs = sym (walked texts_passed xs)
 
+components : (xs : List Component) → counted (joined (map texts_behind xs)) ≡ fold with_component 0 xs
+components xs = sym (walked texts_behind xs)
+
+links : (xs : List Link) → counted (joined (map texts_linked xs)) ≡ fold with_link 0 xs
+links xs = sym (walked texts_linked xs)
+
 -- ---- one layer
 
-abbrev opened_expr : TypedExpr-F Argument Call Place TypedExpr → TypedExpr-F Texts Texts Texts Texts
-opened_expr x = map-TypedExpr Argument Call Place TypedExpr Texts Texts Texts Texts texts_passed texts_called texts_at texts_of x
+abbrev opened_expr : TypedExpr-F Argument Call Component Link TypedExpr Place → TypedExpr-F Texts Texts Texts Texts Texts Texts
+opened_expr x = map-TypedExpr Argument Call Component Link TypedExpr Place Texts Texts Texts Texts Texts Texts texts_passed texts_called texts_behind texts_linked texts_of texts_at x
 
-at_expr : (e : TypedExpr) (x : TypedExpr-F Argument Call Place TypedExpr) → out-TypedExpr e ≡ x → texts_of e ≡ expr_texts (opened_expr x)
-unfolding texts_of texts_at texts_called texts_passed
-at_expr e x h = fold_out-TypedExpr Texts Texts Texts Texts argument_texts call_texts place_texts expr_texts e ∙ ap (λ (y : TypedExpr-F Argument Call Place TypedExpr). expr_texts (opened_expr y)) h
+at_expr : (e : TypedExpr) (x : TypedExpr-F Argument Call Component Link TypedExpr Place) → out-TypedExpr e ≡ x → texts_of e ≡ expr_texts (opened_expr x)
+unfolding texts_of texts_at texts_called texts_passed texts_behind texts_linked
+at_expr e x h = fold_out-TypedExpr Texts Texts Texts Texts Texts Texts argument_texts call_texts component_texts link_texts expr_texts place_texts e ∙ ap (λ (y : TypedExpr-F Argument Call Component Link TypedExpr Place). expr_texts (opened_expr y)) h
 
-abbrev opened_place : Place-F Argument Call Place TypedExpr → Place-F Texts Texts Texts Texts
-opened_place x = map-Place Argument Call Place TypedExpr Texts Texts Texts Texts texts_passed texts_called texts_at texts_of x
+abbrev opened_component : Component-F Argument Call Component Link TypedExpr Place → Component-F Texts Texts Texts Texts Texts Texts
+opened_component x = map-Component Argument Call Component Link TypedExpr Place Texts Texts Texts Texts Texts Texts texts_passed texts_called texts_behind texts_linked texts_of texts_at x
 
-at_place : (e : Place) (x : Place-F Argument Call Place TypedExpr) → out-Place e ≡ x → texts_at e ≡ place_texts (opened_place x)
-unfolding texts_of texts_at texts_called texts_passed
-at_place e x h = fold_out-Place Texts Texts Texts Texts argument_texts call_texts place_texts expr_texts e ∙ ap (λ (y : Place-F Argument Call Place TypedExpr). place_texts (opened_place y)) h
+at_component : (e : Component) (x : Component-F Argument Call Component Link TypedExpr Place) → out-Component e ≡ x → texts_behind e ≡ component_texts (opened_component x)
+unfolding texts_of texts_at texts_called texts_passed texts_behind texts_linked
+at_component e x h = fold_out-Component Texts Texts Texts Texts Texts Texts argument_texts call_texts component_texts link_texts expr_texts place_texts e ∙ ap (λ (y : Component-F Argument Call Component Link TypedExpr Place). component_texts (opened_component y)) h
 
-abbrev opened_call : Call-F Argument Call Place TypedExpr → Call-F Texts Texts Texts Texts
-opened_call x = map-Call Argument Call Place TypedExpr Texts Texts Texts Texts texts_passed texts_called texts_at texts_of x
+abbrev opened_link : Link-F Argument Call Component Link TypedExpr Place → Link-F Texts Texts Texts Texts Texts Texts
+opened_link x = map-Link Argument Call Component Link TypedExpr Place Texts Texts Texts Texts Texts Texts texts_passed texts_called texts_behind texts_linked texts_of texts_at x
 
-at_call : (e : Call) (x : Call-F Argument Call Place TypedExpr) → out-Call e ≡ x → texts_called e ≡ call_texts (opened_call x)
-unfolding texts_of texts_at texts_called texts_passed
-at_call e x h = fold_out-Call Texts Texts Texts Texts argument_texts call_texts place_texts expr_texts e ∙ ap (λ (y : Call-F Argument Call Place TypedExpr). call_texts (opened_call y)) h
+at_link : (e : Link) (x : Link-F Argument Call Component Link TypedExpr Place) → out-Link e ≡ x → texts_linked e ≡ link_texts (opened_link x)
+unfolding texts_of texts_at texts_called texts_passed texts_behind texts_linked
+at_link e x h = fold_out-Link Texts Texts Texts Texts Texts Texts argument_texts call_texts component_texts link_texts expr_texts place_texts e ∙ ap (λ (y : Link-F Argument Call Component Link TypedExpr Place). link_texts (opened_link y)) h
 
-abbrev opened_argument : Argument-F Argument Call Place TypedExpr → Argument-F Texts Texts Texts Texts
-opened_argument x = map-Argument Argument Call Place TypedExpr Texts Texts Texts Texts texts_passed texts_called texts_at texts_of x
+abbrev opened_call : Call-F Argument Call Component Link TypedExpr Place → Call-F Texts Texts Texts Texts Texts Texts
+opened_call x = map-Call Argument Call Component Link TypedExpr Place Texts Texts Texts Texts Texts Texts texts_passed texts_called texts_behind texts_linked texts_of texts_at x
 
-at_argument : (e : Argument) (x : Argument-F Argument Call Place TypedExpr) → out-Argument e ≡ x → texts_passed e ≡ argument_texts (opened_argument x)
-unfolding texts_of texts_at texts_called texts_passed
-at_argument e x h = fold_out-Argument Texts Texts Texts Texts argument_texts call_texts place_texts expr_texts e ∙ ap (λ (y : Argument-F Argument Call Place TypedExpr). argument_texts (opened_argument y)) h
+at_call : (e : Call) (x : Call-F Argument Call Component Link TypedExpr Place) → out-Call e ≡ x → texts_called e ≡ call_texts (opened_call x)
+unfolding texts_of texts_at texts_called texts_passed texts_behind texts_linked
+at_call e x h = fold_out-Call Texts Texts Texts Texts Texts Texts argument_texts call_texts component_texts link_texts expr_texts place_texts e ∙ ap (λ (y : Call-F Argument Call Component Link TypedExpr Place). call_texts (opened_call y)) h
+
+abbrev opened_argument : Argument-F Argument Call Component Link TypedExpr Place → Argument-F Texts Texts Texts Texts Texts Texts
+opened_argument x = map-Argument Argument Call Component Link TypedExpr Place Texts Texts Texts Texts Texts Texts texts_passed texts_called texts_behind texts_linked texts_of texts_at x
+
+at_argument : (e : Argument) (x : Argument-F Argument Call Component Link TypedExpr Place) → out-Argument e ≡ x → texts_passed e ≡ argument_texts (opened_argument x)
+unfolding texts_of texts_at texts_called texts_passed texts_behind texts_linked
+at_argument e x h = fold_out-Argument Texts Texts Texts Texts Texts Texts argument_texts call_texts component_texts link_texts expr_texts place_texts e ∙ ap (λ (y : Argument-F Argument Call Component Link TypedExpr Place). argument_texts (opened_argument y)) h
 
 -- ---- variants
 
@@ -96,23 +111,14 @@ expr_Plus t e = ap counted (at_expr (ev.Plus t e) (layer.Plus t e) (ev.outs-Plus
 pub expr_Negate : (e : TypedExpr) → counted (texts_of (ev.Negate e)) ≡ counted (texts_of e)
 expr_Negate e = ap counted (at_expr (ev.Negate e) (layer.Negate e) (ev.outs-Negate e))
 
-pub expr_Arithmetic : (o : Arithmetic) (t : TypeNo) (a b : TypedExpr) → counted (texts_of (ev.Arithmetic o t a b)) ≡ capped (counted (texts_of a) + counted (texts_of b))
-expr_Arithmetic o t a b = ap counted (at_expr (ev.Arithmetic o t a b) (layer.Arithmetic o t a b) (ev.outs-Arithmetic o t a b)) ∙ both (texts_of a) (texts_of b)
+pub expr_Chain : (e : TypedExpr) (ls : List Link) → counted (texts_of (ev.Chain e ls)) ≡ capped (counted (texts_of e) + fold with_link 0 ls)
+expr_Chain e ls = ap counted (at_expr (ev.Chain e ls) (layer.Chain e ls) (ev.outs-Chain e ls)) ∙ both (texts_of e) (joined (map texts_linked ls)) ∙ ap (λ (k : ℕ). capped (counted (texts_of e) + k)) (links ls)
 
 pub expr_Compare : (o : Comparison) (a b : TypedExpr) → counted (texts_of (ev.Compare o a b)) ≡ capped (counted (texts_of a) + counted (texts_of b))
 expr_Compare o a b = ap counted (at_expr (ev.Compare o a b) (layer.Compare o a b) (ev.outs-Compare o a b)) ∙ both (texts_of a) (texts_of b)
 
 pub expr_Not : (e : TypedExpr) → counted (texts_of (ev.Not e)) ≡ counted (texts_of e)
 expr_Not e = ap counted (at_expr (ev.Not e) (layer.Not e) (ev.outs-Not e))
-
-pub expr_And : (a b : TypedExpr) → counted (texts_of (ev.And a b)) ≡ capped (counted (texts_of a) + counted (texts_of b))
-expr_And a b = ap counted (at_expr (ev.And a b) (layer.And a b) (ev.outs-And a b)) ∙ both (texts_of a) (texts_of b)
-
-pub expr_Or : (a b : TypedExpr) → counted (texts_of (ev.Or a b)) ≡ capped (counted (texts_of a) + counted (texts_of b))
-expr_Or a b = ap counted (at_expr (ev.Or a b) (layer.Or a b) (ev.outs-Or a b)) ∙ both (texts_of a) (texts_of b)
-
-pub expr_Combine : (o : SetOperator) (a b : TypedExpr) → counted (texts_of (ev.Combine o a b)) ≡ capped (counted (texts_of a) + counted (texts_of b))
-expr_Combine o a b = ap counted (at_expr (ev.Combine o a b) (layer.Combine o a b) (ev.outs-Combine o a b)) ∙ both (texts_of a) (texts_of b)
 
 pub expr_Include : (o : Inclusion) (a b : TypedExpr) → counted (texts_of (ev.Include o a b)) ≡ capped (counted (texts_of a) + counted (texts_of b))
 expr_Include o a b = ap counted (at_expr (ev.Include o a b) (layer.Include o a b) (ev.outs-Include o a b)) ∙ both (texts_of a) (texts_of b)
@@ -144,26 +150,30 @@ expr_High s = ap counted (at_expr (ev.High s) (layer.High s) (ev.outs-High s))
 pub expr_Call : (t : TypeNo) (c : Call) → counted (texts_of (ev.Call t c)) ≡ counted (texts_called c)
 expr_Call t c = ap counted (at_expr (ev.Call t c) (layer.Call t c) (ev.outs-Call t c))
 
-pub place_Global : (v : Variable) → counted (texts_at (dv.Global v)) ≡ 0
-place_Global v = ap counted (at_place (dv.Global v) (layer.Global v) (dv.outs-Global v))
+pub place_is : (d : Place) → counted (texts_at d) ≡ fold with_component 0 d.components
+unfolding texts_of texts_at texts_called texts_passed texts_behind texts_linked
+place_is d = ap counted (fold_out-Place Texts Texts Texts Texts Texts Texts argument_texts call_texts component_texts link_texts expr_texts place_texts d) ∙ components d.components
 
-pub place_Local : (s : Slot) → counted (texts_at (dv.Local s)) ≡ 0
-place_Local s = ap counted (at_place (dv.Local s) (layer.Local s) (dv.outs-Local s))
+pub component_Field : (t : TypeNo) (k : ℕ) → counted (texts_behind (kv.Field t k)) ≡ 0
+component_Field t k = ap counted (at_component (kv.Field t k) (layer.Field t k) (kv.outs-Field t k))
 
-pub place_Alias : (s : Slot) → counted (texts_at (dv.Alias s)) ≡ 0
-place_Alias s = ap counted (at_place (dv.Alias s) (layer.Alias s) (dv.outs-Alias s))
+pub component_Element : (t : TypeNo) (i : TypedExpr) → counted (texts_behind (kv.Element t i)) ≡ counted (texts_of i)
+component_Element t i = ap counted (at_component (kv.Element t i) (layer.Element t i) (kv.outs-Element t i))
 
-pub place_With : (k : ℕ) → counted (texts_at (dv.With k)) ≡ 0
-place_With k = ap counted (at_place (dv.With k) (layer.With k) (dv.outs-With k))
+pub component_OpenElement : (s : Slot) (t : TypeNo) (i : TypedExpr) → counted (texts_behind (kv.OpenElement s t i)) ≡ counted (texts_of i)
+component_OpenElement s t i = ap counted (at_component (kv.OpenElement s t i) (layer.OpenElement s t i) (kv.outs-OpenElement s t i))
 
-pub place_Field : (d : Place) (t : TypeNo) (k : ℕ) → counted (texts_at (dv.Field d t k)) ≡ counted (texts_at d)
-place_Field d t k = ap counted (at_place (dv.Field d t k) (layer.Field d t k) (dv.outs-Field d t k))
+pub link_Arithmetic : (o : Arithmetic) (t : TypeNo) (e : TypedExpr) → counted (texts_linked (lv.Arithmetic o t e)) ≡ counted (texts_of e)
+link_Arithmetic o t e = ap counted (at_link (lv.Arithmetic o t e) (layer.Arithmetic o t e) (lv.outs-Arithmetic o t e))
 
-pub place_Element : (d : Place) (t : TypeNo) (i : TypedExpr) → counted (texts_at (dv.Element d t i)) ≡ capped (counted (texts_at d) + counted (texts_of i))
-place_Element d t i = ap counted (at_place (dv.Element d t i) (layer.Element d t i) (dv.outs-Element d t i)) ∙ both (texts_at d) (texts_of i)
+pub link_And : (e : TypedExpr) → counted (texts_linked (lv.And e)) ≡ counted (texts_of e)
+link_And e = ap counted (at_link (lv.And e) (layer.And e) (lv.outs-And e))
 
-pub place_OpenElement : (s : Slot) (t : TypeNo) (i : TypedExpr) → counted (texts_at (dv.OpenElement s t i)) ≡ counted (texts_of i)
-place_OpenElement s t i = ap counted (at_place (dv.OpenElement s t i) (layer.OpenElement s t i) (dv.outs-OpenElement s t i))
+pub link_Or : (e : TypedExpr) → counted (texts_linked (lv.Or e)) ≡ counted (texts_of e)
+link_Or e = ap counted (at_link (lv.Or e) (layer.Or e) (lv.outs-Or e))
+
+pub link_Combine : (o : SetOperator) (e : TypedExpr) → counted (texts_linked (lv.Combine o e)) ≡ counted (texts_of e)
+link_Combine o e = ap counted (at_link (lv.Combine o e) (layer.Combine o e) (lv.outs-Combine o e))
 
 pub call_Module : (f : Procedure) (xs : List Argument) → counted (texts_called (cv.Module f xs)) ≡ fold with_argument 0 xs
 call_Module f xs = ap counted (at_call (cv.Module f xs) (layer.Module f xs) (cv.outs-Module f xs)) ∙ arguments xs
@@ -190,4 +200,4 @@ pub argument_Text : (text : List ℕ) → counted (texts_passed (xv.Text text)) 
 argument_Text text = ap counted (at_argument (xv.Text text) (layer.Text text) (xv.outs-Text text)) ∙ one_text (passed text)
 
 -- all of these
-pub ruleset variants = (expr_Constant, expr_Load, expr_Procedure, expr_Plus, expr_Negate, expr_Arithmetic, expr_Compare, expr_Not, expr_And, expr_Or, expr_Combine, expr_Include, expr_In, expr_Abs, expr_Cap, expr_Chr, expr_Odd, expr_Ord, expr_Val, expr_High, expr_Call, place_Global, place_Local, place_Alias, place_With, place_Field, place_Element, place_OpenElement, call_Module, call_Nested, call_Variable, argument_Value, argument_Place, argument_Array, argument_Open, argument_Text)
+pub ruleset variants = (expr_Constant, expr_Load, expr_Procedure, expr_Plus, expr_Negate, expr_Chain, expr_Compare, expr_Not, expr_Include, expr_In, expr_Abs, expr_Cap, expr_Chr, expr_Odd, expr_Ord, expr_Val, expr_High, expr_Call, place_is, component_Field, component_Element, component_OpenElement, link_Arithmetic, link_And, link_Or, link_Combine, call_Module, call_Nested, call_Variable, argument_Value, argument_Place, argument_Array, argument_Open, argument_Text)

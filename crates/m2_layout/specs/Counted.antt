@@ -1,18 +1,26 @@
 -- How many characters texts have, counted in 32 bits.
 use Rattle.std.specs.Prelude.{ℕ, ◌+◌}
 use Rattle.m2_typed.specs.declared.computed.Argument.{Argument}
+use Rattle.m2_typed.specs.declared.computed.Component.{Component}
+use Rattle.m2_typed.specs.declared.computed.Link.{Link}
 use Rattle.m2_typed.specs.declared.statement.TypedStmt.{TypedStmt}
 use Rattle.m2_typed.specs.declared.statement.TypedArm.{TypedArm}
 use Rattle.m2_typed.specs.declared.typed_module.Which.{Which}
 use Rattle.m2_typed.specs.declared.typed_module.TypedModule.{TypedModule}
 use Rattle.m2_layout.specs.Capped.{capped}
-use Rattle.m2_layout.specs.Texts.{Texts, characters, texts_passed, texts_in, texts_armed, which_texts}
+use Rattle.m2_layout.specs.Texts.{Texts, characters, texts_passed, texts_behind, texts_linked, texts_in, texts_armed, which_texts}
 
 abbrev pub counted : Texts → ℕ
 counted ts = capped (characters ts)
 
 abbrev pub with_argument : ℕ → Argument → ℕ
 with_argument n x = capped (n + counted (texts_passed x))
+
+abbrev pub with_component : ℕ → Component → ℕ
+with_component n x = capped (n + counted (texts_behind x))
+
+abbrev pub with_link : ℕ → Link → ℕ
+with_link n x = capped (n + counted (texts_linked x))
 
 abbrev pub with_stmt : ℕ → TypedStmt → ℕ
 with_stmt n x = capped (n + counted (texts_in x))

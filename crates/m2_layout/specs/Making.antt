@@ -53,11 +53,21 @@ added_if None known home xs = insert_entry nat_eq known home xs
 abbrev pub added : Making → Known
 added x = added_if (lookup (nat_eq x.home) x.modules) x.modules x.home x.own
 
+abbrev pub all_made : Types → Known → ℕ → List Made → Making
+all_made types known home ms = fold (with_type types) (record { modules = known; home = home; own = [] }) ms
+
 abbrev pub with_types : Types → Known → ℕ → List Made → Known
-with_types types known home ms = added (fold (with_type types) (record { modules = known; home = home; own = [] }) ms)
+with_types types known home ms = added (all_made types known home ms)
 
 abbrev pub with_module : Types → Known → ℕ × List Made → Known
 with_module types known e = with_types types known e.0 e.1
 
+-- the module's own count, also where others know some of them
+abbrev pub replaced : Making → Known
+replaced x = insert_entry nat_eq x.modules x.home x.own
+
+abbrev pub with_own : Types → Known → Known
+with_own types known = replaced (all_made types known types.home types.own)
+
 abbrev pub known_extents : Types → Known
-known_extents types = with_types types (fold (with_module types) [] types.others) types.home types.own
+known_extents types = with_own types (fold (with_module types) [] types.others)

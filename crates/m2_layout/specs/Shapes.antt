@@ -68,9 +68,13 @@ module_trees types before home ms = fold (with_made types before home) [] ms
 abbrev pub with_module : Types → Trees → ℕ × List Made → Trees
 with_module types before e = before ++ (e.0, module_trees types before e.0 e.1) ∷ []
 
--- the trees of all types that a module knows
+abbrev pub other_trees : Types → Trees
+other_trees types = fold (with_module types) [] types.others
+
+-- The trees of all types that a module knows. Those of an implementation stand before those of its definition, which others
+-- may know under the same number: the module has these and more.
 unfoldable pub known_trees : Types → Trees
-known_trees types = fold (with_module types) [] (types.others ++ (types.home, types.own) ∷ [])
+known_trees types = (types.home, module_trees types (other_trees types) types.home types.own) ∷ other_trees types
 
 abbrev pub tree : Types → TypeNo → Ty
 tree types t = tree_in (known_trees types) t

@@ -5,6 +5,8 @@ use Rattle.std.specs.List.{flat_map}
 use Rattle.m2_typed.specs.declared.computed.Argument.{Argument, Argument-F, fold-Argument}
 use Rattle.m2_typed.specs.declared.computed.Argument.TheOpen as layer
 use Rattle.m2_typed.specs.declared.computed.Call.{Call, Call-F, fold-Call}
+use Rattle.m2_typed.specs.declared.computed.Component.{Component, Component-F, fold-Component}
+use Rattle.m2_typed.specs.declared.computed.Link.{Link, Link-F, fold-Link}
 use Rattle.m2_typed.specs.declared.computed.Place.{Place, Place-F, fold-Place}
 use Rattle.m2_typed.specs.declared.computed.TypedExpr.{TypedExpr, TypedExpr-F, fold-TypedExpr}
 use Rattle.m2_typed.specs.declared.statement.TypedStmt.{TypedStmt, TypedStmt-F, fold-TypedStmt}
@@ -30,39 +32,41 @@ passed (c ∷ cs) = c ∷ cs
 
 -- ---- expressions
 
-abbrev pub argument_texts : Argument-F Texts Texts Texts Texts → Texts
+abbrev pub argument_texts : Argument-F Texts Texts Texts Texts Texts Texts → Texts
 argument_texts (layer.Value t e) = e
 argument_texts (layer.Place d) = d
 argument_texts (layer.Array t d) = d
 argument_texts (layer.Open slot) = []
 argument_texts (layer.Text text) = passed text ∷ []
 
-abbrev pub call_texts : Call-F Texts Texts Texts Texts → Texts
+abbrev pub call_texts : Call-F Texts Texts Texts Texts Texts Texts → Texts
 call_texts (layer.Module p args) = joined args
 call_texts (layer.Nested p args) = joined args
 call_texts (layer.Variable t d args) = d ++ joined args
 
-abbrev pub place_texts : Place-F Texts Texts Texts Texts → Texts
-place_texts (layer.Global v) = []
-place_texts (layer.Local slot) = []
-place_texts (layer.Alias slot) = []
-place_texts (layer.With k) = []
-place_texts (layer.Field d t k) = d
-place_texts (layer.Element d t i) = d ++ i
-place_texts (layer.OpenElement slot t i) = i
+abbrev pub component_texts : Component-F Texts Texts Texts Texts Texts Texts → Texts
+component_texts (layer.Field t k) = []
+component_texts (layer.Element t i) = i
+component_texts (layer.OpenElement slot t i) = i
 
-abbrev pub expr_texts : TypedExpr-F Texts Texts Texts Texts → Texts
+abbrev pub place_texts : Place-F Texts Texts Texts Texts Texts Texts → Texts
+place_texts d = joined d.components
+
+abbrev pub link_texts : Link-F Texts Texts Texts Texts Texts Texts → Texts
+link_texts (layer.Arithmetic op t b) = b
+link_texts (layer.And b) = b
+link_texts (layer.Or b) = b
+link_texts (layer.Combine op b) = b
+
+abbrev pub expr_texts : TypedExpr-F Texts Texts Texts Texts Texts Texts → Texts
 expr_texts (layer.Constant t n) = []
 expr_texts (layer.Load t d) = d
 expr_texts (layer.Procedure p) = []
 expr_texts (layer.Plus t e) = e
 expr_texts (layer.Negate e) = e
-expr_texts (layer.Arithmetic op t a b) = a ++ b
+expr_texts (layer.Chain a links) = a ++ joined links
 expr_texts (layer.Compare op a b) = a ++ b
 expr_texts (layer.Not e) = e
-expr_texts (layer.And a b) = a ++ b
-expr_texts (layer.Or a b) = a ++ b
-expr_texts (layer.Combine op a b) = a ++ b
 expr_texts (layer.Include op a b) = a ++ b
 expr_texts (layer.In a b) = a ++ b
 expr_texts (layer.Abs t e) = e
@@ -75,16 +79,22 @@ expr_texts (layer.High slot) = []
 expr_texts (layer.Call t c) = c
 
 unfoldable pub texts_of : TypedExpr → Texts
-texts_of = fold-TypedExpr Texts Texts Texts Texts argument_texts call_texts place_texts expr_texts
+texts_of = fold-TypedExpr Texts Texts Texts Texts Texts Texts argument_texts call_texts component_texts link_texts expr_texts place_texts
 
 unfoldable pub texts_at : Place → Texts
-texts_at = fold-Place Texts Texts Texts Texts argument_texts call_texts place_texts expr_texts
+texts_at = fold-Place Texts Texts Texts Texts Texts Texts argument_texts call_texts component_texts link_texts expr_texts place_texts
 
 unfoldable pub texts_called : Call → Texts
-texts_called = fold-Call Texts Texts Texts Texts argument_texts call_texts place_texts expr_texts
+texts_called = fold-Call Texts Texts Texts Texts Texts Texts argument_texts call_texts component_texts link_texts expr_texts place_texts
+
+unfoldable pub texts_linked : Link → Texts
+texts_linked = fold-Link Texts Texts Texts Texts Texts Texts argument_texts call_texts component_texts link_texts expr_texts place_texts
+
+unfoldable pub texts_behind : Component → Texts
+texts_behind = fold-Component Texts Texts Texts Texts Texts Texts argument_texts call_texts component_texts link_texts expr_texts place_texts
 
 unfoldable pub texts_passed : Argument → Texts
-texts_passed = fold-Argument Texts Texts Texts Texts argument_texts call_texts place_texts expr_texts
+texts_passed = fold-Argument Texts Texts Texts Texts Texts Texts argument_texts call_texts component_texts link_texts expr_texts place_texts
 
 -- ---- statements
 

@@ -3,11 +3,11 @@
 ghost use Rattle.std.specs.Prelude.{◌≡◌, length};
 ghost use Rattle.std.specs.List.{fold};
 ghost use Rattle.m2_layout.specs.Capped.{capped};
-ghost use Rattle.m2_layout.specs.Texts.{passed, texts_of, texts_at, texts_called, texts_passed};
-ghost use Rattle.m2_layout.specs.Counted.{counted, with_argument};
+ghost use Rattle.m2_layout.specs.Texts.{passed, texts_of, texts_at, texts_called, texts_passed, texts_behind, texts_linked};
+ghost use Rattle.m2_layout.specs.Counted.{counted, with_argument, with_component, with_link};
 
 use crate::capped::{capped, sum};
-use m2_typed::{Argument, Call, Place, TypedExpr};
+use m2_typed::{Argument, Call, Component, Link, Place, TypedExpr};
 
 /// The characters of a passed string: an empty one is one character 0C.
 fn passed_count(text: &[u8]) -> u32
@@ -61,21 +61,64 @@ pub fn call_count(call: &Call) -> u32
     }
 }
 
+/// The characters of a field or an index.
+#[cycle(count)]
+#[tactic(auto, using(crate::proofs::Variants::variants))]
+fn component_count(component: &Component) -> u32
+    ensures { result ≡ counted (texts_behind component.now) }
+{
+    match component {
+        Component::Field(_, _) => 0,
+        Component::Element(_, index) => expr_count(index),
+        Component::OpenElement(_, _, index) => expr_count(index),
+    }
+}
+
+/// The characters of fields and indexes.
+#[cycle(count)]
+fn components_count(components: &[Component]) -> u32
+    ensures { result ≡ fold with_component 0 components.now }
+{
+    let mut all = 0;
+    for component in components {
+        all = sum(all, component_count(component));
+    }
+    all
+}
+
 /// The characters of a designator.
 #[cycle(count)]
 #[tactic(auto, using(crate::proofs::Variants::variants))]
 pub fn place_count(place: &Place) -> u32
     ensures { result ≡ counted (texts_at place.now) }
 {
-    match place {
-        Place::Global(_) => 0,
-        Place::Local(_) => 0,
-        Place::Alias(_) => 0,
-        Place::With(_) => 0,
-        Place::Field(record, _, _) => place_count(record.get()),
-        Place::Element(array, _, index) => sum(place_count(array.get()), expr_count(index.get())),
-        Place::OpenElement(_, _, index) => expr_count(index.get()),
+    components_count(place.components.as_slice())
+}
+
+/// The characters of an operator's second operand.
+#[cycle(count)]
+#[tactic(auto, using(crate::proofs::Variants::variants))]
+fn link_count(link: &Link) -> u32
+    ensures { result ≡ counted (texts_linked link.now) }
+{
+    match link {
+        Link::Arithmetic(_, _, e) => expr_count(e),
+        Link::And(e) => expr_count(e),
+        Link::Or(e) => expr_count(e),
+        Link::Combine(_, e) => expr_count(e),
     }
+}
+
+/// The characters of the operands of a chain behind the first.
+#[cycle(count)]
+fn links_count(links: &[Link]) -> u32
+    ensures { result ≡ fold with_link 0 links.now }
+{
+    let mut all = 0;
+    for link in links {
+        all = sum(all, link_count(link));
+    }
+    all
 }
 
 /// The characters of an expression.
@@ -90,12 +133,12 @@ pub fn expr_count(e: &TypedExpr) -> u32
         TypedExpr::Procedure(_) => 0,
         TypedExpr::Plus(_, a) => expr_count(a.get()),
         TypedExpr::Negate(a) => expr_count(a.get()),
-        TypedExpr::Arithmetic(_, _, a, b) => sum(expr_count(a.get()), expr_count(b.get())),
+        TypedExpr::Chain(first, links) => sum(
+            expr_count(first.get()),
+            links_count(links.as_slice()),
+        ),
         TypedExpr::Compare(_, a, b) => sum(expr_count(a.get()), expr_count(b.get())),
         TypedExpr::Not(a) => expr_count(a.get()),
-        TypedExpr::And(a, b) => sum(expr_count(a.get()), expr_count(b.get())),
-        TypedExpr::Or(a, b) => sum(expr_count(a.get()), expr_count(b.get())),
-        TypedExpr::Combine(_, a, b) => sum(expr_count(a.get()), expr_count(b.get())),
         TypedExpr::Include(_, a, b) => sum(expr_count(a.get()), expr_count(b.get())),
         TypedExpr::In(a, b) => sum(expr_count(a.get()), expr_count(b.get())),
         TypedExpr::Abs(_, a) => expr_count(a.get()),

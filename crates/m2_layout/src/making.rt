@@ -7,7 +7,7 @@ ghost use Rattle.std.specs.List.{fold};
 ghost use Rattle.m2_layout.specs.Steps.{if_some};
 ghost use Rattle.m2_layout.specs.Extents.{begun, with_part, in_module, extent_in, AreExtents};
 ghost use Rattle.std.specs.Map.{lookup};
-ghost use Rattle.m2_layout.specs.Making.{known_in, part_size, with_field, array_extent, shape_extent, next_type, with_type, added, with_types, with_module, known_extents};
+ghost use Rattle.m2_layout.specs.Making.{known_in, part_size, with_field, array_extent, shape_extent, next_type, with_type, all_made, added, replaced, with_types, with_module, known_extents};
 
 use crate::capped::product;
 use crate::extent::Extent;
@@ -141,14 +141,15 @@ fn added(making: Making) -> Result<Extents, AllocError>
     Ok(modules)
 }
 
-fn with_types(
+/// What is kept of these types of a module.
+fn all_made(
     alloc: Global,
     types: &Types,
     modules: Extents,
     home: u32,
     all: &[Made],
-) -> Result<Extents, AllocError>
-    ensures { IfOk result (λ x. x ≡ with_types types.now modules home all.now) }
+) -> Result<Making, AllocError>
+    ensures { IfOk result (λ x. x ≡ all_made types.now modules home all.now) }
 {
     let mut making = Making {
         modules,
@@ -158,7 +159,19 @@ fn with_types(
     for made in all {
         with_type(alloc, types, &mut making, made)?;
     }
-    added(making)
+    Ok(making)
+}
+
+fn with_types(
+    alloc: Global,
+    types: &Types,
+    modules: Extents,
+    home: u32,
+    all: &[Made],
+) -> Result<Extents, AllocError>
+    ensures { IfOk result (λ x. x ≡ with_types types.now modules home all.now) }
+{
+    added(all_made(alloc, types, modules, home, all)?)
 }
 
 fn with_module(
@@ -186,11 +199,24 @@ fn others_of(alloc: Global, types: &Types) -> Result<Extents, AllocError>
     Ok(modules)
 }
 
+/// Enters the module, also where one of its number is there: an implementation has the types of its definition and more.
+fn replaced(making: Making) -> Result<Extents, AllocError>
+    ensures { IfOk result (λ x. x ≡ replaced making) }
+{
+    let Making {
+        mut modules,
+        home,
+        own,
+    } = making;
+    modules.enter(home, own)?;
+    Ok(modules)
+}
+
 fn known_extents(alloc: Global, types: &Types) -> Result<Extents, AllocError>
     ensures { IfOk result (λ x. x ≡ known_extents types.now) }
 {
     let others = others_of(alloc, types)?;
-    with_types(alloc, types, others, types.home, types.own.as_slice())
+    replaced(all_made(alloc, types, others, types.home, types.own.as_slice())?)
 }
 
 /// The storage of all types that a module knows. The only error is that memory ran out.

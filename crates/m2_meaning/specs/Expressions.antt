@@ -4,7 +4,11 @@ use Rattle.std.specs.Prelude.{ℕ, ◌-◌, ℤ, pos, ◌+ℤ◌, ◌-ℤ◌, �
 use Rattle.m2_typed.specs.declared.computed.Argument.{Argument-F}
 use Rattle.m2_typed.specs.declared.computed.Argument.TheOpen as layer
 use Rattle.m2_typed.specs.declared.computed.Call.{Call, Call-F, fold-Call}
+use Rattle.m2_typed.specs.declared.computed.Component.{Component-F}
+use Rattle.m2_typed.specs.declared.computed.Link.{Link-F}
 use Rattle.m2_typed.specs.declared.computed.Place.{Place, Place-F, fold-Place}
+use Rattle.m2_typed.specs.declared.computed.Root.{Root}
+use Rattle.m2_typed.specs.declared.computed.Root.TheVariants as root
 use Rattle.m2_typed.specs.declared.computed.TypedExpr.{TypedExpr, TypedExpr-F, fold-TypedExpr}
 use Rattle.m2_typed.specs.declared.computed.Arithmetic.{Arithmetic}
 use Rattle.m2_typed.specs.declared.computed.Arithmetic.TheVariants as op
@@ -94,6 +98,17 @@ Asks = Option Callee → List Passed → (next left : ℕ) → State → Answer 
 abbrev pub Gives : Type 0 → Type 0
 Gives A = Around → State → Answer A
 
+-- what a component makes of a location, and an operator with its second operand of the first
+abbrev pub Reaches : Type 0
+Reaches = Location → Gives Location
+
+abbrev pub Continues : Type 0
+Continues = ℤ → Gives ℤ
+
+abbrev pub one_by_one : {A : Type 0} → List (A → Gives A) → A → Gives A
+one_by_one [] x a st = Gave x st
+one_by_one (f ∷ fs) x a st = then_give (f x a st) (λ y st. one_by_one fs y a st)
+
 module _ (p : Modules) (ask : Asks) where
   -- one argument after the other
   abbrev pub all_given : List (Gives Passed) → Around → State → Answer (List Passed)
@@ -108,27 +123,33 @@ module _ (p : Modules) (ask : Asks) where
   asked_if None args a st = Ended empty_procedure st.out
   asked_if (Some callee) args a st = asked (Some callee) args a st
 
-  abbrev pub argument_layer : Argument-F (Gives Passed) (Gives ℤ) (Gives Location) (Gives ℤ) → Gives Passed
+  abbrev pub argument_layer : Argument-F (Gives Passed) (Gives ℤ) Reaches Continues (Gives ℤ) (Gives Location) → Gives Passed
   argument_layer (layer.Value t e) a st = then_give (e a st) (λ v st. then_give (as_type a.types t v st) (λ v st. Gave (Number v) st))
   argument_layer (layer.Place d) a st = then_give (d a st) (λ l st. Gave (Variable l) st)
   argument_layer (layer.Array t d) a st = then_give (d a st) (λ l st. Gave (Array l (high_index a.types t)) st)
   argument_layer (layer.Open slot) a st = Gave (Array (location_of (named a slot)) (high_of (named a slot))) st
   argument_layer (layer.Text text) a st = Gave (Text text) st
 
-  abbrev pub call_layer : Call-F (Gives Passed) (Gives ℤ) (Gives Location) (Gives ℤ) → Gives ℤ
+  abbrev pub call_layer : Call-F (Gives Passed) (Gives ℤ) Reaches Continues (Gives ℤ) (Gives Location) → Gives ℤ
   call_layer (layer.Module f args) a st = asked (module_callee p (module_place p f.home) f.number) args a st
   call_layer (layer.Nested f args) a st = asked (nested_in a.place (slice_get p a.place) (drop f.up a.frames) f.number) args a st
   call_layer (layer.Variable t d args) a st = then_give (d a st) (λ l st. asked_if (entry_callee p (entry_of p (st.store l))) args a st)
 
+  abbrev pub root_layer : Root → Around → Location
+  root_layer (root.Global v) a = module_place p v.home ∷ v.number ∷ []
+  root_layer (root.Local slot) a = location_of (named a slot)
+  root_layer (root.Alias slot) a = location_of (named a slot)
+  root_layer (root.Open slot) a = location_of (named a slot)
+  root_layer (root.With k) a = or_root (slice_get a.withs k)
+
   -- left to right: an index is evaluated, and checked, behind what stands before its bracket
-  abbrev pub place_layer : Place-F (Gives Passed) (Gives ℤ) (Gives Location) (Gives ℤ) → Gives Location
-  place_layer (layer.Global v) a st = Gave (module_place p v.home ∷ v.number ∷ []) st
-  place_layer (layer.Local slot) a st = Gave (location_of (named a slot)) st
-  place_layer (layer.Alias slot) a st = Gave (location_of (named a slot)) st
-  place_layer (layer.With k) a st = Gave (or_root (slice_get a.withs k)) st
-  place_layer (layer.Field d t k) a st = then_give (d a st) (λ l st. Gave (l ++ k ∷ []) st)
-  place_layer (layer.Element d t i) a st = then_give (d a st) (λ l st. then_give (i a st) (λ v st. element_in l (index_range a.types t) v st))
-  place_layer (layer.OpenElement slot t i) a st = then_give (i a st) (λ v st. element (location_of (named a slot)) (pos 0) (pos (high_of (named a slot))) v st)
+  abbrev pub component_layer : Component-F (Gives Passed) (Gives ℤ) Reaches Continues (Gives ℤ) (Gives Location) → Reaches
+  component_layer (layer.Field t k) l a st = Gave (l ++ k ∷ []) st
+  component_layer (layer.Element t i) l a st = then_give (i a st) (λ v st. element_in l (index_range a.types t) v st)
+  component_layer (layer.OpenElement slot t i) l a st = then_give (i a st) (λ v st. element l (pos 0) (pos (high_of (named a slot))) v st)
+
+  abbrev pub place_layer : Place-F (Gives Passed) (Gives ℤ) Reaches Continues (Gives ℤ) (Gives Location) → Gives Location
+  place_layer d a st = one_by_one d.components (root_layer d.root a) a st
 
   abbrev pub unary : Gives ℤ → (ℤ → State → Answer ℤ) → Gives ℤ
   unary e f a st = then_give (e a st) f
@@ -136,18 +157,22 @@ module _ (p : Modules) (ask : Asks) where
   abbrev pub binary : Gives ℤ → Gives ℤ → (ℤ → ℤ → State → Answer ℤ) → Gives ℤ
   binary e e' f a st = then_give (e a st) (λ x st. then_give (e' a st) (λ y st. f x y st))
 
-  abbrev pub expr_layer : TypedExpr-F (Gives Passed) (Gives ℤ) (Gives Location) (Gives ℤ) → Gives ℤ
+  -- AND and OR evaluate their second operand only where the first does not decide
+  abbrev pub link_layer : Link-F (Gives Passed) (Gives ℤ) Reaches Continues (Gives ℤ) (Gives Location) → Continues
+  link_layer (layer.Arithmetic o t e) x a st = then_give (e a st) (λ y st. operated a.types o t x y st)
+  link_layer (layer.And e) v a st = if is_true v then e a st else Gave (truth false) st
+  link_layer (layer.Or e) v a st = if is_true v then Gave (truth true) st else e a st
+  link_layer (layer.Combine o e) x a st = then_give (e a st) (λ y st. Gave (combined o x y) st)
+
+  abbrev pub expr_layer : TypedExpr-F (Gives Passed) (Gives ℤ) Reaches Continues (Gives ℤ) (Gives Location) → Gives ℤ
   expr_layer (layer.Constant t n) a st = Gave n st
   expr_layer (layer.Load t d) a st = then_give (d a st) (λ l st. Gave (st.store l) st)
   expr_layer (layer.Procedure f) a st = Gave (procedure_value p f.home f.number) st
   expr_layer (layer.Plus t e) a st = e a st
   expr_layer (layer.Negate e) a st = unary e (λ v st. in_base a.types integer (pos 0 -ℤ v) st) a st
-  expr_layer (layer.Arithmetic o t e e') a st = binary e e' (operated a.types o t) a st
+  expr_layer (layer.Chain e links) a st = then_give (e a st) (λ v st. one_by_one links v a st)
   expr_layer (layer.Compare o e e') a st = binary e e' (λ x y st. Gave (truth (compared o x y)) st) a st
   expr_layer (layer.Not e) a st = unary e (λ v st. Gave (truth (not (is_true v))) st) a st
-  expr_layer (layer.And e e') a st = then_give (e a st) (λ v st. if is_true v then e' a st else Gave (truth false) st)
-  expr_layer (layer.Or e e') a st = then_give (e a st) (λ v st. if is_true v then Gave (truth true) st else e' a st)
-  expr_layer (layer.Combine o e e') a st = binary e e' (λ x y st. Gave (combined o x y) st) a st
   expr_layer (layer.Include o e e') a st = binary e e' (λ x y st. Gave (truth (included o x y)) st) a st
   expr_layer (layer.In e e') a st = then_give (e a st) (λ x st. then_give (within (pos 0) (pos 31) range_fault x st) (λ x st. then_give (e' a st) (λ s st. Gave (truth (has s x)) st)))
   expr_layer (layer.Abs t e) a st = unary e (λ v st. in_base a.types t (absolute v) st) a st
@@ -160,10 +185,10 @@ module _ (p : Modules) (ask : Asks) where
   expr_layer (layer.Call t c) a st = c a st
 
   unfoldable pub value : TypedExpr → Gives ℤ
-  value = fold-TypedExpr (Gives Passed) (Gives ℤ) (Gives Location) (Gives ℤ) argument_layer call_layer place_layer expr_layer
+  value = fold-TypedExpr (Gives Passed) (Gives ℤ) Reaches Continues (Gives ℤ) (Gives Location) argument_layer call_layer component_layer link_layer expr_layer place_layer
 
   unfoldable pub locate : Place → Gives Location
-  locate = fold-Place (Gives Passed) (Gives ℤ) (Gives Location) (Gives ℤ) argument_layer call_layer place_layer expr_layer
+  locate = fold-Place (Gives Passed) (Gives ℤ) Reaches Continues (Gives ℤ) (Gives Location) argument_layer call_layer component_layer link_layer expr_layer place_layer
 
   unfoldable pub called : Call → Gives ℤ
-  called = fold-Call (Gives Passed) (Gives ℤ) (Gives Location) (Gives ℤ) argument_layer call_layer place_layer expr_layer
+  called = fold-Call (Gives Passed) (Gives ℤ) Reaches Continues (Gives ℤ) (Gives Location) argument_layer call_layer component_layer link_layer expr_layer place_layer

@@ -8,4 +8,3 @@ pub mod Statements
 pub mod Runs
 pub mod Later
 pub mod Calm
-pub mod Program

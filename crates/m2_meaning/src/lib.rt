@@ -5,7 +5,6 @@
 //! - `specs/Store` has what variables hold, `specs/Around` what stands around a part while it runs, `specs/Answer` how a
 //!   part ends, and `specs/Operators` what operators make of numbers.
 //! - `specs/Later` says what more time makes of a run, and `specs/Calm` what expressions without calls leave alone.
-//! - `specs/Program` says the same of the programs that are compiled so far.
 #![tactic(auto)]
 
 ghost use Rattle.m2_meaning.specs.Calm.{ChangesNothing, FindsAlone};

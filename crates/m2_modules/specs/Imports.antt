@@ -29,12 +29,16 @@ abbrev pub with_table_of : List Imported → Option Table → List Imported
 with_table_of so None = so
 with_table_of so (Some t) = cond (same_name t.name (codes "Console")) so (so ++ imported_as t ∷ [])
 
-abbrev pub with_place_of : List Table → List Imported → Option ℕ → List Imported
-with_place_of tables so None = so
-with_place_of tables so (Some k) = with_table_of so (slice_get tables k)
+-- a module that the definition alone imports: the body can name none of its variables
+abbrev pub with_name_of : List Imported → List ℕ × ℕ → List Imported
+with_name_of so e = cond (same_name e.0 (codes "Console")) so (so ++ record { name = e.0; number = e.1; variables = [] } ∷ [])
+
+abbrev pub with_place_of : List Table → List Imported → List ℕ × ℕ → Option ℕ → List Imported
+with_place_of tables so e None = with_name_of so e
+with_place_of tables so e (Some k) = with_table_of so (slice_get tables k)
 
 abbrev pub with_module_of : (modules : List (List ℕ × ℕ)) → List Table → List Imported → List ℕ × ℕ → List Imported
-with_module_of modules tables so e = with_place_of tables so (found e.0 modules)
+with_module_of modules tables so e = with_place_of tables so e (found e.0 modules)
 
 abbrev pub typed_imports : (modules : List (List ℕ × ℕ)) → List Table → List (List ℕ × ℕ) → List Imported
 typed_imports modules tables names = fold (with_module_of modules tables) [] names

@@ -6,10 +6,10 @@ ghost use Rattle.std.specs.Option.{option_map, option_copied};
 ghost use Rattle.m2_typed.specs.Names.{same_name};
 ghost use Rattle.m2_types.specs.Steps.{if_some};
 ghost use Rattle.m2_types.specs.Export.{with_import_of};
-ghost use Rattle.m2_modules.specs.Imports.{with_import_copy, definition_imports, all_imports, imported_as, with_table_of, with_place_of, with_module_of, typed_imports};
+ghost use Rattle.m2_modules.specs.Imports.{with_import_copy, definition_imports, all_imports, imported_as, with_table_of, with_name_of, with_place_of, with_module_of, typed_imports};
 
 use crate::own::exported_variables;
-use m2_tree::{Import, Items};
+use m2_tree::{Import, Items, Name};
 use m2_typed::{Dictionary, Imported, Shared, Table};
 use m2_types::with_import_of;
 use std::alloc::{AllocError, Global};
@@ -102,6 +102,34 @@ fn with_table_of(
     }
 }
 
+/// A name of at most 64 bytes, as each name is. The only error is that memory ran out, or that it has more.
+fn name_of(alloc: Global, name: &[u8]) -> Result<Name, AllocError>
+    ensures { IfOk result (λ copy. copy ≡ name.now) }
+{
+    if name.len() > 64 {
+        return Err(AllocError);
+    }
+    Name::new(alloc, name)
+}
+
+fn with_name_of(
+    alloc: Global,
+    imports: &mut Items<Imported>,
+    name: &[u8],
+    number: u32,
+) -> Result<(), AllocError>
+    ensures { OnOk result (imports.new ≡ with_name_of imports.old (name.now, number)) }
+{
+    if is_console(name) {
+        return Ok(());
+    }
+    imports.push(Imported {
+        name: name_of(alloc, name)?,
+        number,
+        variables: Items::new(alloc),
+    })
+}
+
 fn with_module_of(
     alloc: Global,
     imports: &mut Items<Imported>,
@@ -113,7 +141,7 @@ fn with_module_of(
     ensures { OnOk result (imports.new ≡ with_module_of modules.now tables.now imports.old (name.now, number)) }
 {
     match modules.find(name) {
-        None => Ok(()),
+        None => with_name_of(alloc, imports, name, number),
         Some(place) => with_table_of(alloc, imports, tables.get(*place)),
     }
 }

@@ -14,7 +14,11 @@ use Rattle.wasm_tree.specs.declared.instr.Operation.TheVariants.{Add, Sub, Mul, 
 use Rattle.m2_typed.specs.declared.computed.Argument.{Argument, Argument-F, fold-Argument}
 use Rattle.m2_typed.specs.declared.computed.Argument.TheOpen as layer
 use Rattle.m2_typed.specs.declared.computed.Call.{Call as Calls, Call-F, fold-Call}
+use Rattle.m2_typed.specs.declared.computed.Component.{Component-F}
+use Rattle.m2_typed.specs.declared.computed.Link.{Link-F}
 use Rattle.m2_typed.specs.declared.computed.Place.{Place, Place-F, fold-Place}
+use Rattle.m2_typed.specs.declared.computed.Root.{Root}
+use Rattle.m2_typed.specs.declared.computed.Root.TheVariants as root
 use Rattle.m2_typed.specs.declared.computed.TypedExpr.{TypedExpr, TypedExpr-F, fold-TypedExpr}
 use Rattle.m2_typed.specs.declared.computed.Slot.{Slot}
 use Rattle.m2_typed.specs.declared.computed.LocalProcedure.{LocalProcedure}
@@ -191,12 +195,12 @@ include_code inclusion.Around x y = x ⨾ plain complement ⨾ y ⨾ plain (oper
 abbrev pub chosen_number : List Instr → List Instr → Instr
 chosen_number first second = If (Some type.I64) first (Some second)
 
--- the second operand stands in one side of an if
-abbrev pub and_code : Coded → Coded → Coded
-and_code x y = x ⨾ plain (wrapped ∷ []) ⨾ within 1 (λ code. chosen_number code (I64Const 0 ∷ []) ∷ []) y
+-- the second operand stands in one side of an if, behind the first
+abbrev pub and_code : Coded → Coded
+and_code y = plain (wrapped ∷ []) ⨾ within 1 (λ code. chosen_number code (I64Const 0 ∷ []) ∷ []) y
 
-abbrev pub or_code : Coded → Coded → Coded
-or_code x y = x ⨾ plain (wrapped ∷ []) ⨾ within 1 (λ code. chosen_number (I64Const 1 ∷ []) code ∷ []) y
+abbrev pub or_code : Coded → Coded
+or_code y = plain (wrapped ∷ []) ⨾ within 1 (λ code. chosen_number (I64Const 1 ∷ []) code ∷ []) y
 
 abbrev pub in_code : Coded → Coded → Coded
 in_code x y = x ⨾ plain (checked (pos 0) (pos 31) 1) ⨾ with_number (λ t. plain (LocalSet t ∷ []) ⨾ y ⨾ plain (LocalGet t ∷ operation ShrU ∷ I64Const 1 ∷ operation And ∷ []))
@@ -232,18 +236,38 @@ procedure_code m f = GlobalGet (slots_global m f.home) ∷ extended ∷ I64Const
 abbrev pub loaded_from : Coded → TypeNo → Coded
 loaded_from d t = behind d (λ types. loaded types t)
 
-abbrev pub expr_layer : TypedExpr-F Coded Coded Coded Part → Part
+-- an operator of a chain: the type of its result, and its code behind that of what stands before
+pub record Linked : Type 0 where
+  pub of : TypeNo
+  pub code : Coded
+
+abbrev pub linked : TypeNo → Coded → Linked
+linked t code = record { of = t; code = code }
+
+abbrev pub link_layer : Link-F Coded Coded Coded Linked Part Coded → Linked
+link_layer (layer.Arithmetic o t b) = linked t (behind b.code (λ types. arithmetic_code types o t))
+link_layer (layer.And b) = linked boolean (and_code b.code)
+link_layer (layer.Or b) = linked boolean (or_code b.code)
+link_layer (layer.Combine o b) = linked bitset (b.code ⨾ plain (set_code o))
+
+-- the last operator of a chain gives its type
+abbrev pub chain_type : TypeNo → List Linked → TypeNo
+chain_type t [] = t
+chain_type t (l ∷ ls) = chain_type l.of ls
+
+abbrev pub chain_code : List Linked → Coded
+chain_code [] = nothing
+chain_code (l ∷ ls) = l.code ⨾ chain_code ls
+
+abbrev pub expr_layer : TypedExpr-F Coded Coded Coded Linked Part Coded → Part
 expr_layer (layer.Constant t n) = record { of = t; constant = true; code = plain (number n ∷ []) }
 expr_layer (layer.Load t d) = computed t (loaded_from d t)
 expr_layer (layer.Procedure f) = computed f.heading (with_setting (λ s. plain (procedure_code s.home f)))
 expr_layer (layer.Plus t e) = computed t e.code
 expr_layer (layer.Negate e) = computed integer (plain (I64Const 0 ∷ []) ⨾ behind e.code (λ types. operation Sub ∷ in_type types integer 2))
-expr_layer (layer.Arithmetic o t a b) = computed t (a.code ⨾ behind b.code (λ types. arithmetic_code types o t))
+expr_layer (layer.Chain e links) = computed (chain_type e.of links) (e.code ⨾ chain_code links)
 expr_layer (layer.Compare o a b) = computed boolean (two a.code b.code (relation (relation_of o) ∷ extended ∷ []))
 expr_layer (layer.Not e) = computed boolean (e.code ⨾ plain empty_code)
-expr_layer (layer.And a b) = computed boolean (and_code a.code b.code)
-expr_layer (layer.Or a b) = computed boolean (or_code a.code b.code)
-expr_layer (layer.Combine o a b) = computed bitset (two a.code b.code (set_code o))
 expr_layer (layer.Include o a b) = computed boolean (include_code o a.code b.code)
 expr_layer (layer.In a b) = computed boolean (in_code a.code b.code)
 expr_layer (layer.Abs t e) = computed t (abs_code t e.code)
@@ -264,14 +288,21 @@ abbrev pub with_code : Option ℕ → List Instr
 with_code None = []
 with_code (Some w) = LocalGet w ∷ []
 
-abbrev pub place_layer : Place-F Coded Coded Coded Part → Coded
-place_layer (layer.Global v) = with_setting (λ s. plain (global_code s.home v))
-place_layer (layer.Local slot) = with_setting (λ s. plain (slot_code s slot []))
-place_layer (layer.Alias slot) = with_setting (λ s. plain (kept_address s slot []))
-place_layer (layer.With k) = with_setting (λ s. plain (with_code (slice_get s.withs k)))
-place_layer (layer.Field d t k) = behind d (λ types. raised (offset (tree types t) (k ∷ [])))
-place_layer (layer.Element d t i) = d ⨾ behind i.code (λ types. element_code types t)
-place_layer (layer.OpenElement slot t i) = with_setting (λ s. plain (open_address s slot)) ⨾ i.code ⨾ with_setting (λ s. plain (open_element_code s slot t))
+abbrev pub root_layer : Root → Coded
+root_layer (root.Global v) = with_setting (λ s. plain (global_code s.home v))
+root_layer (root.Local slot) = with_setting (λ s. plain (slot_code s slot []))
+root_layer (root.Alias slot) = with_setting (λ s. plain (kept_address s slot []))
+root_layer (root.Open slot) = with_setting (λ s. plain (open_address s slot))
+root_layer (root.With k) = with_setting (λ s. plain (with_code (slice_get s.withs k)))
+
+-- the code of a component stands behind that of what it is a component of
+abbrev pub component_layer : Component-F Coded Coded Coded Linked Part Coded → Coded
+component_layer (layer.Field t k) = with_setting (λ s. plain (raised (offset (tree s.home.types t) (k ∷ []))))
+component_layer (layer.Element t i) = behind i.code (λ types. element_code types t)
+component_layer (layer.OpenElement slot t i) = i.code ⨾ with_setting (λ s. plain (open_element_code s slot t))
+
+abbrev pub place_layer : Place-F Coded Coded Coded Linked Part Coded → Coded
+place_layer d = root_layer d.root ⨾ all_coded d.components
 
 -- ---- arguments
 
@@ -284,7 +315,7 @@ high_index types t = elements_of (index_of types t) - 1
 abbrev pub passed_text : List ℕ → Coded
 passed_text text = with_text (length text) (λ at. plain (text_code at ++ (extended ∷ I64Const (length text - 1) ∷ [])))
 
-abbrev pub argument_layer : Argument-F Coded Coded Coded Part → Coded
+abbrev pub argument_layer : Argument-F Coded Coded Coded Linked Part Coded → Coded
 argument_layer (layer.Value t e) = behind e.code (λ types. check_taken types t e.constant e.of)
 argument_layer (layer.Place d) = d ⨾ plain (extended ∷ [])
 argument_layer (layer.Array t d) = behind d (λ types. extended ∷ I64Const (high_index types t) ∷ [])
@@ -338,17 +369,17 @@ module _ (numbered : Numbered) where
   abbrev pub value_call : ℕ → TypeNo → Coded
   value_call t heading = with_setting (λ s. plain (LocalGet t ∷ wrapped ∷ indirect s.home.types heading ∷ []))
 
-  abbrev pub call_layer : Call-F Coded Coded Coded Part → Coded
+  abbrev pub call_layer : Call-F Coded Coded Coded Linked Part Coded → Coded
   call_layer (layer.Module f args) = top_code ⨾ all_coded args ⨾ with_setting (λ s. plain (module_call s.home f))
   call_layer (layer.Nested f args) = top_code ⨾ plain (link_code f.up) ⨾ all_coded args ⨾ with_setting (λ s. plain (nested_call s.home f))
   call_layer (layer.Variable t d args) =
       loaded_from d t ⨾ plain (checked (pos 1) (pos 4294967295) 7) ⨾ with_number (λ n. plain (LocalSet n ∷ []) ⨾ top_code ⨾ all_coded args ⨾ value_call n t)
 
   unfoldable pub expr_part : TypedExpr → Part
-  expr_part = fold-TypedExpr Coded Coded Coded Part argument_layer call_layer place_layer expr_layer
+  expr_part = fold-TypedExpr Coded Coded Coded Linked Part Coded argument_layer call_layer component_layer link_layer expr_layer place_layer
 
   unfoldable pub place_code : Place → Coded
-  place_code = fold-Place Coded Coded Coded Part argument_layer call_layer place_layer expr_layer
+  place_code = fold-Place Coded Coded Coded Linked Part Coded argument_layer call_layer component_layer link_layer expr_layer place_layer
 
   unfoldable pub call_code : Calls → Coded
-  call_code = fold-Call Coded Coded Coded Part argument_layer call_layer place_layer expr_layer
+  call_code = fold-Call Coded Coded Coded Linked Part Coded argument_layer call_layer component_layer link_layer expr_layer place_layer

@@ -25,6 +25,7 @@ use Rattle.m2_scheme.specs.Coded.{Coded, Counts, Setting, plain, ◌⨾◌, top_
 use Rattle.m2_scheme.specs.Cells.{store_scalar, word}
 use Rattle.m2_scheme.specs.Exprs.{Numbered, arguments_of, all_arguments, has_result}
 use Rattle.m2_scheme.specs.Steps.{body_code}
+use Rattle.m2_scheme.specs.Addresses.{addresses_in}
 
 -- ---- frames of the procedures around a procedure
 
@@ -114,11 +115,6 @@ setting m frames arguments addresses = record { home = m; frames = frames; argum
 abbrev pub from_text : ℕ → Counts
 from_text at = record { addresses = 0; numbers = 0; texts = at }
 
--- how many locals code needs does not depend on where they stand
-abbrev pub coded : TypedModule → List Ty → (arguments text : ℕ) → Coded → List Instr × Counts
-coded m frames arguments at x =
-    let counts = (x (setting m frames arguments 0) (from_text at)).1 in x (setting m frames arguments counts.addresses) (from_text at)
-
 abbrev pub locals_of : Counts → List Locals
 locals_of c = record { count = 2 + c.addresses; value_type = type.I32 } ∷ record { count = c.numbers; value_type = type.I64 } ∷ []
 
@@ -131,8 +127,11 @@ end_code true = fault 6
 end_code false = []
 
 module _ (numbered : Numbered) (m : TypedModule) where
+  abbrev pub coded : List Ty → (arguments text : ℕ) → List TypedStmt → List Instr × Counts
+  coded frames arguments at body = body_code numbered body (setting m frames arguments (addresses_in body)) (from_text at)
+
   abbrev pub routine_coded : Routine → (text : ℕ) → List Instr × Counts
-  routine_coded r at = coded m (frame m.types r ∷ frames_around m r.level r.around) (suc (numbers_of m.types r)) at (body_code numbered r.body)
+  routine_coded r at = coded (frame m.types r ∷ frames_around m r.level r.around) (suc (numbers_of m.types r)) at r.body
 
   abbrev pub routine_function : Which → Routine → Function
   routine_function w r =
@@ -145,7 +144,7 @@ module _ (numbered : Numbered) (m : TypedModule) where
 
   -- the body of the module: its texts stand behind all others
   abbrev pub module_coded : List Instr × Counts
-  module_coded = coded m (frame_of [] ∷ []) 1 (characters (routines_texts m)) (body_code numbered m.body)
+  module_coded = coded (frame_of [] ∷ []) 1 (characters (routines_texts m)) m.body
 
   abbrev pub module_function : Function
   module_function = function_of 5 (enter_code 1 (size (frame_of []))) module_coded []

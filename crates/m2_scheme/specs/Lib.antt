@@ -2,6 +2,7 @@ pub mod Coded
 pub mod Cells
 pub mod Exprs
 pub mod Steps
+pub mod Addresses
 pub mod Functions
 pub mod Signatures
 pub mod Scheme

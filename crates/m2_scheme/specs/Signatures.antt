@@ -8,6 +8,8 @@ use Rattle.wasm_tree.specs.declared.kinds.FuncType.{FuncType}
 use Rattle.m2_typed.specs.declared.computed.Argument.{Argument, Argument-F, fold-Argument}
 use Rattle.m2_typed.specs.declared.computed.Argument.TheOpen as layer
 use Rattle.m2_typed.specs.declared.computed.Call.{Call, Call-F, fold-Call}
+use Rattle.m2_typed.specs.declared.computed.Component.{Component-F}
+use Rattle.m2_typed.specs.declared.computed.Link.{Link-F}
 use Rattle.m2_typed.specs.declared.computed.Place.{Place, Place-F, fold-Place}
 use Rattle.m2_typed.specs.declared.computed.TypedExpr.{TypedExpr, TypedExpr-F, fold-TypedExpr}
 use Rattle.m2_typed.specs.declared.statement.TypedStmt.{TypedStmt, TypedStmt-F, fold-TypedStmt}
@@ -46,39 +48,41 @@ optional (Some xs) = joined xs
 -- ---- calls through the table: of procedures of other modules, and of procedure variables
 
 module _ (m : TypedModule) where
-  abbrev pub argument_layer : Argument-F Signatures Signatures Signatures Signatures → Signatures
+  abbrev pub argument_layer : Argument-F Signatures Signatures Signatures Signatures Signatures Signatures → Signatures
   argument_layer (layer.Value t e) = e
   argument_layer (layer.Place d) = d
   argument_layer (layer.Array t d) = d
   argument_layer (layer.Open slot) = []
   argument_layer (layer.Text text) = []
 
-  abbrev pub call_layer : Call-F Signatures Signatures Signatures Signatures → Signatures
+  abbrev pub call_layer : Call-F Signatures Signatures Signatures Signatures Signatures Signatures → Signatures
   call_layer (layer.Module f args) = joined args ++ (if is_own m f.home then [] else of_heading m.types f.heading ∷ [])
   call_layer (layer.Nested f args) = joined args
   call_layer (layer.Variable t d args) = d ++ (joined args ++ of_heading m.types t ∷ [])
 
-  abbrev pub place_layer : Place-F Signatures Signatures Signatures Signatures → Signatures
-  place_layer (layer.Global v) = []
-  place_layer (layer.Local slot) = []
-  place_layer (layer.Alias slot) = []
-  place_layer (layer.With k) = []
-  place_layer (layer.Field d t k) = d
-  place_layer (layer.Element d t i) = d ++ i
-  place_layer (layer.OpenElement slot t i) = i
+  abbrev pub component_layer : Component-F Signatures Signatures Signatures Signatures Signatures Signatures → Signatures
+  component_layer (layer.Field t k) = []
+  component_layer (layer.Element t i) = i
+  component_layer (layer.OpenElement slot t i) = i
 
-  abbrev pub expr_layer : TypedExpr-F Signatures Signatures Signatures Signatures → Signatures
+  abbrev pub place_layer : Place-F Signatures Signatures Signatures Signatures Signatures Signatures → Signatures
+  place_layer d = joined d.components
+
+  abbrev pub link_layer : Link-F Signatures Signatures Signatures Signatures Signatures Signatures → Signatures
+  link_layer (layer.Arithmetic op t b) = b
+  link_layer (layer.And b) = b
+  link_layer (layer.Or b) = b
+  link_layer (layer.Combine op b) = b
+
+  abbrev pub expr_layer : TypedExpr-F Signatures Signatures Signatures Signatures Signatures Signatures → Signatures
   expr_layer (layer.Constant t n) = []
   expr_layer (layer.Load t d) = d
   expr_layer (layer.Procedure p) = []
   expr_layer (layer.Plus t e) = e
   expr_layer (layer.Negate e) = e
-  expr_layer (layer.Arithmetic op t a b) = a ++ b
+  expr_layer (layer.Chain a links) = a ++ joined links
   expr_layer (layer.Compare op a b) = a ++ b
   expr_layer (layer.Not e) = e
-  expr_layer (layer.And a b) = a ++ b
-  expr_layer (layer.Or a b) = a ++ b
-  expr_layer (layer.Combine op a b) = a ++ b
   expr_layer (layer.Include op a b) = a ++ b
   expr_layer (layer.In a b) = a ++ b
   expr_layer (layer.Abs t e) = e
@@ -91,13 +95,13 @@ module _ (m : TypedModule) where
   expr_layer (layer.Call t c) = c
 
   unfoldable pub of_expr : TypedExpr → Signatures
-  of_expr = fold-TypedExpr Signatures Signatures Signatures Signatures argument_layer call_layer place_layer expr_layer
+  of_expr = fold-TypedExpr Signatures Signatures Signatures Signatures Signatures Signatures argument_layer call_layer component_layer link_layer expr_layer place_layer
 
   unfoldable pub of_place : Place → Signatures
-  of_place = fold-Place Signatures Signatures Signatures Signatures argument_layer call_layer place_layer expr_layer
+  of_place = fold-Place Signatures Signatures Signatures Signatures Signatures Signatures argument_layer call_layer component_layer link_layer expr_layer place_layer
 
   unfoldable pub of_call : Call → Signatures
-  of_call = fold-Call Signatures Signatures Signatures Signatures argument_layer call_layer place_layer expr_layer
+  of_call = fold-Call Signatures Signatures Signatures Signatures Signatures Signatures argument_layer call_layer component_layer link_layer expr_layer place_layer
 
   abbrev pub step_layer : TypedStmt-F Signatures Signatures → Signatures
   step_layer (step.Assign d t e) = of_place d ++ of_expr e

@@ -4,5 +4,5 @@
 //!   pieces of `specs/Coded` and `specs/Cells`; `specs/Signatures` the types of functions that a module needs; and
 //!   `specs/Modules` the modules of a program.
 //! - `specs/Helpers` has the functions that each module has before its own.
-//! - `specs/Scheme` says the same of the programs that are compiled so far.
+//! - `specs/Scheme` has pieces of modules: types, imports and exports.
 #![tactic(auto)]

@@ -4,7 +4,7 @@ use Rattle.m2_tree.specs.declared.pos.Pos.{Pos}
 use Rattle.m2_tree.specs.declared.name.Ident.{Ident}
 use Rattle.m2_typed.specs.declared.types.TypeNo.{TypeNo}
 use Rattle.m2_typed.specs.declared.computed.Place.{Place}
-use Rattle.m2_typed.specs.declared.computed.Place.TheVariants as place
+use Rattle.m2_typed.specs.declared.computed.Root.TheVariants as root
 use Rattle.m2_typed.specs.declared.computed.TypedExpr.{TypedExpr}
 use Rattle.m2_typed.specs.declared.computed.TypedExpr.TheVariants as expr
 use Rattle.m2_typed.specs.declared.meaning.LocalKind.{LocalKind}
@@ -15,6 +15,7 @@ use Rattle.m2_typed.specs.declared.meaning.Value.{Value}
 use Rattle.m2_typed.specs.declared.statement.TypedStmt.{TypedStmt}
 use Rattle.m2_typed.specs.declared.statement.TypedStmt.TheVariants as step
 use Rattle.m2_typed.specs.declared.known_types.Types.{Types}
+use Rattle.m2_typed.specs.Chains.{rooted}
 use Rattle.m2_judged.specs.Judged.{Gathers, told, told_where, both, ◌▷◌}
 use Rattle.m2_judged.specs.declared.scope.Scope.{Scope}
 use Rattle.m2_judged.specs.Scopes.{looked_up}
@@ -56,8 +57,8 @@ is_own kind.Open = false
 abbrev pub control_by : (g : Gathers) → Scope g.Told → Pos → Meaning → Result Control g.Told
 control_by g s at (meaning.Constant v) = told g at 47
 control_by g s at (meaning.Type t n) = told g at 47
-control_by g s at (meaning.Variable v) = told_where g (not (v.home == s.types.home)) at 47 (controlled g s.types at v.of (place.Global v))
-control_by g s at (meaning.Local v) = told_where g (not (is_own v.kind && (v.level == s.level))) at 47 (controlled g s.types at v.of (place.Local (slot_of s.level v)))
+control_by g s at (meaning.Variable v) = told_where g (not (v.home == s.types.home)) at 47 (controlled g s.types at v.of (rooted (root.Global v)))
+control_by g s at (meaning.Local v) = told_where g (not (is_own v.kind && (v.level == s.level))) at 47 (controlled g s.types at v.of (rooted (root.Local (slot_of s.level v))))
 control_by g s at (meaning.Field f) = told g at 47
 control_by g s at (meaning.Procedure p) = told g at 47
 control_by g s at (meaning.LocalProcedure p) = told g at 47

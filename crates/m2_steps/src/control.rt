@@ -14,7 +14,9 @@ use m2_constants::constant_of;
 use m2_exprs::{place_of, value_of};
 use m2_judged::{Fault, Judged, Scope, both, looked_up, told};
 use m2_tree::{Boxed, Expr, Ident, Items, Pos};
-use m2_typed::{LocalKind, Meaning, Place, TypeNo, TypedExpr, TypedStmt, Types, Value};
+use m2_typed::{
+    LocalKind, Meaning, Place, Root, TypeNo, TypedExpr, TypedStmt, Types, Value, rooted,
+};
 use m2_values::{Ordinal, fits, whole_number};
 use std::alloc::{AllocError, Global};
 
@@ -61,7 +63,7 @@ fn is_own(kind: LocalKind) -> bool
     }
 }
 
-fn control_by(scope: &Scope<Fault>, at: Pos, meaning: Meaning) -> Judged<Control>
+fn control_by(alloc: Global, scope: &Scope<Fault>, at: Pos, meaning: Meaning) -> Judged<Control>
     ensures { result ≡ control_by least scope.now at meaning }
 {
     match meaning {
@@ -69,14 +71,16 @@ fn control_by(scope: &Scope<Fault>, at: Pos, meaning: Meaning) -> Judged<Control
             if variable.home != scope.types.home {
                 return told(at, 47);
             }
-            controlled(&scope.types, at, variable.of, Place::Global(variable))
+            let place = rooted(alloc, Root::Global(variable));
+            controlled(&scope.types, at, variable.of, place)
         }
         Meaning::Local(variable) => {
             if !(is_own(variable.kind) && variable.level == scope.level) {
                 return told(at, 47);
             }
             let slot = slot_of(scope.level, variable);
-            controlled(&scope.types, at, variable.of, Place::Local(slot))
+            let place = rooted(alloc, Root::Local(slot));
+            controlled(&scope.types, at, variable.of, place)
         }
         Meaning::Ahead => told(at, 30),
         Meaning::Constant(_) => told(at, 47),
@@ -89,12 +93,16 @@ fn control_by(scope: &Scope<Fault>, at: Pos, meaning: Meaning) -> Judged<Control
     }
 }
 
-fn control_of(scope: &Scope<Fault>, name: &Ident) -> Result<Judged<Control>, AllocError>
+fn control_of(
+    alloc: Global,
+    scope: &Scope<Fault>,
+    name: &Ident,
+) -> Result<Judged<Control>, AllocError>
     ensures { IfOk result (λ j. j ≡ control_of least scope.now name.now) }
 {
     match looked_up(scope, name)? {
         Err(fault) => Ok(Err(fault)),
-        Ok(meaning) => Ok(control_by(scope, name.pos, meaning)),
+        Ok(meaning) => Ok(control_by(alloc, scope, name.pos, meaning)),
     }
 }
 
@@ -287,7 +295,7 @@ pub fn course_of(
     ensures { IfOk result (λ j. j ≡ course_of least scope.now name.now (meant least start.now)
         (meant least limit.now) (meant_if least by.now)) }
 {
-    let control = control_of(scope, name)?;
+    let control = control_of(alloc, scope, name)?;
     let start = start_of(alloc, scope, &control, start)?;
     let limit = limit_of(alloc, scope, &control, limit)?;
     let by = step_of(alloc, scope, by)?;

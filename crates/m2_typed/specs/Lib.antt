@@ -1,3 +1,4 @@
 pub mod Names
 pub mod Types
 pub mod Known
+pub mod Chains

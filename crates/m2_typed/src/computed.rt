@@ -67,24 +67,40 @@ pub enum Inclusion {
     Around,
 }
 
-/// Where a value stands: a variable, or a component of one.
-#[cycle(computed)]
-#[derive(Drop)]
-pub enum Place {
+/// What a variable's name stands for.
+#[derive(Clone, Copy, Debug, PartialEq, Eq)]
+pub enum Root {
     /// A variable of a module.
     Global(Variable),
     /// A variable or a value formal of a procedure, but no open array.
     Local(Slot),
     /// What a VAR formal stands for.
     Alias(Slot),
+    /// The elements of a formal ARRAY OF. An index stands behind it.
+    Open(Slot),
     /// The record of a WITH around this place, by its number among these, the outermost first, from 0.
     With(usize),
-    /// A record, its type, and the number of the field.
-    Field(Boxed<Place>, TypeNo, usize),
-    /// An array, its type, and the index.
-    Element(Boxed<Place>, TypeNo, Boxed<TypedExpr>),
-    /// A formal ARRAY OF these elements, and the index.
-    OpenElement(Slot, TypeNo, Boxed<TypedExpr>),
+}
+
+/// Where a value stands: a variable, or a component of one.
+#[cycle(computed)]
+#[derive(Drop)]
+pub struct Place {
+    pub root: Root,
+    /// The fields and indexes that lead to it, in order.
+    pub components: Items<Component>,
+}
+
+/// A field or an index behind a variable.
+#[cycle(computed)]
+#[derive(Drop)]
+pub enum Component {
+    /// The type of the record, and the number of the field.
+    Field(TypeNo, usize),
+    /// The type of the array, and the index.
+    Element(TypeNo, TypedExpr),
+    /// The formal ARRAY OF these elements, and the index.
+    OpenElement(Slot, TypeNo, TypedExpr),
 }
 
 /// An expression.
@@ -101,15 +117,11 @@ pub enum TypedExpr {
     Plus(TypeNo, Boxed<TypedExpr>),
     /// `-x` of INTEGER.
     Negate(Boxed<TypedExpr>),
-    /// The base type, and the operands.
-    Arithmetic(Arithmetic, TypeNo, Boxed<TypedExpr>, Boxed<TypedExpr>),
+    /// A first operand, and operators with their second operands, each applied to the result of those before it. It is as
+    /// deep as its operands, and not as it is long.
+    Chain(Boxed<TypedExpr>, Items<Link>),
     Compare(Comparison, Boxed<TypedExpr>, Boxed<TypedExpr>),
     Not(Boxed<TypedExpr>),
-    /// The second operand is evaluated only where the first is TRUE.
-    And(Boxed<TypedExpr>, Boxed<TypedExpr>),
-    /// The second operand is evaluated only where the first is FALSE.
-    Or(Boxed<TypedExpr>, Boxed<TypedExpr>),
-    Combine(SetOperator, Boxed<TypedExpr>, Boxed<TypedExpr>),
     Include(Inclusion, Boxed<TypedExpr>, Boxed<TypedExpr>),
     /// The element and the set: `x IN s`.
     In(Boxed<TypedExpr>, Boxed<TypedExpr>),
@@ -125,6 +137,19 @@ pub enum TypedExpr {
     High(Slot),
     /// What a function gives, of this type.
     Call(TypeNo, Boxed<Call>),
+}
+
+/// An operator with its second operand.
+#[cycle(computed)]
+#[derive(Drop)]
+pub enum Link {
+    /// The base type, and the operand.
+    Arithmetic(Arithmetic, TypeNo, TypedExpr),
+    /// The operand is evaluated only where the result so far is TRUE.
+    And(TypedExpr),
+    /// The operand is evaluated only where the result so far is FALSE.
+    Or(TypedExpr),
+    Combine(SetOperator, TypedExpr),
 }
 
 /// A call of a procedure with its arguments.

@@ -2,6 +2,7 @@
 //! by what they mean: the meaning of programs and their code are read off it.
 #![tactic(auto)]
 
+mod chain;
 mod computed;
 mod dictionary;
 mod known_types;
@@ -14,9 +15,10 @@ mod table;
 mod typed_module;
 mod types;
 
+pub use chain::{behind, linked, rooted};
 pub use computed::{
-    Argument, Arithmetic, Call, Comparison, Inclusion, LocalProcedure, Place, SetOperator, Slot,
-    TypedExpr,
+    Argument, Arithmetic, Call, Comparison, Component, Inclusion, Link, LocalProcedure, Place,
+    Root, SetOperator, Slot, TypedExpr,
 };
 pub use dictionary::Dictionary;
 pub use known_types::{Types, cells_of, is_result, made_of, scalar_of};

@@ -1,6 +1,9 @@
 -- A build of the same files has one outcome.
-use Rattle.std.proofs.Common.{◌≡◌, ◌⊎◌, inl, inr, ℕ, List, [], ◌∷◌, map, refl, sym, ap, subst, ◌∙◌}
+use Rattle.std.proofs.Common.{◌≡◌, inl, inr, ℕ, ◌*◌, ◌<◌, List, [], ◌∷◌, map, Result, Ok, refl, sym, ap, subst, ◌∙◌, arith}
 use Rattle.std.specs.Global.{Vec}
+use Rattle.std.proofs.lemmas.Option.{same_Some}
+use Rattle.m2_judged.specs.declared.fault.Fault.{Fault}
+use Rattle.m2_compile.specs.Compiling.{tables_of, typed_body}
 use Rattle.m2_tree.specs.declared.refusal.Refusal.{Refusal}
 use Rattle.m2_tree.specs.declared.decl.Module.{Module}
 use Rattle.wasm_binary.specs.Binary.{module_spelling}
@@ -9,15 +12,37 @@ use Rattle.m2_graph.specs.Files.{numbered}
 use Rattle.m2_graph.specs.Graph.{IsGraph, IsRefusal}
 use Rattle.m2_graph.specs.Told.{Told as Tale, told as tale}
 use Rattle.m2_graph_laws.proofs.Once.{one_graph, one_refusal, graph_or_refusal}
-use Rattle.m2_meaning.specs.Program.{Program}
-use Rattle.m2_scheme.specs.Scheme.{link_module}
+use Rattle.m2_typed.specs.declared.typed_module.TypedModule.{TypedModule}
+use Rattle.m2_meaning.specs.Around.{Modules}
+use Rattle.m2_scheme.specs.Modules.{typed_link}
 use Rattle.m2_read.specs.declared.file.SourceFile.{SourceFile}
 use Rattle.m2c.specs.declared.files.Outcome.{Outcome}
 use Rattle.m2c.specs.declared.files.Outcome.TheVariants as outcome
-use Rattle.m2c.specs.Modules.{program_of}
-use Rattle.m2c.specs.Build.{Told, told, told_at, AreTold, refused_of, refused_by, started, built_of, named, AreUnread, AreUngraphed, AreUncompiled, HaveGraph, IsProgram, IsBuilt, AreAlike}
+use Rattle.m2c.specs.Modules.{needed_of, IsTyped, AreTyped}
+use Rattle.m2c.specs.Build.{Told, told, told_at, AreTold, refused_of, refused_by, built_of, named, modules, data_and_stack, program_file, AreUnread, AreUngraphed, AreUncompiled, HaveGraph, IsTooLarge, IsProgram, IsBuilt, AreAlike}
 use Rattle.m2c.proofs.Same.{same_refused, one_trees, trees_or_refused}
 use Rattle.m2c.proofs.Ranks.{one_order}
+
+-- ---- bodies
+
+module _ (trees : List Module) (numbers : List ℕ) (jobs : List (List ℕ)) where
+  one_typed : (s : ℕ) (t u : TypedModule) → IsTyped trees numbers jobs s t → IsTyped trees numbers jobs s u → t ≡ u
+  one_typed s t u a b =
+      let tree : a.tree ≡ b.tree = same_Some a.tree b.tree (sym a.is_tree ∙ b.is_tree) in
+      let job : a.job ≡ b.job = same_Some a.job b.job (sym a.is_job ∙ b.is_job) in
+      let same = ap (λ (m : Module). typed_body m a.job (tables_of (needed_of trees numbers jobs a.job))) tree ∙ ap (λ (k : ℕ). typed_body b.tree k (tables_of (needed_of trees numbers jobs k))) job in
+      same_ok t u (sym a.typed ∙ same ∙ b.typed)
+    where
+      same_ok : (x y : TypedModule) → ◌≡◌ {A = Result TypedModule Fault} (Ok x) (Ok y) → x ≡ y
+      same_ok x y e = cc
+
+  pub one_program : (starts : List ℕ) (p q : Modules) → AreTyped trees numbers jobs starts p → AreTyped trees numbers jobs starts q → p ≡ q
+  one_program [] [] [] a b = refl
+  one_program (s ∷ ss) (t ∷ ts) (u ∷ us) a b = ap (λ (x : TypedModule). x ∷ ts) (one_typed s t u a.0 b.0) ∙ ap (λ (xs : Modules). u ∷ xs) (one_program ss ts us a.1 b.1)
+  one_program [] (t ∷ ts) q a b = absurd a
+  one_program [] [] (u ∷ us) a b = absurd b
+  one_program (s ∷ ss) [] q a b = absurd a
+  one_program (s ∷ ss) (t ∷ ts) [] a b = absurd b
 
 -- ---- graphs
 
@@ -39,11 +64,12 @@ module _ (files : List SourceFile) (t u : List (List ℕ × Module)) (n m : List
       let w = have_same h g in
       ap (λ (x : List (List ℕ × Module)). refused_by x n j) w.trees ∙ ap (λ (x : List ℕ). refused_by u x j) w.numbers ∙ ap (refused_by u m) w.rows
 
-  programs_same : HaveGraph files t n j s → HaveGraph files u m k r → program_of (started t n j s) ≡ program_of (started u m k r)
-  programs_same h g =
+  typed_same : HaveGraph files t n j s → HaveGraph files u m k r → (p q : Modules) → AreTyped (modules t) n j s p → AreTyped (modules u) m k r q → p ≡ q
+  typed_same h g p q a b =
       let w = have_same h g in
-      ap (λ (x : List (List ℕ × Module)). program_of (started x n j s)) w.trees ∙ ap (λ (x : List ℕ). program_of (started u x j s)) w.numbers
-      ∙ ap (λ (x : List (List ℕ)). program_of (started u m x s)) w.rows ∙ ap (λ (x : List ℕ). program_of (started u m k x)) w.starts
+      one_program (modules u) m k r p q
+      (subst (λ (x : List ℕ). AreTyped (modules u) m k x p) w.starts
+      (subst (λ (x : List (List ℕ)). AreTyped (modules u) m x s p) w.rows (subst (λ (x : List ℕ). AreTyped (modules u) x j s p) w.numbers (subst (λ (x : List (List ℕ × Module)). AreTyped (modules x) n j s p) w.trees a)))) b
 
 -- a graph is there, or imports break rules
 graph_or_told : (files : List SourceFile) (t : List (List ℕ × Module)) (n : List ℕ) (j : List (List ℕ)) (s : List ℕ) (rs : Vec Refusal) → HaveGraph files t n j s → AreUngraphed files rs → ⊥
@@ -60,36 +86,53 @@ unfolding flat
 flat_all [] = refl
 flat_all (r ∷ rs) = ap (λ xs. told r ∷ xs) (flat_all rs)
 
-both_refused : (files : List SourceFile) (rs qs : Vec Refusal) → AreUnread files rs.items ⊎ (AreUngraphed files rs ⊎ AreUncompiled files rs.items) → AreUnread files qs.items ⊎ (AreUngraphed files qs ⊎ AreUncompiled files qs.items) → map told rs.items ≡ map told qs.items
-both_refused files rs qs (inl a) (inl b) = one_order (refused_of files a.reads) rs.items qs.items a.told (subst (λ (all : List Told). AreTold all qs.items) (same_refused files b.reads a.reads b.are_read a.are_read) b.told)
-both_refused files rs qs (inl a) (inr (inl (u, are, is))) = absurd (trees_or_refused files u a.reads are a.are_read a.some)
-both_refused files rs qs (inl a) (inr (inr b)) = absurd (trees_or_refused files b.trees a.reads b.graph.are_trees a.are_read a.some)
-both_refused files rs qs (inr (inl (t, are, is))) (inl b) = absurd (trees_or_refused files t b.reads are b.are_read b.some)
-both_refused files rs qs (inr (inl (t, are, is))) (inr (inl (u, are', is'))) =
-    let e : t ≡ u = one_trees files t u are are' in
-    let same = one_refusal (numbered 0 u) rs qs (subst (λ (x : List (List ℕ × Module)). IsRefusal (numbered 0 x) (graph_error.Refused rs)) e is) is' in
-    flat_all rs.items ∙ ap (map flat) same ∙ sym (flat_all qs.items)
-both_refused files rs qs (inr (inl a)) (inr (inr b)) = absurd (graph_or_told files b.trees b.numbers b.all_jobs b.starts rs b.graph a)
-both_refused files rs qs (inr (inr a)) (inl b) = absurd (trees_or_refused files a.trees b.reads a.graph.are_trees b.are_read b.some)
-both_refused files rs qs (inr (inr a)) (inr (inl b)) = absurd (graph_or_told files a.trees a.numbers a.all_jobs a.starts qs a.graph b)
-both_refused files rs qs (inr (inr a)) (inr (inr b)) =
-    let same = untold_same files b.trees a.trees b.numbers a.numbers b.all_jobs a.all_jobs b.starts a.starts b.graph a.graph in
-    one_order (refused_by a.trees a.numbers a.all_jobs) rs.items qs.items a.told (subst (λ (all : List Told). AreTold all qs.items) same b.told)
+module _ (files : List SourceFile) (pages : ℕ) where
+  abbrev AreRefused : Vec Refusal → Type 0
+  AreRefused rs = IsBuilt files pages (outcome.Refused rs)
 
-never_both : (files : List SourceFile) (rs : Vec Refusal) (pages : ℕ) (link : List ℕ) (built : List (List ℕ × List ℕ)) → AreUnread files rs.items ⊎ (AreUngraphed files rs ⊎ AreUncompiled files rs.items) → IsProgram files pages link built → ⊥
-never_both files rs pages link built (inl a) p = trees_or_refused files p.trees a.reads p.graph.are_trees a.are_read a.some
-never_both files rs pages link built (inr (inl a)) p = graph_or_told files p.trees p.numbers p.all_jobs p.starts rs p.graph a
-never_both files rs pages link built (inr (inr a)) p = a.some (untold_same files a.trees p.trees a.numbers p.numbers a.all_jobs p.all_jobs a.starts p.starts a.graph p.graph ∙ p.none)
+  both_refused : (rs qs : Vec Refusal) → AreRefused rs → AreRefused qs → map told rs.items ≡ map told qs.items
+  both_refused rs qs (inl a) (inl b) = one_order (refused_of files a.reads) rs.items qs.items a.told (subst (λ (all : List Told). AreTold all qs.items) (same_refused files b.reads a.reads b.are_read a.are_read) b.told)
+  both_refused rs qs (inl a) (inr (inl (u, are, is))) = absurd (trees_or_refused files u a.reads are a.are_read a.some)
+  both_refused rs qs (inl a) (inr (inr (inl b))) = absurd (trees_or_refused files b.trees a.reads b.graph.are_trees a.are_read a.some)
+  both_refused rs qs (inl a) (inr (inr (inr b))) = absurd (trees_or_refused files b.trees a.reads b.graph.are_trees a.are_read a.some)
+  both_refused rs qs (inr (inl (t, are, is))) (inl b) = absurd (trees_or_refused files t b.reads are b.are_read b.some)
+  both_refused rs qs (inr (inl (t, are, is))) (inr (inl (u, are', is'))) =
+      let e : t ≡ u = one_trees files t u are are' in
+      let same = one_refusal (numbered 0 u) rs qs (subst (λ (x : List (List ℕ × Module)). IsRefusal (numbered 0 x) (graph_error.Refused rs)) e is) is' in
+      flat_all rs.items ∙ ap (map flat) same ∙ sym (flat_all qs.items)
+  both_refused rs qs (inr (inl a)) (inr (inr (inl b))) = absurd (graph_or_told files b.trees b.numbers b.all_jobs b.starts rs b.graph a)
+  both_refused rs qs (inr (inl a)) (inr (inr (inr b))) = absurd (graph_or_told files b.trees b.numbers b.all_jobs b.starts rs b.graph a)
+  both_refused rs qs (inr (inr (inl a))) (inl b) = absurd (trees_or_refused files a.trees b.reads a.graph.are_trees b.are_read b.some)
+  both_refused rs qs (inr (inr (inl a))) (inr (inl b)) = absurd (graph_or_told files a.trees a.numbers a.all_jobs a.starts qs a.graph b)
+  both_refused rs qs (inr (inr (inl a))) (inr (inr (inl b))) =
+      let same = untold_same files b.trees a.trees b.numbers a.numbers b.all_jobs a.all_jobs b.starts a.starts b.graph a.graph in
+      one_order (refused_by a.trees a.numbers a.all_jobs) rs.items qs.items a.told (subst (λ (all : List Told). AreTold all qs.items) same b.told)
+  both_refused rs qs (inr (inr (inl a))) (inr (inr (inr b))) = absurd (a.some (untold_same files a.trees b.trees a.numbers b.numbers a.all_jobs b.all_jobs a.starts b.starts a.graph b.graph ∙ b.none))
+  both_refused rs qs (inr (inr (inr a))) (inl b) = absurd (trees_or_refused files a.trees b.reads a.graph.are_trees b.are_read b.some)
+  both_refused rs qs (inr (inr (inr a))) (inr (inl b)) = absurd (graph_or_told files a.trees a.numbers a.all_jobs a.starts qs a.graph b)
+  both_refused rs qs (inr (inr (inr a))) (inr (inr (inl b))) = absurd (b.some (untold_same files b.trees a.trees b.numbers a.numbers b.all_jobs a.all_jobs b.starts a.starts b.graph a.graph ∙ a.none))
+  both_refused rs qs (inr (inr (inr a))) (inr (inr (inr b))) =
+      let same : b.trees ≡ a.trees = one_trees files b.trees a.trees b.graph.are_trees a.graph.are_trees in
+      one_order (told_at (program_file a.trees) 1 1 61 ∷ []) rs.items qs.items a.told (subst (λ (t : List (List ℕ × Module)). AreTold (told_at (program_file t) 1 1 61 ∷ []) qs.items) same b.told)
 
--- ---- the whole
+  never_both : (rs : Vec Refusal) (link : List ℕ) (built : List (List ℕ × List ℕ)) → AreRefused rs → IsProgram files pages link built → ⊥
+  never_both rs link built (inl a) p = trees_or_refused files p.trees a.reads p.graph.are_trees a.are_read a.some
+  never_both rs link built (inr (inl a)) p = graph_or_told files p.trees p.numbers p.all_jobs p.starts rs p.graph a
+  never_both rs link built (inr (inr (inl a))) p = a.some (untold_same files a.trees p.trees a.numbers p.numbers a.all_jobs p.all_jobs a.starts p.starts a.graph p.graph ∙ p.none)
+  never_both rs link built (inr (inr (inr a))) p =
+      let same : a.program ≡ p.program = typed_same files a.trees p.trees a.numbers p.numbers a.all_jobs p.all_jobs a.starts p.starts a.graph p.graph a.program p.program a.typed p.typed in
+      let more : 65536 * pages < data_and_stack p.program = subst (λ (q : Modules). 65536 * pages < data_and_stack q) same a.too_large in
+      omega (arith, more, p.fits)
 
-both_built : (files : List SourceFile) (pages : ℕ) (link other : List ℕ) (built others : List (List ℕ × List ℕ)) → IsProgram files pages link built → IsProgram files pages other others → (link ≡ other) × (built ≡ others)
-both_built files pages link other built others p q =
-    let same = programs_same files p.trees q.trees p.numbers q.numbers p.all_jobs q.all_jobs p.starts q.starts p.graph q.graph in
-    (p.code.link_bytes ∙ ap (λ (x : Program). module_spelling (link_module x pages)) same ∙ sym q.code.link_bytes, p.code.body_bytes ∙ ap (map built_of) same ∙ sym q.code.body_bytes)
+  -- ---- the whole
+
+  both_built : (link other : List ℕ) (built others : List (List ℕ × List ℕ)) → IsProgram files pages link built → IsProgram files pages other others → (link ≡ other) × (built ≡ others)
+  both_built link other built others p q =
+      let same : p.program ≡ q.program = typed_same files p.trees q.trees p.numbers q.numbers p.all_jobs q.all_jobs p.starts q.starts p.graph q.graph p.program q.program p.typed q.typed in
+      (p.code.link_bytes ∙ ap (λ (x : Modules). module_spelling (typed_link x pages)) same ∙ sym q.code.link_bytes, p.code.body_bytes ∙ ap (map built_of) same ∙ sym q.code.body_bytes)
 
 pub one_built : (files : List SourceFile) (pages : ℕ) (o p : Outcome) → IsBuilt files pages o → IsBuilt files pages p → AreAlike o p
-one_built files pages (outcome.Refused rs) (outcome.Refused qs) a b = both_refused files rs qs a b
-one_built files pages (outcome.Refused rs) (outcome.Built link built) a b = never_both files rs pages link.items (map named built.items) a b
-one_built files pages (outcome.Built link built) (outcome.Refused qs) a b = never_both files qs pages link.items (map named built.items) b a
+one_built files pages (outcome.Refused rs) (outcome.Refused qs) a b = both_refused files pages rs qs a b
+one_built files pages (outcome.Refused rs) (outcome.Built link built) a b = never_both files pages rs link.items (map named built.items) a b
+one_built files pages (outcome.Built link built) (outcome.Refused qs) a b = never_both files pages qs link.items (map named built.items) b a
 one_built files pages (outcome.Built link built) (outcome.Built other others) a b = both_built files pages link.items other.items (map named built.items) (map named others.items) a b

@@ -6,7 +6,8 @@ use Rattle.std.specs.Int.{is_in_range}
 use Rattle.std.proofs.lemmas.Bool.{leb-true, false≢true}
 use Rattle.std.proofs.lemmas.List.Sums.{AllPass-from_list_all}
 use Rattle.std.proofs.lemmas.List.Elements.{All-weaker}
-use Rattle.m2_headline.specs.Suits.{IsName}
+use Rattle.m2_headline.specs.Proved.{IsName}
+use Rattle.m2c.specs.Names.{is_word}
 
 -- ---- names
 
@@ -36,3 +37,6 @@ name_byte b e = elim (either (is_in_range 48 57 b || is_in_range 65 90 b) (is_in
 
 pub word_is_name : (name : List ℕ) → length name ≤ 64 → list_all is_ascii_alphanumeric name ≡ true → IsName name
 word_is_name name short e = (short, All-weaker (λ b. is_ascii_alphanumeric b ≡ true) (λ b. (48 ≤ b) × (b < 123)) name_byte name (AllPass-from_list_all is_ascii_alphanumeric name e))
+
+pub word_named : (name : List ℕ) → is_word name ≡ true → IsName name
+word_named name e = word_is_name name (leb-true (length name) 64 (first (nat_le (length name) 64) (list_all is_ascii_alphanumeric name) e)) (second (nat_le (length name) 64) (list_all is_ascii_alphanumeric name) e)

@@ -1,5 +1,5 @@
 -- Graphs, as the build goes on with them.
-use Rattle.std.proofs.Common.{◌≡◌, ℕ, ◌≤◌, ◌<◌, ◌+◌, List, [], ◌∷◌, ◌++◌, length, map, Option, refl, ap, sym, subst, ◌∙◌}
+use Rattle.std.proofs.Common.{◌≡◌, ℕ, ◌≤◌, ◌<◌, ◌+◌, ◌*◌, List, [], ◌∷◌, ◌++◌, length, map, Option, refl, ap, sym, subst, ◌∙◌, arith}
 use Rattle.std.specs.Prelude.{All, slice_get}
 use Rattle.std.specs.Option.{option_and_then}
 use Rattle.std.specs.Borrow.{Bor}
@@ -8,31 +8,48 @@ use Rattle.wasm_binary.specs.Binary.{module_spelling}
 use Rattle.m2_graph.specs.Graph.{IsGraph}
 use Rattle.m2_graph.specs.Jobs.{ArePlaces, place_of, number_of}
 use Rattle.m2_graph_laws.specs.Started.{AreStarted}
-use Rattle.m2_graph_laws.specs.Defined.{OneDefinition}
 use Rattle.m2_graph_laws.proofs.Started.{are_started}
-use Rattle.m2_graph_laws.proofs.Defined.{one_definition}
-use Rattle.m2_meaning.specs.Program.{Program, names}
-use Rattle.m2_scheme.specs.Scheme.{link_module}
-use Rattle.m2_headline.specs.Suits.{IsName, AreBytes}
+use Rattle.std.proofs.lemmas.List.{length-map}
+use Rattle.m2_tree.specs.declared.refusal.Refusal.{Refusal}
+use Rattle.m2_typed.specs.declared.typed_module.TypedModule.{TypedModule}
+use Rattle.m2_meaning.specs.Around.{Modules}
+use Rattle.m2_scheme.specs.Modules.{Part, typed_module, typed_link, part_of, link_of, stack_begin}
+use Rattle.m2_emit.specs.declared.emitted.ModuleBytes.{ModuleBytes}
+use Rattle.m2_emit.specs.Emitted.{emitted, parts}
 use Rattle.m2_headline.specs.Headline.{Keeps}
-use Rattle.m2_headline.proofs.Kept.{body_bytes, scheme_keeps}
+use Rattle.m2_headline.specs.Proved.{IsName, HaveNames, names}
+use Rattle.m2_headline.proofs.Kept.{module_bytes, scheme_keeps}
 use Rattle.m2_read.specs.declared.file.SourceFile.{SourceFile}
-use Rattle.m2_compile.specs.declared.outcome.BodyModule.{BodyModule}
 use Rattle.m2_compile.specs.declared.outcome.Compiled.{Compiled}
 use Rattle.m2_jobs.specs.Jobs.{all_compiled}
 use Rattle.m2_jobs.proofs.Rounds.{jobs_count}
 use Rattle.m2_jobs.specs.Lent.{lent, modules_lent}
-use Rattle.m2c.specs.Modules.{result_of, module_in, modules_at, program_of}
-use Rattle.m2c.specs.Build.{Told, built_of, named_bytes, modules, refusal_in, refused_from, refused_by, started, HaveGraph, IsProgram}
-use Rattle.m2c.proofs.Programs.{IsSmall, all_fit, count_all, fits_all, suits_all, small_bytes, module_names}
+use Rattle.m2c.specs.Modules.{result_of, module_in, modules_at}
+use Rattle.m2c.specs.Build.{Told, AreTold, told_at, built_of, named_bytes, modules, refusal_in, refused_from, refused_by, started, data_and_stack, program_file, HaveGraph, IsTooLarge, IsProgram}
+use Rattle.m2c.proofs.Programs.{AreBuilt, all_built, distinct_all, count_all}
 
 pub same_modules : (trees : List (Bor (List ℕ) × Bor Module)) → modules_lent trees ≡ modules (lent trees)
 same_modules [] = refl
 same_modules (t ∷ ts) = ap (λ (ms : List Module). t.1.now ∷ ms) (same_modules ts)
 
-seconds : (p : Program) → map (λ m. m.1) (map built_of p) ≡ map body_bytes p
+abbrev bytes_of : TypedModule → List ℕ
+bytes_of m = module_spelling (typed_module m)
+
+seconds : (p : Modules) → map (λ m. m.1) (map built_of p) ≡ map module_bytes (map typed_module p)
 seconds [] = refl
-seconds (b ∷ bs) = ap (λ (xs : List (List ℕ)). body_bytes b ∷ xs) (seconds bs)
+seconds (m ∷ ms) = ap (λ (xs : List (List ℕ)). bytes_of m ∷ xs) (seconds ms)
+
+named_emitted : (p : Modules) → map named_bytes (map emitted p) ≡ map built_of p
+named_emitted [] = refl
+named_emitted (m ∷ ms) = ap (λ (xs : List (List ℕ × List ℕ)). built_of m ∷ xs) (named_emitted ms)
+
+parts_emitted : (p : Modules) → parts (map emitted p) ≡ map part_of p
+parts_emitted [] = refl
+parts_emitted (m ∷ ms) = ap (λ (xs : List Part). part_of m ∷ xs) (parts_emitted ms)
+
+names_emitted : (p : Modules) → map (λ m. m.name) (map emitted p) ≡ names p
+names_emitted [] = refl
+names_emitted (m ∷ ms) = ap (λ (xs : List (List ℕ)). m.name ∷ xs) (names_emitted ms)
 
 -- ---- results by a table of places
 
@@ -43,7 +60,7 @@ module _ (f g : ℕ → Option Compiled) (same : (k : ℕ) → f k ≡ g k) wher
 
   same_started : (starts : List ℕ) → modules_at f starts ≡ modules_at g starts
   same_started [] = refl
-  same_started (s ∷ ss) = ap (λ (o : Option Compiled). module_in o ++ modules_at f ss) (same s) ∙ ap (λ (ms : List BodyModule). module_in (g s) ++ ms) (same_started ss)
+  same_started (s ∷ ss) = ap (λ (o : Option Compiled). module_in o ++ modules_at f ss) (same s) ∙ ap (λ (ms : List ModuleBytes). module_in (g s) ++ ms) (same_started ss)
 
 module _ (results : List Compiled) (numbers : List ℕ) (places : List (Option ℕ)) (are : ArePlaces numbers places) where
   same_results : (k : ℕ) → option_and_then (slice_get results) (place_of places k) ≡ result_of numbers results k
@@ -65,7 +82,7 @@ module _ (trees : List (Bor (List ℕ) × Bor Module)) (numbers : List ℕ) (job
       ∙ placed_refused results numbers places are 0 (lent trees)
       ∙ ap (λ (rs : List Compiled). refused_from (result_of numbers rs) 0 (lent trees)) all_are
 
-  pub started_are : (ms : List BodyModule) (order starts : List ℕ) → ms ≡ modules_at (λ k. option_and_then (slice_get results) (place_of borrowed k)) order → order ≡ starts → ms ≡ started (lent trees) numbers jobs starts
+  pub started_are : (ms : List ModuleBytes) (order starts : List ℕ) → ms ≡ modules_at (λ k. option_and_then (slice_get results) (place_of borrowed k)) order → order ≡ starts → ms ≡ started (lent trees) numbers jobs starts
   started_are ms order starts e o =
       e ∙ ap (λ (ps : List (Option ℕ)). modules_at (λ k. option_and_then (slice_get results) (place_of ps k)) order) same
       ∙ placed_started results numbers places are order
@@ -75,40 +92,65 @@ module _ (trees : List (Bor (List ℕ) × Bor Module)) (numbers : List ℕ) (job
 -- ---- the program
 
 module _ (files : List SourceFile) (fs : List (List ℕ × Module)) (numbers : List ℕ) (jobs : List (List ℕ)) (starts : List ℕ) (have : HaveGraph files fs numbers jobs starts) (none : refused_by fs numbers jobs ≡ []) where
-  as_many : length numbers ≡ length jobs
+  pub as_many : length numbers ≡ length jobs
   as_many = jobs_count _ numbers jobs starts have.is_graph
 
-  definitions : OneDefinition (modules fs)
-  definitions = one_definition fs numbers jobs starts have.is_graph
-
-  are : AreStarted (modules fs) starts
+  pub are : AreStarted (modules fs) starts
   are = are_started fs numbers jobs starts have.is_graph
 
-  abbrev those : List BodyModule
+  abbrev those : List ModuleBytes
   those = started fs numbers jobs starts
 
-  abbrev whole : Program
-  whole = program_of those
+  abbrev pub whole : AreBuilt fs numbers jobs have.each as_many none starts
+  whole = all_built fs numbers jobs have.each as_many none starts are
 
-  pub program_count : length whole ≤ 1024
-  program_count = count_all fs numbers jobs have.each as_many none definitions starts are
+  pub program_count : length those ≤ 1024
+  program_count = omega (arith, count_all fs numbers jobs have.each as_many none starts are, ap length whole.are, length-map whole.program emitted)
 
-  pub modules_named : All (λ m. IsName m.source.name) those
-  modules_named = module_names (names whole) those (fits_all fs numbers jobs have.each as_many none definitions starts are)
+  pub data_is : stack_begin (parts those) + 4096 ≡ data_and_stack whole.program
+  data_is = ap (λ (ms : List ModuleBytes). stack_begin (parts ms) + 4096) whole.are ∙ ap (λ (ps : List Part). stack_begin ps + 4096) (parts_emitted whole.program)
+
+  has_names : All IsName (map (λ m. m.name) those) → HaveNames whole.program
+  has_names h = record {
+    are_names = subst (All IsName) (ap (λ (ms : List ModuleBytes). map (λ m. m.name) ms) whole.are ∙ names_emitted whole.program) h;
+    distinct = distinct_all fs numbers jobs have.each as_many none starts are;
+    count = count_all fs numbers jobs have.each as_many none starts are;
+  }
 
   -- what is built is the program
-  pub is_program : (pages : ℕ) → 1 ≤ pages → pages ≤ 1024 → All IsSmall those → (link : List ℕ) (built : List (List ℕ × List ℕ))
-      → link ≡ module_spelling (link_module whole pages) → built ≡ map named_bytes those → IsProgram files pages link built
-  is_program pages least most small link built link_is built_are =
-      let built_whole : built ≡ map built_of whole = built_are ∙ (all_fit fs numbers jobs have.each as_many none definitions starts are).bytes in
-      let kept : Keeps whole (module_spelling (link_module whole pages)) (map body_bytes whole) = scheme_keeps whole pages (suits_all fs numbers jobs have.each as_many none definitions starts are pages least most (small_bytes those small)) in
-      let codes : map (λ m. m.1) built ≡ map body_bytes whole = ap (λ (ms : List (List ℕ × List ℕ)). map (λ m. m.1) ms) built_whole ∙ seconds whole in record {
+  pub is_program : (pages : ℕ) → 1 ≤ pages → pages ≤ 1024 → stack_begin (parts those) + 4096 ≤ 65536 * pages → All IsName (map (λ m. m.name) those) → (link : List ℕ) (built : List (List ℕ × List ℕ))
+      → link ≡ module_spelling (link_of (parts those) pages) → built ≡ map named_bytes those → IsProgram files pages link built
+  is_program pages least most fits named link built link_is built_are =
+      let p : Modules = whole.program in
+      let link_whole : link ≡ module_spelling (typed_link p pages) =
+      link_is ∙ ap (λ (ms : List ModuleBytes). module_spelling (link_of (parts ms) pages)) whole.are ∙ ap (λ (ps : List Part). module_spelling (link_of ps pages)) (parts_emitted p)
+      in
+      let built_whole : built ≡ map built_of p = built_are ∙ ap (map named_bytes) whole.are ∙ named_emitted p in
+      let codes : map (λ m. m.1) built ≡ map module_bytes (map typed_module p) = ap (λ (ms : List (List ℕ × List ℕ)). map (λ m. m.1) ms) built_whole ∙ seconds p in record {
         trees = fs;
         numbers = numbers;
         all_jobs = jobs;
         starts = starts;
         graph = have;
         none = none;
-        code = record { link_bytes = link_is; body_bytes = built_whole };
-        keeps = subst (λ (l : List ℕ). Keeps whole l (map (λ m. m.1) built)) (sym link_is) (subst (λ (ms : List (List ℕ)). Keeps whole (module_spelling (link_module whole pages)) ms) (sym codes) kept);
+        program = p;
+        typed = whole.typed;
+        fits = subst (λ (n : ℕ). n ≤ 65536 * pages) data_is fits;
+        code = record { link_bytes = link_whole; body_bytes = built_whole };
+        keeps = λ h. subst (λ (l : List ℕ). Keeps p pages l (map (λ m. m.1) built)) (sym link_whole)
+            (subst (λ (ms : List (List ℕ)). Keeps p pages (module_spelling (typed_link p pages)) ms) (sym codes) (scheme_keeps p pages h (has_names named) least most));
       }
+
+  pub is_too_large : (pages : ℕ) → 65536 * pages < stack_begin (parts those) + 4096 → (refusals : List Refusal) → AreTold (told_at (program_file fs) 1 1 61 ∷ []) refusals → IsTooLarge files pages refusals
+  is_too_large pages more refusals told = record {
+    trees = fs;
+    numbers = numbers;
+    all_jobs = jobs;
+    starts = starts;
+    graph = have;
+    none = none;
+    program = whole.program;
+    typed = whole.typed;
+    too_large = subst (λ (n : ℕ). 65536 * pages < n) data_is more;
+    told = told;
+  }

@@ -2,12 +2,11 @@ pub mod Fragments
 pub mod Bodies
 pub mod Two
 pub mod EachOnce
-pub mod Tables
 pub mod Unrefused
-pub mod Started
 pub mod Programs
 pub mod Graphs
 pub mod Borrowed
 pub mod Same
 pub mod Ranks
 pub mod Alike
+pub mod Sums

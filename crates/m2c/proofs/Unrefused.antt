@@ -5,7 +5,7 @@ use Rattle.std.specs.Option.{option_and_then}
 use Rattle.std.specs.List.{list_all}
 use Rattle.std.proofs.lemmas.Bool.{cases_lt}
 use Rattle.std.proofs.lemmas.Option.{same_Some, none-some, slice_get_within, get_or_from_slice_get}
-use Rattle.m2_tree.specs.declared.decl.Block.{Block}
+use Rattle.m2_tree.specs.declared.pos.Pos.{Pos}
 use Rattle.m2_tree.specs.declared.decl.Contents.{Contents}
 use Rattle.m2_tree.specs.declared.decl.Contents.TheVariants as contents
 use Rattle.m2_tree.specs.declared.decl.Module.{Module}
@@ -17,14 +17,14 @@ use Rattle.m2_graph.specs.Graph.{CompileEach}
 use Rattle.m2_graph.specs.Jobs.{number_of}
 use Rattle.m2_typed.specs.declared.table.Table.{Table}
 use Rattle.m2_judged.specs.declared.fault.Fault.{Fault}
-use Rattle.m2_emit.specs.declared.source.Source.{Source}
+use Rattle.m2_layout.specs.Layouts.{too_large}
 use Rattle.m2_compile.specs.declared.outcome.Compiled.{Compiled}
 use Rattle.m2_compile.specs.declared.outcome.Compiled.TheVariants.{Defined, Built, Refused, Blocked}
-use Rattle.m2_compile.specs.Compiling.{is_sound, tables_of, of_definition, of_source, of_checked, source_of, tables_behind, of_contents, not_yet, compiled}
-use Rattle.m2_compile.specs.Imported.{own_table}
+use Rattle.m2_compile.specs.Compiling.{is_sound, tables_of, of_definition, of_fit, of_checked, of_contents, typed_body, compiled}
 use Rattle.m2_judged.specs.Judged.{least}
 use Rattle.m2_types.specs.Compiled as types
-use Rattle.m2_check.specs.Checks.{checked}
+use Rattle.std.proofs.lemmas.List.{length-map}
+use Rattle.m2_graph_laws.proofs.Lists.{some_at}
 use Rattle.m2_typed.specs.declared.typed_module.TypedModule.{TypedModule}
 use Rattle.m2_jobs.specs.Jobs.{compiled_in, compiled_at, all_compiled}
 use Rattle.m2c.specs.Modules.{result_of}
@@ -40,31 +40,28 @@ definition_sound : (r : Result Table Fault) → IsUnrefused (of_definition r) �
 definition_sound (Ok t) h = refl
 definition_sound (Err f) h = absurd (h f refl)
 
-source_sound : (s : Option Source) → IsUnrefused (of_source s) → is_sound (of_source s) ≡ true
-source_sound None h = absurd (h not_yet refl)
-source_sound (Some s) h = refl
+fit_sound : (t : TypedModule) (o : Option Pos) → IsUnrefused (of_fit t o) → is_sound (of_fit t o) ≡ true
+fit_sound t None h = refl
+fit_sound t (Some at) h = absurd (h _ refl)
 
-checked_sound : (r : Result TypedModule Fault) (s : Option Source) → IsUnrefused (of_checked r s) → is_sound (of_checked r s) ≡ true
-checked_sound (Ok t) s h = source_sound s h
-checked_sound (Err f) s h = absurd (h f refl)
-
-abbrev checked_of : Module → ℕ → List Table → Result TypedModule Fault
-checked_of m n ts = checked least n m (own_table m ts) (tables_behind (own_table m ts) ts)
+checked_sound : (r : Result TypedModule Fault) → IsUnrefused (of_checked r) → is_sound (of_checked r) ≡ true
+checked_sound (Ok t) h = fit_sound t (too_large t) h
+checked_sound (Err f) h = absurd (h f refl)
 
 contents_sound : (m : Module) (n : ℕ) (ts : List Table) (c : Contents) → IsUnrefused (of_contents m n ts c) → is_sound (of_contents m n ts c) ≡ true
 contents_sound m n ts (contents.Definition ds) h = definition_sound (types.compiled least n m ts) h
-contents_sound m n ts (contents.Implementation b) h = checked_sound (checked_of m n ts) (source_of m (own_table m ts) b) h
-contents_sound m n ts (contents.Program b) h = checked_sound (checked_of m n ts) (source_of m (own_table m ts) b) h
+contents_sound m n ts (contents.Implementation b) h = checked_sound (typed_body m n ts) h
+contents_sound m n ts (contents.Program b) h = checked_sound (typed_body m n ts) h
 
 -- a module whose needed ones are sound is compiled by its contents
 pub compiled_is : (m : Module) (n : ℕ) (needed : List Compiled) → list_all is_sound needed ≡ true → compiled m n needed ≡ of_contents m n (tables_of needed) m.contents
 compiled_is m n needed e = ap (λ (b : Bool). cond b (of_contents m n (tables_of needed) m.contents) Blocked) e
 
-one_sound : (o : Option Module) (n : ℕ) (needed : List Compiled) → list_all is_sound needed ≡ true → IsUnrefused (compiled_in o n needed) → is_sound (compiled_in o n needed) ≡ true
-one_sound None n needed e h = absurd (h not_yet refl)
-one_sound (Some m) n needed e h =
-    let is = compiled_is m n needed e in
-    ap is_sound is ∙ contents_sound m n (tables_of needed) m.contents (subst IsUnrefused is h)
+one_sound : (o : Option Module) (n : ℕ) (needed : List Compiled) → list_all is_sound needed ≡ true → (m : Module) → o ≡ Some m → IsUnrefused (compiled_in o n needed) → is_sound (compiled_in o n needed) ≡ true
+one_sound None n needed e m there h = absurd (none-some m there)
+one_sound (Some x) n needed e m there h =
+    let is = compiled_is x n needed e in
+    ap is_sound is ∙ contents_sound x n (tables_of needed) x.contents (subst IsUnrefused is h)
 
 -- ---- lists
 
@@ -140,14 +137,21 @@ module _ (fs : List (List ℕ × Module)) (numbers : List ℕ) (jobs : List (Lis
       (λ p x e. let l : p < n = (let w = slice_get_within (below n) p x e in omega (arith, w, many n)) in
       subst (λ (c : Compiled). is_sound c ≡ true) (same_Some (one p) x (sym (at_below n p l) ∙ e)) (h p l))
 
-  sound_below : (n : ℕ) → ((j : ℕ) → j < n → IsUnrefused (one j)) → (j : ℕ) → j < n → is_sound (one j) ≡ true
-  sound_below zero h j l = absurd (omega (arith, l))
-  sound_below (suc n) h j l = elim (cases_lt j n) [
-    | inl less ↦ sound_below n (λ i k. h i (omega (arith, k))) j less
+  abbrev tree_at : ℕ → Option Module
+  tree_at j = slice_get (modules fs) (slice_index_or numbers j 0)
+
+  abbrev HasTree : ℕ → Type 0
+  HasTree j = (m : Module) × (tree_at j ≡ Some m)
+
+  sound_below : (n : ℕ) → ((j : ℕ) → j < n → HasTree j) → ((j : ℕ) → j < n → IsUnrefused (one j)) → (j : ℕ) → j < n → is_sound (one j) ≡ true
+  sound_below zero t h j l = absurd (omega (arith, l))
+  sound_below (suc n) t h j l = elim (cases_lt j n) [
+    | inl less ↦ sound_below n (λ i k. t i (omega (arith, k))) (λ i k. h i (omega (arith, k))) j less
     | inr le ↦
         let e : j ≡ n = omega (arith, l, le) in
-        let all : list_all is_sound (needed n) ≡ true = needed_sound n (sound_below n (λ i k. h i (omega (arith, k)))) in
-        subst (λ (k : ℕ). is_sound (one k) ≡ true) (sym e) (one_sound (slice_get (modules fs) (slice_index_or numbers n 0)) n (needed n) all (h n (omega arith)))
+        let all : list_all is_sound (needed n) ≡ true = needed_sound n (sound_below n (λ i k. t i (omega (arith, k))) (λ i k. h i (omega (arith, k)))) in
+        let tree : HasTree n = t n (omega arith) in
+        subst (λ (k : ℕ). is_sound (one k) ≡ true) (sym e) (one_sound (tree_at n) n (needed n) all tree.0 tree.1 (h n (omega arith)))
   ]
 
   module _ (each : CompileEach (numbered 0 fs) numbers) (same : length numbers ≡ length jobs) where
@@ -165,8 +169,14 @@ module _ (fs : List (List ℕ × Module)) (numbers : List ℕ) (jobs : List (Lis
           let zero_plus : 0 + t.0 ≡ t.0 = omega arith in
           some_refused u.0 f (ap (refusal_in u.0) (sym (ap (result_at fs numbers jobs) zero_plus ∙ result_is j t.0 t.1 ∙ ap (λ (c : Compiled). Some c) e)) ∙ u.1)
 
+      has_tree : (j : ℕ) → j < length jobs → HasTree j
+      has_tree j l =
+          let t = there j (omega (arith, l, same)) in
+          let w = some_at (modules fs) t.0 (omega (arith, within j t.0 t.1, length-map fs (λ (f : List ℕ × Module). f.1))) in
+          (w.0, ap (slice_get (modules fs)) (get_or_from_slice_get numbers j t.0 0 t.1) ∙ w.1)
+
       pub all_sound : (j : ℕ) → j < length jobs → list_all is_sound (needed j) ≡ true
-      all_sound j l = needed_sound j (λ i k. sound_below (length jobs) unrefused i (omega (arith, k, l)))
+      all_sound j l = needed_sound j (λ i k. sound_below (length jobs) has_tree unrefused i (omega (arith, k, l)))
 
       pub none_refused : (j : ℕ) → j < length jobs → IsUnrefused (one j)
       none_refused = unrefused

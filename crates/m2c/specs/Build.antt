@@ -1,29 +1,33 @@
 -- What the build of files answers.
-use Rattle.std.specs.Prelude.{◌≡◌, ◌≢◌, ◌⊎◌, ℕ, ◌+◌, List, [], ◌∷◌, ◌++◌, map, Option, Some, None, String}
+use Rattle.std.specs.Prelude.{◌≡◌, ◌≢◌, ◌⊎◌, ℕ, ◌+◌, ◌*◌, ◌<◌, ◌≤◌, Bool, true, false, if◌then◌else◌, List, [], ◌∷◌, ◌++◌, map, Option, Some, None, String}
 use Rattle.std.specs.String.{string_bytes}
 use Rattle.std.specs.Arc.{arc_value}
 use Rattle.std.specs.Global.{Global, Vec}
 use Rattle.m2_tree.specs.declared.refusal.Refusal.{Refusal}
+use Rattle.m2_tree.specs.declared.decl.Contents.{Contents}
+use Rattle.m2_tree.specs.declared.decl.Contents.TheVariants as contents
 use Rattle.m2_tree.specs.declared.decl.Module.{Module}
 use Rattle.wasm_binary.specs.Binary.{module_spelling}
 use Rattle.m2_graph.specs.declared.error.GraphError.TheVariants as graph_error
 use Rattle.m2_graph.specs.Files.{numbered}
 use Rattle.m2_graph.specs.Graph.{CompileEach, IsGraph, IsRefusal}
-use Rattle.m2_meaning.specs.Program.{Program, Body}
-use Rattle.m2_scheme.specs.Scheme.{link_module, body_module}
+use Rattle.m2_typed.specs.declared.typed_module.TypedModule.{TypedModule}
+use Rattle.m2_meaning.specs.Around.{Modules}
+use Rattle.m2_scheme.specs.Modules.{typed_module, typed_link, part_of, stack_begin}
+use Rattle.m2_emit.specs.declared.emitted.ModuleBytes.{ModuleBytes}
 use Rattle.m2_headline.specs.Headline.{Keeps}
+use Rattle.m2_headline.specs.Proved.{AreProved}
 use Rattle.m2_read.specs.declared.file.SourceFile.{SourceFile}
 use Rattle.m2c.specs.declared.files.Outcome.{Outcome}
 use Rattle.m2c.specs.declared.files.Outcome.TheVariants as outcome
 use Rattle.m2_read.specs.declared.reading.Read.{Read}
 use Rattle.m2_read.specs.declared.reading.Read.TheVariants as read
-use Rattle.m2_compile.specs.declared.outcome.BodyModule.{BodyModule}
 use Rattle.m2_compile.specs.declared.outcome.Compiled.{Compiled}
 use Rattle.m2_compile.specs.declared.outcome.Compiled.TheVariants as jobs
 use Rattle.m2c.specs.Order.{AreInOrder}
 use Rattle.m2_read.specs.Reading.{AreRead}
 use Rattle.m2_jobs.specs.Jobs.{all_compiled}
-use Rattle.m2c.specs.Modules.{result_of, modules_at, program_of}
+use Rattle.m2c.specs.Modules.{result_of, modules_at, AreTyped}
 
 -- ---- what is told
 
@@ -102,26 +106,26 @@ abbrev pub refused_by : List (List ℕ × Module) → (files : List ℕ) → (jo
 refused_by trees files all_jobs = refused_from (result_at trees files all_jobs) 0 trees
 
 -- the modules that start
-abbrev pub started : List (List ℕ × Module) → (files : List ℕ) → (jobs : List (List ℕ)) → (starts : List ℕ) → List BodyModule
+abbrev pub started : List (List ℕ × Module) → (files : List ℕ) → (jobs : List (List ℕ)) → (starts : List ℕ) → List ModuleBytes
 started trees files all_jobs starts = modules_at (result_at trees files all_jobs) starts
 
 -- ---- modules
 
--- a body's name, and the bytes of its module
-abbrev pub built_of : Body → List ℕ × List ℕ
-built_of b = (b.name, module_spelling (body_module b))
+-- a module's name, and its bytes
+abbrev pub built_of : TypedModule → List ℕ × List ℕ
+built_of m = (m.name, module_spelling (typed_module m))
 
 -- the same of what a job built
-abbrev pub named_bytes : BodyModule → List ℕ × List ℕ
-named_bytes m = (m.source.name, m.bytes)
+abbrev pub named_bytes : ModuleBytes → List ℕ × List ℕ
+named_bytes m = (m.name, m.bytes)
 
 -- the same of what a build hands out
 abbrev pub named : String Global × Vec ℕ → List ℕ × List ℕ
 named m = (string_bytes m.0, m.1.items)
 
 -- the bytes of link, and in start order the name and the bytes of each module that is reached
-pub record IsCode (p : Program) (pages : ℕ) (link : List ℕ) (built : List (List ℕ × List ℕ)) : Type 0 where
-  pub link_bytes : link ≡ module_spelling (link_module p pages)
+pub record IsCode (p : Modules) (pages : ℕ) (link : List ℕ) (built : List (List ℕ × List ℕ)) : Type 0 where
+  pub link_bytes : link ≡ module_spelling (typed_link p pages)
   pub body_bytes : built ≡ map built_of p
 
 -- ---- the answer
@@ -153,7 +157,34 @@ pub record AreUncompiled (files : List SourceFile) (refusals : List Refusal) : T
   pub some : refused_by trees numbers all_jobs ≢ []
   pub told : AreTold (refused_by trees numbers all_jobs) refusals
 
--- no module breaks a rule, and those that are reached do what the program does
+-- the bytes of the variables and texts of a program, and of the least stack that it may have
+abbrev pub data_and_stack : Modules → ℕ
+data_and_stack p = stack_begin (map part_of p) + 4096
+
+-- the file of the program module
+abbrev pub is_program_part : Contents → Bool
+is_program_part (contents.Definition ds) = false
+is_program_part (contents.Implementation b) = false
+is_program_part (contents.Program b) = true
+
+abbrev pub program_file : List (List ℕ × Module) → List ℕ
+program_file [] = []
+program_file (f ∷ fs) = if is_program_part f.1.contents then f.0 else program_file fs
+
+-- no module breaks a rule, but the program's data does not fit into the memory
+pub record IsTooLarge (files : List SourceFile) (pages : ℕ) (refusals : List Refusal) : Type 0 where
+  pub trees : List (List ℕ × Module)
+  pub numbers : List ℕ
+  pub all_jobs : List (List ℕ)
+  pub starts : List ℕ
+  pub graph : HaveGraph files trees numbers all_jobs starts
+  pub none : refused_by trees numbers all_jobs ≡ []
+  pub program : Modules
+  pub typed : AreTyped (modules trees) numbers all_jobs starts program
+  pub too_large : 65536 * pages < data_and_stack program
+  pub told : AreTold (told_at (program_file trees) 1 1 61 ∷ []) refusals
+
+-- no module breaks a rule. Those that are reached are compiled, and do what the program does, where that is proved
 pub record IsProgram (files : List SourceFile) (pages : ℕ) (link : List ℕ) (built : List (List ℕ × List ℕ)) : Type 0 where
   pub trees : List (List ℕ × Module)
   pub numbers : List ℕ
@@ -161,13 +192,16 @@ pub record IsProgram (files : List SourceFile) (pages : ℕ) (link : List ℕ) (
   pub starts : List ℕ
   pub graph : HaveGraph files trees numbers all_jobs starts
   pub none : refused_by trees numbers all_jobs ≡ []
-  pub code : IsCode (program_of (started trees numbers all_jobs starts)) pages link built
-  pub keeps : Keeps (program_of (started trees numbers all_jobs starts)) link (map (λ m. m.1) built)
+  pub program : Modules
+  pub typed : AreTyped (modules trees) numbers all_jobs starts program
+  pub fits : data_and_stack program ≤ 65536 * pages
+  pub code : IsCode program pages link built
+  pub keeps : AreProved program → Keeps program pages link (map (λ m. m.1) built)
 
--- The outcome of a build of these files. Rules of tokens and of the grammar come first, then those of imports, and then
--- those of modules.
+-- The outcome of a build of these files. Rules of tokens and of the grammar come first, then those of imports, then those
+-- of modules, and then what does not fit into the memory.
 abbrev pub IsBuilt : List SourceFile → (pages : ℕ) → Outcome → Type 0
-IsBuilt files pages (outcome.Refused refusals) = AreUnread files refusals.items ⊎ (AreUngraphed files refusals ⊎ AreUncompiled files refusals.items)
+IsBuilt files pages (outcome.Refused refusals) = AreUnread files refusals.items ⊎ (AreUngraphed files refusals ⊎ (AreUncompiled files refusals.items ⊎ IsTooLarge files pages refusals.items))
 IsBuilt files pages (outcome.Built link built) = IsProgram files pages link.items (map named built.items)
 
 -- the same is told, or the same modules are built

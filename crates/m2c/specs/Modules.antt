@@ -1,19 +1,24 @@
 -- The program that the results of the jobs are.
-use Rattle.std.specs.Prelude.{ℕ, List, [], ◌∷◌, Option, Some, None, map, slice_get}
+use Rattle.std.specs.Prelude.{◌≡◌, ℕ, List, [], ◌∷◌, Option, Some, None, Ok, slice_get}
 use Rattle.std.specs.List.{flat_map}
 use Rattle.std.specs.Option.{option_and_then}
+use Rattle.m2_tree.specs.declared.decl.Module.{Module}
+use Rattle.m2_board.specs.Graph.{prerequisites_of}
+use Rattle.m2_worker.specs.Results.{results_below, picked}
 use Rattle.m2_graph.specs.Jobs.{number_of}
-use Rattle.m2_meaning.specs.Program.{Program}
-use Rattle.m2_emit.specs.Sources.{body}
-use Rattle.m2_compile.specs.declared.outcome.BodyModule.{BodyModule}
+use Rattle.m2_typed.specs.declared.typed_module.TypedModule.{TypedModule}
+use Rattle.m2_meaning.specs.Around.{Modules}
+use Rattle.m2_emit.specs.declared.emitted.ModuleBytes.{ModuleBytes}
 use Rattle.m2_compile.specs.declared.outcome.Compiled.{Compiled}
 use Rattle.m2_compile.specs.declared.outcome.Compiled.TheVariants.{Defined, Built, Refused, Blocked}
+use Rattle.m2_compile.specs.Compiling.{tables_of, typed_body}
+use Rattle.m2_jobs.specs.Jobs.{compiled_at}
 
 -- what became of the module of a file, where the file of each job is given by its place
 abbrev pub result_of : (files : List ℕ) → List Compiled → (file : ℕ) → Option Compiled
 result_of files results file = option_and_then (slice_get results) (number_of files file)
 
-abbrev pub module_in : Option Compiled → List BodyModule
+abbrev pub module_in : Option Compiled → List ModuleBytes
 module_in (Some (Built b)) = b ∷ []
 module_in (Some (Defined t)) = []
 module_in (Some (Refused f)) = []
@@ -21,9 +26,24 @@ module_in (Some Blocked) = []
 module_in None = []
 
 -- the modules of the bodies in these files
-abbrev pub modules_at : (result : ℕ → Option Compiled) → (starts : List ℕ) → List BodyModule
+abbrev pub modules_at : (result : ℕ → Option Compiled) → (starts : List ℕ) → List ModuleBytes
 modules_at result starts = flat_map (λ s. module_in (result s)) starts
 
--- the bodies that they are compiled from
-abbrev pub program_of : List BodyModule → Program
-program_of modules = map (λ m. body m.source) modules
+-- what the prerequisites of a job came to
+abbrev pub needed_of : List Module → (files : List ℕ) → (jobs : List (List ℕ)) → (job : ℕ) → List Compiled
+needed_of trees files jobs job = picked (results_below jobs (compiled_at trees files) job) (prerequisites_of jobs job)
+
+-- the module of a file breaks no rule, and this is its body
+pub record IsTyped (trees : List Module) (files : List ℕ) (jobs : List (List ℕ)) (file : ℕ) (t : TypedModule) : Type 0 where
+  pub tree : Module
+  pub is_tree : slice_get trees file ≡ Some tree
+  pub job : ℕ
+  pub is_job : number_of files file ≡ Some job
+  pub typed : typed_body tree job (tables_of (needed_of trees files jobs job)) ≡ Ok t
+
+-- the same of all that start
+abbrev pub AreTyped : List Module → (files : List ℕ) → (jobs : List (List ℕ)) → (starts : List ℕ) → Modules → Type 0
+AreTyped trees files jobs [] [] = Unit {0}
+AreTyped trees files jobs (s ∷ ss) (t ∷ ts) = IsTyped trees files jobs s t × AreTyped trees files jobs ss ts
+AreTyped trees files jobs [] (t ∷ ts) = ⊥
+AreTyped trees files jobs (s ∷ ss) [] = ⊥

@@ -85,12 +85,15 @@ impl From<AllocError> for BuildFault {
 /// - the rule of tokens (1 to 7) or of the grammar (10 to 13) that a text breaks first, with its place;
 /// - if no text breaks one, the rules of imports (20 to 25) that files break, one for each such file (see
 ///   `m2_graph::Graph::of`);
-/// - if there is none of these either, the least rule that each module breaks (24, 30 to 38, 40 to 53), and 99 at the
-///   begin of each file with a body that breaks none and is not compiled so far, but nothing for a module that needs
-///   another of which something is told.
+/// - if there is none of these either, the least rule that each module breaks (24, 30 to 38, 40 to 53), or 60 where its
+///   variables and strings, or a frame, are too large, but nothing for a module that needs another of which something is
+///   told;
+/// - if there is none of these either, 61 at the begin of the program module's file where the variables and strings of
+///   all modules that are reached, and 4096 bytes, need more than so many pages.
 ///
 /// A program of which nothing is told is compiled to the module link and, in start order, the modules that are reached
-/// from the program module. They do what the program does.
+/// from the program module. That they do what the program does is proved for the programs of
+/// `m2_headline/specs/Proved`.
 ///
 /// The work goes in two rounds of jobs over so many threads: a job for each file, in the order in which they are given,
 /// and then the jobs of the graph. The gate lets workers in to the jobs of both. What is answered does not depend on how
@@ -109,7 +112,7 @@ pub fn build<R: Threads + Sync, G: Gate>(
         ↔ ((options.workers < 1) ⊎ (max_workers < options.workers)) }
     ensures pages { (1 ≤ options.workers) × (options.workers ≤ max_workers)
         → IsErrOf result BuildFault.Pages ↔ ((options.pages < 1) ⊎ (max_pages < options.pages)) }
-    // The outcome that the files have; the modules do what the program does.
+    // The outcome that the files have; the modules do what the program does, where that is proved.
     ensures built { IfOk result (IsBuilt files.now options.pages) }
     // The files have one outcome, so workers, gates and schedules have no part in it.
     ensures one { IfOk result

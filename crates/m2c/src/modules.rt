@@ -1,50 +1,64 @@
-//! The modules that a build hands out.
+//! The modules that a build hands out, and the storage that they need.
 
-ghost use Rattle.std.specs.Prelude.{◌≡◌, ◌<◌, ◌++◌, ◌∷◌, [], All, IfOk, OnOk, map};
+ghost use Rattle.std.specs.Prelude.{◌≡◌, ◌≤◌, ◌<◌, ◌*◌, ◌+◌, ◌++◌, ◌∷◌, ◌↔◌, ◌&&◌, [], length, IfOk, IsTrue, OnOk, map};
+ghost use Rattle.std.specs.Char.{is_ascii_alphanumeric};
+ghost use Rattle.std.specs.List.{list_all};
 ghost use Rattle.std.specs.String.{string_bytes};
-ghost use Rattle.m2_headline.specs.Suits.{IsName};
+ghost use Rattle.m2_emit.specs.Emitted.{parts};
+ghost use Rattle.m2_headline.specs.Proved.{IsName};
+ghost use Rattle.m2_scheme.specs.Modules.{stack_begin};
 ghost use Rattle.m2c.specs.Build.{named, named_bytes};
+ghost use Rattle.m2c.specs.Names.{is_word, AreNamed};
 
-use m2_compile::BodyModule;
+use m2_emit::ModuleBytes;
 use m2_tree::Name;
 use std::alloc::{AllocError, Global};
 
-/// The names of modules.
-pub fn names_of(alloc: Global, modules: &[&BodyModule]) -> Result<Vec<Name>, AllocError>
-    ensures { IfOk result (λ names. names.items ≡ map (λ m. m.now.source.name) modules.now) }
+/// Whether these are letters and digits.
+fn are_letters(bytes: &[u8]) -> bool
+    ensures { result ≡ list_all is_ascii_alphanumeric bytes.now }
 {
-    let mut names = Vec::new(alloc);
-    for module in modules {
-        names.push(module.source.name.clone()?)?;
-    }
-    Ok(names)
+    bytes.iter().all(|byte| byte.is_ascii_alphanumeric())
 }
 
-fn name_of(alloc: Global, name: &Name) -> Result<String, AllocError>
+/// Whether a name consists of letters and digits, 64 at most.
+fn is_word(bytes: &[u8]) -> bool
+    ensures { result ≡ is_word bytes.now }
+{
+    bytes.len() <= 64 && are_letters(bytes)
+}
+
+/// A name as text.
+fn text_of(alloc: Global, name: &Name) -> Result<String, AllocError>
     requires { IsName name.now }
     ensures { IfOk result (λ text. string_bytes text ≡ name.now) }
 {
     String::from_utf8_lossy(alloc, name.as_bytes())
 }
 
-/// Bytes are below 256.
-fn are_bytes(_bytes: &[u8])
-    ensures { All (λ b. b < 256) _bytes.now }
-{}
+/// The name of a module as text. Each name in a text consists of letters and digits; memory would be refused where one
+/// does not.
+fn name_of(alloc: Global, name: &Name) -> Result<String, AllocError>
+    ensures text { IfOk result (λ text. string_bytes text ≡ name.now) }
+    ensures named { OnOk result (IsName name.now) }
+{
+    if !is_word(name.as_bytes()) {
+        return Err(AllocError);
+    }
+    text_of(alloc, name)
+}
 
 /// Adds a module, under its name.
 fn add_copy(
     alloc: Global,
     copies: &mut Vec<(String, Vec<u8>)>,
-    module: &BodyModule,
+    module: &ModuleBytes,
 ) -> Result<(), AllocError>
-    requires { IsName module.now.source.name }
     ensures module { OnOk result
         (map named copies.new.items ≡ map named copies.old.items ++ named_bytes module.now ∷ []) }
-    ensures small { OnOk result (All (λ b. b < 256) module.now.source.printed) }
+    ensures named { OnOk result (IsName module.now.name) }
 {
-    let name = name_of(alloc, &module.source.name)?;
-    are_bytes(module.source.printed.as_slice());
+    let name = name_of(alloc, &module.name)?;
     let bytes = Vec::from_slice(alloc, module.bytes.as_slice())?;
     copies.push((name, bytes))?;
     Ok(())
@@ -53,16 +67,36 @@ fn add_copy(
 /// The encodings of modules, under their names.
 pub fn copies_of(
     alloc: Global,
-    modules: &[&BodyModule],
+    modules: &[&ModuleBytes],
 ) -> Result<Vec<(String, Vec<u8>)>, AllocError>
-    requires { All (λ m. IsName m.now.source.name) modules.now }
     ensures modules { IfOk result (λ ms.
         map named ms.items ≡ map (λ m. named_bytes m.now) modules.now) }
-    ensures small { OnOk result (All (λ m. All (λ b. b < 256) m.now.source.printed) modules.now) }
+    ensures named { OnOk result (AreNamed (map (λ m. m.now.name) modules.now)) }
 {
     let mut copies = Vec::new(alloc);
     for module in modules {
         add_copy(alloc, &mut copies, module)?;
     }
     Ok(copies)
+}
+
+/// How many bytes the variables and texts of a module take.
+fn size_of(module: &ModuleBytes) -> u64
+    ensures size { result ≡ module.now.variables + module.now.texts }
+    ensures bound { result ≤ 8589934592 }
+{
+    u64::from(module.variables) + u64::from(module.texts)
+}
+
+/// How many bytes the variables and texts of modules take.
+#[tactic(auto, using(crate::proofs::Sums::one_more, crate::proofs::Sums::no_overflow))]
+pub fn data_size(modules: &[&ModuleBytes]) -> u64
+    requires { length modules.now ≤ 1024 }
+    ensures size { result ≡ stack_begin (parts (map (λ m. m.now) modules.now)) }
+    ensures bound { result ≤ length modules.now * 8589934592 }
+{
+    match modules {
+        [] => 0,
+        [first, rest @ ..] => size_of(first) + data_size(rest),
+    }
 }

@@ -1,6 +1,8 @@
 //! The outcome of a build.
 
-ghost use Rattle.std.specs.Prelude.{◌≡◌, ◌≤◌, [], length, map, IfOk};
+ghost use Rattle.std.specs.Prelude.{◌≡◌, ◌≤◌, ◌+◌, ◌*◌, ◌∷◌, [], length, map, nat_lt, IfOk};
+ghost use Rattle.m2_emit.specs.Emitted.{parts};
+ghost use Rattle.m2_scheme.specs.Modules.{stack_begin};
 ghost use Rattle.m2_graph.specs.Files.{numbered};
 ghost use Rattle.m2_graph.specs.Graph.{CompileEach};
 ghost use Rattle.m2_graph.specs.Jobs.{ArePlaces};
@@ -8,31 +10,109 @@ ghost use Rattle.m2_jobs.specs.Jobs.{all_compiled};
 ghost use Rattle.m2_jobs.specs.Lent.{lent, modules_lent};
 ghost use Rattle.m2_read.specs.Reading.{AreRead};
 ghost use Rattle.m2c.specs.Limits.{max_pages};
-ghost use Rattle.m2c.specs.Build.{refused_by, started, AreTrees, HaveGraph, IsBuilt};
+ghost use Rattle.m2c.specs.Build.{is_program_part, program_file, refused_by, started, told, told_at, AreTrees, HaveGraph, IsBuilt};
 
 use crate::files::Outcome;
-use crate::modules::{copies_of, names_of};
+use crate::modules::{copies_of, data_size};
 use crate::order::in_order;
-use crate::refusals::refused_of;
+use crate::refusals::{refusal, refused_of};
 use crate::results::{modules_at, places_of, refused_by};
 use crate::texts::trees_of;
-use m2_compile::{BodyModule, Compiled};
-use m2_emit::emit_link;
+use m2_compile::Compiled;
+use m2_emit::{ModuleBytes, emit_link};
 use m2_graph::{Graph, GraphError};
 use m2_jobs::Crew;
 use m2_read::{Read, SourceFile};
-use m2_tree::Module;
+use m2_tree::{Contents, Module, Pos, Refusal};
 use m2_worker::Gate;
 use std::alloc::{AllocError, AllocFailed, Global};
 use std::thread::Threads;
 
-/// The modules of the program that a graph has, where no module breaks a rule.
+/// The least stack, in bytes, that a program has.
+const LEAST_STACK: u64 = 4096;
+
+/// A page of memory, in bytes.
+const PAGE: u64 = 65536;
+
+fn is_program(tree: &Module) -> bool
+    ensures { result ≡ is_program_part tree.now.contents }
+{
+    match &tree.contents {
+        Contents::Definition(_) => false,
+        Contents::Implementation(_) => false,
+        Contents::Program(_) => true,
+    }
+}
+
+/// The file of the program module.
+fn program_file<'a>(trees: &[(&'a str, &'a Module)]) -> &'a str
+    ensures { result.now ≡ program_file (lent trees.now) }
+{
+    match trees {
+        [] => "",
+        [first, rest @ ..] => {
+            if is_program(first.1) {
+                first.0
+            } else {
+                program_file(rest)
+            }
+        }
+    }
+}
+
+/// 61 at the begin of the file of the program module.
+fn too_large(alloc: Global, trees: &[(&str, &Module)]) -> Result<Vec<Refusal>, AllocError>
+    ensures { IfOk result (λ rs.
+        map told rs.items ≡ told_at (program_file (lent trees.now)) 1 1 61 ∷ []) }
+{
+    let mut refusals = Vec::new(alloc);
+    let file = program_file(trees);
+    refusals.push(refusal(alloc, file, Pos { line: 1, col: 1 }, 61)?)?;
+    Ok(refusals)
+}
+
+/// Whether the data of modules, and the least stack, need more than so many pages.
+fn is_too_large(modules: &[&ModuleBytes], pages: u32) -> bool
+    requires { length modules.now ≤ 1024 }
+    ensures { let ms = parts (map (λ m. m.now) modules.now) in
+        result ≡ nat_lt (65536 * pages) (stack_begin ms + 4096) }
+{
+    data_size(modules) + LEAST_STACK > PAGE * u64::from(pages)
+}
+
+/// The modules of the program that a graph has, where no module breaks a rule and the data fits.
+fn built(
+    alloc: Global,
+    files: &[SourceFile],
+    trees: &[(&str, &Module)],
+    graph: &Graph,
+    modules: &[&ModuleBytes],
+    pages: u32,
+) -> Result<Outcome, AllocError>
+    requires least { 1 ≤ pages }
+    requires most { pages ≤ max_pages }
+    requires graph { HaveGraph files.now (lent trees.now) graph.now.files.items
+        (map (λ j. j.items) graph.now.jobs.items) graph.now.starts.items }
+    requires none { refused_by (lent trees.now) graph.now.files.items
+        (map (λ j. j.items) graph.now.jobs.items) ≡ [] }
+    requires modules { map (λ m. m.now) modules.now
+        ≡ started (lent trees.now) graph.now.files.items
+        (map (λ j. j.items) graph.now.jobs.items) graph.now.starts.items }
+    requires fits { stack_begin (parts (map (λ m. m.now) modules.now)) + 4096 ≤ 65536 * pages }
+    ensures { IfOk result (IsBuilt files.now pages) }
+{
+    let link = emit_link(alloc, modules, pages)?;
+    let modules = copies_of(alloc, modules)?;
+    Ok(Outcome::Built { link, modules })
+}
+
+/// The outcome of the program that a graph has, where no module breaks a rule.
 fn program(
     alloc: Global,
     files: &[SourceFile],
     trees: &[(&str, &Module)],
     graph: &Graph,
-    modules: &[&BodyModule],
+    modules: &[&ModuleBytes],
     pages: u32,
 ) -> Result<Outcome, AllocError>
     requires least { 1 ≤ pages }
@@ -46,10 +126,11 @@ fn program(
         (map (λ j. j.items) graph.now.jobs.items) graph.now.starts.items }
     ensures { IfOk result (IsBuilt files.now pages) }
 {
-    let names = names_of(alloc, modules)?;
-    let link = emit_link(alloc, &names, pages)?;
-    let modules = copies_of(alloc, modules)?;
-    Ok(Outcome::Built { link, modules })
+    if is_too_large(modules, pages) {
+        let refusals = too_large(alloc, trees)?;
+        return Ok(Outcome::Refused(in_order(refusals)?));
+    }
+    built(alloc, files, trees, graph, modules, pages)
 }
 
 /// The places of the jobs of files.

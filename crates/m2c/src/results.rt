@@ -9,7 +9,8 @@ ghost use Rattle.m2c.specs.Build.{refusal_in, refused_from, told};
 ghost use Rattle.m2c.specs.Modules.{module_in, modules_at};
 
 use crate::refusals::refusal;
-use m2_compile::{BodyModule, Compiled};
+use m2_compile::Compiled;
+use m2_emit::ModuleBytes;
 use m2_tree::{Module, Refusal};
 use std::alloc::{AllocError, Global};
 
@@ -124,7 +125,7 @@ pub fn refused_by(
 
 /// Adds the module of a body.
 fn add_module<'a>(
-    modules: &mut Vec<&'a BodyModule>,
+    modules: &mut Vec<&'a ModuleBytes>,
     became: Option<&'a Compiled>,
 ) -> Result<(), AllocError>
     ensures { OnOk result
@@ -149,7 +150,7 @@ pub fn modules_at<'a>(
     results: &'a [Compiled],
     places: &[Option<usize>],
     starts: &[usize],
-) -> Result<Vec<&'a BodyModule>, AllocError>
+) -> Result<Vec<&'a ModuleBytes>, AllocError>
     ensures { IfOk result (λ ms.
         map (λ m. m.now) ms.items
         ≡ modules_at (λ file. option_and_then (slice_get results.now) (place_of places.now file))

@@ -1,18 +1,25 @@
-use Rattle.std.proofs.Common.{◌≡◌, ℕ, List, Some, sym, ap, ◌∙◌}
-use Rattle.std.specs.Prelude.{slice_get}
+use Rattle.std.proofs.Common.{◌≡◌, ℕ, List, map, Option, Some, sym, ap, subst, ◌∙◌}
+use Rattle.std.specs.Prelude.{Result, IfOk, slice_get}
 use Rattle.std.specs.Option.{option_copied, option_map}
 use Rattle.std.specs.Borrow.{Bor}
 use Rattle.std.proofs.lemmas.Option.{slice_get-map}
 use Rattle.m2_tree.specs.declared.decl.Module.{Module}
+use Rattle.m2_compile.specs.declared.outcome.Compiled.{Compiled}
+use Rattle.m2_compile.specs.Compiling.{compiled}
+use Rattle.m2_jobs.specs.Jobs.{compiled_in}
 use Rattle.m2_jobs.specs.Lent.{modules_lent}
 use Rattle.m2_jobs.proofs.modules.compiled_in.Goals as goal
 
 abbrev tree_of : Bor (List ℕ) × Bor Module → Module
 tree_of t = t.1.now
 
+in_place : {E : Type 0} (r : Result Compiled E) (o : Option Module) (m : Module) (job : ℕ) (needed : List Compiled) → o ≡ Some m
+    → IfOk r (λ x. x ≡ compiled m job needed) → IfOk r (λ x. x ≡ compiled_in o job needed)
+in_place r o m job needed e h = subst (λ (p : Option Module). IfOk r (λ x. x ≡ compiled_in p job needed)) (sym e) h
+
 pub returns-in-Some : goal.returns-in-Some
 returns-in-Some c =
     let some : slice_get (modules_lent c.args.trees.now) c.args.file ≡ Some c.in-Some.tree.now.1.now =
     slice_get-map tree_of c.args.trees.now c.args.file ∙ ap (option_map tree_of) (sym c.at.ensures ∙ ap option_copied c.in-Some.is)
     in
-    rw some c.compile.ensures
+    in_place c.compile.result (slice_get (modules_lent c.args.trees.now) c.args.file) c.in-Some.tree.now.1.now c.args.job (map (λ (n : Bor Compiled). n.now) c.args.needed.now) some c.compile.ensures

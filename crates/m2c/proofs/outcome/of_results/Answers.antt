@@ -1,9 +1,9 @@
-use Rattle.std.proofs.Common.{◌≡◌, ℕ, true, List, [], ◌∷◌, length, map, vec_len, inr, refl, sym, ap, ◌∙◌, arith}
+use Rattle.std.proofs.Common.{◌≡◌, ℕ, true, List, [], ◌∷◌, length, map, vec_len, inl, inr, refl, sym, ap, ◌∙◌, arith}
 use Rattle.std.specs.Global.{Vec}
 use Rattle.std.proofs.lemmas.Bool.{eq-eqb, eqb-true}
 use Rattle.m2_tree.specs.declared.refusal.Refusal.{Refusal}
 use Rattle.std.specs.Borrow.{Bor}
-use Rattle.m2_compile.specs.declared.outcome.BodyModule.{BodyModule}
+use Rattle.m2_emit.specs.declared.emitted.ModuleBytes.{ModuleBytes}
 use Rattle.m2_jobs.specs.Lent.{lent}
 use Rattle.m2c.specs.Build.{told, refused_by}
 use Rattle.m2c.proofs.Two.{none_told}
@@ -24,7 +24,7 @@ returns-then-not-is_empty c =
     let all : map told rs.items ≡ refused_by (lent c.args.trees.now) g.files.items (map items_of g.jobs.items) =
     refusals_are c.args.trees.now g.files.items (map items_of g.jobs.items) c.in_ok-places.places.items _ c.args.results.now c.in_ok-places.ensures c.deref.ensures.value c.requires.results _ c.in_ok-refusals.ensures
     in
-    inr (inr (record {
+    inr (inr (inl (record {
       trees = lent c.args.trees.now;
       numbers = g.files.items;
       all_jobs = map items_of g.jobs.items;
@@ -35,7 +35,7 @@ returns-then-not-is_empty c =
           let empty : c.is_empty.result ≡ true = c.is_empty.ensures ∙ eq-eqb (vec_len rs) 0 zero in
           absurd (let other = c.if-not-is_empty.true in cc);
       told = (rs.items, all, c.in_ok-in_order.ensures);
-    }))
+    })))
 
 pub program-requires-clause-none : goal.program-requires-clause-none
 program-requires-clause-none c =
@@ -50,4 +50,4 @@ program-requires-clause-none c =
 pub program-requires-clause-modules : goal.program-requires-clause-modules
 program-requires-clause-modules c =
     let g = c.args.graph.now in
-    ap (λ (bs : List (Bor BodyModule)). map (λ m. m.now) bs) c.deref-3.ensures.value ∙ started_are c.args.trees.now g.files.items (map items_of g.jobs.items) c.in_ok-places.places.items _ c.args.results.now c.in_ok-places.ensures c.deref-2.ensures.value c.requires.results _ _ g.starts.items c.in_ok-modules.ensures c.start_order.ensures
+    ap (λ (bs : List (Bor ModuleBytes)). map (λ m. m.now) bs) c.deref-3.ensures.value ∙ started_are c.args.trees.now g.files.items (map items_of g.jobs.items) c.in_ok-places.places.items _ c.args.results.now c.in_ok-places.ensures c.deref-2.ensures.value c.requires.results _ _ g.starts.items c.in_ok-modules.ensures c.start_order.ensures

@@ -1,50 +1,34 @@
-use Rattle.std.proofs.Common.{◌≡◌, ◌≤◌, ℕ, List, length, map, sym, ap, subst, ◌∙◌, arith}
-use Rattle.std.specs.Prelude.{All}
+use Rattle.std.proofs.Common.{◌≡◌, ◌≤◌, ◌<◌, ◌+◌, ◌*◌, ℕ, List, length, map, inr, sym, ap, subst, ◌∙◌, arith}
+use Rattle.std.specs.Borrow.{Bor}
 use Rattle.std.specs.Global.{Vec}
+use Rattle.std.proofs.lemmas.Bool.{ltb-true, ltb-false}
 use Rattle.std.proofs.lemmas.List.{length-map}
-use Rattle.wasm_binary.specs.Binary.{module_spelling}
-use Rattle.m2_headline.specs.Suits.{IsName}
-use Rattle.m2_meaning.specs.Program.{Program, Body, names}
-use Rattle.m2_scheme.specs.Scheme.{link_module}
-use Rattle.m2_compile.specs.declared.outcome.BodyModule.{BodyModule}
+use Rattle.m2_scheme.specs.Modules.{stack_begin}
+use Rattle.m2_emit.specs.declared.emitted.ModuleBytes.{ModuleBytes}
+use Rattle.m2_emit.specs.Emitted.{parts}
 use Rattle.m2_jobs.specs.Lent.{lent}
-use Rattle.m2c.specs.Modules.{program_of}
-use Rattle.m2c.specs.Build.{named, named_bytes, started}
-use Rattle.m2c.proofs.Graphs.{program_count, modules_named, is_program}
-use Rattle.m2c.proofs.Borrowed.{names_borrowed, copies_borrowed, small_borrowed, named_borrowed}
-use Rattle.m2c.proofs.Programs.{IsSmall}
+use Rattle.m2c.proofs.Graphs.{program_count, is_too_large}
 use Rattle.m2c.proofs.outcome.program.Goals as goal
 
 abbrev items_of : Vec ℕ → List ℕ
 items_of v = v.items
 
-pub emit_link-requires-clause-count : goal.emit_link-requires-clause-count
-emit_link-requires-clause-count c =
+pub is_too_large-requires : goal.is_too_large-requires
+is_too_large-requires c =
     let g = c.args.graph.now in
-    let whole = started (lent c.args.trees.now) g.files.items (map items_of g.jobs.items) g.starts.items in
     let few = program_count c.args.files.now (lent c.args.trees.now) g.files.items (map items_of g.jobs.items) g.starts.items c.requires.graph c.requires.none in
-    let same : names (program_of whole) ≡ c.deref.result.now =
-    ap (λ (ms : List BodyModule). names (program_of ms)) (sym c.requires.modules) ∙ names_borrowed c.args.modules.now ∙ sym c.in_ok-names.ensures ∙ sym c.deref.ensures.value
-    in
-    omega (arith, few, length-map (program_of whole) (λ (b : Body). b.name), ap (λ (xs : List (List ℕ)). length xs) same)
+    omega (arith, few, length-map c.args.modules.now (λ (m : Bor ModuleBytes). m.now), ap (λ (ms : List ModuleBytes). length ms) c.requires.modules)
 
-pub copies_of-requires : goal.copies_of-requires
-copies_of-requires c =
+pub returns-then-is_too_large : goal.returns-then-is_too_large
+returns-then-is_too_large c =
     let g = c.args.graph.now in
-    named_borrowed c.args.modules.now
-    (subst (All (λ (m : BodyModule). IsName m.source.name)) (sym c.requires.modules)
-    (modules_named c.args.files.now (lent c.args.trees.now) g.files.items (map items_of g.jobs.items) g.starts.items c.requires.graph c.requires.none))
+    let whole = map (λ (m : Bor ModuleBytes). m.now) c.args.modules.now in
+    let more : 65536 * c.args.pages < stack_begin (parts whole) + 4096 = ltb-true (65536 * c.args.pages) (stack_begin (parts whole) + 4096) (sym c.is_too_large.ensures ∙ c.if-is_too_large.true) in
+    let more' = subst (λ (ms : List ModuleBytes). 65536 * c.args.pages < stack_begin (parts ms) + 4096) c.requires.modules more in
+    inr (inr (inr (is_too_large c.args.files.now (lent c.args.trees.now) g.files.items (map items_of g.jobs.items) g.starts.items c.requires.graph c.requires.none c.args.pages more'
+    _ (c.in_ok-refusals.refusals.items, c.in_ok-refusals.ensures, c.in_ok-in_order.ensures))))
 
-pub returns : goal.returns
-returns c =
-    let g = c.args.graph.now in
-    let fs = lent c.args.trees.now in
-    let whole = started fs g.files.items (map items_of g.jobs.items) g.starts.items in
-    let same : names (program_of whole) ≡ c.deref.result.now =
-    ap (λ (ms : List BodyModule). names (program_of ms)) (sym c.requires.modules) ∙ names_borrowed c.args.modules.now ∙ sym c.in_ok-names.ensures ∙ sym c.deref.ensures.value
-    in
-    let link_is : c.in_ok-link.link.items ≡ module_spelling (link_module (program_of whole) c.args.pages) = c.in_ok-link.ensures (program_of whole) same in
-    let built_are : map named c.in_ok-modules.modules.items ≡ map named_bytes whole = c.in_ok-modules.ensures.modules ∙ copies_borrowed c.args.modules.now ∙ ap (map named_bytes) c.requires.modules in
-    let small : All IsSmall whole = subst (All IsSmall) c.requires.modules (small_borrowed c.args.modules.now c.in_ok-modules.ensures.small) in
-    is_program c.args.files.now fs g.files.items (map items_of g.jobs.items) g.starts.items c.requires.graph c.requires.none c.args.pages c.requires.least c.requires.most small
-    c.in_ok-link.link.items (map named c.in_ok-modules.modules.items) link_is built_are
+pub built-requires-clause-fits : goal.built-requires-clause-fits
+built-requires-clause-fits c =
+    let whole = map (λ (m : Bor ModuleBytes). m.now) c.args.modules.now in
+    ltb-false (65536 * c.args.pages) (stack_begin (parts whole) + 4096) (sym c.is_too_large.ensures ∙ c.if-is_too_large.false)

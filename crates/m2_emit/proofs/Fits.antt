@@ -1,0 +1,45 @@
+-- What is kept of a layout is not cut.
+use Rattle.std.proofs.Common.{◌≡◌, ℕ, ◌+◌, ◌≤◌, List, map, sym, ap, ◌∙◌, arith}
+use Rattle.wasm_binary.specs.Binary.{module_spelling}
+use Rattle.m2_typed.specs.declared.typed_module.TypedModule.{TypedModule}
+use Rattle.m2_layout.specs.declared.row.Row.{Row}
+use Rattle.m2_layout.specs.declared.layout.Layout.{Layout}
+use Rattle.m2_layout.specs.Capped.{capped}
+use Rattle.m2_layout.specs.Types.{Ty, row}
+use Rattle.m2_layout.specs.Sizes.{size}
+use Rattle.m2_layout.specs.Shapes.{tree}
+use Rattle.m2_layout.specs.Frames.{module_row}
+use Rattle.m2_layout.specs.Texts.{characters, module_texts}
+use Rattle.m2_layout.specs.Extents.{total}
+use Rattle.m2_layout.specs.Layouts.{IsLayout, AllFits}
+use Rattle.m2_layout.proofs.Rows.{fields_row, fields_sum, row_is}
+use Rattle.m2_scheme.specs.Modules.{slots, typed_module}
+use Rattle.m2_emit.specs.declared.emitted.ModuleBytes.{ModuleBytes}
+use Rattle.m2_emit.specs.Emitted.{emitted}
+
+row_size : (ts : List Ty) → total (map size ts) ≡ size (row ts)
+row_size ts = ap total (sym (fields_row ts)) ∙ fields_sum (row ts) (row_is ts)
+
+whole : (n k : ℕ) → n + k ≤ 16777216 → capped (0 + n) ≡ n
+whole n k h = omega arith
+
+whole_behind : (n k : ℕ) → n + k ≤ 16777216 → capped k ≡ k
+whole_behind n k h = omega arith
+
+pub variables_are : (m : TypedModule) (x : Layout) → IsLayout m x → AllFits m → x.variables.size ≡ size (module_row m)
+variables_are m x h f =
+    ap (λ (r : Row). r.size) h.variables ∙ ap (λ (n : ℕ). capped (0 + n)) (row_size (map (tree m.types) m.variables)) ∙ whole (size (module_row m)) (characters (module_texts m)) f.bytes
+
+pub texts_are : (m : TypedModule) (x : Layout) → IsLayout m x → AllFits m → x.texts ≡ characters (module_texts m)
+texts_are m x h f = h.texts ∙ whole_behind (size (module_row m)) (characters (module_texts m)) f.bytes
+
+abbrev made : List ℕ → List ℕ → (variables texts slots : ℕ) → ModuleBytes
+made name bytes v t s = record { name = name; bytes = bytes; variables = v; texts = t; slots = s }
+
+pub emitted_is : (m : TypedModule) (x : Layout) (name bytes : List ℕ) (n : ℕ) → IsLayout m x → AllFits m → name ≡ m.name → bytes ≡ module_spelling (typed_module m) → n ≡ slots m
+    → made name bytes x.variables.size x.texts n ≡ emitted m
+emitted_is m x name bytes n h f e b s =
+    ap (λ (k : List ℕ). made k bytes x.variables.size x.texts n) e ∙ ap (λ (k : List ℕ). made m.name k x.variables.size x.texts n) b
+    ∙ ap (λ (k : ℕ). made m.name (module_spelling (typed_module m)) k x.texts n) (variables_are m x h f)
+    ∙ ap (λ (k : ℕ). made m.name (module_spelling (typed_module m)) (size (module_row m)) k n) (texts_are m x h f)
+    ∙ ap (λ (k : ℕ). made m.name (module_spelling (typed_module m)) (size (module_row m)) (characters (module_texts m)) k) s

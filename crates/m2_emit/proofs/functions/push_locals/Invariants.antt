@@ -1,0 +1,8 @@
+use Rattle.std.proofs.Common.{◌≡◌, ◌++◌, drop}
+use Rattle.m2_typed.specs.declared.typed_module.Which.TheVariants as which
+use Rattle.m2_scheme.specs.Functions.{functions_from}
+use Rattle.m2_scheme.specs.Modules.{numbered}
+use Rattle.m2_emit.proofs.functions.push_locals.Given as goal
+
+abbrev pub invariant-loop-number : goal.invariant-loop-number
+invariant-loop-number l = l.functions ++ functions_from (numbered l.home) l.home which.Local l.number (drop l.number l.home.locals) ≡ l.fn.functions ++ functions_from (numbered l.home) l.home which.Local 0 l.home.locals

@@ -1,0 +1,7 @@
+use Rattle.std.proofs.Common.{◌≡◌, subst}
+use Rattle.std.specs.Prelude.{IfOk}
+use Rattle.m2_scheme.specs.Modules.{functions}
+use Rattle.m2_emit.proofs.module.functions.Goals as goal
+
+pub returns : goal.returns
+returns c = subst (λ m. IfOk c.functions_of.result (λ found. found ≡ functions m)) c.in_ok-home.ensures c.functions_of.ensures

@@ -1,0 +1,35 @@
+-- What is emitted for a module.
+use Rattle.std.specs.Prelude.{List, [], ◌∷◌, ◌++◌, map, codes}
+use Rattle.wasm_binary.specs.Binary.{module_spelling}
+use Rattle.m2_typed.specs.declared.typed_module.TypedModule.{TypedModule}
+use Rattle.m2_layout.specs.Sizes.{size}
+use Rattle.m2_layout.specs.Frames.{module_row}
+use Rattle.m2_layout.specs.Texts.{characters, module_texts}
+use Rattle.wasm_tree.specs.declared.module.Export.{Export}
+use Rattle.wasm_tree.specs.declared.module.ExportKind.TheVariants as exported
+use Rattle.m2_scheme.specs.Scheme.{exported_as}
+use Rattle.m2_scheme.specs.Modules.{Part, slots, typed_module, exports_from}
+use Rattle.m2_emit.specs.declared.emitted.ModuleBytes.{ModuleBytes}
+
+-- its bytes, and what link needs of it
+abbrev pub emitted : TypedModule → ModuleBytes
+emitted m = record {
+  name = m.name;
+  bytes = module_spelling (typed_module m);
+  variables = size (module_row m);
+  texts = characters (module_texts m);
+  slots = slots m;
+}
+
+-- what link needs of a module
+abbrev pub linked : ModuleBytes → Part
+linked x = record { name = x.name; variables = x.variables; texts = x.texts; slots = x.slots }
+
+abbrev pub parts : List ModuleBytes → List Part
+parts xs = map linked xs
+
+-- what link exports
+abbrev pub link_exports : List Part → List Export
+link_exports ms =
+    exported_as (codes "memory") (exported.Memory 0) ∷ exported_as (codes "table") (exported.Table 0) ∷ exported_as (codes "limit") (exported.Global 0)
+    ∷ (exports_from 1 ms ++ exported_as (codes "run") (exported.Function 0) ∷ [])

@@ -1,0 +1,114 @@
+//! The functions of a module.
+
+ghost use Rattle.std.specs.Prelude.{◌≡◌, ◌++◌, Some, slice_get, IfOk, OnOk};
+ghost use Rattle.m2_typed.specs.declared.typed_module.Which.TheVariants as which;
+ghost use Rattle.m2_scheme.specs.Functions.{functions_from, routine_function, module_function};
+ghost use Rattle.m2_scheme.specs.Modules.{functions, numbered};
+ghost use Rattle.m2_texts.specs.Offsets.{AreTexts};
+
+use crate::helpers::helpers;
+use m2_code::Home;
+use m2_steps_code::{module_function, routine_function};
+use m2_texts::ModuleTexts;
+use m2_typed::{Routine, Which};
+use sqlite_items::Items;
+use std::alloc::{AllocError, Global};
+use wasm_tree::Function;
+
+/// The function of a procedure of the module.
+fn procedure(
+    alloc: Global,
+    home: &Home<'_>,
+    texts: &ModuleTexts,
+    number: usize,
+    routine: &Routine,
+) -> Result<Function, AllocError>
+    requires texts { AreTexts home.now texts.now }
+    requires found { slice_get home.now.procedures number ≡ Some routine.now }
+    ensures { let m = home.now in
+        IfOk result (λ f. f ≡ routine_function (numbered m) m (which.Module number) routine.now) }
+{
+    let which = Which::Module(number);
+    routine_function(alloc, home, which, routine, texts.offset_of(which))
+}
+
+/// The function of a procedure that is declared in a procedure.
+fn local(
+    alloc: Global,
+    home: &Home<'_>,
+    texts: &ModuleTexts,
+    number: usize,
+    routine: &Routine,
+) -> Result<Function, AllocError>
+    requires texts { AreTexts home.now texts.now }
+    requires found { slice_get home.now.locals number ≡ Some routine.now }
+    ensures { let m = home.now in
+        IfOk result (λ f. f ≡ routine_function (numbered m) m (which.Local number) routine.now) }
+{
+    let which = Which::Local(number);
+    routine_function(alloc, home, which, routine, texts.offset_of(which))
+}
+
+/// Appends the functions of the procedures of the module.
+fn push_procedures(
+    alloc: Global,
+    functions: &mut Items<Function>,
+    home: &Home<'_>,
+    texts: &ModuleTexts,
+) -> Result<(), AllocError>
+    requires { AreTexts home.now texts.now }
+    ensures { let m = home.now in
+        OnOk result
+        (functions.new
+        ≡ functions.old ++ functions_from (numbered m) m which.Module 0 m.procedures) }
+{
+    let routines = home.module_body().procedures.as_slice();
+    for (number, routine) in routines.iter().enumerate() {
+        functions.push(procedure(alloc, home, texts, number, routine)?)?;
+    }
+    Ok(())
+}
+
+/// Appends the functions of the procedures that are declared in procedures.
+fn push_locals(
+    alloc: Global,
+    functions: &mut Items<Function>,
+    home: &Home<'_>,
+    texts: &ModuleTexts,
+) -> Result<(), AllocError>
+    requires { AreTexts home.now texts.now }
+    ensures { let m = home.now in
+        OnOk result
+        (functions.new ≡ functions.old ++ functions_from (numbered m) m which.Local 0 m.locals) }
+{
+    let routines = home.module_body().locals.as_slice();
+    for (number, routine) in routines.iter().enumerate() {
+        functions.push(local(alloc, home, texts, number, routine)?)?;
+    }
+    Ok(())
+}
+
+/// The function of the module's body.
+fn body(alloc: Global, home: &Home<'_>, texts: &ModuleTexts) -> Result<Function, AllocError>
+    requires { AreTexts home.now texts.now }
+    ensures { let m = home.now in
+        IfOk result (λ f. f ≡ module_function (numbered m) m) }
+{
+    module_function(alloc, home, texts.body)
+}
+
+/// All functions of a module: the helpers, its body, its procedures, and those that are declared in procedures.
+pub fn functions_of(
+    alloc: Global,
+    home: &Home<'_>,
+    texts: &ModuleTexts,
+) -> Result<Items<Function>, AllocError>
+    requires { AreTexts home.now texts.now }
+    ensures { IfOk result (λ found. found ≡ functions home.now) }
+{
+    let mut found = helpers(alloc)?;
+    found.push(body(alloc, home, texts)?)?;
+    push_procedures(alloc, &mut found, home, texts)?;
+    push_locals(alloc, &mut found, home, texts)?;
+    Ok(found)
+}

@@ -1,0 +1,103 @@
+//! What a module imports.
+
+ghost use Rattle.std.specs.Prelude.{◌≡◌, ◌++◌, ◌∷◌, [], IfOk, OnOk, map};
+ghost use Rattle.m2_scheme.specs.Scheme.{base_name, from_host, from_link, host_imports, imported_globals, own_imports, tab_name};
+ghost use Rattle.m2_scheme.specs.Modules.{imports};
+
+use crate::parts::{AT_LEAST_ONE, joined};
+use m2_typed::{Imported, TypedModule};
+use sqlite_items::Items;
+use std::alloc::{AllocError, Global};
+use wasm_tree::{Import, ImportKind, MemoryType, TableType, ValueType};
+
+fn from_link(alloc: Global, name: Items<u8>) -> Result<Import, AllocError>
+    ensures { IfOk result (λ import. import ≡ from_link name) }
+{
+    Ok(Import {
+        module_name: Items::from_slice(alloc, b"link")?,
+        name,
+        kind: ImportKind::Global(ValueType::I32),
+    })
+}
+
+fn from_host(alloc: Global, name: &[u8]) -> Result<Import, AllocError>
+    ensures { IfOk result (λ import. import ≡ from_host name.now) }
+{
+    Ok(Import {
+        module_name: Items::from_slice(alloc, b"host")?,
+        name: Items::from_slice(alloc, name)?,
+        kind: ImportKind::Function(0),
+    })
+}
+
+/// The memory, the table, and where the module's own data and slots begin.
+fn own_imports(alloc: Global, name: &[u8]) -> Result<Items<Import>, AllocError>
+    ensures { IfOk result (λ imports. imports ≡ own_imports name.now) }
+{
+    let memory = Import {
+        module_name: Items::from_slice(alloc, b"link")?,
+        name: Items::from_slice(alloc, b"memory")?,
+        kind: ImportKind::Memory(MemoryType {
+            limits: AT_LEAST_ONE,
+        }),
+    };
+    let table = Import {
+        module_name: Items::from_slice(alloc, b"link")?,
+        name: Items::from_slice(alloc, b"table")?,
+        kind: ImportKind::Table(TableType {
+            limits: AT_LEAST_ONE,
+        }),
+    };
+    let limit = from_link(alloc, Items::from_slice(alloc, b"limit")?)?;
+    let base = from_link(alloc, joined(alloc, b"base.", name)?)?;
+    let text = from_link(alloc, joined(alloc, b"text.", name)?)?;
+    let tab = from_link(alloc, joined(alloc, b"tab.", name)?)?;
+    let imports = vec![in alloc; memory, table, limit, base, text, tab]?;
+    Ok(Items::from_vec(imports))
+}
+
+/// Where the data and the slots of another module begin.
+fn push_globals(alloc: Global, imports: &mut Items<Import>, name: &[u8]) -> Result<(), AllocError>
+    ensures { OnOk result
+        (imports.new
+        ≡ imports.old ++ from_link (base_name name.now) ∷ from_link (tab_name name.now)
+        ∷ []) }
+{
+    imports.push(from_link(alloc, joined(alloc, b"base.", name)?)?)?;
+    imports.push(from_link(alloc, joined(alloc, b"tab.", name)?)?)?;
+    Ok(())
+}
+
+/// The same of the modules that are imported.
+fn push_imported(
+    alloc: Global,
+    imports: &mut Items<Import>,
+    imported: &[Imported],
+) -> Result<(), AllocError>
+    ensures { OnOk result
+        (imports.new ≡ imports.old ++ imported_globals (map (λ i. i.name) imported.now)) }
+{
+    for module in imported {
+        push_globals(alloc, imports, module.name.as_bytes())?;
+    }
+    Ok(())
+}
+
+/// What the host does.
+fn push_host(alloc: Global, imports: &mut Items<Import>) -> Result<(), AllocError>
+    ensures { OnOk result (imports.new ≡ imports.old ++ host_imports) }
+{
+    imports.push(from_host(alloc, b"put")?)?;
+    imports.push(from_host(alloc, b"stop")?)?;
+    Ok(())
+}
+
+/// What a module imports.
+pub fn imports_of(alloc: Global, module_body: &TypedModule) -> Result<Items<Import>, AllocError>
+    ensures { IfOk result (λ found. found ≡ imports module_body.now) }
+{
+    let mut found = own_imports(alloc, module_body.name.as_bytes())?;
+    push_imported(alloc, &mut found, module_body.imports.as_slice())?;
+    push_host(alloc, &mut found)?;
+    Ok(found)
+}

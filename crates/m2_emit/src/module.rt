@@ -1,0 +1,89 @@
+//! The module of a body.
+
+ghost use Rattle.std.specs.Prelude.{◌≡◌, suc, length, IfOk};
+ghost use Rattle.m2_layout.specs.Layouts.{IsLayout, AllFits};
+ghost use Rattle.m2_layout.specs.Texts.{module_texts};
+ghost use Rattle.m2_scheme.specs.Modules.{all_characters, functions, signatures, slots, typed_module};
+ghost use Rattle.m2_texts.specs.Offsets.{AreTexts};
+
+use crate::functions::functions_of;
+use crate::imports::imports_of;
+use crate::numbers::one_more;
+use crate::segments::{data_of, elements_of};
+use crate::types::types_of;
+use m2_code::Home;
+use m2_layout::Layout;
+use m2_signatures::{Signatures, signatures_of};
+use m2_texts::{ModuleTexts, module_texts};
+use m2_typed::TypedModule;
+use sqlite_items::Items;
+use std::alloc::{AllocError, Global};
+use wasm_tree::{Function, WModule};
+
+/// How many slots a module fills.
+pub fn slots_of(module_body: &TypedModule) -> Result<u32, AllocError>
+    ensures { IfOk result (λ n. n ≡ slots module_body.now) }
+{
+    one_more(module_body.procedures.len())
+}
+
+/// The functions of a module that has these texts and needs these signatures.
+fn functions(
+    alloc: Global,
+    module_body: &TypedModule,
+    layout: &Layout,
+    needed: &Signatures,
+    texts: &ModuleTexts,
+) -> Result<Items<Function>, AllocError>
+    requires layout { IsLayout module_body.now layout.now }
+    requires fits { AllFits module_body.now }
+    requires signatures { needed.now ≡ signatures module_body.now }
+    requires texts { AreTexts module_body.now texts.now }
+    ensures { IfOk result (λ found. found ≡ functions module_body.now) }
+{
+    let home = Home::new(alloc, module_body, layout, needed)?;
+    functions_of(alloc, &home, texts)
+}
+
+/// The module, with these functions and texts.
+fn assembled(
+    alloc: Global,
+    module_body: &TypedModule,
+    needed: &Signatures,
+    found: Items<Function>,
+    bytes: Items<u8>,
+) -> Result<WModule, AllocError>
+    requires signatures { needed.now ≡ signatures module_body.now }
+    requires functions { found ≡ functions module_body.now }
+    requires texts { bytes ≡ all_characters (module_texts module_body.now) }
+    ensures { IfOk result (λ tree. tree ≡ typed_module module_body.now) }
+{
+    Ok(WModule {
+        types: types_of(alloc, needed)?,
+        imports: imports_of(alloc, module_body)?,
+        functions: found,
+        tables: Items::new(alloc),
+        memories: Items::new(alloc),
+        globals: Items::new(alloc),
+        exports: Items::new(alloc),
+        elements: elements_of(alloc, slots_of(module_body)?)?,
+        data: data_of(alloc, bytes)?,
+    })
+}
+
+/// The module of a body.
+pub fn module_of(
+    alloc: Global,
+    module_body: &TypedModule,
+    layout: &Layout,
+) -> Result<WModule, AllocError>
+    requires layout { IsLayout module_body.now layout.now }
+    requires fits { AllFits module_body.now }
+    ensures { IfOk result (λ tree. tree ≡ typed_module module_body.now) }
+{
+    let needed = signatures_of(alloc, module_body)?;
+    let texts = module_texts(alloc, module_body, layout.texts as usize)?;
+    let found = functions(alloc, module_body, layout, &needed, &texts)?;
+    let ModuleTexts { characters, .. } = texts;
+    assembled(alloc, module_body, &needed, found, characters.into_items())
+}

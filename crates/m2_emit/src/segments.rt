@@ -1,0 +1,61 @@
+//! The slots that a module fills, and its texts.
+
+ghost use Rattle.std.specs.Prelude.{◌≡◌, ◌∷◌, [], IfOk};
+ghost use Rattle.std.specs.List.{range_with_len};
+ghost use Rattle.wasm_tree.specs.declared.instr.Instr.TheVariants.{GlobalGet};
+ghost use Rattle.m2_scheme.specs.Coded.{body_index};
+ghost use Rattle.m2_scheme.specs.Modules.{data_of};
+
+use crate::code::global_code;
+use crate::numbers::added;
+use crate::parts::one;
+use sqlite_items::Items;
+use std::alloc::{AllocError, Global};
+use wasm_tree::{Data, Element};
+
+/// The body, and the procedures behind it.
+#[tactic(auto, using(crate::proofs::Lists::range_more))]
+fn indices(alloc: Global, slots: u32) -> Result<Items<u32>, AllocError>
+    ensures { IfOk result (λ found. found ≡ range_with_len body_index slots) }
+{
+    let mut found = Items::new(alloc);
+    for slot in 0..slots {
+        found.push(added(7, slot)?)?;
+    }
+    Ok(found)
+}
+
+/// The body and the procedures stand in the table from the module's first slot on.
+pub fn elements_of(alloc: Global, slots: u32) -> Result<Items<Element>, AllocError>
+    ensures { IfOk result (λ elements. elements ≡ record {
+      table = 0;
+      offset = GlobalGet 3 ∷ [];
+      functions = range_with_len body_index slots;
+    } ∷ []) }
+{
+    let element = Element {
+        table: 0,
+        offset: global_code(alloc, 3)?,
+        functions: indices(alloc, slots)?,
+    };
+    one(alloc, element)
+}
+
+/// The texts stand in the memory where the module's texts begin.
+#[tactic(auto, using(crate::proofs::Lists::some_data))]
+pub fn data_of(alloc: Global, bytes: Items<u8>) -> Result<Items<Data>, AllocError>
+    ensures { IfOk result (λ found. found ≡ data_of bytes) }
+{
+    if bytes.is_empty() {
+        return Ok(Items::new(alloc));
+    }
+    let offset = global_code(alloc, 2)?;
+    one(
+        alloc,
+        Data {
+            memory: 0,
+            offset,
+            bytes,
+        },
+    )
+}

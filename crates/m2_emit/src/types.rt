@@ -1,0 +1,91 @@
+//! The types of functions of a module.
+
+ghost use Rattle.std.specs.Prelude.{◌≡◌, ◌++◌, ◌∷◌, IfOk, OnOk, map};
+ghost use Rattle.wasm_tree.specs.declared.kinds.ValueType.TheVariants.{I32};
+ghost use Rattle.m2_scheme.specs.Scheme.{body_types};
+ghost use Rattle.m2_scheme.specs.Signatures.{so_many, results_of, type_of};
+ghost use Rattle.m2_signatures.specs.Seen.{seen};
+
+use crate::parts::type_from;
+use m2_signatures::{Signature, Signatures};
+use sqlite_items::Items;
+use std::alloc::{AllocError, Global};
+use wasm_tree::{FuncType, ValueType};
+
+/// The types of the helpers and of the body.
+fn body_types(alloc: Global) -> Result<Items<FuncType>, AllocError>
+    ensures { IfOk result (λ types. types ≡ body_types) }
+{
+    let put = type_from(alloc, &[ValueType::I64], &[])?;
+    let copy = type_from(
+        alloc,
+        &[ValueType::I32, ValueType::I32, ValueType::I32],
+        &[],
+    )?;
+    let fill = type_from(alloc, &[ValueType::I32, ValueType::I32], &[])?;
+    let wide = [
+        ValueType::I64,
+        ValueType::I64,
+        ValueType::I64,
+        ValueType::I64,
+    ];
+    let check = type_from(alloc, &wide, &[ValueType::I64])?;
+    let divide = type_from(alloc, &[ValueType::I64, ValueType::I64], &[ValueType::I64])?;
+    let body = type_from(alloc, &[ValueType::I32], &[])?;
+    let types = vec![in alloc; put, copy, fill, check, divide, body]?;
+    Ok(Items::from_vec(types))
+}
+
+/// A frame's address, and so many numbers.
+#[tactic(auto, using(crate::proofs::Lists::one_more))]
+fn params_of(alloc: Global, arguments: usize) -> Result<Items<ValueType>, AllocError>
+    ensures { IfOk result (λ params. params ≡ I32 ∷ so_many arguments) }
+{
+    let mut params = Items::from_slice(alloc, &[ValueType::I32])?;
+    for _ in 0..arguments {
+        params.push(ValueType::I64)?;
+    }
+    Ok(params)
+}
+
+fn results_of(alloc: Global, has_result: bool) -> Result<Items<ValueType>, AllocError>
+    ensures { IfOk result (λ results. results ≡ results_of has_result) }
+{
+    if has_result {
+        Items::from_slice(alloc, &[ValueType::I64])
+    } else {
+        Ok(Items::new(alloc))
+    }
+}
+
+fn type_of(alloc: Global, signature: Signature) -> Result<FuncType, AllocError>
+    ensures { IfOk result (λ t. t ≡ type_of (seen signature)) }
+{
+    Ok(FuncType {
+        params: params_of(alloc, signature.arguments)?,
+        results: results_of(alloc, signature.has_result)?,
+    })
+}
+
+/// Appends the types of these signatures.
+fn push_types(
+    alloc: Global,
+    types: &mut Items<FuncType>,
+    signatures: &[Signature],
+) -> Result<(), AllocError>
+    ensures { OnOk result (types.new ≡ types.old ++ map type_of (map seen signatures.now)) }
+{
+    for signature in signatures {
+        types.push(type_of(alloc, *signature)?)?;
+    }
+    Ok(())
+}
+
+/// The types of a module that needs these signatures.
+pub fn types_of(alloc: Global, signatures: &Signatures) -> Result<Items<FuncType>, AllocError>
+    ensures { IfOk result (λ types. types ≡ body_types ++ map type_of signatures.now) }
+{
+    let mut types = body_types(alloc)?;
+    push_types(alloc, &mut types, signatures.list())?;
+    Ok(types)
+}

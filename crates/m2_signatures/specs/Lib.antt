@@ -1,0 +1,5 @@
+pub mod Seen
+pub mod Numbered
+pub mod Marked
+pub mod Needed
+pub mod Tables

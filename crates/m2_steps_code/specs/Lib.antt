@@ -1,0 +1,4 @@
+pub mod Around
+pub mod Kept
+pub mod Plans
+pub mod Written

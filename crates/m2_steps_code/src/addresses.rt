@@ -1,0 +1,118 @@
+//! How many locals for addresses a body needs.
+
+ghost use Rattle.std.specs.Prelude.{◌≡◌, ◌+◌, ℕ, IfOk, map};
+ghost use Rattle.m2_layout.specs.Capped.{capped};
+ghost use Rattle.m2_scheme.specs.Addresses.{total, addresses_of, addresses_armed, addresses_in};
+
+use m2_typed::{TypedArm, TypedStmt};
+use std::alloc::AllocError;
+
+/// The sum. An error says that it does not fit into 32 bits.
+pub fn sum(first: u32, second: u32) -> Result<u32, AllocError>
+    ensures { IfOk result (λ n. n ≡ first + second) }
+{
+    match first.checked_add(second) {
+        None => Err(AllocError),
+        Some(both) => Ok(both),
+    }
+}
+
+/// The number in 32 bits. An error says that it does not fit.
+pub fn counted(count: usize) -> Result<u32, AllocError>
+    ensures { IfOk result (λ n. n ≡ count) }
+{
+    match u32::try_from(count) {
+        Err(_) => Err(AllocError),
+        Ok(count) => Ok(count),
+    }
+}
+
+/// The size that is kept cut to 32 bits. An error says that it may be cut.
+pub fn exact(n: u32) -> Result<u32, AllocError>
+    ensures { IfOk result (λ k. (m : ℕ) → n ≡ capped m → k ≡ m) }
+{
+    if n == 4_294_967_295 {
+        return Err(AllocError);
+    }
+    Ok(n)
+}
+
+/// The addresses of a statement.
+#[cycle(addresses)]
+#[tactic(auto, using(crate::proofs::Addressed::variants))]
+fn stmt_addresses(stmt: &TypedStmt) -> Result<u32, AllocError>
+    ensures { IfOk result (λ n. n ≡ addresses_of stmt.now) }
+{
+    match stmt {
+        TypedStmt::Assign(_, _, _) => Ok(0),
+        TypedStmt::Copy(_, _, _) => Ok(0),
+        TypedStmt::CopyText(_, _, _) => Ok(1),
+        TypedStmt::Call(_) => Ok(0),
+        TypedStmt::Put(_) => Ok(0),
+        TypedStmt::Change(_, _, _, _) => Ok(1),
+        TypedStmt::Membership(_, _, _) => Ok(1),
+        TypedStmt::Halt => Ok(0),
+        TypedStmt::If(_, body, others) => match others {
+            None => stmts_addresses(body.as_slice()),
+            Some(others) => sum(
+                stmts_addresses(body.as_slice())?,
+                stmts_addresses(others.as_slice())?,
+            ),
+        },
+        TypedStmt::Case(_, arms, others) => match others {
+            None => arms_addresses(arms.as_slice()),
+            Some(others) => sum(
+                arms_addresses(arms.as_slice())?,
+                stmts_addresses(others.as_slice())?,
+            ),
+        },
+        TypedStmt::While(_, body) => stmts_addresses(body.as_slice()),
+        TypedStmt::Repeat(body, _) => stmts_addresses(body.as_slice()),
+        TypedStmt::Loop(body) => stmts_addresses(body.as_slice()),
+        TypedStmt::Exit => Ok(0),
+        TypedStmt::Return => Ok(0),
+        TypedStmt::Give(_, _) => Ok(0),
+        TypedStmt::For(_, _, _, _, _, body) => stmts_addresses(body.as_slice()),
+        TypedStmt::With(_, body) => sum(1, stmts_addresses(body.as_slice())?),
+    }
+}
+
+/// The addresses of statements.
+#[cycle(addresses)]
+fn stmts_addresses(stmts: &[TypedStmt]) -> Result<u32, AllocError>
+    ensures { IfOk result (λ n. n ≡ addresses_in stmts.now) }
+{
+    let mut all = 0;
+    for stmt in stmts {
+        all = sum(all, stmt_addresses(stmt)?)?;
+    }
+    Ok(all)
+}
+
+/// The addresses of an arm.
+#[cycle(addresses)]
+#[tactic(auto, using(crate::proofs::Addressed::variants))]
+fn arm_addresses(arm: &TypedArm) -> Result<u32, AllocError>
+    ensures { IfOk result (λ n. n ≡ addresses_armed arm.now) }
+{
+    stmts_addresses(arm.body.as_slice())
+}
+
+/// The addresses of the arms of a CASE.
+#[cycle(addresses)]
+fn arms_addresses(arms: &[TypedArm]) -> Result<u32, AllocError>
+    ensures { IfOk result (λ n. n ≡ total (map addresses_armed arms.now)) }
+{
+    let mut all = 0;
+    for arm in arms {
+        all = sum(all, arm_addresses(arm)?)?;
+    }
+    Ok(all)
+}
+
+/// How many addresses the code of a body keeps in locals. An error says that so many do not fit into 32 bits.
+pub fn addresses_in(body: &[TypedStmt]) -> Result<u32, AllocError>
+    ensures { IfOk result (λ n. n ≡ addresses_in body.now) }
+{
+    stmts_addresses(body)
+}

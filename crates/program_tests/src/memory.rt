@@ -1,0 +1,68 @@
+//! A folder and streams over memory.
+
+ghost use Rattle.std.specs.Prelude.{◌≡◌};
+
+use m2_execute::{InDir, Sink};
+use std::alloc::Global;
+
+/// The folder of a build: link, and the other modules under their names.
+#[derive(Drop)]
+pub struct Folder<'a> {
+    pub link: &'a [u8],
+    pub modules: &'a [(String, Vec<u8>)],
+}
+
+impl InDir for Folder<'_> {
+    ghost gives = { λ _ _ _. Unit {0} };
+
+    fn read(&mut self, alloc: Global, name: &str) -> Option<Vec<u8>> {
+        if name == "link.wasm" {
+            return Vec::from_slice(alloc, self.link).ok();
+        }
+        for module in self.modules {
+            if name.len() == module.0.len() + 5 && name.starts_with(module.0.as_str()) {
+                return Vec::from_slice(alloc, &module.1).ok();
+            }
+        }
+        None
+    }
+}
+
+/// A stream that keeps what it takes.
+#[derive(Drop)]
+pub struct Screen {
+    pub bytes: Vec<u8>,
+    pub failures: u64,
+}
+
+impl Screen {
+    /// A stream that took nothing yet.
+    pub fn new(alloc: Global) -> Screen
+        ensures { result.failures ≡ 0 }
+    {
+        Screen {
+            bytes: Vec::new(alloc),
+            failures: 0,
+        }
+    }
+}
+
+impl Sink for Screen {
+    ghost use Rattle.std.specs.Prelude.{Some};
+
+    ghost failed = { λ s. s.failures };
+
+    ghost told = { λ s. Some s.bytes.items };
+
+    fn take(&mut self, byte: u8) -> bool {
+        if self.bytes.push(byte).is_err() {
+            self.failures += 1;
+            return false;
+        }
+        true
+    }
+
+    fn failures(&self) -> u64 {
+        self.failures
+    }
+}

@@ -1,0 +1,141 @@
+//! The programs of `data/programs.txt`.
+
+use crate::program::{Expected, Program, judged, no_program};
+use anyhow::{Context, Result, bail};
+use m2c::SourceFile;
+use std::alloc::Global;
+use std::fs;
+use std::rt::Files;
+use std::thread::Threads;
+
+/// How many programs are as expected, and how many are not.
+#[derive(Clone, Copy)]
+pub struct Count {
+    pub right: u32,
+    pub wrong: u32,
+}
+
+/// A program as far as it is read, and the file of which lines are read.
+#[derive(Drop)]
+struct Reading {
+    program: Program,
+    name: String,
+    text: String,
+}
+
+fn begun(alloc: Global) -> Reading {
+    Reading {
+        program: no_program(alloc),
+        name: String::new(alloc),
+        text: String::new(alloc),
+    }
+}
+
+fn digit(byte: u8) -> Result<u8> {
+    match byte {
+        b'0'..=b'9' => Ok(byte - b'0'),
+        b'a'..=b'f' => Ok(byte - b'a' + 10),
+        _ => bail!("no hexadecimal digit"),
+    }
+}
+
+/// The bytes that pairs of hexadecimal digits stand for.
+fn bytes_of(alloc: Global, digits: &str) -> Result<Vec<u8>> {
+    let mut bytes = Vec::new(alloc);
+    for pair in digits.as_bytes().chunks(2) {
+        let [high, low] = pair else {
+            bail!("an odd number of digits");
+        };
+        bytes.push((digit(*high)? << 4) | digit(*low)?)?;
+    }
+    Ok(bytes)
+}
+
+/// Takes the text as that of the file that was named last.
+fn with_file(alloc: Global, reading: &mut Reading) -> Result<()> {
+    if reading.name.is_empty() {
+        return Ok(());
+    }
+    reading.program.files.push(SourceFile {
+        name: String::from_str(alloc, reading.name.as_str())?,
+        bytes: Vec::from_slice(alloc, reading.text.as_bytes())?,
+    })?;
+    reading.name = String::new(alloc);
+    reading.text = String::new(alloc);
+    Ok(())
+}
+
+fn with_module(alloc: Global, reading: &mut Reading, line: &str) -> Result<()> {
+    let Some((name, digits)) = line.split_once(' ') else {
+        bail!("a module without bytes");
+    };
+    reading.program.modules.push(Expected {
+        name: String::from_str(alloc, name)?,
+        bytes: bytes_of(alloc, digits)?,
+    })?;
+    Ok(())
+}
+
+/// Takes a line that begins with a sign.
+fn with_sign(alloc: Global, reading: &mut Reading, sign: &str, rest: &str) -> Result<()> {
+    with_file(alloc, reading)?;
+    match sign {
+        "%n" => reading.program.name.push_str(rest)?,
+        "%f" => reading.name.push_str(rest)?,
+        "%w" => with_module(alloc, reading, rest)?,
+        "%p" => reading.program.printed = bytes_of(alloc, rest)?,
+        "%e" => reading.program.end = rest.parse()?,
+        _ => bail!("an unknown sign"),
+    }
+    Ok(())
+}
+
+fn with_line(alloc: Global, reading: &mut Reading, line: &str) -> Result<()> {
+    if line.starts_with('%') {
+        if let Some((sign, rest)) = line.split_once(' ') {
+            return with_sign(alloc, reading, sign, rest);
+        }
+    }
+    reading.text.push_str(line)?;
+    reading.text.push_str("\n")?;
+    Ok(())
+}
+
+fn counted<R: Threads + Sync + Eprint>(
+    rt: &R,
+    alloc: Global,
+    count: Count,
+    program: &Program,
+) -> Result<Count> {
+    for workers in [1, 8] {
+        if let Some(wrong) = judged(rt, alloc, program, workers)? {
+            eprintln!(rt; "{}: {wrong}", program.name)?;
+            return Ok(Count {
+                right: count.right,
+                wrong: count.wrong.saturating_add(1),
+            });
+        }
+    }
+    Ok(Count {
+        right: count.right.saturating_add(1),
+        wrong: count.wrong,
+    })
+}
+
+/// Judges each program.
+pub fn check_all<R: Threads + Sync + Files + Eprint + AllocGlobal>(rt: &R) -> Result<Count> {
+    let alloc = rt.alloc();
+    let bytes = fs::read(rt, "programs.txt").context("cannot read the programs")?;
+    let all = String::from_utf8(bytes)?;
+    let mut count = Count { right: 0, wrong: 0 };
+    let mut reading = begun(alloc);
+    for line in all.as_str().lines() {
+        if line == "%%" {
+            count = counted(rt, alloc, count, &reading.program)?;
+            reading = begun(alloc);
+        } else {
+            with_line(alloc, &mut reading, line)?;
+        }
+    }
+    Ok(count)
+}
