@@ -120,10 +120,7 @@ fn tells_nothing_of_what_is_built(rt: HostRuntime) -> Result<(), Fail> {
             "MODULE M; BEGIN Put(101C) END M.",
             "b.mod:1:17: refusal 30;",
         ),
-        (
-            "MODULE M; VAR i: CARDINAL; END M.",
-            "",
-        ),
+        ("MODULE M; VAR i: CARDINAL; END M.", ""),
         ("MODULE Put; BEGIN END Put.", ""),
         ("DEFINITION MODULE M; END M.", "b.mod:1:1: refusal 23;"),
         ("MODULE M; IMPORT A; END M.", "b.mod:1:18: refusal 20;"),
@@ -189,7 +186,11 @@ fn told_in<R: Threads + Sync>(
 fn tells_what_does_not_fit(rt: HostRuntime) -> Result<(), Fail> {
     let alloc = rt.alloc();
     let rows = [
-        ("MODULE M; VAR a: ARRAY [0..15359] OF CARDINAL; END M.", 1, ""),
+        (
+            "MODULE M; VAR a: ARRAY [0..15359] OF CARDINAL; END M.",
+            1,
+            "",
+        ),
         (
             "MODULE M; VAR a: ARRAY [0..15360] OF CARDINAL; END M.",
             1,
@@ -325,10 +326,7 @@ fn takes_the_table_of_the_module_that_is_named(rt: HostRuntime) -> Result<(), Fa
     ];
     for workers in [1, 8] {
         let text = told(&rt, alloc, &files, workers)?;
-        assert_eq!(rt;
-            text.as_str(),
-            "c.def:1:75: refusal 35;"
-        );
+        assert_eq!(rt; text.as_str(), "c.def:1:75: refusal 35;");
     }
     Ok(())
 }

@@ -38,12 +38,12 @@ impl<'a> Model for Setting<'a> {
     ghost coded = { Prim.hlevel (codes, e.the_row.coded, r.the_row.coded) };
 
     ghost view = { λ s. record {
-        home = s.home.now;
-        routines = routines_in s.frames.now;
-        arguments = s.arguments;
-        addresses = s.addresses;
-        exit = s.exit;
-        withs = s.withs.items
+      home = s.home.now;
+      routines = routines_in s.frames.now;
+      arguments = s.arguments;
+      addresses = s.addresses;
+      exit = s.exit;
+      withs = s.withs.items;
     } };
 
     ghost invariant = { λ s. AreFramed s.home.now.types s.frames.now };
