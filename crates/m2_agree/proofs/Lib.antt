@@ -1,0 +1,5 @@
+pub mod Parts
+pub mod Words
+pub mod Checks
+pub mod Operators
+pub mod Relations
