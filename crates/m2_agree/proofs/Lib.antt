@@ -3,3 +3,5 @@ pub mod Words
 pub mod Checks
 pub mod Operators
 pub mod Relations
+pub mod Locals
+pub mod Places

@@ -1,5 +1,5 @@
 -- Where the code of a body runs, what stands there on both sides, and when code does what the definition of a run says.
-use Rattle.std.specs.Prelude.{◌≡◌, ℕ, suc, ◌+◌, ◌≤◌, ◌<◌, ◌⊎◌, ◌^◌, ℤ, pos, negsuc, ◌≤ℤ◌, List, [], ◌∷◌, ◌++◌, length, Option, Some, None, slice_get}
+use Rattle.std.specs.Prelude.{◌≡◌, ℕ, suc, ◌+◌, ◌≤◌, ◌<◌, ◌⊎◌, ◌^◌, ℤ, pos, negsuc, ◌≤ℤ◌, List, [], ◌∷◌, ◌++◌, length, Option, Some, None, slice_get, nat_eq, if◌then◌else◌}
 use Rattle.std.specs.Int.{w64, cast_unsigned}
 use Rattle.wasm_tree.specs.declared.kinds.ValueType.TheVariants as kind
 use Rattle.wasm_tree.specs.declared.instr.Instr.{Instr}
@@ -7,21 +7,24 @@ use Rattle.wasm_tree.specs.declared.module.WModule.{WModule}
 use Rattle.wasm_tree.specs.declared.store.Value.{Value}
 use Rattle.wasm_tree.specs.declared.store.Value.TheVariants.{I32, I64}
 use Rattle.wasm_tree.specs.declared.store.Callee.TheVariants.{Put, Stop, Own}
-use Rattle.wasm_tree.specs.Machine.{callee_at, own_function}
+use Rattle.wasm_tree.specs.Machine.{callee_at, global_at, own_function}
 use Rattle.wasm_effect.specs.Effect.{Fixed, State as Target, store_of, Effect, StillRunning, Does, Calling, effect, calling}
 use Rattle.wasm_effect.specs.Effect as does
 use Rattle.m2_typed.specs.declared.types.TypeNo.{TypeNo}
 use Rattle.m2_typed.specs.declared.shape.Scalar.{Scalar as Range}
+use Rattle.m2_typed.specs.declared.meaning.Variable.{Variable}
 use Rattle.m2_typed.specs.declared.known_types.Types.{Types}
 use Rattle.m2_typed.specs.Known.{scalar_at}
-use Rattle.m2_layout.specs.Types.{Ty, row, component}
+use Rattle.m2_layout.specs.Types.{Ty, Scalar, Cell, row, component, IsScalar, IsOf}
 use Rattle.m2_layout.specs.Sizes.{size, offset}
+use Rattle.m2_layout.specs.Shapes.{tree}
 use Rattle.m2_meaning.specs.Store.{Location}
 use Rattle.m2_meaning.specs.Answer.{State as Source, Answer, Gave, Ended, Running}
 use Rattle.m2_meaning.specs.Around.{Around}
 use Rattle.m2_meaning.specs.Expressions.{Gives}
 use Rattle.m2_cells.specs.Relation.{Holds}
 use Rattle.m2_scheme.specs.Coded.{Coded, Counts, Setting, address_local, number_local}
+use Rattle.m2_scheme.specs.Exprs.{base_global, variables_row}
 use Rattle.m2_scheme.specs.Helpers.{check_typed, divisor_checked, div_rest, mod_typed, helper}
 use Rattle.m2_helpers.specs.Called.{HasMemory}
 
@@ -91,6 +94,23 @@ AreSmall types = (t : TypeNo) (r : Range) → scalar_at types t ≡ Some r → I
 abbrev pub word : ℤ → ℕ
 word v = cast_unsigned w64 v
 
+-- variables of the type have one cell, whose numbers are values of the type
+pub record IsCell (types : Types) (t : TypeNo) (c : Scalar) : Type 0 where
+  pub is : tree types t ≡ Cell c
+  pub scalar : IsScalar c
+  pub values : (v : ℤ) → IsOf c v → IsValue types t v
+  pub bounds : (v : ℤ) → IsValue types t v → IsOf c v
+
+-- ---- variables of modules
+
+-- where a variable is in the store, and a global that has the place of its module's variables
+pub record IsGlobal (k : Scene) (v : Variable) (l : Location) (t : Ty) : Type 0 where
+  pub base : ℕ
+  pub there : (bytes : List ℕ) → global_at (store_of k.fixed bytes) k.own (base_global k.setting.home v.home) ≡ Some (I32 base)
+  pub type : component (row k.world) l ≡ Some t
+  pub at : base + offset (variables_row k.setting.home v.home) (v.number ∷ []) ≡ place k l
+  pub some : 0 < length l
+
 -- ---- what stands on both sides
 
 pub record Stands (k : Scene) (s : Source) (st : Target) : Type 0 where
@@ -99,6 +119,10 @@ pub record Stands (k : Scene) (s : Source) (st : Target) : Type 0 where
   pub count : length st.locals ≡ k.locals
   pub kept : (w : ℕ) (v : Value) → k.kept w ≡ Some v → slice_get st.locals w ≡ Some v
   pub out : st.out ≡ s.out
+
+-- a scene in which one more local is kept
+abbrev pub keeping : Scene → ℕ → Value → Scene
+keeping k n v = record k { kept = λ w. if nat_eq w n then Some v else k.kept w }
 
 -- the effect is what the answer says: P of what it gives, or the same end
 abbrev pub Into : {A : Type 0} → (A → Source → Effect → Type 0) → Effect → Answer A → Type 0
