@@ -5,3 +5,6 @@ pub mod Operators
 pub mod Relations
 pub mod Locals
 pub mod Places
+pub mod Stores
+pub mod Statements
+pub mod Loops

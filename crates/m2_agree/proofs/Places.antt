@@ -54,7 +54,7 @@ module _ (k : Scene) (has : HasHelpers k) (small : AreSmall k.setting.home.types
   load_one c a bytes rest st stack e = load_runs k.modules k.fixed k.turns (calls k) k.own rest st (load_of c) a bytes stack (has.memory st.bytes) e
 
   -- a lower bound of 0 is not added
-  nought_word : (l : ℤ) → is_nought l ≡ true → l ≡ pos 0
+  pub nought_word : (l : ℤ) → is_nought l ≡ true → l ≡ pos 0
   nought_word l e = grind (arith, e)
 
   abbrev Fetched : Scalar → (a : ℕ) → (v : ℤ) → Target → Type 0

@@ -105,7 +105,7 @@ module _ (k : Scene) (has : HasHelpers k) (small : AreSmall k.setting.home.types
 
   -- ---- NOT
 
-  is_zero_true : (v : ℤ) → pos 0 ≤ℤ v → IsWide v → (word v == 0) ≡ not (is_true v)
+  pub is_zero_true : (v : ℤ) → pos 0 ≤ℤ v → IsWide v → (word v == 0) ≡ not (is_true v)
   is_zero_true (pos zero) h w = refl
   is_zero_true (pos (suc n)) h w = let t = w.high in let ne : word (pos (suc n)) ≡ 0 → ⊥ = (λ e. omega (arith, ints, e)) in ne_eqb (word (pos (suc n))) 0 ne ∙ grind arith
   is_zero_true (negsuc n) h w = absurd (omega (arith, ints))
@@ -154,7 +154,7 @@ module _ (k : Scene) (has : HasHelpers k) (small : AreSmall k.setting.home.types
         if_runs k.modules k.fixed k.turns (calls k) k.own rest st (Some kind.I64) first second stack n
         ∙ ap (λ (b : Bool). then_run (leaves_block stack (exec (if b then map (effects.does k.modules k.fixed k.turns (calls k) k.own) second else map (effects.does k.modules k.fixed k.turns (calls k) k.own) first) st stack)) (runs k rest)) e
 
-  chosen_by : (v : ℤ) → pos 0 ≤ℤ v → v ≤ℤ pos 1 → (word v % 2 ^ 32 == 0) ≡ not (is_true v)
+  pub chosen_by : (v : ℤ) → pos 0 ≤ℤ v → v ≤ℤ pos 1 → (word v % 2 ^ 32 == 0) ≡ not (is_true v)
   chosen_by (pos zero) l h = refl
   chosen_by (pos (suc zero)) l h = refl
   chosen_by (pos (suc (suc n))) l h = absurd (omega (arith, ints))

@@ -1,5 +1,5 @@
 -- Where the code of a body runs, what stands there on both sides, and when code does what the definition of a run says.
-use Rattle.std.specs.Prelude.{◌≡◌, ℕ, suc, ◌+◌, ◌≤◌, ◌<◌, ◌⊎◌, ◌^◌, ℤ, pos, negsuc, ◌≤ℤ◌, List, [], ◌∷◌, ◌++◌, length, Option, Some, None, slice_get, nat_eq, if◌then◌else◌}
+use Rattle.std.specs.Prelude.{◌≡◌, ℕ, suc, ◌+◌, ◌≤◌, ◌<◌, ◌⊎◌, ◌^◌, Bool, true, false, ℤ, pos, negsuc, ◌≤ℤ◌, List, [], ◌∷◌, ◌++◌, length, Option, Some, None, slice_get, nat_eq, if◌then◌else◌}
 use Rattle.std.specs.Int.{w64, cast_unsigned}
 use Rattle.wasm_tree.specs.declared.kinds.ValueType.TheVariants as kind
 use Rattle.wasm_tree.specs.declared.instr.Instr.{Instr}
@@ -8,7 +8,7 @@ use Rattle.wasm_tree.specs.declared.store.Value.{Value}
 use Rattle.wasm_tree.specs.declared.store.Value.TheVariants.{I32, I64}
 use Rattle.wasm_tree.specs.declared.store.Callee.TheVariants.{Put, Stop, Own}
 use Rattle.wasm_tree.specs.Machine.{callee_at, global_at, own_function}
-use Rattle.wasm_effect.specs.Effect.{Fixed, State as Target, store_of, Effect, StillRunning, Does, Calling, effect, calling}
+use Rattle.wasm_effect.specs.Effect.{Fixed, State as Target, store_of, Effect, StillRunning, Does as Effects, Calling, effect, calling}
 use Rattle.wasm_effect.specs.Effect as does
 use Rattle.m2_typed.specs.declared.types.TypeNo.{TypeNo}
 use Rattle.m2_typed.specs.declared.shape.Scalar.{Scalar as Range}
@@ -19,9 +19,10 @@ use Rattle.m2_layout.specs.Types.{Ty, Scalar, Cell, row, component, IsScalar, Is
 use Rattle.m2_layout.specs.Sizes.{size, offset}
 use Rattle.m2_layout.specs.Shapes.{tree}
 use Rattle.m2_meaning.specs.Store.{Location}
-use Rattle.m2_meaning.specs.Answer.{State as Source, Answer, Gave, Ended, Running}
+use Rattle.m2_meaning.specs.Answer.{State as Source, Answer, Gave, Ended, Running, Outcome, Went, Left, Came, Stopped, Unfinished}
 use Rattle.m2_meaning.specs.Around.{Around}
 use Rattle.m2_meaning.specs.Expressions.{Gives}
+use Rattle.m2_meaning.specs.Statements.{Does}
 use Rattle.m2_cells.specs.Relation.{Holds}
 use Rattle.m2_scheme.specs.Coded.{Coded, Counts, Setting, address_local, number_local}
 use Rattle.m2_scheme.specs.Exprs.{base_global, variables_row}
@@ -49,7 +50,7 @@ pub record Scene : Type 0 where
 abbrev pub calls : Scene → Calling
 calls k = calling k.modules k.fixed k.extra k.turns (suc (suc k.depth))
 
-abbrev pub runs : Scene → List Instr → Does
+abbrev pub runs : Scene → List Instr → Effects
 runs k code = effect k.modules k.fixed k.turns (calls k) k.own code
 
 -- the address of a location
@@ -131,14 +132,14 @@ Into P r (Ended j out) = r ≡ does.Ended j out
 Into P r (Running out) = r ≡ StillRunning out
 
 -- code goes on with a number of a type on top of the operands
-pub record GivesNumber (k : Scene) (t : TypeNo) (go : Does) (stack : List Value) (v : ℤ) (s : Source) (r : Effect) : Type 0 where
+pub record GivesNumber (k : Scene) (t : TypeNo) (go : Effects) (stack : List Value) (v : ℤ) (s : Source) (r : Effect) : Type 0 where
   pub st : Target
   pub stands : Stands k s st
   pub is : IsValue k.setting.home.types t v
   pub run : r ≡ go st (stack ++ I64 (word v) ∷ [])
 
 -- with an address
-pub record GivesPlace (k : Scene) (t : Ty) (go : Does) (stack : List Value) (l : Location) (s : Source) (r : Effect) : Type 0 where
+pub record GivesPlace (k : Scene) (t : Ty) (go : Effects) (stack : List Value) (l : Location) (s : Source) (r : Effect) : Type 0 where
   pub st : Target
   pub stands : Stands k s st
   pub type : component (row k.world) l ≡ Some t
@@ -180,3 +181,37 @@ pub record GoesOn (k : Scene) (t u : TypeNo) (code : Coded) (value : ℤ → Giv
       → (v : ℤ) → IsValue k.setting.home.types t v
       → (s : Source) (st : Target) → Stands k s st → (rest : List Instr) (stack : List Value)
       → Into (GivesNumber k u (runs k rest) stack) (runs k ((code (inside k exit) c).0 ++ rest) st (stack ++ I64 (word v) ∷ [])) (value v k.around s)
+
+-- ---- statements
+
+-- the run goes on from a state that stands
+pub record GoesTo (k : Scene) (on : Target → Effect) (s : Source) (r : Effect) : Type 0 where
+  pub st : Target
+  pub stands : Stands k s st
+  pub run : r ≡ on st
+
+-- the function returns: the result of a function is the last operand
+abbrev pub returned : (function : Bool) (below : List Value) → ℤ → List Value
+returned true below v = below ++ I64 (word v) ∷ []
+returned false below v = below
+
+pub record Returns (k : Scene) (function : Bool) (v : ℤ) (s : Source) (r : Effect) : Type 0 where
+  pub below : List Value
+  pub st : Target
+  pub stands : Stands k s st
+  pub run : r ≡ does.Returned st (returned function below v)
+
+-- What is on goes on, EXIT branches to its label, RETURN returns, and all else ends alike.
+abbrev pub Ends : (k : Scene) (function : Bool) (exit : ℕ) (stack : List Value) (on : Target → Effect) → Effect → Outcome → Type 0
+Ends k function exit stack on r (Went s) = GoesTo k on s r
+Ends k function exit stack on r (Left s) = GoesTo k (λ st. does.Branched exit st stack) s r
+Ends k function exit stack on r (Came v s) = Returns k function v s r
+Ends k function exit stack on r (Stopped j out) = r ≡ does.Ended j out
+Ends k function exit stack on r (Unfinished out) = r ≡ StillRunning out
+
+-- the code of a statement does what the statement does
+pub record Executes (k : Scene) (function : Bool) (code : Coded) (step : Does) : Type 0 where
+  pub grows : (exit : ℕ) (c : Counts) → Grows c (code (inside k exit) c).1
+  pub goes : (exit : ℕ) (c : Counts) → IsFree k c → HasLocals k (code (inside k exit) c).1
+      → (s : Source) (st : Target) → Stands k s st → (rest : List Instr) (stack : List Value)
+      → Ends k function exit stack (λ st. runs k rest st stack) (runs k ((code (inside k exit) c).0 ++ rest) st stack) (step k.around s)
