@@ -1,13 +1,12 @@
 -- Checks: what is within bounds stays, and else the run ends with a fault.
-use Rattle.std.proofs.Common.{◌≡◌, ℕ, suc, ◌+◌, ◌≤◌, ℤ, ◌≤ℤ◌, Bool, true, false, not, List, [], ◌∷◌, ◌++◌, if◌then◌else◌, refl, sym, ap, subst, ◌∙◌, append_assoc, arith}
-use Rattle.std.specs.Prelude.{int_lt, int_le, ◌&&◌, nat_le}
+use Rattle.std.proofs.Common.{◌≡◌, ℕ, suc, ◌≤◌, ℤ, Bool, true, false, not, List, [], ◌∷◌, ◌++◌, if◌then◌else◌, refl, sym, ap, subst, ◌∙◌}
+use Rattle.std.specs.Prelude.{int_lt, ◌&&◌, nat_le}
 use Rattle.std.specs.Int.{w64}
 use Rattle.std.proofs.lemmas.Bool.{le-leb}
 use Rattle.wasm_tree.specs.declared.instr.Instr.{Instr}
 use Rattle.wasm_tree.specs.declared.instr.Instr.TheVariants as instr
 use Rattle.wasm_tree.specs.declared.store.Value.{Value}
-use Rattle.wasm_tree.specs.declared.store.Value.TheVariants.{I32, I64}
-use Rattle.wasm_tree.specs.Machine.{own_function}
+use Rattle.wasm_tree.specs.declared.store.Value.TheVariants.{I64}
 use Rattle.wasm_tree.specs.Numbers.{is_less}
 use Rattle.wasm_effect.specs.Effect.{State as Target, Effect}
 use Rattle.wasm_effect.specs.Effect as does
@@ -18,7 +17,6 @@ use Rattle.m2_meaning.specs.Answer as answer
 use Rattle.m2_meaning.specs.Operators.{is_between}
 use Rattle.m2_meaning.specs.Expressions.{within}
 use Rattle.m2_scheme.specs.Coded.{checked}
-use Rattle.m2_scheme.specs.Helpers.{check_typed}
 use Rattle.m2_helpers.specs.Called.{stopped_by}
 use Rattle.m2_helpers.proofs.Helpers.{check_called}
 use Rattle.m2_agree.specs.Scene.{Scene, calls, runs, HasHelpers, IsValue, word, Stands, Into, GivesNumber}

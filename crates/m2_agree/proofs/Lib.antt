@@ -8,3 +8,5 @@ pub mod Places
 pub mod Stores
 pub mod Statements
 pub mod Loops
+pub mod Assigned
+pub mod Laws

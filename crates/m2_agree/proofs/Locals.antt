@@ -1,17 +1,17 @@
 -- Locals in which numbers and addresses are kept.
-use Rattle.std.proofs.Common.{◌≡◌, ℕ, zero, suc, ◌+◌, ◌≤◌, ◌<◌, ℤ, Bool, true, false, List, [], ◌∷◌, ◌++◌, length, Option, Some, None, if◌then◌else◌, nat_eq, refl, sym, ap, subst, ◌∙◌, ⊎_elim, arith}
+use Rattle.std.proofs.Common.{◌≡◌, ℕ, zero, suc, ◌<◌, ℤ, Bool, List, [], ◌∷◌, ◌++◌, length, Option, Some, None, if◌then◌else◌, refl, sym, ap, ◌∙◌, ⊎_elim, arith}
 use Rattle.std.specs.Prelude.{slice_get, slice_set}
 use Rattle.std.proofs.lemmas.Bool.{cases_eq, eq-eqb, ne_eqb}
 use Rattle.wasm_tree.specs.declared.instr.Instr.{Instr}
 use Rattle.wasm_tree.specs.declared.instr.Instr.TheVariants as instr
 use Rattle.wasm_tree.specs.declared.store.Value.{Value}
 use Rattle.wasm_effect.specs.Effect.{State as Target}
-use Rattle.wasm_effect.proofs.Steps.{get_runs, set_runs, tee_runs}
+use Rattle.wasm_effect.proofs.Steps.{get_runs, set_runs}
 use Rattle.m2_typed.specs.declared.types.TypeNo.{TypeNo}
 use Rattle.m2_meaning.specs.Answer.{State as Source}
 use Rattle.m2_meaning.specs.Expressions.{Gives}
-use Rattle.m2_scheme.specs.Coded.{Counts, plain, with_number, number_local}
-use Rattle.m2_agree.specs.Scene.{Scene, calls, runs, Stands, keeping, IsFree, HasLocals, inside, GoesOn}
+use Rattle.m2_scheme.specs.Coded.{plain, with_number, number_local}
+use Rattle.m2_agree.specs.Scene.{Scene, calls, runs, Stands, keeping, GoesOn}
 use Rattle.m2_agree.proofs.Parts.{Goes}
 
 get_set : {A : Type 0} (xs : List A) (i : ℕ) (v : A) → i < length xs → slice_get (slice_set xs i v) i ≡ Some v

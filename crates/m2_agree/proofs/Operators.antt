@@ -1,32 +1,29 @@
 -- Constants, signs, sums, products, relations, and what else is made of numbers.
-use Rattle.std.proofs.Common.{◌≡◌, ℕ, zero, suc, ◌+◌, ◌*◌, ◌%◌, ◌^◌, ◌≤◌, ◌<◌, ℤ, pos, negsuc, ◌+ℤ◌, ◌-ℤ◌, ◌*ℤ◌, ◌≤ℤ◌, Bool, true, false, not, List, [], ◌∷◌, ◌++◌, Option, Some, None, if◌then◌else◌, refl, sym, ap, subst, ◌∙◌, append_assoc, arith}
-use Rattle.std.specs.Prelude.{int_lt, int_le, ◌&&◌, option_map, ◌==◌}
-use Rattle.std.specs.Int.{w64, cast_signed, cast_unsigned}
+use Rattle.std.proofs.Common.{◌≡◌, ℕ, ◌≤◌, ℤ, pos, negsuc, ◌+ℤ◌, ◌-ℤ◌, ◌≤ℤ◌, true, List, [], ◌∷◌, ◌++◌, Option, Some, None, refl, sym, ap, subst, ◌∙◌, append_assoc, arith}
+use Rattle.std.specs.Prelude.{int_le, option_map}
 use Rattle.std.proofs.lemmas.Int.{ints}
 use Rattle.std.proofs.lemmas.Bool.{and_parts}
 use Rattle.wasm_tree.specs.declared.instr.Instr.{Instr}
-use Rattle.wasm_tree.specs.declared.instr.Instr.TheVariants as instr
 use Rattle.wasm_tree.specs.declared.instr.Numeric.TheVariants as numeric
 use Rattle.wasm_tree.specs.declared.instr.Operation.{Operation}
-use Rattle.wasm_tree.specs.declared.instr.Operation.TheVariants.{Add, Sub, Mul}
-use Rattle.wasm_tree.specs.declared.instr.Relation.{Relation}
+use Rattle.wasm_tree.specs.declared.instr.Operation.TheVariants.{Add, Sub}
 use Rattle.wasm_tree.specs.declared.store.Value.{Value}
-use Rattle.wasm_tree.specs.declared.store.Value.TheVariants.{I32, I64}
-use Rattle.wasm_tree.specs.Numbers.{truth, compares, operated as made}
+use Rattle.wasm_tree.specs.declared.store.Value.TheVariants.{I64}
+use Rattle.wasm_tree.specs.Numbers.{operated as made}
 use Rattle.wasm_effect.specs.Effect.{State as Target, Effect}
-use Rattle.wasm_effect.proofs.Steps.{i64_runs, number_runs, one_32, one_64, two_64}
+use Rattle.wasm_effect.proofs.Steps.{i64_runs, number_runs, two_64}
 use Rattle.m2_typed.specs.declared.types.TypeNo.{TypeNo}
 use Rattle.m2_typed.specs.declared.shape.Scalar.{Scalar as Range}
 use Rattle.m2_typed.specs.declared.known_types.Types.{Types}
 use Rattle.m2_typed.specs.Known.{scalar_at}
-use Rattle.m2_meaning.specs.Answer.{State as Source, Answer, Gave, then_give, overflow, range_fault}
+use Rattle.m2_meaning.specs.Answer.{State as Source, Answer, Gave, then_give, overflow}
 use Rattle.m2_meaning.specs.Operators.{is_between}
 use Rattle.m2_meaning.specs.Around.{Around}
-use Rattle.m2_meaning.specs.Expressions.{Gives, within, within_range}
+use Rattle.m2_meaning.specs.Expressions.{Gives, within_range}
 use Rattle.m2_scheme.specs.Coded.{Coded, Counts, plain, ◌⨾◌, number, operation}
 use Rattle.m2_scheme.specs.Cells.{in_range}
-use Rattle.m2_agree.specs.Scene.{Scene, calls, runs, HasHelpers, IsIn, IsValue, IsSmall, AreSmall, word, Stands, Into, GivesNumber, Grows, IsFree, HasLocals, inside, Agrees, GoesOn}
-use Rattle.m2_agree.proofs.Parts.{into_then, grows_more, both, plain_goes, plain_agrees, IsPlain}
+use Rattle.m2_agree.specs.Scene.{Scene, calls, runs, HasHelpers, IsIn, IsValue, IsSmall, AreSmall, word, Stands, Into, GivesNumber, Grows, HasLocals, inside, Agrees, GoesOn}
+use Rattle.m2_agree.proofs.Parts.{into_then, plain_agrees, IsPlain}
 use Rattle.m2_agree.proofs.Words.{IsWide, from_le, sum_word, difference_word}
 use Rattle.m2_agree.proofs.Checks.{checked_gives}
 

@@ -1,14 +1,13 @@
 -- Code behind code: what agrees piece by piece agrees.
-use Rattle.std.proofs.Common.{◌≡◌, ℕ, ◌+◌, ◌≤◌, ℤ, List, [], ◌∷◌, ◌++◌, refl, sym, ap, subst, ◌∙◌, append_assoc, arith}
+use Rattle.std.proofs.Common.{◌≡◌, ℕ, ℤ, List, [], ◌∷◌, ◌++◌, sym, subst, append_assoc, arith}
 use Rattle.wasm_tree.specs.declared.instr.Instr.{Instr}
 use Rattle.wasm_tree.specs.declared.store.Value.{Value}
 use Rattle.wasm_tree.specs.declared.store.Value.TheVariants.{I64}
 use Rattle.wasm_effect.specs.Effect.{State as Target, Effect}
 use Rattle.m2_typed.specs.declared.types.TypeNo.{TypeNo}
 use Rattle.m2_meaning.specs.Answer.{State as Source, Answer, Gave, Ended, Running, then_give}
-use Rattle.m2_meaning.specs.Around.{Around}
 use Rattle.m2_meaning.specs.Expressions.{Gives}
-use Rattle.m2_scheme.specs.Coded.{Coded, Counts, Setting, number_local, ◌⨾◌, plain}
+use Rattle.m2_scheme.specs.Coded.{Coded, Counts, Setting, ◌⨾◌}
 use Rattle.m2_agree.specs.Scene.{Scene, runs, IsValue, word, Stands, Into, GivesNumber, Grows, IsFree, HasLocals, inside, Agrees, GoesOn}
 
 pub into_then : {A B : Type 0} (P : A → Source → Effect → Type 0) (Q : B → Source → Effect → Type 0) (r : Effect) (a : Answer A) (next : A → Source → Answer B)

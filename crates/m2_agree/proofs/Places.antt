@@ -1,10 +1,8 @@
 -- Designators lead to addresses, and what stands there is read.
-use Rattle.std.proofs.Common.{◌≡◌, ℕ, zero, suc, ◌+◌, ◌*◌, ◌%◌, ◌^◌, ◌≤◌, ◌<◌, ℤ, pos, negsuc, ◌+ℤ◌, ◌-ℤ◌, ◌≤ℤ◌, Bool, true, false, List, [], ◌∷◌, ◌++◌, length, Option, Some, None, if◌then◌else◌, refl, sym, ap, subst, ◌∙◌, append_assoc, arith}
-use Rattle.std.specs.Prelude.{int_le, ◌&&◌, unsigned_abs}
+use Rattle.std.proofs.Common.{◌≡◌, ℕ, ◌+◌, ◌%◌, ◌^◌, ◌≤◌, ◌<◌, ℤ, pos, negsuc, ◌+ℤ◌, ◌-ℤ◌, Bool, true, false, List, [], ◌∷◌, ◌++◌, length, Some, if◌then◌else◌, refl, sym, ap, subst, ◌∙◌, arith}
+use Rattle.std.specs.Prelude.{unsigned_abs}
 use Rattle.wasm_effect.specs.Bytes.{byte}
-use Rattle.std.specs.Int.{w64}
 use Rattle.std.proofs.lemmas.Int.{ints}
-use Rattle.std.proofs.lemmas.List.{length-append}
 use Rattle.wasm_tree.specs.declared.instr.Instr.{Instr}
 use Rattle.wasm_tree.specs.declared.instr.Instr.TheVariants as instr
 use Rattle.wasm_tree.specs.declared.instr.Numeric.TheVariants as numeric
@@ -13,25 +11,23 @@ use Rattle.wasm_tree.specs.declared.store.Value.{Value}
 use Rattle.wasm_tree.specs.declared.store.Value.TheVariants.{I32, I64}
 use Rattle.wasm_tree.specs.Machine.{bytes_at}
 use Rattle.wasm_tree.specs.Numbers.{load_size, loaded as loads}
-use Rattle.wasm_effect.specs.Effect.{State as Target, Effect}
+use Rattle.wasm_effect.specs.Effect.{State as Target}
 use Rattle.wasm_effect.proofs.Steps.{i32_runs, i64_runs, number_runs, load_runs, global_runs, two_32}
 use Rattle.m2_typed.specs.declared.types.TypeNo.{TypeNo}
 use Rattle.m2_typed.specs.declared.meaning.Variable.{Variable}
-use Rattle.m2_typed.specs.declared.known_types.Types.{Types}
-use Rattle.m2_layout.specs.Types.{Ty, Scalar, Natural, Integer, Between, Cell, row, component, IsScalar, IsOf}
+use Rattle.m2_layout.specs.Types.{Ty, Scalar, Natural, Integer, Between, Cell, row, component, IsScalar}
 use Rattle.m2_layout.specs.Sizes.{size, offset, width, bytes_in, room_for}
-use Rattle.m2_layout.specs.Shapes.{tree}
 use Rattle.m2_meaning.specs.Store.{Location}
-use Rattle.m2_meaning.specs.Answer.{State as Source, Answer, Gave, then_give}
+use Rattle.m2_meaning.specs.Answer.{State as Source}
 use Rattle.m2_cells.specs.Cells as cells
 use Rattle.m2_cells.specs.Relation.{Says}
 use Rattle.m2_cells.proofs.Cells.{fetch_parts}
-use Rattle.m2_cells.proofs.Places.{component_append, offset_append, inside}
+use Rattle.m2_cells.proofs.Places.{inside}
 use Rattle.m2_cells.proofs.Worlds.{lies}
 use Rattle.m2_scheme.specs.Coded.{raised, number, operation}
-use Rattle.m2_scheme.specs.Cells.{load_scalar, load_room, load_of, lower, is_nought, unless_nought, loaded, load_tree}
+use Rattle.m2_scheme.specs.Cells.{load_scalar, load_room, load_of, is_nought, loaded, load_tree}
 use Rattle.m2_scheme.specs.Exprs.{global_code, base_global, variables_row}
-use Rattle.m2_agree.specs.Scene.{Scene, calls, runs, place, HasHelpers, IsValue, AreSmall, IsCell, IsGlobal, word, Stands, Into, GivesNumber, GivesPlace}
+use Rattle.m2_agree.specs.Scene.{Scene, calls, runs, place, HasHelpers, AreSmall, IsCell, IsGlobal, word, Stands, GivesNumber, GivesPlace}
 use Rattle.m2_agree.proofs.Operators.{operation_runs}
 
 module _ (k : Scene) (has : HasHelpers k) (small : AreSmall k.setting.home.types) (room : k.limit < 2 ^ 32) where

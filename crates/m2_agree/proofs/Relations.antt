@@ -1,37 +1,35 @@
 -- Relations and what is made of truth values.
-use Rattle.std.proofs.Common.{◌≡◌, ℕ, zero, suc, ◌+◌, ◌*◌, ◌%◌, ◌^◌, ◌≤◌, ◌<◌, ℤ, pos, negsuc, ◌+ℤ◌, ◌-ℤ◌, ◌≤ℤ◌, Bool, true, false, not, List, [], ◌∷◌, ◌++◌, length, Option, Some, None, if◌then◌else◌, refl, sym, ap, ap₂, subst, ◌∙◌, append_assoc, eqb, arith, map}
-use Rattle.std.specs.Prelude.{int_lt, int_le, ◌&&◌, option_map, ◌==◌}
-use Rattle.std.specs.Int.{w64, cast_signed, cast_unsigned}
+use Rattle.std.proofs.Common.{◌≡◌, ℕ, zero, suc, ◌+◌, ◌%◌, ◌^◌, ℤ, pos, negsuc, ◌≤ℤ◌, Bool, true, false, not, List, [], ◌∷◌, ◌++◌, length, Some, if◌then◌else◌, refl, sym, ap, ap₂, subst, ◌∙◌, arith, map}
+use Rattle.std.specs.Prelude.{int_le, ◌&&◌, ◌==◌}
+use Rattle.std.specs.Int.{w64, cast_signed}
 use Rattle.std.proofs.lemmas.Int.{ints}
 use Rattle.std.proofs.lemmas.List.{append-nil}
-use Rattle.std.proofs.lemmas.Bool.{eqb-true, eq-eqb, ne_eqb, false≢true}
+use Rattle.std.proofs.lemmas.Bool.{eq-eqb, ne_eqb, false≢true}
 use Rattle.wasm_tree.specs.declared.kinds.ValueType.TheVariants as kind
 use Rattle.wasm_tree.specs.declared.instr.Instr.{Instr}
 use Rattle.wasm_tree.specs.declared.instr.Instr.TheVariants as instr
 use Rattle.wasm_tree.specs.declared.instr.Numeric.TheVariants as numeric
 use Rattle.wasm_tree.specs.declared.instr.Relation.{Relation}
-use Rattle.wasm_tree.specs.declared.instr.Relation.TheVariants.{Eq, Ne, LtS, LeS, GtS, GeS}
 use Rattle.wasm_tree.specs.declared.store.Value.{Value}
 use Rattle.wasm_tree.specs.declared.store.Value.TheVariants.{I32, I64}
 use Rattle.wasm_tree.specs.Numbers.{truth, compares}
 use Rattle.wasm_effect.specs.Effect.{State as Target, Effect, FellThrough, Does, then_run, out_of, exec, picked}
 use Rattle.wasm_effect.specs.Effect as effects
-use Rattle.wasm_effect.proofs.Steps.{i64_runs, number_runs, one_32, one_64, two_64, if_runs, to_label_keeps}
+use Rattle.wasm_effect.proofs.Steps.{i64_runs, number_runs, one_32, one_64, two_64, if_runs}
 use Rattle.m2_typed.specs.declared.types.TypeNo.{TypeNo}
 use Rattle.m2_typed.specs.declared.computed.Comparison.{Comparison}
 use Rattle.m2_typed.specs.declared.computed.Comparison.TheVariants as compare
 use Rattle.m2_typed.specs.Types.{boolean}
-use Rattle.m2_meaning.specs.Answer.{State as Source, Answer, Gave, Ended, Running, then_give}
+use Rattle.m2_meaning.specs.Answer.{State as Source, Answer, Gave, Ended, Running}
 use Rattle.m2_meaning.specs.Operators as of
 use Rattle.m2_meaning.specs.Operators.{compared, is_true}
-use Rattle.m2_meaning.specs.Around.{Around}
 use Rattle.m2_meaning.specs.Expressions.{Gives}
-use Rattle.m2_scheme.specs.Coded.{Coded, Counts, Setting, plain, ◌⨾◌, relation, extended, is_zero, wrapped, within}
+use Rattle.m2_scheme.specs.Coded.{Coded, Counts, relation, extended, is_zero, wrapped}
 use Rattle.m2_scheme.specs.Exprs.{relation_of, empty_code, and_code, or_code, chosen_number}
-use Rattle.m2_agree.specs.Scene.{Scene, calls, runs, HasHelpers, IsValue, AreSmall, word, Stands, Into, GivesNumber, Grows, IsFree, HasLocals, inside, Agrees, GoesOn}
-use Rattle.m2_agree.proofs.Parts.{Goes, plain_goes, IsPlain}
-use Rattle.m2_agree.proofs.Words.{IsWide, from_le, signed, less_is}
-use Rattle.m2_agree.proofs.Operators.{IsNarrow, wide, narrow, Makes}
+use Rattle.m2_agree.specs.Scene.{Scene, calls, runs, HasHelpers, IsValue, AreSmall, word, Stands, Into, GivesNumber, IsFree, HasLocals, inside, Agrees, GoesOn}
+use Rattle.m2_agree.proofs.Parts.{Goes}
+use Rattle.m2_agree.proofs.Words.{IsWide, signed, less_is}
+use Rattle.m2_agree.proofs.Operators.{wide, narrow, Makes}
 
 -- ---- relations of words are those of numbers
 

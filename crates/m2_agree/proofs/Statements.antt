@@ -1,26 +1,23 @@
 -- Statements: their code does what they do.
-use Rattle.std.proofs.Common.{◌≡◌, ℕ, zero, suc, ◌+◌, ◌%◌, ◌^◌, ◌≤◌, ◌<◌, ℤ, pos, negsuc, ◌≤ℤ◌, Bool, true, false, not, List, [], ◌∷◌, ◌++◌, length, Option, Some, None, if◌then◌else◌, refl, sym, ap, subst, ◌∙◌, append_assoc, arith, map}
-use Rattle.std.specs.Prelude.{◌==◌, nat_le, ◌&&◌, unsigned_abs}
+use Rattle.std.proofs.Common.{◌≡◌, ℕ, suc, ◌+◌, ◌%◌, ◌^◌, ℤ, pos, negsuc, ◌≤ℤ◌, Bool, true, false, not, List, [], ◌∷◌, ◌++◌, length, Some, None, if◌then◌else◌, refl, sym, ap, subst, ◌∙◌, append_assoc, arith, map}
+use Rattle.std.specs.Prelude.{unsigned_abs}
 use Rattle.std.proofs.lemmas.Int.{ints}
 use Rattle.std.proofs.lemmas.List.{append-nil}
-use Rattle.wasm_tree.specs.declared.kinds.ValueType.TheVariants as kind
 use Rattle.wasm_tree.specs.declared.instr.Instr.{Instr}
 use Rattle.wasm_tree.specs.declared.instr.Instr.TheVariants as instr
 use Rattle.wasm_tree.specs.declared.store.Value.{Value}
-use Rattle.wasm_tree.specs.declared.store.Value.TheVariants.{I32, I64}
-use Rattle.wasm_tree.specs.Numbers.{truth}
+use Rattle.wasm_tree.specs.declared.store.Value.TheVariants.{I64}
 use Rattle.wasm_effect.specs.Effect.{State as Target, Effect, FellThrough, Branched, Returned, StillRunning, Does as Effects, then_run, out_of, turn, turns, exec, picked}
 use Rattle.wasm_effect.specs.Effect as effects
-use Rattle.wasm_effect.proofs.Steps.{i64_runs, block_runs, loop_runs, if_runs, if_one_runs, br_runs, br_if_runs, return_runs, put_runs, stop_runs, to_label_keeps}
+use Rattle.wasm_effect.proofs.Steps.{i64_runs, if_runs, if_one_runs, br_runs, return_runs, put_runs, stop_runs}
 use Rattle.m2_typed.specs.declared.types.TypeNo.{TypeNo}
 use Rattle.m2_typed.specs.Types.{boolean, char}
-use Rattle.m2_meaning.specs.Answer.{State as Source, Answer, Gave, Ended, Running, then_give, Outcome, Went, Left, Came, Stopped, Unfinished, then_go, with_answer}
+use Rattle.m2_meaning.specs.Answer.{State as Source, Answer, Gave, Ended, Running, Outcome, Went, Left, Came, Stopped, Unfinished, then_go, with_answer}
 use Rattle.m2_meaning.specs.Operators.{is_true}
-use Rattle.m2_meaning.specs.Around.{Around}
 use Rattle.m2_meaning.specs.Expressions.{Gives}
-use Rattle.m2_meaning.specs.Statements.{Does, in_turn, while_true, until_true, looped, loop_left}
-use Rattle.m2_scheme.specs.Coded.{Coded, Counts, Setting, plain, nothing, ◌⨾◌, all_coded, within, wrapped, is_zero, fault}
-use Rattle.m2_agree.specs.Scene.{Scene, calls, runs, HasHelpers, IsValue, AreSmall, word, Stands, Into, GivesNumber, Grows, IsFree, HasLocals, inside, Agrees, GoesTo, Returns, returned, Ends, Executes}
+use Rattle.m2_meaning.specs.Statements.{Does, in_turn}
+use Rattle.m2_scheme.specs.Coded.{Coded, Counts, plain, nothing, ◌⨾◌, all_coded, within, wrapped, fault}
+use Rattle.m2_agree.specs.Scene.{Scene, calls, runs, HasHelpers, IsValue, AreSmall, word, Stands, Into, GivesNumber, Grows, IsFree, HasLocals, inside, Agrees, returned, Ends, Executes}
 use Rattle.m2_scheme.specs.Steps.{if_else}
 use Rattle.m2_agree.proofs.Relations.{wrapped_runs, chosen_by}
 use Rattle.m2_agree.proofs.Parts.{grows_more, grows_same, has_before, free_after}
@@ -41,11 +38,11 @@ module _ (k : Scene) (function : Bool) where
   ends_then exit stack middle on r (Unfinished out) next p h = p
 
   -- a value first
-  pub ends_with : (exit : ℕ) (stack : List Value) (on : On) (t : TypeNo) (go : Effects) (r : Effect) (a : Answer ℤ) (next : ℤ → Source → Outcome) → Into (GivesNumber k t go stack) r a
-      → ((v : ℤ) → IsValue k.setting.home.types t v → (s : Source) (st : Target) → Stands k s st → Ends k function exit stack on (go st (stack ++ I64 (word v) ∷ [])) (next v s)) → Ends k function exit stack on r (with_answer a next)
-  ends_with exit stack on t go r (Gave v s) next p h = subst (λ (e : Effect). Ends k function exit stack on e (next v s)) (sym p.run) (h v p.is s p.st p.stands)
-  ends_with exit stack on t go r (Ended j out) next p h = p
-  ends_with exit stack on t go r (Running out) next p h = p
+  pub ends_with : (exit : ℕ) (stack operands : List Value) (on : On) (t : TypeNo) (go : Effects) (r : Effect) (a : Answer ℤ) (next : ℤ → Source → Outcome) → Into (GivesNumber k t go operands) r a
+      → ((v : ℤ) → IsValue k.setting.home.types t v → (s : Source) (st : Target) → Stands k s st → Ends k function exit stack on (go st (operands ++ I64 (word v) ∷ [])) (next v s)) → Ends k function exit stack on r (with_answer a next)
+  ends_with exit stack operands on t go r (Gave v s) next p h = subst (λ (e : Effect). Ends k function exit stack on e (next v s)) (sym p.run) (h v p.is s p.st p.stands)
+  ends_with exit stack operands on t go r (Ended j out) next p h = p
+  ends_with exit stack operands on t go r (Running out) next p h = p
 
   abbrev behind : (rest : List Instr) (stack : List Value) → On
   behind rest stack st = runs k rest st stack
@@ -117,7 +114,7 @@ module _ (k : Scene) (function : Bool) where
         let first = code (inside k e) c in
         subst (λ (p : List Instr × Counts). Ends k function e stack (behind rest stack) (runs k ((first.0 ++ p.0) ++ rest) st stack) (with_answer (value k.around s) (λ v s. next v k.around s))) (sym (is e first.1))
         (subst (λ (code : List Instr). Ends k function e stack (behind rest stack) (runs k code st stack) (with_answer (value k.around s) (λ v s. next v k.around s))) (sym (append_assoc first.0 list rest))
-        (ends_with e stack (behind rest stack) t (runs k (list ++ rest)) (runs k (first.0 ++ (list ++ rest)) st stack) (value k.around s) (λ v s. next v k.around s)
+        (ends_with e stack stack (behind rest stack) t (runs k (list ++ rest)) (runs k (first.0 ++ (list ++ rest)) st stack) (value k.around s) (λ v s. next v k.around s)
         (ha.gives e c free (subst (λ (p : List Instr × Counts). HasLocals k p.1) (is e first.1) full) s st h (list ++ rest) stack)
         (λ v in_type s' st' h'. go v in_type e s' st' h' rest stack)));
   }
@@ -136,7 +133,7 @@ module _ (k : Scene) (function : Bool) where
         let first = x (inside k e) c in
         let second = y (inside k e) first.1 in
         subst (λ (code : List Instr). Ends k function e stack (behind rest stack) (runs k code st stack) (with_answer (value k.around s) (λ v s. next v k.around s))) (sym (append_assoc first.0 second.0 rest))
-        (ends_with e stack (behind rest stack) t (runs k (second.0 ++ rest)) (runs k (first.0 ++ (second.0 ++ rest)) st stack) (value k.around s) (λ v s. next v k.around s)
+        (ends_with e stack stack (behind rest stack) t (runs k (second.0 ++ rest)) (runs k (first.0 ++ (second.0 ++ rest)) st stack) (value k.around s) (λ v s. next v k.around s)
         (hx.gives e c free (has_before k (hy.grows e first.1) full) s st h (second.0 ++ rest) stack)
         (λ v is s' st' h'. hy.goes e first.1 (free_after k (hx.grows e c) free) full v is s' st' h' rest stack));
   }

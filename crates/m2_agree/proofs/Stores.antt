@@ -1,7 +1,5 @@
 -- Numbers are stored in the cells of variables.
-use Rattle.std.proofs.Common.{◌≡◌, ℕ, zero, suc, ◌+◌, ◌-◌, ◌%◌, ◌^◌, ◌≤◌, ◌<◌, ℤ, pos, negsuc, ◌+ℤ◌, ◌-ℤ◌, ◌≤ℤ◌, Bool, true, false, List, [], ◌∷◌, ◌++◌, length, Option, Some, None, if◌then◌else◌, refl, sym, ap, subst, ◌∙◌, append_assoc, arith}
-use Rattle.std.specs.Prelude.{int_le, ◌&&◌, unsigned_abs}
-use Rattle.std.specs.Int.{w64}
+use Rattle.std.proofs.Common.{◌≡◌, ℕ, ◌+◌, ◌-◌, ◌%◌, ◌^◌, ◌≤◌, ◌<◌, ℤ, pos, Bool, true, false, List, [], ◌∷◌, ◌++◌, length, Some, if◌then◌else◌, refl, sym, ap, ◌∙◌, arith}
 use Rattle.std.proofs.lemmas.Int.{ints}
 use Rattle.wasm_tree.specs.declared.instr.Instr.{Instr}
 use Rattle.wasm_tree.specs.declared.instr.Instr.TheVariants as instr
@@ -9,13 +7,11 @@ use Rattle.wasm_tree.specs.declared.instr.Operation.TheVariants.{Sub}
 use Rattle.wasm_tree.specs.declared.store.Value.{Value}
 use Rattle.wasm_tree.specs.declared.store.Value.TheVariants.{I32, I64}
 use Rattle.wasm_tree.specs.Machine.{pasted}
-use Rattle.wasm_tree.specs.Numbers.{stored as bytes_of}
 use Rattle.wasm_effect.specs.Effect.{State as Target, Effect}
 use Rattle.wasm_effect.proofs.Steps.{i64_runs, store_runs}
 use Rattle.m2_typed.specs.declared.types.TypeNo.{TypeNo}
-use Rattle.m2_layout.specs.Types.{Ty, Scalar, Natural, Integer, Between, Cell, row, component, IsScalar, IsOf}
-use Rattle.m2_layout.specs.Sizes.{Room, One, Two, Four, room_of, bytes_in, size, offset, width}
-use Rattle.m2_layout.specs.Shapes.{tree}
+use Rattle.m2_layout.specs.Types.{Ty, Scalar, Natural, Integer, Between, Cell, row, component}
+use Rattle.m2_layout.specs.Sizes.{Room, One, Two, Four, room_of, bytes_in, size, width}
 use Rattle.m2_meaning.specs.Store.{Location}
 use Rattle.m2_meaning.specs.Answer.{State as Source}
 use Rattle.m2_meaning.specs.Statements.{stored as stores}

@@ -1,5 +1,5 @@
 -- Where the code of a body runs, what stands there on both sides, and when code does what the definition of a run says.
-use Rattle.std.specs.Prelude.{◌≡◌, ℕ, suc, ◌+◌, ◌≤◌, ◌<◌, ◌⊎◌, ◌^◌, Bool, true, false, ℤ, pos, negsuc, ◌≤ℤ◌, List, [], ◌∷◌, ◌++◌, length, Option, Some, None, slice_get, nat_eq, if◌then◌else◌}
+use Rattle.std.specs.Prelude.{◌≡◌, ℕ, suc, ◌+◌, ◌≤◌, ◌<◌, ◌^◌, Bool, true, false, ℤ, pos, negsuc, ◌≤ℤ◌, List, [], ◌∷◌, ◌++◌, length, Option, Some, None, slice_get, nat_eq, if◌then◌else◌}
 use Rattle.std.specs.Int.{w64, cast_unsigned}
 use Rattle.wasm_tree.specs.declared.kinds.ValueType.TheVariants as kind
 use Rattle.wasm_tree.specs.declared.instr.Instr.{Instr}
@@ -16,7 +16,7 @@ use Rattle.m2_typed.specs.declared.meaning.Variable.{Variable}
 use Rattle.m2_typed.specs.declared.known_types.Types.{Types}
 use Rattle.m2_typed.specs.Known.{scalar_at}
 use Rattle.m2_layout.specs.Types.{Ty, Scalar, Cell, row, component, IsScalar, IsOf}
-use Rattle.m2_layout.specs.Sizes.{size, offset}
+use Rattle.m2_layout.specs.Sizes.{offset}
 use Rattle.m2_layout.specs.Shapes.{tree}
 use Rattle.m2_meaning.specs.Store.{Location}
 use Rattle.m2_meaning.specs.Answer.{State as Source, Answer, Gave, Ended, Running, Outcome, Went, Left, Came, Stopped, Unfinished}
@@ -24,7 +24,7 @@ use Rattle.m2_meaning.specs.Around.{Around}
 use Rattle.m2_meaning.specs.Expressions.{Gives}
 use Rattle.m2_meaning.specs.Statements.{Does}
 use Rattle.m2_cells.specs.Relation.{Holds}
-use Rattle.m2_scheme.specs.Coded.{Coded, Counts, Setting, address_local, number_local}
+use Rattle.m2_scheme.specs.Coded.{Coded, Counts, Setting, number_local}
 use Rattle.m2_scheme.specs.Exprs.{base_global, variables_row}
 use Rattle.m2_scheme.specs.Helpers.{check_typed, divisor_checked, div_rest, mod_typed, helper}
 use Rattle.m2_helpers.specs.Called.{HasMemory}
@@ -90,6 +90,13 @@ pub record IsSmall (r : Range) : Type 0 where
 
 abbrev pub AreSmall : Types → Type 0
 AreSmall types = (t : TypeNo) (r : Range) → scalar_at types t ≡ Some r → IsSmall r
+
+-- what is known where the code of a body runs
+pub record IsSet (k : Scene) : Type 0 where
+  pub helpers : HasHelpers k
+  pub types : k.around.types ≡ k.setting.home.types
+  pub small : AreSmall k.setting.home.types
+  pub room : k.limit < 2 ^ 32
 
 -- the operand that stands for a number
 abbrev pub word : ℤ → ℕ
@@ -173,6 +180,13 @@ pub record Agrees (k : Scene) (t : TypeNo) (code : Coded) (value : Gives ℤ) : 
   pub gives : (exit : ℕ) (c : Counts) → IsFree k c → HasLocals k (code (inside k exit) c).1
       → (s : Source) (st : Target) → Stands k s st → (rest : List Instr) (stack : List Value)
       → Into (GivesNumber k t (runs k rest) stack) (runs k ((code (inside k exit) c).0 ++ rest) st stack) (value k.around s)
+
+-- the code of a designator gives its address
+pub record Locates (k : Scene) (t : Ty) (code : Coded) (found : Gives Location) : Type 0 where
+  pub grows : (exit : ℕ) (c : Counts) → Grows c (code (inside k exit) c).1
+  pub gives : (exit : ℕ) (c : Counts) → IsFree k c → HasLocals k (code (inside k exit) c).1
+      → (s : Source) (st : Target) → Stands k s st → (rest : List Instr) (stack : List Value)
+      → Into (GivesPlace k t (runs k rest) stack) (runs k ((code (inside k exit) c).0 ++ rest) st stack) (found k.around s)
 
 -- and that of what is behind a value of one type gives one of another
 pub record GoesOn (k : Scene) (t u : TypeNo) (code : Coded) (value : ℤ → Gives ℤ) : Type 0 where

@@ -1,5 +1,37 @@
-//! Why code does what the definition of a run says. There is no code here, only definitions and proofs.
+//! Why code does what the definition of a run says: each construct of the scheme does so where its parts do. There is no
+//! code here but what names the laws.
 //!
 //! - `specs/Scene` says where the code of a body runs, what stands there on both sides, and when code agrees with the
-//!   definition.
+//!   definition of a run.
+//! - `specs/Laws` has the laws, one for each construct that is proved so far.
 #![tactic(auto)]
+
+ghost use Rattle.m2_agree.specs.Laws.{Assigns, Chains, Conjunctions, Constants, Differences, Disjunctions, Ifs, Loads, Loops, Negations, Relations, Repeats, Rows, Sums, Whiles};
+
+/// The code of an expression leaves its value.
+pub fn expression_laws()
+    ensures constants { Constants }
+    // Sums and differences are checked in their base type.
+    ensures sums { Sums }
+    ensures differences { Differences }
+    // AND and OR evaluate their second operand only where the first does not decide.
+    ensures conjunctions { Conjunctions }
+    ensures disjunctions { Disjunctions }
+    // Operators follow one another from left to right.
+    ensures chains { Chains }
+    ensures relations { Relations }
+    ensures negations { Negations }
+    // A scalar variable is read.
+    ensures loads { Loads }
+{}
+
+/// The code of a statement does what the statement does, with the same bound on turns.
+pub fn statement_laws()
+    ensures assigns { Assigns }
+    ensures rows { Rows }
+    ensures ifs { Ifs }
+    ensures whiles { Whiles }
+    ensures repeats { Repeats }
+    // EXIT leaves the innermost LOOP.
+    ensures loops { Loops }
+{}

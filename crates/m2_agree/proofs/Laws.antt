@@ -1,0 +1,102 @@
+-- The laws of constructs, from their pieces.
+use Rattle.std.proofs.Common.{◌≡◌, ℤ, ◌+ℤ◌, ◌-ℤ◌, not, if◌then◌else◌, List, [], ◌∷◌, ◌++◌, refl, sym, ap, subst}
+use Rattle.wasm_tree.specs.declared.instr.Instr.{Instr}
+use Rattle.wasm_tree.specs.declared.store.Value.TheVariants.{I64}
+use Rattle.m2_typed.specs.declared.types.TypeNo.{TypeNo}
+use Rattle.m2_typed.specs.declared.known_types.Types.{Types}
+use Rattle.m2_typed.specs.Types.{boolean}
+use Rattle.m2_meaning.specs.Answer.{State as Source, Answer, Gave, then_give}
+use Rattle.m2_meaning.specs.Expressions.{Gives, Continues, one_by_one, in_base, link_layer}
+use Rattle.m2_meaning.specs.Around.{Around}
+use Rattle.m2_meaning.specs.Operators.{truth, compared, is_true}
+use Rattle.m2_meaning.specs.Statements.{Does}
+use Rattle.m2_scheme.specs.Coded.{Coded, plain, ◌⨾◌, with_setting, wrapped, relation, extended}
+use Rattle.m2_scheme.specs.Cells as cells
+use Rattle.m2_scheme.specs.Exprs.{Linked, chain_type, chain_code, empty_code, arithmetic_code, relation_of}
+use Rattle.m2_scheme.specs.Steps.{if_else}
+use Rattle.m2_typed.specs.declared.computed.Argument.TheOpen as layer
+use Rattle.m2_typed.specs.declared.computed.Arithmetic.TheVariants as op
+use Rattle.m2_agree.specs.Scene.{Scene, runs, word, Into, GivesNumber, inside, GoesOn}
+use Rattle.m2_agree.specs.Laws.{Constants, Sums, Differences, Conjunctions, Disjunctions, AreLinked, no_links, more_links, Chains, Relations, Negations, Loads, Assigns, Rows, Ifs, Whiles, Repeats, Loops}
+use Rattle.m2_agree.proofs.Parts.{grows_same, then_agrees, then_goes, plain_goes}
+use Rattle.m2_agree.proofs.Operators.{constant_agrees, second_goes, sum_goes, difference_goes}
+use Rattle.m2_agree.proofs.Relations.{compare_makes, not_goes, and_goes, or_goes}
+use Rattle.m2_agree.proofs.Assigned.{load_agrees, assign_executes}
+use Rattle.m2_agree.proofs.Statements.{then_executes, with_executes, if_else_executes}
+use Rattle.m2_agree.proofs.Loops.{while_executes, repeat_executes, loop_executes}
+
+-- what gives the same where the code runs agrees alike
+goes_alike : (k : Scene) (t u : TypeNo) (code : Coded) (f g : ℤ → Gives ℤ) → ((v : ℤ) (s : Source) → f v k.around s ≡ g v k.around s) → GoesOn k t u code f → GoesOn k t u code g
+goes_alike k t u code f g same h = record {
+  grows = h.grows;
+  gives = λ e c free full v is s st stands rest stack. subst (Into (GivesNumber k u (runs k rest) stack) (runs k ((code (inside k e) c).0 ++ rest) st (stack ++ I64 (word v) ∷ []))) (same v s) (h.gives e c free full v is s st stands rest stack);
+}
+
+pub constants : Constants
+constants k set p ask t n is = constant_agrees k set.helpers set.small t n is
+
+pub sums : Sums
+sums k set p ask t w y value ha some =
+    let types : Types = k.setting.home.types in
+    let after : Coded = with_setting (λ s. plain (arithmetic_code s.home.types op.Add w)) in
+    let here : ℤ → Gives ℤ = λ x a s. then_give (value a s) (λ u s. in_base types w (x +ℤ u) s) in
+    goes_alike k t w (y.code ⨾ after) here (link_layer p ask (layer.Arithmetic op.Add w value)) (λ v s. ap (λ (types : Types). then_give (value k.around s) (λ u s. in_base types w (v +ℤ u) s)) (sym set.types))
+    (second_goes k set.helpers set.small t y.of w y.code after (arithmetic_code types op.Add w) value (λ x u a s. in_base types w (x +ℤ u) s) ha (λ e c. refl) (sum_goes k set.helpers set.small t y.of w some))
+
+pub differences : Differences
+differences k set p ask t w y value ha some =
+    let types : Types = k.setting.home.types in
+    let after : Coded = with_setting (λ s. plain (arithmetic_code s.home.types op.Subtract w)) in
+    let here : ℤ → Gives ℤ = λ x a s. then_give (value a s) (λ u s. in_base types w (x -ℤ u) s) in
+    goes_alike k t w (y.code ⨾ after) here (link_layer p ask (layer.Arithmetic op.Subtract w value)) (λ v s. ap (λ (types : Types). then_give (value k.around s) (λ u s. in_base types w (v -ℤ u) s)) (sym set.types))
+    (second_goes k set.helpers set.small t y.of w y.code after (arithmetic_code types op.Subtract w) value (λ x u a s. in_base types w (x -ℤ u) s) ha (λ e c. refl) (difference_goes k set.helpers set.small t y.of w some))
+
+pub conjunctions : Conjunctions
+conjunctions k set p ask y value ha = and_goes k set.helpers set.small y.code value ha
+
+pub disjunctions : Disjunctions
+disjunctions k set p ask y value ha = or_goes k set.helpers set.small y.code value ha
+
+pub relations : Relations
+relations k set p ask o x y first second hx hy =
+    let list : List Instr = relation (relation_of o) ∷ extended ∷ [] in
+    let both : ℤ → ℤ → Around → Source → Answer ℤ = λ v w a s. Gave (truth (compared o v w)) s in
+    then_agrees k x.of boolean x.code (y.code ⨾ plain list) first (λ v a s. then_give (second a s) (λ w s. both v w a s)) hx
+    (second_goes k set.helpers set.small x.of y.of boolean y.code (plain list) list second both hy (λ e c. refl) (compare_makes k set.helpers set.small x.of y.of o))
+
+pub negations : Negations
+negations k set p ask x value hx =
+    let opposite : ℤ → Gives ℤ = λ v a s. Gave (truth (not (is_true v))) s in
+    then_agrees k boolean boolean x.code (plain empty_code) value opposite hx (plain_goes k boolean boolean (plain empty_code) empty_code opposite (λ e c. refl) (not_goes k set.helpers set.small))
+
+pub loads : Loads
+loads k set p ask t c d found cell hd = load_agrees k set.helpers set.small set.room t c d (with_setting (λ s. plain (cells.loaded s.home.types t))) found cell hd (λ e counts. refl)
+
+pub assigns : Assigns
+assigns k set function t c d e found value cell hd he =
+    assign_executes k set.helpers set.small set.room function t c d e (with_setting (λ s. plain (cells.stored s.home.types t))) found value cell hd he (λ x counts. refl)
+
+pub rows : Rows
+rows k function x y step next hx hy = then_executes k function x y step next hx hy
+
+pub ifs : Ifs
+ifs k set function e value x y step other he hx hy =
+    let chosen : ℤ → Does = λ v a s. if is_true v then step a s else other a s in
+    with_executes k function boolean e (plain (wrapped ∷ []) ⨾ if_else x y) value chosen he (if_else_executes k function set.helpers set.small x y step other hx hy)
+
+pub whiles : Whiles
+whiles k set function e value x step he hx = while_executes k function set.helpers set.small e x value step he hx
+
+pub repeats : Repeats
+repeats k set function e value x step he hx = repeat_executes k function set.helpers set.small e x value step he hx
+
+pub loops : Loops
+loops k set function x step hx = loop_executes k function set.helpers set.small x step hx
+
+-- operators one behind the other
+links_go : (k : Scene) (t : TypeNo) (ls : List Linked) (fs : List Continues) → AreLinked k t ls fs → GoesOn k t (chain_type t ls) (chain_code ls) (one_by_one fs)
+links_go k t [] [] (no_links _) = record { grows = λ e c. grows_same c; gives = λ e c free full v is s st h rest stack. record { st = st; stands = h; is = is; run = refl } }
+links_go k t _ _ (more_links _ l ls f fs h hs) = then_goes k t l.of (chain_type l.of ls) l.code (chain_code ls) f (one_by_one fs) h (links_go k l.of ls fs hs)
+
+pub chains : Chains
+chains k p ask x value ls fs hx hs = then_agrees k x.of (chain_type x.of ls) x.code (chain_code ls) value (one_by_one fs) hx (links_go k x.of ls fs hs)

@@ -1,0 +1,29 @@
+use Rattle.m2_agree.proofs.Laws.{constants, sums, differences, conjunctions, disjunctions, chains, relations, negations, loads}
+use Rattle.m2_agree.proofs.expression_laws.Goals as goal
+
+pub returns-clause-constants : goal.returns-clause-constants
+returns-clause-constants c = constants
+
+pub returns-clause-sums : goal.returns-clause-sums
+returns-clause-sums c = sums
+
+pub returns-clause-differences : goal.returns-clause-differences
+returns-clause-differences c = differences
+
+pub returns-clause-conjunctions : goal.returns-clause-conjunctions
+returns-clause-conjunctions c = conjunctions
+
+pub returns-clause-disjunctions : goal.returns-clause-disjunctions
+returns-clause-disjunctions c = disjunctions
+
+pub returns-clause-chains : goal.returns-clause-chains
+returns-clause-chains c = chains
+
+pub returns-clause-relations : goal.returns-clause-relations
+returns-clause-relations c = relations
+
+pub returns-clause-negations : goal.returns-clause-negations
+returns-clause-negations c = negations
+
+pub returns-clause-loads : goal.returns-clause-loads
+returns-clause-loads c = loads

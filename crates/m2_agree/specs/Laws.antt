@@ -1,0 +1,107 @@
+-- What is proved of constructs: the scheme's code of each does what the definition of a run says, where that of its parts does.
+use Rattle.std.specs.Prelude.{◌≡◌, ℤ, Bool, List, [], ◌∷◌, None, if◌then◌else◌}
+use Rattle.m2_typed.specs.declared.computed.Argument.TheOpen as layer
+use Rattle.m2_typed.specs.declared.computed.Arithmetic.TheVariants as op
+use Rattle.m2_typed.specs.declared.computed.Comparison.{Comparison}
+use Rattle.m2_typed.specs.declared.types.TypeNo.{TypeNo}
+use Rattle.m2_typed.specs.Types.{boolean}
+use Rattle.m2_typed.specs.Known.{scalar_at}
+use Rattle.m2_layout.specs.Types.{Scalar, Cell}
+use Rattle.m2_meaning.specs.Store.{Location}
+use Rattle.m2_meaning.specs.Answer.{Went, with_answer, then_go}
+use Rattle.m2_meaning.specs.Around.{Modules}
+use Rattle.m2_meaning.specs.Operators.{is_true}
+use Rattle.m2_meaning.specs.Expressions as meaning
+use Rattle.m2_meaning.specs.Expressions.{Asks, Gives, Continues, one_by_one}
+use Rattle.m2_meaning.specs.Statements.{Does, stored, while_true, until_true, looped}
+use Rattle.wasm_tree.specs.declared.instr.Instr.TheVariants as instr
+use Rattle.m2_scheme.specs.Coded.{Coded, plain, ◌⨾◌, within, with_setting, is_zero, wrapped}
+use Rattle.m2_scheme.specs.Cells as cells
+use Rattle.m2_scheme.specs.Exprs as code
+use Rattle.m2_scheme.specs.Exprs.{Part, Linked, behind, chain_type, chain_code}
+use Rattle.m2_scheme.specs.Steps.{block_loop, loop, leaving, if_else}
+use Rattle.m2_agree.specs.Scene.{Scene, IsSet, IsValue, IsCell, Agrees, GoesOn, Locates, Executes}
+
+-- ---- expressions
+
+abbrev pub Constants : Type 0
+Constants =
+    (k : Scene) → IsSet k → (p : Modules) (ask : Asks) (t : TypeNo) (n : ℤ) → IsValue k.setting.home.types t n
+    → Agrees k t (code.expr_layer (layer.Constant t n)).code (meaning.expr_layer p ask (layer.Constant t n))
+
+abbrev pub Sums : Type 0
+Sums =
+    (k : Scene) → IsSet k → (p : Modules) (ask : Asks) (t w : TypeNo) (y : Part) (value : Gives ℤ) → Agrees k y.of y.code value → (scalar_at k.setting.home.types w ≡ None → ⊥)
+    → GoesOn k t w (code.link_layer (layer.Arithmetic op.Add w y)).code (meaning.link_layer p ask (layer.Arithmetic op.Add w value))
+
+abbrev pub Differences : Type 0
+Differences =
+    (k : Scene) → IsSet k → (p : Modules) (ask : Asks) (t w : TypeNo) (y : Part) (value : Gives ℤ) → Agrees k y.of y.code value → (scalar_at k.setting.home.types w ≡ None → ⊥)
+    → GoesOn k t w (code.link_layer (layer.Arithmetic op.Subtract w y)).code (meaning.link_layer p ask (layer.Arithmetic op.Subtract w value))
+
+abbrev pub Conjunctions : Type 0
+Conjunctions =
+    (k : Scene) → IsSet k → (p : Modules) (ask : Asks) (y : Part) (value : Gives ℤ) → Agrees k boolean y.code value
+    → GoesOn k boolean boolean (code.link_layer (layer.And y)).code (meaning.link_layer p ask (layer.And value))
+
+abbrev pub Disjunctions : Type 0
+Disjunctions =
+    (k : Scene) → IsSet k → (p : Modules) (ask : Asks) (y : Part) (value : Gives ℤ) → Agrees k boolean y.code value
+    → GoesOn k boolean boolean (code.link_layer (layer.Or y)).code (meaning.link_layer p ask (layer.Or value))
+
+-- operators behind one another, where each takes what the one before gives
+pub data AreLinked (k : Scene) : TypeNo → List Linked → List Continues → Type 0 where
+  no_links : (t : TypeNo) → AreLinked k t [] []
+  more_links : (t : TypeNo) (l : Linked) (ls : List Linked) (f : Continues) (fs : List Continues) → GoesOn k t l.of l.code f → AreLinked k l.of ls fs → AreLinked k t (l ∷ ls) (f ∷ fs)
+
+abbrev pub Chains : Type 0
+Chains =
+    (k : Scene) (p : Modules) (ask : Asks) (x : Part) (value : Gives ℤ) (ls : List Linked) (fs : List Continues) → Agrees k x.of x.code value → AreLinked k x.of ls fs
+    → Agrees k (chain_type x.of ls) (code.expr_layer (layer.Chain x ls)).code (meaning.expr_layer p ask (layer.Chain value fs))
+
+abbrev pub Relations : Type 0
+Relations =
+    (k : Scene) → IsSet k → (p : Modules) (ask : Asks) (o : Comparison) (x y : Part) (first second : Gives ℤ) → Agrees k x.of x.code first → Agrees k y.of y.code second
+    → Agrees k boolean (code.expr_layer (layer.Compare o x y)).code (meaning.expr_layer p ask (layer.Compare o first second))
+
+abbrev pub Negations : Type 0
+Negations =
+    (k : Scene) → IsSet k → (p : Modules) (ask : Asks) (x : Part) (value : Gives ℤ) → Agrees k boolean x.code value
+    → Agrees k boolean (code.expr_layer (layer.Not x)).code (meaning.expr_layer p ask (layer.Not value))
+
+abbrev pub Loads : Type 0
+Loads =
+    (k : Scene) → IsSet k → (p : Modules) (ask : Asks) (t : TypeNo) (c : Scalar) (d : Coded) (found : Gives Location) → IsCell k.setting.home.types t c → Locates k (Cell c) d found
+    → Agrees k t (code.expr_layer (layer.Load t d)).code (meaning.expr_layer p ask (layer.Load t found))
+
+-- ---- statements
+
+abbrev pub Assigns : Type 0
+Assigns =
+    (k : Scene) → IsSet k → (function : Bool) (t : TypeNo) (c : Scalar) (d e : Coded) (found : Gives Location) (value : Gives ℤ) → IsCell k.setting.home.types t c → Locates k (Cell c) d found → Agrees k t e value
+    → Executes k function (d ⨾ e ⨾ with_setting (λ s. plain (cells.stored s.home.types t))) (λ a s. with_answer (found a s) (λ l s. with_answer (value a s) (λ v s. Went (stored l v s))))
+
+abbrev pub Rows : Type 0
+Rows =
+    (k : Scene) (function : Bool) (x y : Coded) (step next : Does) → Executes k function x step → Executes k function y next
+    → Executes k function (x ⨾ y) (λ a s. then_go (step a s) (next a))
+
+abbrev pub Ifs : Type 0
+Ifs =
+    (k : Scene) → IsSet k → (function : Bool) (e : Coded) (value : Gives ℤ) (x y : Coded) (step other : Does) → Agrees k boolean e value → Executes k function x step → Executes k function y other
+    → Executes k function (e ⨾ plain (wrapped ∷ []) ⨾ if_else x y) (λ a s. with_answer (value a s) (λ v s. if is_true v then step a s else other a s))
+
+abbrev pub Whiles : Type 0
+Whiles =
+    (k : Scene) → IsSet k → (function : Bool) (e : Coded) (value : Gives ℤ) (x : Coded) (step : Does) → Agrees k boolean e value → Executes k function x step
+    → Executes k function (within 2 block_loop (e ⨾ plain (is_zero ∷ instr.BrIf 1 ∷ []) ⨾ x ⨾ plain (instr.Br 0 ∷ []))) (λ a s. while_true k.turns (value a) (step a) s)
+
+abbrev pub Repeats : Type 0
+Repeats =
+    (k : Scene) → IsSet k → (function : Bool) (e : Coded) (value : Gives ℤ) (x : Coded) (step : Does) → Agrees k boolean e value → Executes k function x step
+    → Executes k function (within 1 loop (x ⨾ e ⨾ plain (is_zero ∷ instr.BrIf 0 ∷ []))) (λ a s. until_true k.turns (step a) (value a) s)
+
+abbrev pub Loops : Type 0
+Loops =
+    (k : Scene) → IsSet k → (function : Bool) (x : Coded) (step : Does) → Executes k function x step
+    → Executes k function (leaving 1 block_loop (x ⨾ plain (instr.Br 0 ∷ []))) (λ a s. looped k.turns (step a) s)
