@@ -1,7 +1,7 @@
 -- Checks: what is within bounds stays, and else the run ends with a fault.
-use Rattle.std.proofs.Common.{◌≡◌, ℕ, suc, ◌≤◌, ℤ, Bool, true, false, not, List, [], ◌∷◌, ◌++◌, if◌then◌else◌, refl, sym, ap, subst, ◌∙◌}
+use Rattle.std.proofs.Common.{◌≡◌, ℕ, suc, ◌≤◌, ℤ, ◌<ℤ◌, Bool, true, false, not, List, [], ◌∷◌, ◌++◌, if◌then◌else◌, refl, sym, ap, subst, ◌∙◌}
 use Rattle.std.specs.Prelude.{int_lt, ◌&&◌, nat_le}
-use Rattle.std.specs.Int.{w64}
+use Rattle.std.specs.Int.{w64, cast_signed}
 use Rattle.std.proofs.lemmas.Bool.{le-leb}
 use Rattle.wasm_tree.specs.declared.instr.Instr.{Instr}
 use Rattle.wasm_tree.specs.declared.instr.Instr.TheVariants as instr
@@ -20,7 +20,7 @@ use Rattle.m2_scheme.specs.Coded.{checked}
 use Rattle.m2_helpers.specs.Called.{stopped_by}
 use Rattle.m2_helpers.proofs.Helpers.{check_called}
 use Rattle.m2_agree.specs.Scene.{Scene, calls, runs, HasHelpers, IsValue, word, Stands, Into, GivesNumber}
-use Rattle.m2_agree.proofs.Words.{IsWide, less_is, between_is}
+use Rattle.m2_agree.proofs.Words.{IsWide, signed, less_is, less_true, between_is}
 
 four_pushed : (s : List Value) (a b c d : Value) → (((s ++ a ∷ []) ++ b ∷ []) ++ c ∷ []) ++ d ∷ [] ≡ s ++ a ∷ b ∷ c ∷ d ∷ []
 four_pushed [] a b c d = refl
@@ -34,21 +34,34 @@ module _ (k : Scene) (has : HasHelpers k) where
   abbrev tested : (below above : Bool) → (j : ℕ) → (out : List ℕ) → Effect → Effect
   tested below above j out on = if below then does.Ended j out else (if above then does.Ended j out else on)
 
-  check_runs : (low high v : ℤ) (j : ℕ) → IsWide low → IsWide high → IsWide v → 1 ≤ j → j ≤ 255 → (rest : List Instr) (st : Target) (stack : List Value)
-      → runs k (checked low high j ++ rest) st (stack ++ I64 (word v) ∷ []) ≡ tested (int_lt v low) (int_lt high v) j st.out (runs k rest st (stack ++ I64 (word v) ∷ []))
-  check_runs low high v j hl hh hv least most rest st stack =
-      let s1 = stack ++ I64 (word v) ∷ [] in
+  -- of any word
+  word_checked : (low high : ℤ) (n j : ℕ) → 1 ≤ j → j ≤ 255 → (rest : List Instr) (st : Target) (stack : List Value)
+      → runs k (checked low high j ++ rest) st (stack ++ I64 n ∷ []) ≡ tested (is_less w64 n (word low)) (is_less w64 (word high) n) j st.out (runs k rest st (stack ++ I64 n ∷ []))
+  word_checked low high n j least most rest st stack =
+      let s1 = stack ++ I64 n ∷ [] in
       let s2 = s1 ++ I64 (word low) ∷ [] in
       let s3 = s2 ++ I64 (word high) ∷ [] in
       let go : List Value → Effect = runs k (instr.Call 4 ∷ rest) st in
       i64_runs k.modules k.fixed k.turns (calls k) k.own (instr.I64Const (word high) ∷ instr.I64Const j ∷ instr.Call 4 ∷ rest) st (word low) s1
       ∙ i64_runs k.modules k.fixed k.turns (calls k) k.own (instr.I64Const j ∷ instr.Call 4 ∷ rest) st (word high) s2
       ∙ i64_runs k.modules k.fixed k.turns (calls k) k.own (instr.Call 4 ∷ rest) st j s3
-      ∙ ap go (four_pushed stack (I64 (word v)) (I64 (word low)) (I64 (word high)) (I64 j))
-      ∙ check_called k.modules k.fixed k.extra k.turns (suc k.depth) k.turns k.own 4 k.own 2 has.check_index st (has.check st.bytes) has.check_there (has.stop st.bytes) (word v) (word low) (word high) j stack rest
-      ∙ ap (λ (e : Effect). if is_less w64 (word v) (word low) then e else (if is_less w64 (word high) (word v) then e else runs k rest st (stack ++ I64 (word v) ∷ []))) (stops j st.out least most)
+      ∙ ap go (four_pushed stack (I64 n) (I64 (word low)) (I64 (word high)) (I64 j))
+      ∙ check_called k.modules k.fixed k.extra k.turns (suc k.depth) k.turns k.own 4 k.own 2 has.check_index st (has.check st.bytes) has.check_there (has.stop st.bytes) n (word low) (word high) j stack rest
+      ∙ ap (λ (e : Effect). if is_less w64 n (word low) then e else (if is_less w64 (word high) n then e else runs k rest st (stack ++ I64 n ∷ []))) (stops j st.out least most)
+
+  check_runs : (low high v : ℤ) (j : ℕ) → IsWide low → IsWide high → IsWide v → 1 ≤ j → j ≤ 255 → (rest : List Instr) (st : Target) (stack : List Value)
+      → runs k (checked low high j ++ rest) st (stack ++ I64 (word v) ∷ []) ≡ tested (int_lt v low) (int_lt high v) j st.out (runs k rest st (stack ++ I64 (word v) ∷ []))
+  check_runs low high v j hl hh hv least most rest st stack =
+      word_checked low high (word v) j least most rest st stack
       ∙ ap (λ (b : Bool). tested b (is_less w64 (word high) (word v)) j st.out (runs k rest st (stack ++ I64 (word v) ∷ []))) (less_is v low hv hl)
       ∙ ap (λ (b : Bool). tested (int_lt v low) b j st.out (runs k rest st (stack ++ I64 (word v) ∷ []))) (less_is high v hh hv)
+
+  -- a word below the lower bound
+  pub below_fails : (low high : ℤ) (n j : ℕ) → IsWide low → cast_signed w64 n <ℤ low → 1 ≤ j → j ≤ 255 → (rest : List Instr) (st : Target) (stack : List Value)
+      → runs k (checked low high j ++ rest) st (stack ++ I64 n ∷ []) ≡ does.Ended j st.out
+  below_fails low high n j hl below least most rest st stack =
+      let is : is_less w64 n (word low) ≡ true = ap (λ (z : ℤ). int_lt (cast_signed w64 n) z) (signed low hl) ∙ less_true (cast_signed w64 n) low below in
+      word_checked low high n j least most rest st stack ∙ ap (λ (b : Bool). tested b (is_less w64 (word high) n) j st.out (runs k rest st (stack ++ I64 n ∷ []))) is
 
   -- a value that is within bounds is one of a type
   pub checked_gives : (u : TypeNo) (low high v : ℤ) (j : ℕ) → IsWide low → IsWide high → IsWide v → 1 ≤ j → j ≤ 255 → (is_between low v high ≡ true → IsValue k.setting.home.types u v)

@@ -1,5 +1,5 @@
 -- The laws of constructs, from their pieces.
-use Rattle.std.proofs.Common.{◌≡◌, ℤ, ◌+ℤ◌, ◌-ℤ◌, not, if◌then◌else◌, List, [], ◌∷◌, ◌++◌, refl, sym, ap, subst}
+use Rattle.std.proofs.Common.{◌≡◌, ℤ, ◌+ℤ◌, ◌-ℤ◌, ◌*ℤ◌, not, if◌then◌else◌, List, [], ◌∷◌, ◌++◌, refl, sym, ap, subst}
 use Rattle.wasm_tree.specs.declared.instr.Instr.{Instr}
 use Rattle.wasm_tree.specs.declared.store.Value.TheVariants.{I64}
 use Rattle.m2_typed.specs.declared.types.TypeNo.{TypeNo}
@@ -17,9 +17,10 @@ use Rattle.m2_scheme.specs.Steps.{if_else}
 use Rattle.m2_typed.specs.declared.computed.Argument.TheOpen as layer
 use Rattle.m2_typed.specs.declared.computed.Arithmetic.TheVariants as op
 use Rattle.m2_agree.specs.Scene.{Scene, runs, word, Into, GivesNumber, inside, GoesOn}
-use Rattle.m2_agree.specs.Laws.{Constants, Sums, Differences, Conjunctions, Disjunctions, AreLinked, no_links, more_links, Chains, Relations, Negations, Loads, Assigns, Rows, Ifs, Whiles, Repeats, Loops}
+use Rattle.m2_agree.specs.Laws.{Constants, Sums, Differences, Products, Conjunctions, Disjunctions, AreLinked, no_links, more_links, Chains, Relations, Negations, Loads, Assigns, Rows, Ifs, Whiles, Repeats, Loops}
 use Rattle.m2_agree.proofs.Parts.{grows_same, then_agrees, then_goes, plain_goes}
 use Rattle.m2_agree.proofs.Operators.{constant_agrees, second_goes, sum_goes, difference_goes}
+use Rattle.m2_agree.proofs.Products.{product_goes}
 use Rattle.m2_agree.proofs.Relations.{compare_makes, not_goes, and_goes, or_goes}
 use Rattle.m2_agree.proofs.Assigned.{load_agrees, assign_executes}
 use Rattle.m2_agree.proofs.Statements.{then_executes, with_executes, if_else_executes}
@@ -50,6 +51,14 @@ differences k set p ask t w y value ha some =
     let here : ℤ → Gives ℤ = λ x a s. then_give (value a s) (λ u s. in_base types w (x -ℤ u) s) in
     goes_alike k t w (y.code ⨾ after) here (link_layer p ask (layer.Arithmetic op.Subtract w value)) (λ v s. ap (λ (types : Types). then_give (value k.around s) (λ u s. in_base types w (v -ℤ u) s)) (sym set.types))
     (second_goes k set.helpers set.small t y.of w y.code after (arithmetic_code types op.Subtract w) value (λ x u a s. in_base types w (x -ℤ u) s) ha (λ e c. refl) (difference_goes k set.helpers set.small t y.of w some))
+
+pub products : Products
+products k set p ask t w y value ha some =
+    let types : Types = k.setting.home.types in
+    let after : Coded = with_setting (λ s. plain (arithmetic_code s.home.types op.Multiply w)) in
+    let here : ℤ → Gives ℤ = λ x a s. then_give (value a s) (λ u s. in_base types w (x *ℤ u) s) in
+    goes_alike k t w (y.code ⨾ after) here (link_layer p ask (layer.Arithmetic op.Multiply w value)) (λ v s. ap (λ (types : Types). then_give (value k.around s) (λ u s. in_base types w (v *ℤ u) s)) (sym set.types))
+    (second_goes k set.helpers set.small t y.of w y.code after (arithmetic_code types op.Multiply w) value (λ x u a s. in_base types w (x *ℤ u) s) ha (λ e c. refl) (product_goes k set.helpers set.small t y.of w some))
 
 pub conjunctions : Conjunctions
 conjunctions k set p ask y value ha = and_goes k set.helpers set.small y.code value ha

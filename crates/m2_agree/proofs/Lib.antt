@@ -8,5 +8,6 @@ pub mod Places
 pub mod Stores
 pub mod Statements
 pub mod Loops
+pub mod Products
 pub mod Assigned
 pub mod Laws

@@ -39,6 +39,11 @@ Differences =
     (k : Scene) → IsSet k → (p : Modules) (ask : Asks) (t w : TypeNo) (y : Part) (value : Gives ℤ) → Agrees k y.of y.code value → (scalar_at k.setting.home.types w ≡ None → ⊥)
     → GoesOn k t w (code.link_layer (layer.Arithmetic op.Subtract w y)).code (meaning.link_layer p ask (layer.Arithmetic op.Subtract w value))
 
+abbrev pub Products : Type 0
+Products =
+    (k : Scene) → IsSet k → (p : Modules) (ask : Asks) (t w : TypeNo) (y : Part) (value : Gives ℤ) → Agrees k y.of y.code value → (scalar_at k.setting.home.types w ≡ None → ⊥)
+    → GoesOn k t w (code.link_layer (layer.Arithmetic op.Multiply w y)).code (meaning.link_layer p ask (layer.Arithmetic op.Multiply w value))
+
 abbrev pub Conjunctions : Type 0
 Conjunctions =
     (k : Scene) → IsSet k → (p : Modules) (ask : Asks) (y : Part) (value : Gives ℤ) → Agrees k boolean y.code value

@@ -6,14 +6,15 @@
 //! - `specs/Laws` has the laws, one for each construct that is proved so far.
 #![tactic(auto)]
 
-ghost use Rattle.m2_agree.specs.Laws.{Assigns, Chains, Conjunctions, Constants, Differences, Disjunctions, Ifs, Loads, Loops, Negations, Relations, Repeats, Rows, Sums, Whiles};
+ghost use Rattle.m2_agree.specs.Laws.{Assigns, Chains, Conjunctions, Constants, Differences, Disjunctions, Ifs, Loads, Loops, Negations, Products, Relations, Repeats, Rows, Sums, Whiles};
 
 /// The code of an expression leaves its value.
 pub fn expression_laws()
     ensures constants { Constants }
-    // Sums and differences are checked in their base type.
+    // Sums, differences and products are checked in their base type.
     ensures sums { Sums }
     ensures differences { Differences }
+    ensures products { Products }
     // AND and OR evaluate their second operand only where the first does not decide.
     ensures conjunctions { Conjunctions }
     ensures disjunctions { Disjunctions }

@@ -1,4 +1,4 @@
-use Rattle.m2_agree.proofs.Laws.{constants, sums, differences, conjunctions, disjunctions, chains, relations, negations, loads}
+use Rattle.m2_agree.proofs.Laws.{constants, sums, differences, products, conjunctions, disjunctions, chains, relations, negations, loads}
 use Rattle.m2_agree.proofs.expression_laws.Goals as goal
 
 pub returns-clause-constants : goal.returns-clause-constants
@@ -27,3 +27,6 @@ returns-clause-negations c = negations
 
 pub returns-clause-loads : goal.returns-clause-loads
 returns-clause-loads c = loads
+
+pub returns-clause-products : goal.returns-clause-products
+returns-clause-products c = products
