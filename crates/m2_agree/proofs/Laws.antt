@@ -1,11 +1,11 @@
 -- The laws of constructs, from their pieces.
-use Rattle.std.proofs.Common.{◌≡◌, ℤ, ◌+ℤ◌, ◌-ℤ◌, ◌*ℤ◌, not, if◌then◌else◌, List, [], ◌∷◌, ◌++◌, refl, sym, ap, subst}
+use Rattle.std.proofs.Common.{◌≡◌, ℤ, ◌+ℤ◌, ◌-ℤ◌, ◌*ℤ◌, false, not, if◌then◌else◌, List, [], ◌∷◌, ◌++◌, refl, sym, ap, subst}
 use Rattle.wasm_tree.specs.declared.instr.Instr.{Instr}
 use Rattle.wasm_tree.specs.declared.store.Value.TheVariants.{I64}
 use Rattle.m2_typed.specs.declared.types.TypeNo.{TypeNo}
 use Rattle.m2_typed.specs.declared.known_types.Types.{Types}
 use Rattle.m2_typed.specs.Types.{boolean}
-use Rattle.m2_meaning.specs.Answer.{State as Source, Answer, Gave, then_give}
+use Rattle.m2_meaning.specs.Answer.{State as Source, Answer, Gave, Went, then_give}
 use Rattle.m2_meaning.specs.Expressions.{Gives, Continues, one_by_one, in_base, link_layer}
 use Rattle.m2_meaning.specs.Around.{Around}
 use Rattle.m2_meaning.specs.Operators.{truth, compared, is_true}
@@ -13,17 +13,17 @@ use Rattle.m2_meaning.specs.Statements.{Does}
 use Rattle.m2_scheme.specs.Coded.{Coded, plain, ◌⨾◌, with_setting, wrapped, relation, extended}
 use Rattle.m2_scheme.specs.Cells as cells
 use Rattle.m2_scheme.specs.Exprs.{Linked, chain_type, chain_code, empty_code, arithmetic_code, relation_of}
-use Rattle.m2_scheme.specs.Steps.{if_else}
+use Rattle.m2_scheme.specs.Steps.{if_only, if_else}
 use Rattle.m2_typed.specs.declared.computed.Argument.TheOpen as layer
 use Rattle.m2_typed.specs.declared.computed.Arithmetic.TheVariants as op
 use Rattle.m2_agree.specs.Scene.{Scene, runs, word, Into, GivesNumber, inside, GoesOn}
-use Rattle.m2_agree.specs.Laws.{Constants, Sums, Differences, Products, Conjunctions, Disjunctions, AreLinked, no_links, more_links, Chains, Relations, Negations, Loads, Assigns, Rows, Ifs, Whiles, Repeats, Loops}
+use Rattle.m2_agree.specs.Laws.{Constants, Sums, Differences, Products, Conjunctions, Disjunctions, AreLinked, no_links, more_links, Chains, Relations, Negations, Loads, Assigns, Puts, Halts, Exits, Returns, Rows, LoneIfs, Ifs, Whiles, Repeats, Loops}
 use Rattle.m2_agree.proofs.Parts.{grows_same, then_agrees, then_goes, plain_goes}
 use Rattle.m2_agree.proofs.Operators.{constant_agrees, second_goes, sum_goes, difference_goes}
 use Rattle.m2_agree.proofs.Products.{product_goes}
 use Rattle.m2_agree.proofs.Relations.{compare_makes, not_goes, and_goes, or_goes}
 use Rattle.m2_agree.proofs.Assigned.{load_agrees, assign_executes}
-use Rattle.m2_agree.proofs.Statements.{then_executes, with_executes, if_else_executes}
+use Rattle.m2_agree.proofs.Statements.{then_executes, with_executes, put_executes, halt_executes, exit_executes, return_executes, if_only_executes, if_else_executes}
 use Rattle.m2_agree.proofs.Loops.{while_executes, repeat_executes, loop_executes}
 
 -- what gives the same where the code runs agrees alike
@@ -84,6 +84,23 @@ loads k set p ask t c d found cell hd = load_agrees k set.helpers set.small set.
 pub assigns : Assigns
 assigns k set function t c d e found value cell hd he =
     assign_executes k set.helpers set.small set.room function t c d e (with_setting (λ s. plain (cells.stored s.home.types t))) found value cell hd he (λ x counts. refl)
+
+pub puts : Puts
+puts k set function e value he = put_executes k function set.helpers e value he
+
+pub halts : Halts
+halts k set function = halt_executes k function set.helpers
+
+pub exits : Exits
+exits k function = exit_executes k function
+
+pub returns : Returns
+returns k = return_executes k false refl
+
+pub lone_ifs : LoneIfs
+lone_ifs k set function e value x step he hx =
+    let chosen : ℤ → Does = λ v a s. if is_true v then step a s else Went s in
+    with_executes k function boolean e (plain (wrapped ∷ []) ⨾ if_only x) value chosen he (if_only_executes k function set.helpers set.small x step hx)
 
 pub rows : Rows
 rows k function x y step next hx hy = then_executes k function x y step next hx hy

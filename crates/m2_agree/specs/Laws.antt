@@ -1,25 +1,25 @@
 -- What is proved of constructs: the scheme's code of each does what the definition of a run says, where that of its parts does.
-use Rattle.std.specs.Prelude.{◌≡◌, ℤ, Bool, List, [], ◌∷◌, None, if◌then◌else◌}
+use Rattle.std.specs.Prelude.{◌≡◌, ℤ, pos, Bool, false, List, [], ◌∷◌, ◌++◌, None, unsigned_abs, if◌then◌else◌}
 use Rattle.m2_typed.specs.declared.computed.Argument.TheOpen as layer
 use Rattle.m2_typed.specs.declared.computed.Arithmetic.TheVariants as op
 use Rattle.m2_typed.specs.declared.computed.Comparison.{Comparison}
 use Rattle.m2_typed.specs.declared.types.TypeNo.{TypeNo}
-use Rattle.m2_typed.specs.Types.{boolean}
+use Rattle.m2_typed.specs.Types.{boolean, char}
 use Rattle.m2_typed.specs.Known.{scalar_at}
 use Rattle.m2_layout.specs.Types.{Scalar, Cell}
 use Rattle.m2_meaning.specs.Store.{Location}
-use Rattle.m2_meaning.specs.Answer.{Went, with_answer, then_go}
+use Rattle.m2_meaning.specs.Answer.{Went, Left, Came, Stopped, with_answer, then_go, halted}
 use Rattle.m2_meaning.specs.Around.{Modules}
 use Rattle.m2_meaning.specs.Operators.{is_true}
 use Rattle.m2_meaning.specs.Expressions as meaning
 use Rattle.m2_meaning.specs.Expressions.{Asks, Gives, Continues, one_by_one}
 use Rattle.m2_meaning.specs.Statements.{Does, stored, while_true, until_true, looped}
 use Rattle.wasm_tree.specs.declared.instr.Instr.TheVariants as instr
-use Rattle.m2_scheme.specs.Coded.{Coded, plain, ◌⨾◌, within, with_setting, is_zero, wrapped}
+use Rattle.m2_scheme.specs.Coded.{Coded, plain, ◌⨾◌, within, with_setting, is_zero, wrapped, put, fault}
 use Rattle.m2_scheme.specs.Cells as cells
 use Rattle.m2_scheme.specs.Exprs as code
 use Rattle.m2_scheme.specs.Exprs.{Part, Linked, behind, chain_type, chain_code}
-use Rattle.m2_scheme.specs.Steps.{block_loop, loop, leaving, if_else}
+use Rattle.m2_scheme.specs.Steps.{block_loop, loop, leaving, if_only, if_else}
 use Rattle.m2_agree.specs.Scene.{Scene, IsSet, IsValue, IsCell, Agrees, GoesOn, Locates, Executes}
 
 -- ---- expressions
@@ -86,6 +86,22 @@ Assigns =
     (k : Scene) → IsSet k → (function : Bool) (t : TypeNo) (c : Scalar) (d e : Coded) (found : Gives Location) (value : Gives ℤ) → IsCell k.setting.home.types t c → Locates k (Cell c) d found → Agrees k t e value
     → Executes k function (d ⨾ e ⨾ with_setting (λ s. plain (cells.stored s.home.types t))) (λ a s. with_answer (found a s) (λ l s. with_answer (value a s) (λ v s. Went (stored l v s))))
 
+-- a byte is printed
+abbrev pub Puts : Type 0
+Puts =
+    (k : Scene) → IsSet k → (function : Bool) (e : Coded) (value : Gives ℤ) → Agrees k char e value
+    → Executes k function (e ⨾ plain (instr.Call put ∷ [])) (λ a s. with_answer (value a s) (λ v s. Went (record s { out = s.out ++ unsigned_abs v ∷ [] })))
+
+abbrev pub Halts : Type 0
+Halts = (k : Scene) → IsSet k → (function : Bool) → Executes k function (plain (fault 9)) (λ a s. Stopped halted s.out)
+
+abbrev pub Exits : Type 0
+Exits = (k : Scene) (function : Bool) → Executes k function (with_setting (λ s. plain (instr.Br s.exit ∷ []))) (λ a s. Left s)
+
+-- RETURN in a body, or in a procedure without a result
+abbrev pub Returns : Type 0
+Returns = (k : Scene) → Executes k false (plain (instr.Return ∷ [])) (λ a s. Came (pos 0) s)
+
 abbrev pub Rows : Type 0
 Rows =
     (k : Scene) (function : Bool) (x y : Coded) (step next : Does) → Executes k function x step → Executes k function y next
@@ -95,6 +111,11 @@ abbrev pub Ifs : Type 0
 Ifs =
     (k : Scene) → IsSet k → (function : Bool) (e : Coded) (value : Gives ℤ) (x y : Coded) (step other : Does) → Agrees k boolean e value → Executes k function x step → Executes k function y other
     → Executes k function (e ⨾ plain (wrapped ∷ []) ⨾ if_else x y) (λ a s. with_answer (value a s) (λ v s. if is_true v then step a s else other a s))
+
+abbrev pub LoneIfs : Type 0
+LoneIfs =
+    (k : Scene) → IsSet k → (function : Bool) (e : Coded) (value : Gives ℤ) (x : Coded) (step : Does) → Agrees k boolean e value → Executes k function x step
+    → Executes k function (e ⨾ plain (wrapped ∷ []) ⨾ if_only x) (λ a s. with_answer (value a s) (λ v s. if is_true v then step a s else Went s))
 
 abbrev pub Whiles : Type 0
 Whiles =

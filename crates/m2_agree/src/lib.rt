@@ -6,7 +6,7 @@
 //! - `specs/Laws` has the laws, one for each construct that is proved so far.
 #![tactic(auto)]
 
-ghost use Rattle.m2_agree.specs.Laws.{Assigns, Chains, Conjunctions, Constants, Differences, Disjunctions, Ifs, Loads, Loops, Negations, Products, Relations, Repeats, Rows, Sums, Whiles};
+ghost use Rattle.m2_agree.specs.Laws.{Assigns, Chains, Conjunctions, Constants, Differences, Disjunctions, Exits, Halts, Ifs, Loads, LoneIfs, Loops, Negations, Products, Puts, Relations, Repeats, Returns, Rows, Sums, Whiles};
 
 /// The code of an expression leaves its value.
 pub fn expression_laws()
@@ -29,7 +29,12 @@ pub fn expression_laws()
 /// The code of a statement does what the statement does, with the same bound on turns.
 pub fn statement_laws()
     ensures assigns { Assigns }
+    ensures puts { Puts }
+    ensures halts { Halts }
+    ensures exits { Exits }
+    ensures gives_back { Returns }
     ensures rows { Rows }
+    ensures lone_ifs { LoneIfs }
     ensures ifs { Ifs }
     ensures whiles { Whiles }
     ensures repeats { Repeats }

@@ -1,4 +1,4 @@
-use Rattle.m2_agree.proofs.Laws.{assigns, rows, ifs, whiles, repeats, loops}
+use Rattle.m2_agree.proofs.Laws.{assigns, puts, halts, exits, returns, lone_ifs, rows, ifs, whiles, repeats, loops}
 use Rattle.m2_agree.proofs.statement_laws.Goals as goal
 
 pub returns-clause-assigns : goal.returns-clause-assigns
@@ -18,3 +18,18 @@ returns-clause-repeats c = repeats
 
 pub returns-clause-loops : goal.returns-clause-loops
 returns-clause-loops c = loops
+
+pub returns-clause-puts : goal.returns-clause-puts
+returns-clause-puts c = puts
+
+pub returns-clause-halts : goal.returns-clause-halts
+returns-clause-halts c = halts
+
+pub returns-clause-exits : goal.returns-clause-exits
+returns-clause-exits c = exits
+
+pub returns-clause-lone_ifs : goal.returns-clause-lone_ifs
+returns-clause-lone_ifs c = lone_ifs
+
+pub returns-clause-gives_back : goal.returns-clause-gives_back
+returns-clause-gives_back c = returns
