@@ -1,0 +1,242 @@
+-- Code in the making that is valid: what it takes and gives, and what the parts of such code are put together by.
+use Rattle.std.proofs.Common.{◌≡◌, ℕ, zero, suc, ◌+◌, ◌*◌, ◌<◌, ◌≤◌, Bool, true, false, List, [], ◌∷◌, ◌++◌, length, Some, None, Option, refl, sym, ap, subst, ◌∙◌, arith, inl, inr}
+use Rattle.std.specs.Prelude.{slice_get}
+use Rattle.std.proofs.lemmas.Bool.{cases_lt}
+use Rattle.wasm_tree.specs.declared.kinds.ValueType.TheVariants.{I32, I64}
+use Rattle.wasm_tree.specs.declared.kinds.ValueType.{ValueType}
+use Rattle.wasm_tree.specs.declared.kinds.FuncType.{FuncType}
+use Rattle.wasm_tree.specs.declared.instr.Instr.{Instr}
+use Rattle.wasm_tree.specs.declared.instr.Instr.TheVariants.{If, Loop}
+use Rattle.wasm_tree.specs.Validity.{Context, Leads, Empty}
+use Rattle.m2_typed.specs.declared.typed_module.Routine.{Routine}
+use Rattle.m2_typed.specs.declared.typed_module.TypedModule.{TypedModule}
+use Rattle.m2_layout.specs.Types.{Ty}
+use Rattle.m2_layout.specs.Frames.{formals_of}
+use Rattle.m2_scheme.specs.Scheme.{type_from}
+use Rattle.m2_scheme.specs.Coded.{Coded, Counts, Setting, plain, ◌⨾◌, nothing, within, with_address, with_number, with_text, with_setting, put, stop, copy, fill, check, quotient, remainder, body_index}
+use Rattle.m2_scheme.specs.Exprs.{Numbered, all_arguments, has_result}
+use Rattle.m2_scheme.specs.Signatures.{Signatures, Signature, signature, is_among, results_of, type_of}
+use Rattle.m2_scheme.specs.Steps.{if_else, leaving, under, block_loop}
+use Rattle.m2_valid.proofs.Leading.{Stack, then_leads, above, Callable, done, block, loop, one_of}
+
+-- ---- a function in the making, and what it may name
+
+-- its module, the types of functions that have numbers there, and its locals
+pub record Body : Type 0 where
+  pub home : TypedModule
+  pub numbered : Numbered
+  pub known : Signatures
+  pub frames : List Ty
+  pub arguments : ℕ
+  -- so many locals for addresses, and for numbers
+  pub addresses : ℕ
+  pub numbers : ℕ
+  -- whether it gives a value
+  pub gives : Bool
+  pub base : Context
+
+abbrev pub at : Body → (exit : ℕ) → (withs : List ℕ) → Setting
+at b e ws = record { home = b.home; frames = b.frames; arguments = b.arguments; addresses = b.addresses; exit = e; withs = ws }
+
+abbrev pub labelled : Body → List Stack → Context
+labelled b ls = record (b.base) { labels = ls }
+
+abbrev pub IsAddress : Body → ℕ → Type 0
+IsAddress b n = slice_get b.base.locals n ≡ Some I32
+
+abbrev pub IsNumber : Body → ℕ → Type 0
+IsNumber b n = slice_get b.base.locals n ≡ Some I64
+
+pub record Holds (b : Body) : Type 0 where
+  pub memory : 0 < length b.base.memories
+  pub table : 0 < length b.base.tables
+  pub put : Callable b.base put (type_from (I64 ∷ []) [])
+  pub stop : Callable b.base stop (type_from (I64 ∷ []) [])
+  pub copy : Callable b.base copy (type_from (I32 ∷ I32 ∷ I32 ∷ []) [])
+  pub fill : Callable b.base fill (type_from (I32 ∷ I32 ∷ []) [])
+  pub check : Callable b.base check (type_from (I64 ∷ I64 ∷ I64 ∷ I64 ∷ []) (I64 ∷ []))
+  pub quotient : Callable b.base quotient (type_from (I64 ∷ I64 ∷ []) (I64 ∷ []))
+  pub remainder : Callable b.base remainder (type_from (I64 ∷ I64 ∷ []) (I64 ∷ []))
+  pub global : (k : ℕ) → k < 4 + 2 * length b.home.imports → slice_get b.base.globals k ≡ Some I32
+  pub procedure : (k : ℕ) (r : Routine) → slice_get b.home.procedures k ≡ Some r
+      → Callable b.base (suc body_index + k) (type_of (signature (all_arguments (formals_of b.home.types r.heading)) (has_result b.home.types r.heading)))
+  pub nested : (k : ℕ) (r : Routine) → slice_get b.home.locals k ≡ Some r
+      → Callable b.base (suc body_index + (length b.home.procedures + k)) (type_of (signature (suc (all_arguments (formals_of b.home.types r.heading))) (has_result b.home.types r.heading)))
+  pub typed : (s : Signature) → is_among b.known s ≡ true → slice_get b.base.types (b.numbered s.arguments s.result) ≡ Some (type_of s)
+  pub frame : IsAddress b 0
+  pub top : IsAddress b b.arguments
+  pub address : (k : ℕ) → k < b.addresses → IsAddress b (b.arguments + (2 + k))
+  pub number : (k : ℕ) → k < b.numbers → IsNumber b (b.arguments + (2 + (b.addresses + k)))
+  pub returns : b.base.returns ≡ results_of b.gives
+
+-- ---- where code stands: the records of WITHs are in locals, and EXIT has a label
+
+pub record Suits (b : Body) (withs : ℕ) (looped : Bool) (e : ℕ) (ws : List ℕ) (ls : List Stack) : Type 0 where
+  pub count : length ws ≡ withs
+  pub opened : (k : ℕ) → k < withs → (n : ℕ) × (slice_get ws k ≡ Some n) × IsAddress b n
+  pub exit : looped ≡ true → slice_get ls e ≡ Some []
+
+-- Under a premise the code takes these operands and gives those. It needs so many locals for addresses.
+pub record Fits (b : Body) (P : Type 0) (withs : ℕ) (looped : Bool) (x : Coded) (k : ℕ) (takes gives : Stack) : Type 0 where
+  pub numbers : (e : ℕ) (ws : List ℕ) (c : Counts) → c.numbers ≤ (x (at b e ws) c).1.numbers
+  pub addresses : (e : ℕ) (ws : List ℕ) (c : Counts) → (x (at b e ws) c).1.addresses ≡ c.addresses + k
+  pub leads : P → (e : ℕ) (ws : List ℕ) (c : Counts) (ls : List Stack) → Suits b withs looped e ws ls → (x (at b e ws) c).1.numbers ≤ b.numbers → c.addresses + k ≤ b.addresses → Leads (labelled b ls) (x (at b e ws) c).0 takes gives
+
+-- ---- labels
+
+behind_labels : (low ls : List Stack) (e : ℕ) → slice_get (low ++ ls) (e + length low) ≡ slice_get ls e
+behind_labels [] ls e = let i : e + 0 ≡ e = omega arith in ap (λ (k : ℕ). slice_get ls k) i
+behind_labels (t ∷ low) ls e = let i : e + suc (length low) ≡ suc (e + length low) = omega arith in ap (λ (k : ℕ). slice_get (t ∷ (low ++ ls)) k) i ∙ behind_labels low ls e
+
+module _ {b : Body} {w : ℕ} {l : Bool} {e : ℕ} {ws : List ℕ} {ls : List Stack} where
+  inside : (low : List Stack) (n : ℕ) → length low ≡ n → Suits b w l e ws ls → Suits b w l (e + n) ws (low ++ ls)
+  inside low n count s = record {
+    count = s.count;
+    opened = s.opened;
+    exit = λ p. ap (λ (k : ℕ). slice_get (low ++ ls) (e + k)) (sym count) ∙ behind_labels low ls e ∙ s.exit p;
+  }
+
+  inside_one : (t : Stack) → Suits b w l e ws ls → Suits b w l (suc e) ws (t ∷ ls)
+  inside_one t s = record { count = s.count; opened = s.opened; exit = s.exit }
+
+  begun : Suits b w l e ws ls → Suits b w true 1 ws ([] ∷ [] ∷ ls)
+  begun s = record { count = s.count; opened = s.opened; exit = λ p. refl }
+
+  left : Suits b w l e ws ls → Suits b w false e ws ls
+  left s = record { count = s.count; opened = s.opened; exit = λ p. absurd cc }
+
+-- ---- one record of WITH more
+
+last_is : (ws : List ℕ) (n : ℕ) → slice_get (ws ++ n ∷ []) (length ws) ≡ Some n
+last_is [] n = refl
+last_is (x ∷ ws) n = last_is ws n
+
+still_is : (ws : List ℕ) (n k x : ℕ) → slice_get ws k ≡ Some x → slice_get (ws ++ n ∷ []) k ≡ Some x
+still_is [] n k x h = absurd cc
+still_is (y ∷ ws) n zero x h = h
+still_is (y ∷ ws) n (suc k) x h = still_is ws n k x h
+
+count_more : (ws : List ℕ) (n : ℕ) → length (ws ++ n ∷ []) ≡ suc (length ws)
+count_more [] n = refl
+count_more (x ∷ ws) n = ap suc (count_more ws n)
+
+opened_more : (b : Body) (w : ℕ) (ws : List ℕ) (n : ℕ) → length ws ≡ w → IsAddress b n → ((k : ℕ) → k < w → (x : ℕ) × (slice_get ws k ≡ Some x) × IsAddress b x)
+    → (k : ℕ) → k < suc w → (x : ℕ) × (slice_get (ws ++ n ∷ []) k ≡ Some x) × IsAddress b x
+opened_more b w ws n count there all k lt = elim (cases_lt k w) [
+  | inl less ↦ let one = all k less in (one.0, still_is ws n k one.0 one.1, one.2)
+  | inr same ↦ (n, ap (λ (j : ℕ). slice_get (ws ++ n ∷ []) j) (let e : k ≡ length ws = omega (arith, same, lt, count) in e) ∙ last_is ws n, there)
+]
+
+module _ {b : Body} {w : ℕ} {l : Bool} {e : ℕ} {ws : List ℕ} {ls : List Stack} where
+  one_more : (n : ℕ) → IsAddress b n → Suits b w l e ws ls → Suits b (suc w) l e (ws ++ n ∷ []) ls
+  one_more n there s = record { count = count_more ws n ∙ ap suc s.count; opened = opened_more b w ws n s.count there s.opened; exit = s.exit }
+
+-- ---- what code is put together of
+
+module _ {b : Body} {P : Type 0} {w : ℕ} {l : Bool} where
+  pub fits_code : {f : Setting → List Instr} {s t : Stack} → (P → (e : ℕ) (ws : List ℕ) (ls : List Stack) → Suits b w l e ws ls → Leads (labelled b ls) (f (at b e ws)) s t) → Fits b P w l (with_setting (λ s. plain (f s))) 0 s t
+  fits_code h = record { numbers = λ e ws c. omega arith; addresses = λ e ws c. omega arith; leads = λ p e ws c ls suits room few. h p e ws ls suits }
+
+  pub fits_plain : {code : List Instr} {s t : Stack} → (P → (ls : List Stack) → Leads (labelled b ls) code s t) → Fits b P w l (plain code) 0 s t
+  fits_plain h = record { numbers = λ e ws c. omega arith; addresses = λ e ws c. omega arith; leads = λ p e ws c ls suits room few. h p ls }
+
+  pub fits_nothing : (s : Stack) → Fits b P w l nothing 0 s s
+  fits_nothing s = fits_plain (λ p ls. done s)
+
+  pub fits_then : {x y : Coded} {k n : ℕ} {s t u : Stack} → Fits b P w l x k s t → Fits b P w l y n t u → Fits b P w l (x ⨾ y) (k + n) s u
+  fits_then {x = x} {y = y} {k = k} {n = n} p q = record {
+    numbers = λ e ws c. let i = p.numbers e ws c in let j = q.numbers e ws (x (at b e ws) c).1 in omega (arith, i, j);
+    addresses = λ e ws c. let i = p.addresses e ws c in let j = q.addresses e ws (x (at b e ws) c).1 in omega (arith, i, j);
+    leads = λ h e ws c ls suits room few.
+        let d : Counts = (x (at b e ws) c).1 in let j = q.numbers e ws d in let i = p.addresses e ws c in
+        then_leads (p.leads h e ws c ls suits (omega (arith, j, room)) (omega (arith, few))) (q.leads h e ws d ls suits room (omega (arith, i, few)));
+  }
+
+  pub fits_above : (low : Stack) {x : Coded} {k : ℕ} {s t : Stack} → Fits b P w l x k s t → Fits b P w l x k (low ++ s) (low ++ t)
+  fits_above low p = record { numbers = p.numbers; addresses = p.addresses; leads = λ h e ws c ls suits room few. above low (p.leads h e ws c ls suits room few) }
+
+  pub fits_given : {Q : Type 0} {x : Coded} {k : ℕ} {s t : Stack} → (P → Q) → Fits b Q w l x k s t → Fits b P w l x k s t
+  fits_given f p = record { numbers = p.numbers; addresses = p.addresses; leads = λ h e ws c ls suits room few. p.leads (f h) e ws c ls suits room few }
+
+  pub fits_number : {f : ℕ → Coded} {k : ℕ} {s t : Stack} → Holds b → ((n : ℕ) → Fits b (P × IsNumber b n) w l (f n) k s t) → Fits b P w l (with_number f) k s t
+  fits_number {f = f} h p = record {
+    numbers = λ e ws c. let i = (p (number_at c)).numbers e ws (next c) in omega (arith, i);
+    addresses = λ e ws c. (p (number_at c)).addresses e ws (next c);
+    leads = λ g e ws c ls suits room few.
+        let i = (p (number_at c)).numbers e ws (next c) in
+        (p (number_at c)).leads (g, h.number c.numbers (omega (arith, i, room))) e ws (next c) ls suits room few;
+  }
+    where
+      number_at : Counts → ℕ
+      number_at c = b.arguments + (2 + (b.addresses + c.numbers))
+
+      next : Counts → Counts
+      next c = record c { numbers = suc c.numbers }
+
+  pub fits_address : {f : ℕ → Coded} {k : ℕ} {s t : Stack} → Holds b → ((n : ℕ) → Fits b (P × IsAddress b n) w l (f n) k s t) → Fits b P w l (with_address f) (suc k) s t
+  fits_address {f = f} {k = k} h p = record {
+    numbers = λ e ws c. (p (address_at c)).numbers e ws (next c);
+    addresses = λ e ws c. let i = (p (address_at c)).addresses e ws (next c) in omega (arith, i);
+    leads = λ g e ws c ls suits room few. (p (address_at c)).leads (g, h.address c.addresses (omega (arith, few))) e ws (next c) ls suits room (omega (arith, few));
+  }
+    where
+      address_at : Counts → ℕ
+      address_at c = b.arguments + (2 + c.addresses)
+
+      next : Counts → Counts
+      next c = record c { addresses = suc c.addresses }
+
+  pub fits_text : (bytes : ℕ) {f : ℕ → Coded} {k : ℕ} {s t : Stack} → ((n : ℕ) → Fits b P w l (f n) k s t) → Fits b P w l (with_text bytes f) k s t
+  fits_text bytes p = record {
+    numbers = λ e ws c. (p c.texts).numbers e ws (record c { texts = c.texts + bytes });
+    addresses = λ e ws c. (p c.texts).addresses e ws (record c { texts = c.texts + bytes });
+    leads = λ g e ws c ls suits room few. (p c.texts).leads g e ws (record c { texts = c.texts + bytes }) ls suits room few;
+  }
+
+  -- code behind so many labels more
+  pub fits_within : (low : List Stack) {n : ℕ} {wrap : List Instr → List Instr} {x : Coded} {k : ℕ} {s t s' t' : Stack} → length low ≡ n
+      → ((ls : List Stack) (code : List Instr) → Leads (labelled b (low ++ ls)) code s t → Leads (labelled b ls) (wrap code) s' t') → Fits b P w l x k s t → Fits b P w l (within n wrap x) k s' t'
+  fits_within low {n = n} {x = x} count wraps p = record {
+    numbers = λ e ws c. p.numbers (e + n) ws c;
+    addresses = λ e ws c. p.addresses (e + n) ws c;
+    leads = λ g e ws c ls suits room few. wraps ls (x (at b (e + n) ws) c).0 (p.leads g (e + n) ws c (low ++ ls) (inside low n count suits) room few);
+  }
+
+  -- the body of a LOOP
+  pub fits_leaving : {wrap : List Instr → List Instr} {x : Coded} {k : ℕ} {s t s' t' : Stack}
+      → ((ls : List Stack) (code : List Instr) → Leads (labelled b ([] ∷ [] ∷ ls)) code s t → Leads (labelled b ls) (wrap code) s' t') → Fits b P w true x k s t → Fits b P w l (leaving 1 wrap x) k s' t'
+  fits_leaving {x = x} wraps p = record {
+    numbers = λ e ws c. p.numbers 1 ws c;
+    addresses = λ e ws c. p.addresses 1 ws c;
+    leads = λ g e ws c ls suits room few. wraps ls (x (at b 1 ws) c).0 (p.leads g 1 ws c ([] ∷ [] ∷ ls) (begun suits) room few);
+  }
+
+  -- the body of a WITH
+  pub fits_under : {n : ℕ} {x : Coded} {k : ℕ} {s t : Stack} → (P → IsAddress b n) → Fits b P (suc w) l x k s t → Fits b P w l (under n x) k s t
+  fits_under {n = n} there p = record {
+    numbers = λ e ws c. p.numbers e (ws ++ n ∷ []) c;
+    addresses = λ e ws c. p.addresses e (ws ++ n ∷ []) c;
+    leads = λ g e ws c ls suits room few. p.leads g e (ws ++ n ∷ []) c ls (one_more n (there g) suits) room few;
+  }
+
+  pub fits_sides : {x y : Coded} {k n : ℕ} → Fits b P w l x k [] [] → Fits b P w l y n [] [] → Fits b P w l (if_else x y) (k + n) (I32 ∷ []) []
+  fits_sides {x = x} {y = y} {k = k} {n = n} p q = record {
+    numbers = λ e ws c. let i = p.numbers (suc e) ws c in let j = q.numbers (suc e) ws (x (at b (suc e) ws) c).1 in omega (arith, i, j);
+    addresses = λ e ws c. let i = p.addresses (suc e) ws c in let j = q.addresses (suc e) ws (x (at b (suc e) ws) c).1 in omega (arith, i, j);
+    leads = λ h e ws c ls suits room few.
+        let d : Counts = (x (at b (suc e) ws) c).1 in let j = q.numbers (suc e) ws d in let i = p.addresses (suc e) ws c in
+        one_of None [] (x (at b (suc e) ws) c).0 (Some (y (at b (suc e) ws) d).0)
+        (p.leads h (suc e) ws c ([] ∷ ls) (inside_one [] suits) (omega (arith, j, room)) (omega (arith, few)))
+        (q.leads h (suc e) ws d ([] ∷ ls) (inside_one [] suits) room (omega (arith, i, few))) (done []);
+  }
+
+  -- where no EXIT stands, one may stand
+  pub fits_anywhere : {x : Coded} {k : ℕ} {s t : Stack} → Fits b P w false x k s t → Fits b P w l x k s t
+  fits_anywhere p = record { numbers = p.numbers; addresses = p.addresses; leads = λ h e ws c ls suits room few. p.leads h e ws c ls (left suits) room few }
+
+  -- the same as something else
+  pub fits_as : {x y : Coded} {k n : ℕ} {s t : Stack} → x ≡ y → k ≡ n → Fits b P w l y n s t → Fits b P w l x k s t
+  fits_as {y = y} {k = k} {n = n} {s = s} {t = t} p q h = subst (λ (z : Coded). Fits b P w l z k s t) (sym p) (subst (λ (j : ℕ). Fits b P w l y j s t) (sym q) h)
+
+  pub fits_stacks : {x : Coded} {k : ℕ} {s s' t t' : Stack} → s ≡ s' → t ≡ t' → Fits b P w l x k s t → Fits b P w l x k s' t'
+  fits_stacks {x = x} {k = k} {s = s} {s' = s'} {t = t} p q h = subst (λ (y : Stack). Fits b P w l x k s' y) q (subst (λ (y : Stack). Fits b P w l x k y t) p h)
