@@ -23,7 +23,7 @@ pub then_leads : {c : Context} {xs ys : List Instr} {s t u : Stack} → Leads c 
 then_leads (Empty c s) q = q
 then_leads {ys = ys} {u = u} (More c i is below params results after typed rest) q = More c i (is ++ ys) below params results u typed (then_leads rest q)
 
-same_stacks : {c : Context} {xs : List Instr} {s s' t t' : Stack} → s ≡ s' → t ≡ t' → Leads c xs s t → Leads c xs s' t'
+pub same_stacks : {c : Context} {xs : List Instr} {s s' t t' : Stack} → s ≡ s' → t ≡ t' → Leads c xs s t → Leads c xs s' t'
 same_stacks {c = c} {xs = xs} {s' = s'} {t = t} p q h = subst (λ (y : Stack). Leads c xs s' y) q (subst (λ (y : Stack). Leads c xs y t) p h)
 
 pub above : (low : Stack) {c : Context} {xs : List Instr} {s t : Stack} → Leads c xs s t → Leads c xs (low ++ s) (low ++ t)

@@ -1,3 +1,5 @@
 mod Leading
 mod Fits
 mod Parts
+mod Opened
+mod Exprs
