@@ -1,11 +1,12 @@
 -- Expressions, designators, calls and arguments: a lemma for each construct, and then the induction.
 use Rattle.std.proofs.Common.{◌≡◌, ℕ, zero, suc, ◌+◌, ◌<◌, ℤ, pos, Bool, true, false, List, [], ◌∷◌, ◌++◌, map, length, Some, None, Option, refl, sym, ap, subst, ◌∙◌, arith}
+use Rattle.std.proofs.lemmas.List.{append-nil}
 use Rattle.std.specs.Prelude.{slice_get, if◌then◌else◌}
 use Rattle.wasm_tree.specs.declared.kinds.ValueType.TheVariants.{I32, I64}
 use Rattle.wasm_tree.specs.declared.kinds.ValueType.{ValueType}
 use Rattle.wasm_tree.specs.declared.kinds.FuncType.{FuncType}
 use Rattle.wasm_tree.specs.declared.instr.Instr.{Instr}
-use Rattle.wasm_tree.specs.declared.instr.Instr.TheVariants.{LocalGet, LocalSet, I64Const, Call as Calls}
+use Rattle.wasm_tree.specs.declared.instr.Instr.TheVariants.{LocalGet, LocalSet, GlobalGet, I64Const, Call as Calls}
 use Rattle.wasm_tree.specs.declared.instr.Numeric.TheVariants as numeric
 use Rattle.wasm_tree.specs.declared.instr.Operation.TheVariants.{Add, Sub, And, ShrU}
 use Rattle.wasm_tree.specs.declared.instr.Relation.TheVariants.{LtS, LeU}
@@ -45,7 +46,7 @@ use Rattle.m2_layout.specs.Shapes.{tree}
 use Rattle.m2_layout.specs.Texts.{passed}
 use Rattle.m2_scheme.specs.Coded.{Coded, Setting, plain, ◌⨾◌, nothing, all_coded, within, with_number, with_setting, top_local, number, raised, relation, operation, wrapped, extended, checked}
 use Rattle.m2_scheme.specs.Cells.{loaded, in_type, check_taken}
-use Rattle.m2_scheme.specs.Exprs.{Part, Linked, Numbered, all_arguments, arguments_of, has_result, is_own, relation_of, arithmetic_code, complement, empty_code, include_code, chosen_number, and_code, or_code, in_code, absolute_code, abs_code, capital_code, ord_check, behind, procedure_code, high_code, loaded_from, chain_code, argument_layer, call_layer, component_layer, link_layer, expr_layer, place_layer, root_layer, root_layer, with_code, global_code, slot_code, kept_address, open_address, open_element_code, element_code, high_index, passed_text, text_code, top_code, indirect, module_call, link_code, nested_call, value_call, expr_part, place_code, call_code}
+use Rattle.m2_scheme.specs.Exprs.{Part, Linked, Numbered, all_arguments, arguments_of, has_result, is_own, relation_of, arithmetic_code, complement, empty_code, include_code, chosen_number, and_code, or_code, in_code, absolute_code, abs_code, capital_code, ord_check, behind, procedure_code, high_code, loaded_from, chain_code, argument_layer, call_layer, component_layer, link_layer, expr_layer, place_layer, root_layer, root_layer, with_code, global_code, slot_code, kept_address, open_address, open_element_code, element_code, high_index, passed_text, text_code, top_code, indirect, module_call, link_code, nested_call, value_call, slots_global, slot_number, expr_part, place_code, call_code}
 use Rattle.m2_scheme.specs.Signatures.{Signatures, Signature, signature, of_heading, joined, is_among, so_many, results_of, type_of, of_expr, of_place, of_call}
 use Rattle.m2_scheme.specs.Signatures as sign
 use Rattle.m2_valid.specs.WellFormed.{IsScalar, IsKnown, IsRoutine, IsProcedure, IsRoot}
@@ -59,6 +60,20 @@ NN = I64 ∷ I64 ∷ []
 
 abbrev pub SN : Stack
 SN = I32 ∷ I64 ∷ []
+
+-- ---- all signatures of some calls have a number
+
+abbrev pub AreKnown : Signatures → Signatures → Type 0
+AreKnown known [] = Unit {0}
+AreKnown known (s ∷ ss) = (is_among known s ≡ true) × AreKnown known ss
+
+pub first_known : (known xs ys : Signatures) → AreKnown known (xs ++ ys) → AreKnown known xs
+first_known known [] ys k = tt
+first_known known (x ∷ xs) ys k = (k.0, first_known known xs ys k.1)
+
+pub rest_known : (known xs ys : Signatures) → AreKnown known (xs ++ ys) → AreKnown known ys
+rest_known known [] ys k = k
+rest_known known (x ∷ xs) ys k = rest_known known xs ys k.1
 
 module _ (b : Body) (h : Holds b) (w : ℕ) (l : Bool) where
   abbrev pub Fine : Coded → Stack → Stack → Type 0
@@ -174,3 +189,138 @@ module _ (b : Body) (h : Holds b) (w : ℕ) (l : Bool) where
 
   called_fine : (t : TypeNo) (c : Call) → FineCall c true → FineExpr (expr.Call t c)
   called_fine t c x = from_expr (expr.Call t c) (layer.Call t c) (expr.outs-Call t c) x
+
+  -- ---- operators of chains
+
+  from_link : (e : Link) (x : Link-F Argument Call Component Link TypedExpr Place) → out-Link e ≡ x → Fine (link_layer (link_opened b.numbered x)).code N N → FineLink e
+  from_link e x q k = fits_as (ap (λ (p : Linked). p.code) (link_at b.numbered e x q)) refl k
+
+  arithmetic_fine : (o : Arithmetic) (t : TypeNo) (e : TypedExpr) → FineExpr e → FineLink (link.Arithmetic o t e)
+  arithmetic_fine o t e x = from_link (link.Arithmetic o t e) (layer.Arithmetic o t e) (link.outs-Arithmetic o t e) (behind_fine (λ types. arithmetic_code types o t) (fits_above N x) (λ ls. arithmetic_leads b h ls b.home.types o t))
+
+  and_fine : (e : TypedExpr) → FineExpr e → FineLink (link.And e)
+  and_fine e x = from_link (link.And e) (layer.And e) (link.outs-And e)
+      (fits_then (plain_fine (λ ls. calc numeric.I32WrapI64 [] (done S)))
+      (fits_within (N ∷ []) refl (λ ls code k. one_of (Some I64) [] code (Some (I64Const 0 ∷ [])) k (long 0 [] (done N)) (done N)) x))
+
+  or_fine : (e : TypedExpr) → FineExpr e → FineLink (link.Or e)
+  or_fine e x = from_link (link.Or e) (layer.Or e) (link.outs-Or e)
+      (fits_then (plain_fine (λ ls. calc numeric.I32WrapI64 [] (done S)))
+      (fits_within (N ∷ []) refl (λ ls code k. one_of (Some I64) [] (I64Const 1 ∷ []) (Some code) (long 1 [] (done N)) k (done N)) x))
+
+  combine_fine : (o : SetOperator) (e : TypedExpr) → FineExpr e → FineLink (link.Combine o e)
+  combine_fine o e x = from_link (link.Combine o e) (layer.Combine o e) (link.outs-Combine o e) (fits_then (fits_above N x) (plain_fine (λ ls. set_leads b h ls o)))
+
+  -- ---- designators
+
+  root_fine : (r : Root) → IsRoot b.home w r → Fine (root_layer r) [] S
+  root_fine (root.Global v) known = fits_code {f = λ s. global_code s.home v} (λ p e ws ls suits. global_leads b h ls v known)
+  root_fine (root.Local x) known = fits_code {f = λ s. slot_code s x []} (λ p e ws ls suits. slot_leads b h ls (at b e ws) x [])
+  root_fine (root.Alias x) known = fits_code {f = λ s. kept_address s x []} (λ p e ws ls suits. kept_leads b h ls (at b e ws) x [])
+  root_fine (root.Open x) known = fits_code {f = λ s. open_address s x} (λ p e ws ls suits. open_leads b h ls (at b e ws) x)
+  root_fine (root.With k) lt = fits_code {f = λ s. with_code (slice_get s.withs k)} (λ p e ws ls suits. opened_leads ls ws (suits.opened k lt))
+    where
+      opened_leads : (ls : List Stack) (ws : List ℕ) → ((n : ℕ) × (slice_get ws k ≡ Some n) × (slice_get b.base.locals n ≡ Some I32)) → Leads (labelled b ls) (with_code (slice_get ws k)) [] S
+      opened_leads ls ws o = subst (λ (x : Option ℕ). Leads (labelled b ls) (with_code x) [] S) (sym o.1) (get o.0 I32 [] o.2 (done S))
+
+  from_component : (e : Component) (x : Component-F Argument Call Component Link TypedExpr Place) → out-Component e ≡ x → Fine (component_layer (component_opened b.numbered x)) S S → FineComponent e
+  from_component e x q k = fits_as (component_at b.numbered e x q) refl k
+
+  field_fine : (t : TypeNo) (k : ℕ) → FineComponent (component.Field t k)
+  field_fine t k = from_component (component.Field t k) (layer.Field t k) (component.outs-Field t k) (fits_code {f = λ s. raised (offset (tree s.home.types t) (k ∷ []))} (λ p e ws ls suits. raised_leads b h ls (offset (tree b.home.types t) (k ∷ []))))
+
+  element_fine : (t : TypeNo) (i : TypedExpr) → FineExpr i → FineComponent (component.Element t i)
+  element_fine t i x = from_component (component.Element t i) (layer.Element t i) (component.outs-Element t i) (behind_fine (λ types. element_code types t) (fits_above S x) (λ ls. element_leads b h ls b.home.types t))
+
+  open_element_fine : (x : Slot) (t : TypeNo) (i : TypedExpr) → FineExpr i → FineComponent (component.OpenElement x t i)
+  open_element_fine x t i y = from_component (component.OpenElement x t i) (layer.OpenElement x t i) (component.outs-OpenElement x t i)
+      (fits_then (fits_above S y) (fits_code {f = λ s. open_element_code s x t} (λ p e ws ls suits. open_element_leads b h ls (at b e ws) x t)))
+
+  place_fine : (d : Place) → IsRoot b.home w d.root → Fine (all_coded (map (component_code b.numbered) d.components)) S S → FinePlace d
+  place_fine d r x = fits_as (place_at b.numbered d (out-Place d) refl) refl (fits_then (root_fine d.root r) x)
+
+  -- ---- arguments
+
+  from_argument : (e : Argument) (x : Argument-F Argument Call Component Link TypedExpr Place) (s : Stack) → out-Argument e ≡ x → Fine (argument_layer (argument_opened b.numbered x)) [] s → Fine (argument_code b.numbered e) [] s
+  from_argument e x s q k = fits_as (argument_at b.numbered e x q) refl k
+
+  value_fine : (t : TypeNo) (e : TypedExpr) → FineExpr e → FineArgument (argument.Value t e) false
+  value_fine t e x = from_argument (argument.Value t e) (layer.Value t e) N (argument.outs-Value t e)
+      (behind_fine (λ types. check_taken types t (expr_part b.numbered e).constant (expr_part b.numbered e).of) x (λ ls. taken_leads b h ls b.home.types t (expr_part b.numbered e).constant (expr_part b.numbered e).of))
+
+  actual_fine : (d : Place) → FinePlace d → FineArgument (argument.Place d) false
+  actual_fine d x = from_argument (argument.Place d) (layer.Place d) N (argument.outs-Place d) (fits_then x (plain_fine (λ ls. calc numeric.I64ExtendI32U [] (done N))))
+
+  array_fine : (t : TypeNo) (d : Place) → FinePlace d → FineArgument (argument.Array t d) true
+  array_fine t d x = from_argument (argument.Array t d) (layer.Array t d) NN (argument.outs-Array t d)
+      (behind_fine (λ types. extended ∷ I64Const (high_index types t) ∷ []) x (λ ls. calc numeric.I64ExtendI32U [] (long _ N (done NN))))
+
+  open_fine : (x : Slot) → FineArgument (argument.Open x) true
+  open_fine x = from_argument (argument.Open x) (layer.Open x) NN (argument.outs-Open x)
+      (fits_code {f = λ s. open_address s x ++ (extended ∷ high_code s x)} (λ p e ws ls suits. then_leads (open_leads b h ls (at b e ws) x) (calc numeric.I64ExtendI32U [] (above N (high_leads b h ls (at b e ws) x)))))
+
+  text_fine : (text : List ℕ) → FineArgument (argument.Text text) true
+  text_fine text = from_argument (argument.Text text) (layer.Text text) NN (argument.outs-Text text)
+      (fits_text (length (passed text)) (λ n. plain_fine (λ ls. then_leads (text_leads b h ls n) (calc numeric.I64ExtendI32U [] (long _ N (done NN))))))
+
+  -- ---- calls
+
+  from_call : (e : Call) (x : Call-F Argument Call Component Link TypedExpr Place) (r : Bool) → out-Call e ≡ x → Fine (call_layer b.numbered (call_opened b.numbered x)) [] (results_of r) → FineCall e r
+  from_call e x r q k = fits_as (call_at b.numbered e x q) refl k
+
+  top_fine : Fine top_code [] S
+  top_fine = fits_code {f = λ s. LocalGet (top_local s) ∷ []} (λ p e ws ls suits. get b.arguments I32 [] h.top (done S))
+
+  -- the type of what is called: its frame, so many numbers, and a result or none
+  abbrev pub called_type : ℕ → Bool → FuncType
+  called_type n r = type_of (signature n r)
+
+  -- a procedure with this heading
+  abbrev pub heading_type : TypeNo → FuncType
+  heading_type t = called_type (all_arguments (formals_of b.home.types t)) (has_result b.home.types t)
+
+  indirect_leads : (ls : List Stack) (t : TypeNo) → is_among b.known (of_heading b.home.types t) ≡ true → Leads (labelled b ls) (indirect b.numbered b.home.types t ∷ []) ((I32 ∷ so_many (all_arguments (formals_of b.home.types t))) ++ I32 ∷ []) (results_of (has_result b.home.types t))
+  indirect_leads ls t known = invoke_slot _ (heading_type t) [] h.table (h.typed (of_heading b.home.types t) known) (done (results_of (has_result b.home.types t)))
+
+  own_leads : (ls : List Stack) (f : Procedure) → IsRoutine b.home.procedures f.number f.heading → Leads (labelled b ls) (Calls (8 + f.number) ∷ []) (I32 ∷ so_many (all_arguments (formals_of b.home.types f.heading))) (results_of (has_result b.home.types f.heading))
+  own_leads ls f r = invoke (8 + f.number) (heading_type f.heading) []
+      (subst (λ (t : TypeNo). Callable b.base (8 + f.number) (heading_type t)) r.2 (h.procedure f.number r.0 r.1)) (done (results_of (has_result b.home.types f.heading)))
+
+  module_leads : (ls : List Stack) (f : Procedure) → IsProcedure b.home f → (q : Bool) → is_own b.home f.home ≡ q → AreKnown b.known (if q then [] else of_heading b.home.types f.heading ∷ [])
+      → Leads (labelled b ls) (if q then Calls (8 + f.number) ∷ [] else GlobalGet (slots_global b.home f.home) ∷ (raised (slot_number f) ++ indirect b.numbered b.home.types f.heading ∷ [])) (I32 ∷ so_many (all_arguments (formals_of b.home.types f.heading))) (results_of (has_result b.home.types f.heading))
+  module_leads ls f p true e k = own_leads ls f (p.own e)
+  module_leads ls f p false e k =
+      let s : Stack = I32 ∷ so_many (all_arguments (formals_of b.home.types f.heading)) in
+      same_stacks (append-nil s) refl (glob (slots_global b.home f.home) s (slots_there b h ls f.home p.known) (then_leads (above s (raised_leads b h ls (slot_number f))) (indirect_leads ls f.heading k.0)))
+
+  -- the arguments of a call, behind what it takes before them
+  abbrev pub FineArguments : List Argument → TypeNo → Type 0
+  FineArguments xs t = Fine (all_coded (map (argument_code b.numbered) xs)) [] (so_many (all_arguments (formals_of b.home.types t)))
+
+  module_fine : (f : Procedure) (xs : List Argument) → IsProcedure b.home f → AreKnown b.known (if is_own b.home f.home then [] else of_heading b.home.types f.heading ∷ []) → FineArguments xs f.heading → FineCall (call.Module f xs) (has_result b.home.types f.heading)
+  module_fine f xs p k x = from_call (call.Module f xs) (layer.Module f xs) (has_result b.home.types f.heading) (call.outs-Module f xs)
+      (fits_then top_fine (fits_then (fits_above S x) (fits_code {f = λ s. module_call b.numbered s.home f} (λ q e ws ls suits. module_leads ls f p (is_own b.home f.home) refl k))))
+
+  nested_leads : (ls : List Stack) (f : LocalProcedure) → IsRoutine b.home.locals f.number f.heading
+      → Leads (labelled b ls) (nested_call b.numbered b.home f) (I32 ∷ I64 ∷ so_many (all_arguments (formals_of b.home.types f.heading))) (results_of (has_result b.home.types f.heading))
+  nested_leads ls f r =
+      let k : ℕ = 8 + (length b.home.procedures + f.number) in
+      invoke k (called_type (suc (all_arguments (formals_of b.home.types f.heading))) (has_result b.home.types f.heading)) []
+      (subst (λ (t : TypeNo). Callable b.base k (called_type (suc (all_arguments (formals_of b.home.types t))) (has_result b.home.types t))) r.2 (h.nested f.number r.0 r.1)) (done (results_of (has_result b.home.types f.heading)))
+
+  nested_fine : (f : LocalProcedure) (xs : List Argument) → IsRoutine b.home.locals f.number f.heading → FineArguments xs f.heading → FineCall (call.Nested f xs) (has_result b.home.types f.heading)
+  nested_fine f xs r x = from_call (call.Nested f xs) (layer.Nested f xs) (has_result b.home.types f.heading) (call.outs-Nested f xs)
+      (fits_then top_fine (fits_then (plain_fine (λ ls. above S (then_leads (frame_leads b h ls f.up) (calc numeric.I64ExtendI32U [] (done N))))) (fits_then (fits_above SN x)
+      (fits_code {f = λ s. nested_call b.numbered s.home f} (λ q e ws ls suits. nested_leads ls f r)))))
+
+  value_call_fine : (n : ℕ) (t : TypeNo) → is_among b.known (of_heading b.home.types t) ≡ true
+      → Fits b (Unit {0} × IsNumber b n) w l (value_call b.numbered n t) 0 (I32 ∷ so_many (all_arguments (formals_of b.home.types t))) (results_of (has_result b.home.types t))
+  value_call_fine n t k =
+      let s : Stack = I32 ∷ so_many (all_arguments (formals_of b.home.types t)) in
+      fits_code {f = λ s. LocalGet n ∷ wrapped ∷ indirect b.numbered s.home.types t ∷ []}
+      (λ q e ws ls suits. same_stacks (append-nil s) refl (get n I64 s q.1 (calc numeric.I32WrapI64 s (indirect_leads ls t k))))
+
+  variable_fine : (t : TypeNo) (d : Place) (xs : List Argument) → IsScalar b.home.types t → is_among b.known (of_heading b.home.types t) ≡ true → FinePlace d → FineArguments xs t → FineCall (call.Variable t d xs) (has_result b.home.types t)
+  variable_fine t d xs s k x y = from_call (call.Variable t d xs) (layer.Variable t d xs) (has_result b.home.types t) (call.outs-Variable t d xs)
+      (fits_then (behind_fine (λ types. loaded types t) x (λ ls. loaded_leads b h ls b.home.types t s)) (fits_then (plain_fine (λ ls. checked_leads b h ls (pos 1) (pos 4294967295) 7)) (fits_number h (λ n.
+      fits_then (fits_plain (λ p ls. set n I64 [] p.1 (done []))) (fits_then (fits_given (λ p. tt) top_fine) (fits_then (fits_given (λ p. tt) (fits_above S y)) (value_call_fine n t k)))))))
