@@ -3,3 +3,4 @@ mod Fits
 mod Parts
 mod Opened
 mod Exprs
+mod Values
