@@ -51,7 +51,7 @@ use Rattle.m2_scheme.specs.Signatures.{Signatures, Signature, signature, of_head
 use Rattle.m2_scheme.specs.Signatures as sign
 use Rattle.m2_valid.specs.WellFormed.{IsScalar, IsKnown, IsRoutine, IsProcedure, IsRoot}
 use Rattle.m2_valid.proofs.Leading.{Stack, Callable, then_leads, above, same_stacks, get, set, glob, long, calc, one_of, done, invoke, invoke_slot}
-use Rattle.m2_valid.proofs.Fits.{Body, Holds, Suits, Fits, at, labelled, IsNumber, fits_code, fits_plain, fits_nothing, fits_then, fits_above, fits_given, fits_number, fits_text, fits_within, fits_as, fits_stacks}
+use Rattle.m2_valid.proofs.Fits.{Body, Holds, Suits, Fits, at, labelled, IsNumber, fits_code, fits_plain, fits_nothing, fits_then, fits_above, fits_given, fits_number, fits_text, fits_valued, fits_as, fits_stacks}
 use Rattle.m2_valid.proofs.Parts.{S, N, if_leads, checked_leads, type_leads, taken_leads, loaded_leads, raised_leads, frame_leads, slot_leads, kept_leads, open_leads, high_leads, element_leads, open_element_leads, text_leads, arithmetic_leads, complement_leads, set_leads, empty_leads, ord_leads, slots_there, global_leads, procedure_leads}
 use Rattle.m2_valid.proofs.Opened.{argument_code, component_code, link_part, expr_opened, expr_at, link_opened, link_at, component_opened, component_at, place_opened, place_at, call_opened, call_at, argument_opened, argument_at}
 
@@ -77,7 +77,7 @@ rest_known known (x ∷ xs) ys k = rest_known known xs ys k.1
 
 module _ (b : Body) (h : Holds b) (w : ℕ) (l : Bool) where
   abbrev pub Fine : Coded → Stack → Stack → Type 0
-  Fine x s t = Fits b (Unit {0}) w l x 0 s t
+  Fine x s t = Fits b (Unit {0}) w l (λ e. e) 0 x 0 s t
 
   abbrev pub FineExpr : TypedExpr → Type 0
   FineExpr e = Fine (expr_part b.numbered e).code [] N
@@ -201,12 +201,12 @@ module _ (b : Body) (h : Holds b) (w : ℕ) (l : Bool) where
   pub and_fine : (e : TypedExpr) → FineExpr e → FineLink (link.And e)
   and_fine e x = from_link (link.And e) (layer.And e) (link.outs-And e)
       (fits_then (plain_fine (λ ls. calc numeric.I32WrapI64 [] (done S)))
-      (fits_within (N ∷ []) refl (λ ls code k. one_of (Some I64) [] code (Some (I64Const 0 ∷ [])) k (long 0 [] (done N)) (done N)) x))
+      (fits_valued N (λ ls code k. one_of (Some I64) [] code (Some (I64Const 0 ∷ [])) k (long 0 [] (done N)) (done N)) x))
 
   pub or_fine : (e : TypedExpr) → FineExpr e → FineLink (link.Or e)
   or_fine e x = from_link (link.Or e) (layer.Or e) (link.outs-Or e)
       (fits_then (plain_fine (λ ls. calc numeric.I32WrapI64 [] (done S)))
-      (fits_within (N ∷ []) refl (λ ls code k. one_of (Some I64) [] (I64Const 1 ∷ []) (Some code) (long 1 [] (done N)) k (done N)) x))
+      (fits_valued N (λ ls code k. one_of (Some I64) [] (I64Const 1 ∷ []) (Some code) (long 1 [] (done N)) k (done N)) x))
 
   pub combine_fine : (o : SetOperator) (e : TypedExpr) → FineExpr e → FineLink (link.Combine o e)
   combine_fine o e x = from_link (link.Combine o e) (layer.Combine o e) (link.outs-Combine o e) (fits_then (fits_above N x) (plain_fine (λ ls. set_leads b h ls o)))
@@ -314,7 +314,7 @@ module _ (b : Body) (h : Holds b) (w : ℕ) (l : Bool) where
       (fits_code {f = λ s. nested_call b.numbered s.home f} (λ q e ws ls suits. nested_leads ls f r)))))
 
   pub value_call_fine : (n : ℕ) (t : TypeNo) → is_among b.known (of_heading b.home.types t) ≡ true
-      → Fits b (Unit {0} × IsNumber b n) w l (value_call b.numbered n t) 0 (I32 ∷ so_many (all_arguments (formals_of b.home.types t))) (results_of (has_result b.home.types t))
+      → Fits b (Unit {0} × IsNumber b n) w l (λ e. e) 0 (value_call b.numbered n t) 0 (I32 ∷ so_many (all_arguments (formals_of b.home.types t))) (results_of (has_result b.home.types t))
   value_call_fine n t k =
       let s : Stack = I32 ∷ so_many (all_arguments (formals_of b.home.types t)) in
       fits_code {f = λ s. LocalGet n ∷ wrapped ∷ indirect b.numbered s.home.types t ∷ []}

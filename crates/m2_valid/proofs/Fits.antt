@@ -16,7 +16,7 @@ use Rattle.m2_scheme.specs.Scheme.{type_from}
 use Rattle.m2_scheme.specs.Coded.{Coded, Counts, Setting, plain, ◌⨾◌, nothing, within, with_address, with_number, with_text, with_setting, put, stop, copy, fill, check, quotient, remainder, body_index}
 use Rattle.m2_scheme.specs.Exprs.{Numbered, all_arguments, has_result}
 use Rattle.m2_scheme.specs.Signatures.{Signatures, Signature, signature, is_among, results_of, type_of}
-use Rattle.m2_scheme.specs.Steps.{if_else, leaving, under, block_loop}
+use Rattle.m2_scheme.specs.Steps.{if_else, leaving, under, boxed}
 use Rattle.m2_valid.proofs.Leading.{Stack, then_leads, above, Callable, done, block, loop, one_of}
 
 -- ---- a function in the making, and what it may name
@@ -76,11 +76,17 @@ pub record Suits (b : Body) (withs : ℕ) (looped : Bool) (e : ℕ) (ws : List �
   pub opened : (k : ℕ) → k < withs → (n : ℕ) × (slice_get ws k ≡ Some n) × IsAddress b n
   pub exit : looped ≡ true → slice_get ls e ≡ Some []
 
--- Under a premise the code takes these operands and gives those. It needs so many locals for addresses.
-pub record Fits (b : Body) (P : Type 0) (withs : ℕ) (looped : Bool) (x : Coded) (k : ℕ) (takes gives : Stack) : Type 0 where
-  pub numbers : (e : ℕ) (ws : List ℕ) (c : Counts) → c.numbers ≤ (x (at b e ws) c).1.numbers
-  pub addresses : (e : ℕ) (ws : List ℕ) (c : Counts) → (x (at b e ws) c).1.addresses ≡ c.addresses + k
-  pub leads : P → (e : ℕ) (ws : List ℕ) (c : Counts) (ls : List Stack) → Suits b withs looped e ws ls → (x (at b e ws) c).1.numbers ≤ b.numbers → c.addresses + k ≤ b.addresses → Leads (labelled b ls) (x (at b e ws) c).0 takes gives
+-- Labels of blocks around it, each of which takes nothing.
+abbrev pub blocks : ℕ → List Stack
+blocks zero = []
+blocks (suc n) = [] ∷ blocks n
+
+-- Under a premise the code takes these operands and gives those. It stands within n more blocks than its setting says, with
+-- the label of EXIT shifted, and it needs k locals for addresses.
+pub record Fits (b : Body) (P : Type 0) (withs : ℕ) (looped : Bool) (shift : ℕ → ℕ) (n : ℕ) (x : Coded) (k : ℕ) (takes gives : Stack) : Type 0 where
+  pub numbers : (e : ℕ) (ws : List ℕ) (c : Counts) → c.numbers ≤ (x (at b (shift e) ws) c).1.numbers
+  pub addresses : (e : ℕ) (ws : List ℕ) (c : Counts) → (x (at b (shift e) ws) c).1.addresses ≡ c.addresses + k
+  pub leads : P → (e : ℕ) (ws : List ℕ) (c : Counts) (ls : List Stack) → Suits b withs looped e ws ls → (x (at b (shift e) ws) c).1.numbers ≤ b.numbers → c.addresses + k ≤ b.addresses → Leads (labelled b (blocks n ++ ls)) (x (at b (shift e) ws) c).0 takes gives
 
 -- ---- labels
 
@@ -89,20 +95,20 @@ behind_labels [] ls e = let i : e + 0 ≡ e = omega arith in ap (λ (k : ℕ). s
 behind_labels (t ∷ low) ls e = let i : e + suc (length low) ≡ suc (e + length low) = omega arith in ap (λ (k : ℕ). slice_get (t ∷ (low ++ ls)) k) i ∙ behind_labels low ls e
 
 module _ {b : Body} {w : ℕ} {l : Bool} {e : ℕ} {ws : List ℕ} {ls : List Stack} where
-  inside : (low : List Stack) (n : ℕ) → length low ≡ n → Suits b w l e ws ls → Suits b w l (e + n) ws (low ++ ls)
+  pub inside : (low : List Stack) (n : ℕ) → length low ≡ n → Suits b w l e ws ls → Suits b w l (e + n) ws (low ++ ls)
   inside low n count s = record {
     count = s.count;
     opened = s.opened;
     exit = λ p. ap (λ (k : ℕ). slice_get (low ++ ls) (e + k)) (sym count) ∙ behind_labels low ls e ∙ s.exit p;
   }
 
-  inside_one : (t : Stack) → Suits b w l e ws ls → Suits b w l (suc e) ws (t ∷ ls)
+  pub inside_one : (t : Stack) → Suits b w l e ws ls → Suits b w l (suc e) ws (t ∷ ls)
   inside_one t s = record { count = s.count; opened = s.opened; exit = s.exit }
 
-  begun : Suits b w l e ws ls → Suits b w true 1 ws ([] ∷ [] ∷ ls)
+  pub begun : Suits b w l e ws ls → Suits b w true 1 ws ([] ∷ [] ∷ ls)
   begun s = record { count = s.count; opened = s.opened; exit = λ p. refl }
 
-  left : Suits b w l e ws ls → Suits b w false e ws ls
+  pub left : Suits b w l e ws ls → Suits b w false e ws ls
   left s = record { count = s.count; opened = s.opened; exit = λ p. absurd cc }
 
 -- ---- one record of WITH more
@@ -133,32 +139,40 @@ module _ {b : Body} {w : ℕ} {l : Bool} {e : ℕ} {ws : List ℕ} {ls : List St
 
 -- ---- what code is put together of
 
-module _ {b : Body} {P : Type 0} {w : ℕ} {l : Bool} where
-  pub fits_code : {f : Setting → List Instr} {s t : Stack} → (P → (e : ℕ) (ws : List ℕ) (ls : List Stack) → Suits b w l e ws ls → Leads (labelled b ls) (f (at b e ws)) s t) → Fits b P w l (with_setting (λ s. plain (f s))) 0 s t
+module _ {b : Body} {P : Type 0} {w : ℕ} {l : Bool} {shift : ℕ → ℕ} {n : ℕ} where
+  pub fits_code : {f : Setting → List Instr} {s t : Stack} → (P → (e : ℕ) (ws : List ℕ) (ls : List Stack) → Suits b w l e ws ls → Leads (labelled b (blocks n ++ ls)) (f (at b (shift e) ws)) s t)
+      → Fits b P w l shift n (with_setting (λ s. plain (f s))) 0 s t
   fits_code h = record { numbers = λ e ws c. omega arith; addresses = λ e ws c. omega arith; leads = λ p e ws c ls suits room few. h p e ws ls suits }
 
-  pub fits_plain : {code : List Instr} {s t : Stack} → (P → (ls : List Stack) → Leads (labelled b ls) code s t) → Fits b P w l (plain code) 0 s t
+  pub fits_plain : {code : List Instr} {s t : Stack} → (P → (ls : List Stack) → Leads (labelled b (blocks n ++ ls)) code s t) → Fits b P w l shift n (plain code) 0 s t
   fits_plain h = record { numbers = λ e ws c. omega arith; addresses = λ e ws c. omega arith; leads = λ p e ws c ls suits room few. h p ls }
 
-  pub fits_nothing : (s : Stack) → Fits b P w l nothing 0 s s
+  pub fits_nothing : (s : Stack) → Fits b P w l shift n nothing 0 s s
   fits_nothing s = fits_plain (λ p ls. done s)
 
-  pub fits_then : {x y : Coded} {k n : ℕ} {s t u : Stack} → Fits b P w l x k s t → Fits b P w l y n t u → Fits b P w l (x ⨾ y) (k + n) s u
-  fits_then {x = x} {y = y} {k = k} {n = n} p q = record {
-    numbers = λ e ws c. let i = p.numbers e ws c in let j = q.numbers e ws (x (at b e ws) c).1 in omega (arith, i, j);
-    addresses = λ e ws c. let i = p.addresses e ws c in let j = q.addresses e ws (x (at b e ws) c).1 in omega (arith, i, j);
+  pub fits_then : {x y : Coded} {k j : ℕ} {s t u : Stack} → Fits b P w l shift n x k s t → Fits b P w l shift n y j t u → Fits b P w l shift n (x ⨾ y) (k + j) s u
+  fits_then {x = x} {y = y} {k = k} {j = j} p q = record {
+    numbers = λ e ws c. let f = p.numbers e ws c in let g = q.numbers e ws (x (at b (shift e) ws) c).1 in omega (arith, f, g);
+    addresses = λ e ws c. let f = p.addresses e ws c in let g = q.addresses e ws (x (at b (shift e) ws) c).1 in omega (arith, f, g);
     leads = λ h e ws c ls suits room few.
-        let d : Counts = (x (at b e ws) c).1 in let j = q.numbers e ws d in let i = p.addresses e ws c in
-        then_leads (p.leads h e ws c ls suits (omega (arith, j, room)) (omega (arith, few))) (q.leads h e ws d ls suits room (omega (arith, i, few)));
+        let d : Counts = (x (at b (shift e) ws) c).1 in let g = q.numbers e ws d in let f = p.addresses e ws c in
+        then_leads (p.leads h e ws c ls suits (omega (arith, g, room)) (omega (arith, few))) (q.leads h e ws d ls suits room (omega (arith, f, few)));
   }
 
-  pub fits_above : (low : Stack) {x : Coded} {k : ℕ} {s t : Stack} → Fits b P w l x k s t → Fits b P w l x k (low ++ s) (low ++ t)
+  pub fits_above : (low : Stack) {x : Coded} {k : ℕ} {s t : Stack} → Fits b P w l shift n x k s t → Fits b P w l shift n x k (low ++ s) (low ++ t)
   fits_above low p = record { numbers = p.numbers; addresses = p.addresses; leads = λ h e ws c ls suits room few. above low (p.leads h e ws c ls suits room few) }
 
-  pub fits_given : {Q : Type 0} {x : Coded} {k : ℕ} {s t : Stack} → (P → Q) → Fits b Q w l x k s t → Fits b P w l x k s t
+  pub fits_given : {Q : Type 0} {x : Coded} {k : ℕ} {s t : Stack} → (P → Q) → Fits b Q w l shift n x k s t → Fits b P w l shift n x k s t
   fits_given f p = record { numbers = p.numbers; addresses = p.addresses; leads = λ h e ws c ls suits room few. p.leads (f h) e ws c ls suits room few }
 
-  pub fits_number : {f : ℕ → Coded} {k : ℕ} {s t : Stack} → Holds b → ((n : ℕ) → Fits b (P × IsNumber b n) w l (f n) k s t) → Fits b P w l (with_number f) k s t
+  -- the same as something else
+  pub fits_as : {x y : Coded} {k j : ℕ} {s t : Stack} → x ≡ y → k ≡ j → Fits b P w l shift n y j s t → Fits b P w l shift n x k s t
+  fits_as {y = y} {k = k} {j = j} {s = s} {t = t} p q h = subst (λ (z : Coded). Fits b P w l shift n z k s t) (sym p) (subst (λ (i : ℕ). Fits b P w l shift n y i s t) (sym q) h)
+
+  pub fits_stacks : {x : Coded} {k : ℕ} {s s' t t' : Stack} → s ≡ s' → t ≡ t' → Fits b P w l shift n x k s t → Fits b P w l shift n x k s' t'
+  fits_stacks {x = x} {k = k} {s = s} {s' = s'} {t = t} p q h = subst (λ (y : Stack). Fits b P w l shift n x k s' y) q (subst (λ (y : Stack). Fits b P w l shift n x k y t) p h)
+
+  pub fits_number : {f : ℕ → Coded} {k : ℕ} {s t : Stack} → Holds b → ((i : ℕ) → Fits b (P × IsNumber b i) w l shift n (f i) k s t) → Fits b P w l shift n (with_number f) k s t
   fits_number {f = f} h p = record {
     numbers = λ e ws c. let i = (p (number_at c)).numbers e ws (next c) in omega (arith, i);
     addresses = λ e ws c. (p (number_at c)).addresses e ws (next c);
@@ -173,7 +187,7 @@ module _ {b : Body} {P : Type 0} {w : ℕ} {l : Bool} where
       next : Counts → Counts
       next c = record c { numbers = suc c.numbers }
 
-  pub fits_address : {f : ℕ → Coded} {k : ℕ} {s t : Stack} → Holds b → ((n : ℕ) → Fits b (P × IsAddress b n) w l (f n) k s t) → Fits b P w l (with_address f) (suc k) s t
+  pub fits_address : {f : ℕ → Coded} {k : ℕ} {s t : Stack} → Holds b → ((i : ℕ) → Fits b (P × IsAddress b i) w l shift n (f i) k s t) → Fits b P w l shift n (with_address f) (suc k) s t
   fits_address {f = f} {k = k} h p = record {
     numbers = λ e ws c. (p (address_at c)).numbers e ws (next c);
     addresses = λ e ws c. let i = (p (address_at c)).addresses e ws (next c) in omega (arith, i);
@@ -186,57 +200,80 @@ module _ {b : Body} {P : Type 0} {w : ℕ} {l : Bool} where
       next : Counts → Counts
       next c = record c { addresses = suc c.addresses }
 
-  pub fits_text : (bytes : ℕ) {f : ℕ → Coded} {k : ℕ} {s t : Stack} → ((n : ℕ) → Fits b P w l (f n) k s t) → Fits b P w l (with_text bytes f) k s t
+  pub fits_text : (bytes : ℕ) {f : ℕ → Coded} {k : ℕ} {s t : Stack} → ((i : ℕ) → Fits b P w l shift n (f i) k s t) → Fits b P w l shift n (with_text bytes f) k s t
   fits_text bytes p = record {
     numbers = λ e ws c. (p c.texts).numbers e ws (record c { texts = c.texts + bytes });
     addresses = λ e ws c. (p c.texts).addresses e ws (record c { texts = c.texts + bytes });
     leads = λ g e ws c ls suits room few. (p c.texts).leads g e ws (record c { texts = c.texts + bytes }) ls suits room few;
   }
 
-  -- code behind so many labels more
-  pub fits_within : (low : List Stack) {n : ℕ} {wrap : List Instr → List Instr} {x : Coded} {k : ℕ} {s t s' t' : Stack} → length low ≡ n
-      → ((ls : List Stack) (code : List Instr) → Leads (labelled b (low ++ ls)) code s t → Leads (labelled b ls) (wrap code) s' t') → Fits b P w l x k s t → Fits b P w l (within n wrap x) k s' t'
-  fits_within low {n = n} {x = x} count wraps p = record {
-    numbers = λ e ws c. p.numbers (e + n) ws c;
-    addresses = λ e ws c. p.addresses (e + n) ws c;
-    leads = λ g e ws c ls suits room few. wraps ls (x (at b (e + n) ws) c).0 (p.leads g (e + n) ws c (low ++ ls) (inside low n count suits) room few);
+  -- code that fits anywhere, within more blocks
+  pub fits_moved : {l' : Bool} {x : Coded} {k : ℕ} {s t : Stack} → ((e : ℕ) (ws : List ℕ) (ls : List Stack) → Suits b w l e ws ls → Suits b w l' (shift e) ws (blocks n ++ ls)) → Fits b P w l' (λ e. e) 0 x k s t → Fits b P w l shift n x k s t
+  fits_moved move p = record {
+    numbers = λ e ws c. p.numbers (shift e) ws c;
+    addresses = λ e ws c. p.addresses (shift e) ws c;
+    leads = λ g e ws c ls suits room few. p.leads g (shift e) ws c (blocks n ++ ls) (move e ws ls suits) room few;
+  }
+
+  -- a block or a loop in which the label of EXIT is one further away
+  pub fits_within : {wrap : List Instr → List Instr} {x : Coded} {k : ℕ} {s t s' t' : Stack}
+      → ((ls : List Stack) (code : List Instr) → Leads (labelled b ([] ∷ (blocks n ++ ls))) code s t → Leads (labelled b (blocks n ++ ls)) (wrap code) s' t') → Fits b P w l (λ e. shift e + 1) (suc n) x k s t → Fits b P w l shift n (within 1 wrap x) k s' t'
+  fits_within {x = x} wraps p = record {
+    numbers = λ e ws c. p.numbers e ws c;
+    addresses = λ e ws c. p.addresses e ws c;
+    leads = λ g e ws c ls suits room few. wraps ls (x (at b (shift e + 1) ws) c).0 (p.leads g e ws c ls suits room few);
+  }
+
+  -- a block in which no EXIT stands
+  pub fits_boxed : {x : Coded} {k : ℕ} → Fits b P w l shift (suc n) x k [] [] → Fits b P w l shift n (boxed x) k [] []
+  fits_boxed {x = x} p = record {
+    numbers = λ e ws c. p.numbers e ws c;
+    addresses = λ e ws c. p.addresses e ws c;
+    leads = λ g e ws c ls suits room few. block None [] (x (at b (shift e) ws) c).0 (p.leads g e ws c ls suits room few) (done []);
+  }
+
+module _ {b : Body} {P : Type 0} {w : ℕ} {l : Bool} where
+  -- a block that leaves operands
+  pub fits_valued : (taken : Stack) {wrap : List Instr → List Instr} {x : Coded} {k : ℕ} {s t s' t' : Stack}
+      → ((ls : List Stack) (code : List Instr) → Leads (labelled b (taken ∷ ls)) code s t → Leads (labelled b ls) (wrap code) s' t') → Fits b P w l (λ e. e) 0 x k s t → Fits b P w l (λ e. e) 0 (within 1 wrap x) k s' t'
+  fits_valued taken {x = x} wraps p = record {
+    numbers = λ e ws c. p.numbers (e + 1) ws c;
+    addresses = λ e ws c. p.addresses (e + 1) ws c;
+    leads = λ g e ws c ls suits room few. wraps ls (x (at b (e + 1) ws) c).0 (p.leads g (e + 1) ws c (taken ∷ ls) (inside (taken ∷ []) 1 refl suits) room few);
+  }
+
+  pub fits_twice : {wrap : List Instr → List Instr} {x : Coded} {k : ℕ} {s t s' t' : Stack}
+      → ((ls : List Stack) (code : List Instr) → Leads (labelled b ([] ∷ [] ∷ ls)) code s t → Leads (labelled b ls) (wrap code) s' t') → Fits b P w l (λ e. e + 2) 2 x k s t → Fits b P w l (λ e. e) 0 (within 2 wrap x) k s' t'
+  fits_twice {x = x} wraps p = record {
+    numbers = λ e ws c. p.numbers e ws c;
+    addresses = λ e ws c. p.addresses e ws c;
+    leads = λ g e ws c ls suits room few. wraps ls (x (at b (e + 2) ws) c).0 (p.leads g e ws c ls suits room few);
   }
 
   -- the body of a LOOP
   pub fits_leaving : {wrap : List Instr → List Instr} {x : Coded} {k : ℕ} {s t s' t' : Stack}
-      → ((ls : List Stack) (code : List Instr) → Leads (labelled b ([] ∷ [] ∷ ls)) code s t → Leads (labelled b ls) (wrap code) s' t') → Fits b P w true x k s t → Fits b P w l (leaving 1 wrap x) k s' t'
+      → ((ls : List Stack) (code : List Instr) → Leads (labelled b ([] ∷ [] ∷ ls)) code s t → Leads (labelled b ls) (wrap code) s' t') → Fits b P w l (λ e. 1) 2 x k s t → Fits b P w l (λ e. e) 0 (leaving 1 wrap x) k s' t'
   fits_leaving {x = x} wraps p = record {
-    numbers = λ e ws c. p.numbers 1 ws c;
-    addresses = λ e ws c. p.addresses 1 ws c;
-    leads = λ g e ws c ls suits room few. wraps ls (x (at b 1 ws) c).0 (p.leads g 1 ws c ([] ∷ [] ∷ ls) (begun suits) room few);
+    numbers = λ e ws c. p.numbers e ws c;
+    addresses = λ e ws c. p.addresses e ws c;
+    leads = λ g e ws c ls suits room few. wraps ls (x (at b 1 ws) c).0 (p.leads g e ws c ls suits room few);
   }
 
   -- the body of a WITH
-  pub fits_under : {n : ℕ} {x : Coded} {k : ℕ} {s t : Stack} → (P → IsAddress b n) → Fits b P (suc w) l x k s t → Fits b P w l (under n x) k s t
-  fits_under {n = n} there p = record {
-    numbers = λ e ws c. p.numbers e (ws ++ n ∷ []) c;
-    addresses = λ e ws c. p.addresses e (ws ++ n ∷ []) c;
-    leads = λ g e ws c ls suits room few. p.leads g e (ws ++ n ∷ []) c ls (one_more n (there g) suits) room few;
+  pub fits_under : {i : ℕ} {x : Coded} {k : ℕ} {s t : Stack} → (P → IsAddress b i) → Fits b P (suc w) l (λ e. e) 0 x k s t → Fits b P w l (λ e. e) 0 (under i x) k s t
+  fits_under {i = i} there p = record {
+    numbers = λ e ws c. p.numbers e (ws ++ i ∷ []) c;
+    addresses = λ e ws c. p.addresses e (ws ++ i ∷ []) c;
+    leads = λ g e ws c ls suits room few. p.leads g e (ws ++ i ∷ []) c ls (one_more i (there g) suits) room few;
   }
 
-  pub fits_sides : {x y : Coded} {k n : ℕ} → Fits b P w l x k [] [] → Fits b P w l y n [] [] → Fits b P w l (if_else x y) (k + n) (I32 ∷ []) []
-  fits_sides {x = x} {y = y} {k = k} {n = n} p q = record {
-    numbers = λ e ws c. let i = p.numbers (suc e) ws c in let j = q.numbers (suc e) ws (x (at b (suc e) ws) c).1 in omega (arith, i, j);
-    addresses = λ e ws c. let i = p.addresses (suc e) ws c in let j = q.addresses (suc e) ws (x (at b (suc e) ws) c).1 in omega (arith, i, j);
+  pub fits_sides : {x y : Coded} {k j : ℕ} → Fits b P w l (λ e. e) 0 x k [] [] → Fits b P w l (λ e. e) 0 y j [] [] → Fits b P w l (λ e. e) 0 (if_else x y) (k + j) (I32 ∷ []) []
+  fits_sides {x = x} {y = y} {k = k} {j = j} p q = record {
+    numbers = λ e ws c. let f = p.numbers (suc e) ws c in let g = q.numbers (suc e) ws (x (at b (suc e) ws) c).1 in omega (arith, f, g);
+    addresses = λ e ws c. let f = p.addresses (suc e) ws c in let g = q.addresses (suc e) ws (x (at b (suc e) ws) c).1 in omega (arith, f, g);
     leads = λ h e ws c ls suits room few.
-        let d : Counts = (x (at b (suc e) ws) c).1 in let j = q.numbers (suc e) ws d in let i = p.addresses (suc e) ws c in
+        let d : Counts = (x (at b (suc e) ws) c).1 in let g = q.numbers (suc e) ws d in let f = p.addresses (suc e) ws c in
         one_of None [] (x (at b (suc e) ws) c).0 (Some (y (at b (suc e) ws) d).0)
-        (p.leads h (suc e) ws c ([] ∷ ls) (inside_one [] suits) (omega (arith, j, room)) (omega (arith, few)))
-        (q.leads h (suc e) ws d ([] ∷ ls) (inside_one [] suits) room (omega (arith, i, few))) (done []);
+        (p.leads h (suc e) ws c ([] ∷ ls) (inside_one [] suits) (omega (arith, g, room)) (omega (arith, few)))
+        (q.leads h (suc e) ws d ([] ∷ ls) (inside_one [] suits) room (omega (arith, f, few))) (done []);
   }
-
-  -- where no EXIT stands, one may stand
-  pub fits_anywhere : {x : Coded} {k : ℕ} {s t : Stack} → Fits b P w false x k s t → Fits b P w l x k s t
-  fits_anywhere p = record { numbers = p.numbers; addresses = p.addresses; leads = λ h e ws c ls suits room few. p.leads h e ws c ls (left suits) room few }
-
-  -- the same as something else
-  pub fits_as : {x y : Coded} {k n : ℕ} {s t : Stack} → x ≡ y → k ≡ n → Fits b P w l y n s t → Fits b P w l x k s t
-  fits_as {y = y} {k = k} {n = n} {s = s} {t = t} p q h = subst (λ (z : Coded). Fits b P w l z k s t) (sym p) (subst (λ (j : ℕ). Fits b P w l y j s t) (sym q) h)
-
-  pub fits_stacks : {x : Coded} {k : ℕ} {s s' t t' : Stack} → s ≡ s' → t ≡ t' → Fits b P w l x k s t → Fits b P w l x k s' t'
-  fits_stacks {x = x} {k = k} {s = s} {s' = s'} {t = t} p q h = subst (λ (y : Stack). Fits b P w l x k s' y) q (subst (λ (y : Stack). Fits b P w l x k y t) p h)

@@ -53,7 +53,7 @@ use Rattle.m2_valid.specs.WellFormed.{IsScalar, IsKnown, IsRoutine, IsProcedure,
 use Rattle.m2_valid.proofs.Exprs as fine
 use Rattle.m2_valid.proofs.Exprs.{AreKnown, first_known, rest_known}
 use Rattle.m2_valid.proofs.Leading.{Stack, Callable, then_leads, above, same_stacks, get, set, glob, long, calc, one_of, done, invoke, invoke_slot}
-use Rattle.m2_valid.proofs.Fits.{Body, Holds, Suits, Fits, at, labelled, IsNumber, fits_code, fits_plain, fits_nothing, fits_then, fits_above, fits_given, fits_number, fits_text, fits_within, fits_as, fits_stacks}
+use Rattle.m2_valid.proofs.Fits.{Body, Holds, Suits, Fits, at, labelled, IsNumber, fits_code, fits_plain, fits_nothing, fits_then, fits_above, fits_given, fits_number, fits_text, fits_valued, fits_as, fits_stacks}
 use Rattle.m2_valid.proofs.Parts.{S, N, if_leads, checked_leads, type_leads, taken_leads, loaded_leads, raised_leads, frame_leads, slot_leads, kept_leads, open_leads, high_leads, element_leads, open_element_leads, text_leads, arithmetic_leads, complement_leads, set_leads, empty_leads, ord_leads, slots_there, global_leads, procedure_leads}
 use Rattle.m2_valid.proofs.Opened.{argument_code, component_code, link_part, expr_opened, expr_at, link_opened, link_at, component_opened, component_at, place_opened, place_at, call_opened, call_at, argument_opened, argument_at, of_argument, of_component, of_link, expr_signed, expr_signs, link_signed, link_signs, component_signed, component_signs, place_signed, place_signs, call_signed, call_signs, argument_signed, argument_signs}
 
