@@ -137,6 +137,27 @@ module _ {b : Body} {w : ℕ} {l : Bool} {e : ℕ} {ws : List ℕ} {ls : List St
   one_more : (n : ℕ) → IsAddress b n → Suits b w l e ws ls → Suits b (suc w) l e (ws ++ n ∷ []) ls
   one_more n there s = record { count = count_more ws n ∙ ap suc s.count; opened = opened_more b w ws n s.count there s.opened; exit = s.exit }
 
+-- ---- blocks that take nothing
+
+pub blocks_count : (n : ℕ) → length (blocks n) ≡ n
+blocks_count zero = refl
+blocks_count (suc n) = ap suc (blocks_count n)
+
+pub block_label : (n k : ℕ) (ls : List Stack) → k < n → slice_get (blocks n ++ ls) k ≡ Some []
+block_label zero k ls lt = absurd (omega (arith, lt))
+block_label (suc n) zero ls lt = refl
+block_label (suc n) (suc k) ls lt = block_label n k ls (omega (arith, lt))
+
+module _ {b : Body} {w : ℕ} {l : Bool} where
+  pub moved : (n e : ℕ) (ws : List ℕ) (ls : List Stack) → Suits b w l e ws ls → Suits b w l (e + n) ws (blocks n ++ ls)
+  moved n e ws ls s = inside (blocks n) n (blocks_count n) s
+
+  pub moved_twice : (e : ℕ) (ws : List ℕ) (ls : List Stack) → Suits b w l e ws ls → Suits b w l (e + 1 + 1) ws ([] ∷ [] ∷ ls)
+  moved_twice e ws ls s = inside ([] ∷ []) 1 refl (inside ([] ∷ []) 1 refl s)
+
+  pub into_loop : (e : ℕ) (ws : List ℕ) (ls : List Stack) → Suits b w l e ws ls → Suits b w true 1 ws ([] ∷ [] ∷ ls)
+  into_loop e ws ls s = begun s
+
 -- ---- what code is put together of
 
 module _ {b : Body} {P : Type 0} {w : ℕ} {l : Bool} {shift : ℕ → ℕ} {n : ℕ} where
@@ -217,11 +238,11 @@ module _ {b : Body} {P : Type 0} {w : ℕ} {l : Bool} {shift : ℕ → ℕ} {n :
 
   -- a block or a loop in which the label of EXIT is one further away
   pub fits_within : {wrap : List Instr → List Instr} {x : Coded} {k : ℕ} {s t s' t' : Stack}
-      → ((ls : List Stack) (code : List Instr) → Leads (labelled b ([] ∷ (blocks n ++ ls))) code s t → Leads (labelled b (blocks n ++ ls)) (wrap code) s' t') → Fits b P w l (λ e. shift e + 1) (suc n) x k s t → Fits b P w l shift n (within 1 wrap x) k s' t'
+      → (P → (ls : List Stack) (code : List Instr) → Leads (labelled b ([] ∷ (blocks n ++ ls))) code s t → Leads (labelled b (blocks n ++ ls)) (wrap code) s' t') → Fits b P w l (λ e. shift e + 1) (suc n) x k s t → Fits b P w l shift n (within 1 wrap x) k s' t'
   fits_within {x = x} wraps p = record {
     numbers = λ e ws c. p.numbers e ws c;
     addresses = λ e ws c. p.addresses e ws c;
-    leads = λ g e ws c ls suits room few. wraps ls (x (at b (shift e + 1) ws) c).0 (p.leads g e ws c ls suits room few);
+    leads = λ g e ws c ls suits room few. wraps g ls (x (at b (shift e + 1) ws) c).0 (p.leads g e ws c ls suits room few);
   }
 
   -- a block in which no EXIT stands
@@ -276,4 +297,12 @@ module _ {b : Body} {P : Type 0} {w : ℕ} {l : Bool} where
         one_of None [] (x (at b (suc e) ws) c).0 (Some (y (at b (suc e) ws) d).0)
         (p.leads h (suc e) ws c ([] ∷ ls) (inside_one [] suits) (omega (arith, g, room)) (omega (arith, few)))
         (q.leads h (suc e) ws d ([] ∷ ls) (inside_one [] suits) room (omega (arith, f, few))) (done []);
+  }
+
+  -- the same code within so many blocks, of which its setting is told
+  pub fits_inside : (n : ℕ) {x : Coded} {k : ℕ} {s t : Stack} → Fits b P w l (λ e. e) 0 x k s t → Fits b P w l (λ e. e) n (within n (λ code. code) x) k s t
+  fits_inside n {x = x} p = record {
+    numbers = λ e ws c. p.numbers (e + n) ws c;
+    addresses = λ e ws c. p.addresses (e + n) ws c;
+    leads = λ g e ws c ls suits room few. p.leads g (e + n) ws c (blocks n ++ ls) (moved n e ws ls suits) room few;
   }

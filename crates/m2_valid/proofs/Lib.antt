@@ -4,3 +4,4 @@ mod Parts
 mod Opened
 mod Exprs
 mod Values
+mod Cases
