@@ -5,3 +5,5 @@ mod Opened
 mod Exprs
 mod Values
 mod Cases
+mod Steps
+mod Statements

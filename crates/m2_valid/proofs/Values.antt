@@ -81,7 +81,7 @@ module _ (b : Body) (h : Holds b) (w : ℕ) (l : Bool) where
   place_knows e x q k = subst (λ (s : Signatures). AreKnown b.known s) (place_signs b.home e x q) k
 
   mutual
-    expr_valid : (e : TypedExpr) → IsExpr b.home w e → AreKnown b.known (of_expr b.home e) → fine.FineExpr b h w l e
+    pub expr_valid : (e : TypedExpr) → IsExpr b.home w e → AreKnown b.known (of_expr b.home e) → fine.FineExpr b h w l e
     expr_valid _ (Constant t v) k = fine.constant_fine b h w l t v
     expr_valid _ (Load t d s x) k = fine.load_fine b h w l t d s (place_valid d x (expr_knows (expr.Load t d) (layer.Load t d) (expr.outs-Load t d) k))
     expr_valid _ (ProcedureValue f p) k = fine.procedure_fine b h w l f p
@@ -111,7 +111,7 @@ module _ (b : Body) (h : Holds b) (w : ℕ) (l : Bool) where
     link_valid _ (OrOf e x) k = fine.or_fine b h w l e (expr_valid e x (link_knows (link.Or e) (layer.Or e) (link.outs-Or e) k))
     link_valid _ (Combine o e x) k = fine.combine_fine b h w l o e (expr_valid e x (link_knows (link.Combine o e) (layer.Combine o e) (link.outs-Combine o e) k))
 
-    place_valid : (d : Place) → IsPlace b.home w d → AreKnown b.known (of_place b.home d) → fine.FinePlace b h w l d
+    pub place_valid : (d : Place) → IsPlace b.home w d → AreKnown b.known (of_place b.home d) → fine.FinePlace b h w l d
     place_valid _ (Designator d r xs) k = fine.place_fine b h w l d r (components_valid d.components xs (place_knows d (out-Place d) refl k))
 
     components_valid : (cs : List Component) → AreComponents b.home w cs → AreKnown b.known (joined (map (of_component b.home) cs)) → fine.Fine b h w l (all_coded (map (component_code b.numbered) cs)) S S
@@ -123,7 +123,7 @@ module _ (b : Body) (h : Holds b) (w : ℕ) (l : Bool) where
     component_valid _ (Element t i x) k = fine.element_fine b h w l t i (expr_valid i x (component_knows (component.Element t i) (layer.Element t i) (component.outs-Element t i) k))
     component_valid _ (OpenElement y t i x) k = fine.open_element_fine b h w l y t i (expr_valid i x (component_knows (component.OpenElement y t i) (layer.OpenElement y t i) (component.outs-OpenElement y t i) k))
 
-    call_valid : (c : Call) (r : Bool) → IsCall b.home w c r → AreKnown b.known (of_call b.home c) → fine.FineCall b h w l c r
+    pub call_valid : (c : Call) (r : Bool) → IsCall b.home w c r → AreKnown b.known (of_call b.home c) → fine.FineCall b h w l c r
     call_valid _ _ (OfModule f xs r p e ys) k =
         let j = call_knows (call.Module f xs) (layer.Module f xs) (call.outs-Module f xs) k in
         let own : Signatures = if is_own b.home f.home then [] else of_heading b.home.types f.heading ∷ [] in
