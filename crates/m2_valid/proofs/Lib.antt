@@ -7,3 +7,4 @@ mod Values
 mod Cases
 mod Steps
 mod Statements
+mod Numbers
