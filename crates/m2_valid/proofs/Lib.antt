@@ -8,3 +8,4 @@ mod Cases
 mod Steps
 mod Statements
 mod Numbers
+mod Own
