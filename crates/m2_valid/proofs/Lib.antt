@@ -9,3 +9,4 @@ mod Steps
 mod Statements
 mod Numbers
 mod Own
+mod Functions
