@@ -10,3 +10,6 @@ mod Statements
 mod Numbers
 mod Own
 mod Functions
+mod Names
+mod LinkModule
+mod Modules
