@@ -1,22 +1,21 @@
 -- CASE: tests one after another, and a table of labels.
-use Rattle.std.proofs.Common.{◌≡◌, ℕ, zero, suc, ◌+◌, ◌-◌, ◌<◌, ◌≤◌, ℤ, pos, Bool, true, false, List, [], ◌∷◌, ◌++◌, map, length, Some, None, Option, refl, sym, ap, subst, ◌∙◌, arith}
+use Rattle.std.proofs.Common.{◌≡◌, ℕ, suc, ◌+◌, ◌≤◌, ℤ, pos, Bool, true, false, List, [], ◌∷◌, ◌++◌, map, length, Some, None, refl, subst, arith}
 use Rattle.std.specs.Prelude.{All, slice_get, if◌then◌else◌, ◌+ℤ◌}
-use Rattle.std.specs.List.{AllByRecursion as ByRecursion, range_with_len, flat_map}
+use Rattle.std.specs.List.{AllByRecursion as ByRecursion, range_with_len}
 use Rattle.std.proofs.lemmas.List.Elements.{All-from_recursion}
-use Rattle.wasm_tree.specs.declared.kinds.ValueType.TheVariants.{I32, I64}
-use Rattle.wasm_tree.specs.declared.instr.Instr.{Instr}
-use Rattle.wasm_tree.specs.declared.instr.Instr.TheVariants.{LocalSet, Br}
+use Rattle.wasm_tree.specs.declared.kinds.ValueType.TheVariants.{I64}
+use Rattle.wasm_tree.specs.declared.instr.Instr.TheVariants.{Br}
 use Rattle.wasm_tree.specs.declared.instr.Numeric.TheVariants as numeric
 use Rattle.wasm_tree.specs.declared.instr.Operation.TheVariants.{Sub}
 use Rattle.wasm_tree.specs.declared.instr.Relation.TheVariants.{LeU, GtU}
-use Rattle.wasm_tree.specs.Validity.{Context, Leads}
+use Rattle.wasm_tree.specs.Validity.{Leads}
 use Rattle.m2_typed.specs.declared.statement.Label.{Label}
-use Rattle.m2_scheme.specs.Coded.{Coded, plain, ◌⨾◌, all_coded, within, with_number}
+use Rattle.m2_scheme.specs.Coded.{Coded, plain, ◌⨾◌, all_coded, within}
 use Rattle.m2_scheme.specs.Addresses.{total}
-use Rattle.m2_scheme.specs.Steps.{Arm, block as block_of, label_code, tests_code, arm_code, chain_code, all_labels, least_of, span_of, is_dense, has_label, target, targets, from_least, dispatch, boxed, jump_arms, table_code, case_code}
+use Rattle.m2_scheme.specs.Steps.{Arm, block as block_of, tests_code, arm_code, chain_code, all_labels, least_of, span_of, is_dense, has_label, target, targets, dispatch, boxed, jump_arms, table_code, case_code}
 use Rattle.m2_valid.proofs.Leading.{Stack, then_leads, get, set, long, calc, br, br_if, br_table, block, done}
-use Rattle.m2_valid.proofs.Fits.{Body, Holds, Suits, Fits, at, labelled, IsNumber, blocks, block_label, moved, fits_plain, fits_nothing, fits_then, fits_given, fits_number, fits_as, fits_moved, fits_within, fits_boxed, fits_inside}
-use Rattle.m2_valid.proofs.Parts.{S, N}
+use Rattle.m2_valid.proofs.Fits.{Body, Holds, Suits, Fits, labelled, IsNumber, blocks, block_label, moved, fits_plain, fits_nothing, fits_then, fits_given, fits_number, fits_as, fits_moved, fits_within, fits_boxed, fits_inside}
+use Rattle.m2_valid.proofs.Parts.{N}
 
 -- ---- targets
 

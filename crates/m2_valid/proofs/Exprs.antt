@@ -1,16 +1,15 @@
 -- Expressions, designators, calls and arguments: a lemma for each construct, and then the induction.
-use Rattle.std.proofs.Common.{◌≡◌, ℕ, zero, suc, ◌+◌, ◌<◌, ℤ, pos, Bool, true, false, List, [], ◌∷◌, ◌++◌, map, length, Some, None, Option, refl, sym, ap, subst, ◌∙◌, arith}
+use Rattle.std.proofs.Common.{◌≡◌, ℕ, suc, ◌+◌, ℤ, pos, Bool, true, false, List, [], ◌∷◌, ◌++◌, map, length, Some, Option, refl, sym, ap, subst}
 use Rattle.std.proofs.lemmas.List.{append-nil}
 use Rattle.std.specs.Prelude.{slice_get, if◌then◌else◌}
 use Rattle.wasm_tree.specs.declared.kinds.ValueType.TheVariants.{I32, I64}
-use Rattle.wasm_tree.specs.declared.kinds.ValueType.{ValueType}
 use Rattle.wasm_tree.specs.declared.kinds.FuncType.{FuncType}
 use Rattle.wasm_tree.specs.declared.instr.Instr.{Instr}
-use Rattle.wasm_tree.specs.declared.instr.Instr.TheVariants.{LocalGet, LocalSet, GlobalGet, I64Const, Call as Calls}
+use Rattle.wasm_tree.specs.declared.instr.Instr.TheVariants.{LocalGet, GlobalGet, I64Const, Call as Calls}
 use Rattle.wasm_tree.specs.declared.instr.Numeric.TheVariants as numeric
-use Rattle.wasm_tree.specs.declared.instr.Operation.TheVariants.{Add, Sub, And, ShrU}
+use Rattle.wasm_tree.specs.declared.instr.Operation.TheVariants.{Sub, And, ShrU}
 use Rattle.wasm_tree.specs.declared.instr.Relation.TheVariants.{LtS, LeU}
-use Rattle.wasm_tree.specs.Validity.{Context, Leads}
+use Rattle.wasm_tree.specs.Validity.{Leads}
 use Rattle.m2_typed.specs.declared.computed.Argument.{Argument, Argument-F, out-Argument}
 use Rattle.m2_typed.specs.declared.computed.Argument.TheOpen as layer
 use Rattle.m2_typed.specs.declared.computed.Argument.TheVariants as argument
@@ -25,7 +24,7 @@ use Rattle.m2_typed.specs.declared.computed.Inclusion.TheVariants as inclusion
 use Rattle.m2_typed.specs.declared.computed.Link.{Link, Link-F, out-Link}
 use Rattle.m2_typed.specs.declared.computed.Link.TheVariants as link
 use Rattle.m2_typed.specs.declared.computed.LocalProcedure.{LocalProcedure}
-use Rattle.m2_typed.specs.declared.computed.Place.{Place, Place-F, out-Place}
+use Rattle.m2_typed.specs.declared.computed.Place.{Place, out-Place}
 use Rattle.m2_typed.specs.declared.computed.Root.{Root}
 use Rattle.m2_typed.specs.declared.computed.Root.TheVariants as root
 use Rattle.m2_typed.specs.declared.computed.SetOperator.{SetOperator}
@@ -34,26 +33,21 @@ use Rattle.m2_typed.specs.declared.computed.TypedExpr.{TypedExpr, TypedExpr-F, o
 use Rattle.m2_typed.specs.declared.computed.TypedExpr.TheVariants as expr
 use Rattle.m2_typed.specs.declared.known_types.Types.{Types}
 use Rattle.m2_typed.specs.declared.meaning.Procedure.{Procedure}
-use Rattle.m2_typed.specs.declared.meaning.Variable.{Variable}
-use Rattle.m2_typed.specs.declared.shape.Formal.{Formal}
 use Rattle.m2_typed.specs.declared.types.TypeNo.{TypeNo}
-use Rattle.m2_typed.specs.declared.typed_module.Routine.{Routine}
-use Rattle.m2_typed.specs.declared.typed_module.TypedModule.{TypedModule}
 use Rattle.m2_typed.specs.Types.{are_same, integer}
 use Rattle.m2_layout.specs.Frames.{formals_of}
 use Rattle.m2_layout.specs.Sizes.{offset}
 use Rattle.m2_layout.specs.Shapes.{tree}
 use Rattle.m2_layout.specs.Texts.{passed}
-use Rattle.m2_scheme.specs.Coded.{Coded, Setting, plain, ◌⨾◌, nothing, all_coded, within, with_number, with_setting, top_local, number, raised, relation, operation, wrapped, extended, checked}
+use Rattle.m2_scheme.specs.Coded.{Coded, plain, ◌⨾◌, all_coded, with_number, top_local, raised, operation, wrapped, extended}
 use Rattle.m2_scheme.specs.Cells.{loaded, in_type, check_taken}
-use Rattle.m2_scheme.specs.Exprs.{Part, Linked, Numbered, all_arguments, arguments_of, has_result, is_own, relation_of, arithmetic_code, complement, empty_code, include_code, chosen_number, and_code, or_code, in_code, absolute_code, abs_code, capital_code, ord_check, behind, procedure_code, high_code, loaded_from, chain_code, argument_layer, call_layer, component_layer, link_layer, expr_layer, place_layer, root_layer, root_layer, with_code, global_code, slot_code, kept_address, open_address, open_element_code, element_code, high_index, passed_text, text_code, top_code, indirect, module_call, link_code, nested_call, value_call, slots_global, slot_number, expr_part, place_code, call_code}
-use Rattle.m2_scheme.specs.Signatures.{Signatures, Signature, signature, of_heading, joined, is_among, so_many, results_of, type_of, of_expr, of_place, of_call}
-use Rattle.m2_scheme.specs.Signatures as sign
-use Rattle.m2_valid.specs.WellFormed.{IsScalar, IsKnown, IsRoutine, IsProcedure, IsRoot}
+use Rattle.m2_scheme.specs.Exprs.{Part, Linked, all_arguments, has_result, is_own, relation_of, arithmetic_code, include_code, absolute_code, capital_code, ord_check, behind, procedure_code, high_code, chain_code, argument_layer, call_layer, component_layer, link_layer, expr_layer, root_layer, root_layer, with_code, global_code, slot_code, kept_address, open_address, open_element_code, element_code, high_index, top_code, indirect, module_call, nested_call, value_call, slots_global, slot_number, expr_part, place_code, call_code}
+use Rattle.m2_scheme.specs.Signatures.{Signatures, signature, of_heading, is_among, so_many, results_of, type_of}
+use Rattle.m2_valid.specs.WellFormed.{IsScalar, IsRoutine, IsProcedure, IsRoot}
 use Rattle.m2_valid.proofs.Leading.{Stack, Callable, then_leads, above, same_stacks, get, set, glob, long, calc, one_of, done, invoke, invoke_slot}
-use Rattle.m2_valid.proofs.Fits.{Body, Holds, Suits, Fits, at, labelled, IsNumber, fits_code, fits_plain, fits_nothing, fits_then, fits_above, fits_given, fits_number, fits_text, fits_valued, fits_as, fits_stacks}
-use Rattle.m2_valid.proofs.Parts.{S, N, if_leads, checked_leads, type_leads, taken_leads, loaded_leads, raised_leads, frame_leads, slot_leads, kept_leads, open_leads, high_leads, element_leads, open_element_leads, text_leads, arithmetic_leads, complement_leads, set_leads, empty_leads, ord_leads, slots_there, global_leads, procedure_leads}
-use Rattle.m2_valid.proofs.Opened.{argument_code, component_code, link_part, expr_opened, expr_at, link_opened, link_at, component_opened, component_at, place_opened, place_at, call_opened, call_at, argument_opened, argument_at}
+use Rattle.m2_valid.proofs.Fits.{Body, Holds, Fits, at, labelled, IsNumber, fits_code, fits_plain, fits_then, fits_above, fits_given, fits_number, fits_text, fits_valued, fits_as}
+use Rattle.m2_valid.proofs.Parts.{S, N, checked_leads, type_leads, taken_leads, loaded_leads, raised_leads, frame_leads, slot_leads, kept_leads, open_leads, high_leads, element_leads, open_element_leads, text_leads, arithmetic_leads, complement_leads, set_leads, empty_leads, ord_leads, slots_there, global_leads, procedure_leads}
+use Rattle.m2_valid.proofs.Opened.{argument_code, component_code, link_part, expr_opened, expr_at, link_opened, link_at, component_opened, component_at, place_at, call_opened, call_at, argument_opened, argument_at}
 
 abbrev pub NN : Stack
 NN = I64 ∷ I64 ∷ []

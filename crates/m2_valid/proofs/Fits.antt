@@ -1,13 +1,10 @@
 -- Code in the making that is valid: what it takes and gives, and what the parts of such code are put together by.
-use Rattle.std.proofs.Common.{◌≡◌, ℕ, zero, suc, ◌+◌, ◌*◌, ◌<◌, ◌≤◌, Bool, true, false, List, [], ◌∷◌, ◌++◌, length, Some, None, Option, refl, sym, ap, subst, ◌∙◌, arith, inl, inr}
+use Rattle.std.proofs.Common.{◌≡◌, ℕ, zero, suc, ◌+◌, ◌*◌, ◌<◌, ◌≤◌, Bool, true, false, List, [], ◌∷◌, ◌++◌, length, Some, None, refl, sym, ap, subst, ◌∙◌, arith, inl, inr}
 use Rattle.std.specs.Prelude.{slice_get}
 use Rattle.std.proofs.lemmas.Bool.{cases_lt}
 use Rattle.wasm_tree.specs.declared.kinds.ValueType.TheVariants.{I32, I64}
-use Rattle.wasm_tree.specs.declared.kinds.ValueType.{ValueType}
-use Rattle.wasm_tree.specs.declared.kinds.FuncType.{FuncType}
 use Rattle.wasm_tree.specs.declared.instr.Instr.{Instr}
-use Rattle.wasm_tree.specs.declared.instr.Instr.TheVariants.{If, Loop}
-use Rattle.wasm_tree.specs.Validity.{Context, Leads, Empty}
+use Rattle.wasm_tree.specs.Validity.{Context, Leads}
 use Rattle.m2_typed.specs.declared.typed_module.Routine.{Routine}
 use Rattle.m2_typed.specs.declared.typed_module.TypedModule.{TypedModule}
 use Rattle.m2_layout.specs.Types.{Ty}
@@ -17,7 +14,7 @@ use Rattle.m2_scheme.specs.Coded.{Coded, Counts, Setting, plain, ◌⨾◌, noth
 use Rattle.m2_scheme.specs.Exprs.{Numbered, all_arguments, has_result}
 use Rattle.m2_scheme.specs.Signatures.{Signatures, Signature, signature, is_among, results_of, type_of}
 use Rattle.m2_scheme.specs.Steps.{if_else, leaving, under, boxed}
-use Rattle.m2_valid.proofs.Leading.{Stack, then_leads, above, Callable, done, block, loop, one_of}
+use Rattle.m2_valid.proofs.Leading.{Stack, then_leads, above, Callable, done, block, one_of}
 
 -- ---- a function in the making, and what it may name
 

@@ -1,18 +1,16 @@
 -- The functions of a module are valid: helpers, procedures, and the body.
-use Rattle.std.proofs.Common.{◌≡◌, ℕ, zero, suc, ◌+◌, ◌*◌, ◌<◌, ◌≤◌, Bool, true, false, List, [], ◌∷◌, ◌++◌, map, length, Some, None, Option, refl, sym, ap, subst, ◌∙◌, arith}
-use Rattle.std.specs.Prelude.{All, slice_get, replicate, if◌then◌else◌, nat_lt}
-use Rattle.std.specs.List.{flat_map}
-use Rattle.std.proofs.lemmas.List.{length-replicate, append-nil}
+use Rattle.std.proofs.Common.{◌≡◌, ℕ, zero, suc, ◌+◌, ◌<◌, ◌≤◌, Bool, true, false, List, [], ◌∷◌, ◌++◌, length, Some, None, refl, ap, subst, ◌∙◌, arith}
+use Rattle.std.specs.Prelude.{slice_get, replicate, if◌then◌else◌, nat_lt}
+use Rattle.std.proofs.lemmas.List.{length-replicate}
 use Rattle.wasm_tree.specs.declared.kinds.ValueType.TheVariants.{I32, I64}
 use Rattle.wasm_tree.specs.declared.kinds.ValueType.{ValueType}
 use Rattle.wasm_tree.specs.declared.kinds.FuncType.{FuncType}
 use Rattle.wasm_tree.specs.declared.instr.Instr.{Instr}
-use Rattle.wasm_tree.specs.declared.instr.Instr.TheVariants.{If, Block, Loop, Call, LocalGet, LocalSet, Store, Unreachable, I32Const, I64Const, Numeric}
+use Rattle.wasm_tree.specs.declared.instr.Instr.TheVariants.{Block, Loop, Call, LocalGet, LocalSet, Store, Unreachable, I32Const, Numeric}
 use Rattle.wasm_tree.specs.declared.instr.Numeric.TheVariants as numeric
 use Rattle.wasm_tree.specs.declared.instr.Operation.TheVariants.{Add, Sub, Mul, DivS, RemS}
 use Rattle.wasm_tree.specs.declared.instr.Relation.TheVariants.{LtS, GtS, GtU}
 use Rattle.wasm_tree.specs.declared.instr.StoreWidth.TheVariants as width
-use Rattle.wasm_tree.specs.declared.module.Function.{Function}
 use Rattle.wasm_tree.specs.declared.module.Locals.{Locals}
 use Rattle.wasm_tree.specs.Validity.{Context, function_context, declared, Leads, IsFunction}
 use Rattle.m2_typed.specs.declared.known_types.Types.{Types}
@@ -27,20 +25,20 @@ use Rattle.m2_layout.specs.Shapes.{tree}
 use Rattle.m2_layout.specs.Frames.{formals_of, frame}
 use Rattle.m2_layout.specs.Texts.{characters, routines_texts, texts_before}
 use Rattle.m2_scheme.specs.Scheme.{type_from}
-use Rattle.m2_scheme.specs.Coded.{Counts, Coded, raised, operation, wrapped, extended, copy, fill, fault, check}
-use Rattle.m2_scheme.specs.Cells.{store_scalar, word}
+use Rattle.m2_scheme.specs.Coded.{Counts, wrapped, extended, copy, fill, fault}
+use Rattle.m2_scheme.specs.Cells.{word}
 use Rattle.m2_scheme.specs.Exprs.{arguments_of, all_arguments, has_result}
 use Rattle.m2_scheme.specs.Steps.{body_code}
 use Rattle.m2_scheme.specs.Addresses.{addresses_in}
-use Rattle.m2_scheme.specs.Signatures.{Signature, signature, needed, so_many, results_of, type_of, of_routine}
-use Rattle.m2_scheme.specs.Functions.{frames_around, link_arguments, numbers_of, limit_check, enter_code, link_kept, formal_address, word_kept, value_kept, bytes_code, open_copied, formal_kept, formals_kept, prologue, setting, from_text, locals_of, function_of, end_code, coded, routine_coded, routine_function, module_coded, module_function}
+use Rattle.m2_scheme.specs.Signatures.{signature, needed, so_many, results_of, type_of, of_routine}
+use Rattle.m2_scheme.specs.Functions.{frames_around, link_arguments, numbers_of, limit_check, enter_code, formal_address, word_kept, value_kept, bytes_code, open_copied, formals_kept, prologue, from_text, locals_of, end_code, coded, routine_function, module_function}
 use Rattle.m2_scheme.specs.Helpers.{copy_turn, copy_code, fill_turn, fill_code, check_tests, check_code, divisor_checked, div_rest, mod_rest}
 use Rattle.m2_scheme.specs.Modules.{helper, mod_function, numbered}
 use Rattle.m2_valid.specs.WellFormed.{IsBody, IsWellFormed}
 use Rattle.m2_valid.proofs.Leading.{Stack, then_leads, above, get, set, tee, glob, short, long, calc, load, store, br, br_if, stuck, block, loop, one_of, done, invoke}
 use Rattle.m2_valid.proofs.Fits.{Body, Holds, Suits, Fits, labelled, IsNumber, IsAddress}
-use Rattle.m2_valid.proofs.Parts.{S, N, if_leads, fault_leads, raised_leads, store_leads}
-use Rattle.m2_valid.proofs.Exprs.{SN, open_count}
+use Rattle.m2_valid.proofs.Parts.{S, N, fault_leads, raised_leads, store_leads}
+use Rattle.m2_valid.proofs.Exprs.{open_count}
 use Rattle.m2_valid.proofs.Statements.{stmts_valid}
 use Rattle.m2_valid.proofs.Own.{own, append_at, front_at, Within, tables_count, memories_count, globals_are, put_at, stop_at, copy_at, fill_at, check_at, quotient_at, remainder_at, typed_in, own_at, nested_at, routine_signature, routine_known, body_known, module_known}
 
@@ -229,7 +227,7 @@ module _ (m : TypedModule) (wf : IsWellFormed m) where
         type_of (routine_signature m r),
         typed_in m (routine_signature m r) (routine_known m r known),
         body_leads n gives frames text r.body (prologue m.types r (suc n) (suc (suc n))) (end_code gives) (stmts_valid b h 0 false r.body wb.body (body_known m r known))
-        (λ ls. prologue_leads b h (λ i le lt. param_at n a k i le lt) copied ls m.types r (nat_lt 1 r.level) refl refl (frame m.types r)) (λ ls. end_leads b h ls gives),
+            (λ ls. prologue_leads b h (λ i le lt. param_at n a k i le lt) copied ls m.types r (nat_lt 1 r.level) refl refl (frame m.types r)) (λ ls. end_leads b h ls gives),
       )
 
   pub module_valid : IsFunction (own m) (module_function (numbered m) m)
@@ -244,7 +242,7 @@ module _ (m : TypedModule) (wf : IsWellFormed m) where
         type_of (signature 0 false),
         refl,
         body_leads 0 false frames text m.body (enter_code 1 (size (frame_of []))) [] (stmts_valid b h 0 false m.body wf.body (module_known m))
-        (λ ls. enter_leads b h (λ i le lt. param_at 0 a k i le lt) copied ls (size (frame_of []))) (λ ls. done []),
+            (λ ls. enter_leads b h (λ i le lt. param_at 0 a k i le lt) copied ls (size (frame_of []))) (λ ls. done []),
       )
 
 -- ---- helpers

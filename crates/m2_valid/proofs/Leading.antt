@@ -1,5 +1,5 @@
 -- Instructions in a row that are valid: what is put together of such, and one lemma for each instruction.
-use Rattle.std.proofs.Common.{◌≡◌, ℕ, zero, suc, ◌+◌, ◌<◌, ◌≤◌, List, [], ◌∷◌, ◌++◌, length, Some, None, Option, refl, sym, ap, subst, ◌∙◌, arith, append_assoc}
+use Rattle.std.proofs.Common.{◌≡◌, ℕ, ◌<◌, List, [], ◌∷◌, ◌++◌, length, Some, Option, refl, sym, subst, append_assoc}
 use Rattle.std.specs.Prelude.{All, slice_get}
 use Rattle.std.proofs.lemmas.List.{append-nil}
 use Rattle.wasm_tree.specs.declared.kinds.ValueType.TheVariants.{I32, I64}
@@ -9,7 +9,6 @@ use Rattle.wasm_tree.specs.declared.instr.Instr.{Instr, Instr-F, out-Instr}
 use Rattle.wasm_tree.specs.declared.instr.Instr.TheOpen as layer
 use Rattle.wasm_tree.specs.declared.instr.Instr.TheVariants.{Unreachable, Block, Loop, If, Br, BrIf, BrTable, Return, Call, CallIndirect, LocalGet, LocalSet, LocalTee, GlobalGet, Load, Store, I32Const, I64Const, Numeric, outs-Unreachable, outs-Block, outs-Loop, outs-If, outs-Br, outs-BrIf, outs-BrTable, outs-Return, outs-Call, outs-CallIndirect, outs-LocalGet, outs-LocalSet, outs-LocalTee, outs-GlobalGet, outs-Load, outs-Store, outs-I32Const, outs-I64Const, outs-Numeric}
 use Rattle.wasm_tree.specs.declared.instr.Numeric.{Numeric as Operator}
-use Rattle.wasm_tree.specs.declared.instr.Numeric.TheVariants as numeric
 use Rattle.wasm_tree.specs.declared.instr.Load.{Load as Loads}
 use Rattle.wasm_tree.specs.declared.instr.StoreWidth.{StoreWidth}
 use Rattle.wasm_tree.specs.Validity.{Context, numeric_params, numeric_result, result_types, side_of, within, IsPlain, Plain, Block as BlockTypes, Loop as LoopTypes, If as IfTypes, Leads, Empty, More}

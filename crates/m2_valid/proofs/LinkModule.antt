@@ -1,18 +1,16 @@
 -- The module link is valid.
-use Rattle.std.proofs.Common.{◌≡◌, ◌≢◌, ℕ, zero, suc, ◌+◌, ◌*◌, ◌^◌, ◌<◌, ◌≤◌, List, [], ◌∷◌, ◌++◌, length, map, Some, None, Option, refl, sym, ap, subst, ◌∙◌, codes, arith}
+use Rattle.std.proofs.Common.{◌≡◌, ◌≢◌, ℕ, zero, suc, ◌+◌, ◌*◌, ◌^◌, ◌<◌, ◌≤◌, List, [], ◌∷◌, ◌++◌, length, map, Some, None, Option, refl, sym, ap, subst, codes, arith}
 use Rattle.std.specs.Prelude.{All, slice_get}
 use Rattle.std.specs.List.{AllByRecursion as ByRecursion}
 use Rattle.std.proofs.lemmas.List.Elements.{All-nil, All-head, All-tail, All-from_recursion, All-weaker}
 use Rattle.wasm_tree.specs.declared.kinds.ValueType.TheVariants.{I32}
-use Rattle.wasm_tree.specs.declared.kinds.ValueType.{ValueType}
-use Rattle.wasm_tree.specs.declared.instr.Instr.{Instr}
-use Rattle.wasm_tree.specs.declared.instr.Instr.TheVariants.{CallIndirect, GlobalGet, I32Const, outs-I32Const}
+use Rattle.wasm_tree.specs.declared.instr.Instr.TheVariants.{I32Const, outs-I32Const}
 use Rattle.wasm_tree.specs.declared.module.Export.{Export}
 use Rattle.wasm_tree.specs.declared.module.ExportKind.TheVariants as exported
 use Rattle.wasm_tree.specs.declared.module.WModule.{WModule}
 use Rattle.wasm_tree.specs.Validity.{Context, context, initial_context, function_context, is_constant, Leads, IsConstant, IsConstantOf, AreLimits, IsFuncType, IsImport, IsFunction, IsGlobal, IsExport, IsElement, IsData, AreDistinct, AreKinds, AreBodies, IsValid}
 use Rattle.m2_typed.specs.declared.typed_module.TypedModule.{TypedModule}
-use Rattle.m2_scheme.specs.Scheme.{exported_as, constant_global, base_name, text_name, tab_name, type_from}
+use Rattle.m2_scheme.specs.Scheme.{exported_as, base_name, text_name, tab_name, type_from}
 use Rattle.m2_scheme.specs.Modules.{Part, part_of, globals_from, exports_from, stack_begin, all_slots, calls_from, link_of, typed_link}
 use Rattle.m2_valid.proofs.Names.{◌▪◌, differ, base_apart, text_apart, tab_apart}
 use Rattle.m2_valid.proofs.Leading.{done, short, glob, invoke_slot}

@@ -1,15 +1,13 @@
 -- The module of each well formed body is valid.
-use Rattle.std.proofs.Common.{◌≡◌, ℕ, Bool, true, false, zero, suc, ◌+◌, ◌^◌, ◌<◌, ◌≤◌, List, [], ◌∷◌, ◌++◌, length, map, Some, None, Option, refl, sym, ap, subst, ◌∙◌, arith}
-use Rattle.std.specs.Prelude.{All, slice_get}
+use Rattle.std.proofs.Common.{◌≡◌, ℕ, Bool, true, false, zero, suc, ◌+◌, ◌^◌, ◌<◌, ◌≤◌, List, [], ◌∷◌, ◌++◌, length, map, Some, refl, ap, ◌∙◌, arith}
+use Rattle.std.specs.Prelude.{slice_get}
 use Rattle.std.specs.List.{AllByRecursion as ByRecursion, range_with_len}
 use Rattle.std.proofs.lemmas.List.{length-append}
 use Rattle.std.proofs.lemmas.List.Elements.{All-nil, All-from_recursion}
-use Rattle.wasm_tree.specs.declared.kinds.ValueType.TheVariants.{I32, I64}
-use Rattle.wasm_tree.specs.declared.kinds.FuncType.{FuncType}
-use Rattle.wasm_tree.specs.declared.instr.Instr.{Instr}
+use Rattle.wasm_tree.specs.declared.kinds.ValueType.TheVariants.{I32}
 use Rattle.wasm_tree.specs.declared.instr.Instr.TheVariants.{GlobalGet, outs-GlobalGet}
 use Rattle.wasm_tree.specs.declared.module.Function.{Function}
-use Rattle.wasm_tree.specs.Validity.{Context, initial_context, is_constant, IsConstant, IsConstantOf, AreLimits, IsFuncType, IsImport, IsFunction, IsGlobal, IsExport, IsElement, IsData, AreDistinct, AreKinds, AreBodies, IsValid}
+use Rattle.wasm_tree.specs.Validity.{Context, initial_context, is_constant, IsConstant, IsConstantOf, AreLimits, IsFuncType, IsImport, IsFunction, IsGlobal, IsExport, IsElement, IsData, AreKinds, AreBodies, IsValid}
 use Rattle.m2_typed.specs.declared.typed_module.Routine.{Routine}
 use Rattle.m2_typed.specs.declared.typed_module.Which.{Which}
 use Rattle.m2_typed.specs.declared.typed_module.Which.TheVariants as which
@@ -17,7 +15,7 @@ use Rattle.m2_typed.specs.declared.typed_module.TypedModule.{TypedModule}
 use Rattle.m2_layout.specs.Texts.{module_texts}
 use Rattle.m2_scheme.specs.Scheme.{imported_globals, host_imports}
 use Rattle.m2_scheme.specs.Coded.{body_index}
-use Rattle.m2_scheme.specs.Functions.{routine_function, functions_from, module_function}
+use Rattle.m2_scheme.specs.Functions.{routine_function, functions_from}
 use Rattle.m2_scheme.specs.Signatures.{Signature, type_of, results_of}
 use Rattle.m2_scheme.specs.Modules.{numbered, signatures, slots, all_characters, data_of, typed_module}
 use Rattle.m2_valid.specs.WellFormed.{IsBody, IsWellFormed}

@@ -1,11 +1,11 @@
 -- One layer of a tree at a time: its code, and the signatures of its calls.
-use Rattle.std.proofs.Common.{◌≡◌, ℕ, List, ap, ◌∙◌}
+use Rattle.std.proofs.Common.{◌≡◌, ℕ, ap, ◌∙◌}
 use Rattle.m2_typed.specs.declared.computed.Argument.{Argument, Argument-F, out-Argument, map-Argument, fold_out-Argument, fold-Argument}
-use Rattle.m2_typed.specs.declared.computed.Call.{Call, Call-F, out-Call, map-Call, fold_out-Call, fold-Call}
+use Rattle.m2_typed.specs.declared.computed.Call.{Call, Call-F, out-Call, map-Call, fold_out-Call}
 use Rattle.m2_typed.specs.declared.computed.Component.{Component, Component-F, out-Component, map-Component, fold_out-Component, fold-Component}
 use Rattle.m2_typed.specs.declared.computed.Link.{Link, Link-F, out-Link, map-Link, fold_out-Link, fold-Link}
-use Rattle.m2_typed.specs.declared.computed.Place.{Place, Place-F, out-Place, map-Place, fold_out-Place, fold-Place}
-use Rattle.m2_typed.specs.declared.computed.TypedExpr.{TypedExpr, TypedExpr-F, out-TypedExpr, map-TypedExpr, fold_out-TypedExpr, fold-TypedExpr}
+use Rattle.m2_typed.specs.declared.computed.Place.{Place, Place-F, out-Place, map-Place, fold_out-Place}
+use Rattle.m2_typed.specs.declared.computed.TypedExpr.{TypedExpr, TypedExpr-F, out-TypedExpr, map-TypedExpr, fold_out-TypedExpr}
 use Rattle.m2_typed.specs.declared.statement.TypedArm.{TypedArm, TypedArm-F, out-TypedArm, map-TypedArm, fold_out-TypedArm, fold-TypedArm}
 use Rattle.m2_typed.specs.declared.statement.TypedStmt.{TypedStmt, TypedStmt-F, out-TypedStmt, map-TypedStmt, fold_out-TypedStmt}
 use Rattle.m2_typed.specs.declared.typed_module.TypedModule.{TypedModule}

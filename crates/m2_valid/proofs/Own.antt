@@ -1,11 +1,10 @@
 -- What the module of a body has: its functions with their types, globals, memory and table.
-use Rattle.std.proofs.Common.{◌≡◌, ℕ, zero, suc, ◌+◌, ◌*◌, ◌<◌, ◌≤◌, ◌||◌, Bool, true, false, List, [], ◌∷◌, ◌++◌, map, length, Some, None, Option, refl, sym, ap, ap₂, subst, ◌∙◌, arith, inl, inr}
+use Rattle.std.proofs.Common.{◌≡◌, ℕ, zero, suc, ◌+◌, ◌*◌, ◌<◌, Bool, true, false, List, [], ◌∷◌, ◌++◌, map, length, Some, refl, ap, subst, ◌∙◌, arith}
 use Rattle.std.specs.Prelude.{All, slice_get, if◌then◌else◌, nat_lt}
-use Rattle.std.specs.List.{filter_map, flat_map, list_any}
+use Rattle.std.specs.List.{filter_map, flat_map}
 use Rattle.std.proofs.lemmas.List.Elements.{All-head, All-tail}
-use Rattle.std.proofs.lemmas.Bool.{or_cases, or_left, or_right, lt-ltb, le-ltb}
+use Rattle.std.proofs.lemmas.Bool.{or_left, or_right, lt-ltb, le-ltb}
 use Rattle.wasm_tree.specs.declared.kinds.ValueType.TheVariants.{I32, I64}
-use Rattle.wasm_tree.specs.declared.kinds.ValueType.{ValueType}
 use Rattle.wasm_tree.specs.declared.kinds.FuncType.{FuncType}
 use Rattle.wasm_tree.specs.declared.module.Import.{Import}
 use Rattle.wasm_tree.specs.declared.module.Function.{Function}
@@ -21,7 +20,7 @@ use Rattle.m2_scheme.specs.Scheme.{type_from, imported_globals, host_imports}
 use Rattle.m2_scheme.specs.Coded.{put, stop, copy, fill, check, quotient, remainder, body_index}
 use Rattle.m2_scheme.specs.Exprs.{Numbered, all_arguments, has_result}
 use Rattle.m2_scheme.specs.Functions.{numbers_of, link_arguments, functions_from}
-use Rattle.m2_scheme.specs.Signatures.{Signatures, Signature, signature, is_same, is_among, joined, needed, ordered, of_step, of_routine, type_of}
+use Rattle.m2_scheme.specs.Signatures.{Signatures, Signature, signature, is_same, is_among, joined, needed, of_step, of_routine, type_of}
 use Rattle.m2_scheme.specs.Modules.{typed_module, numbered}
 use Rattle.m2_valid.specs.WellFormed.{IsWellFormed}
 use Rattle.m2_valid.proofs.Leading.{Callable}

@@ -1,16 +1,14 @@
 -- The fixed pieces of code: checks, cells, places, operators.
-use Rattle.std.proofs.Common.{◌≡◌, ℕ, zero, suc, ◌+◌, ◌*◌, ◌-◌, ◌<◌, ◌≤◌, ◌==◌, ◌||◌, ℤ, pos, Bool, true, false, List, [], ◌∷◌, ◌++◌, length, Some, None, Option, refl, sym, ap, subst, ◌∙◌, arith, inl, inr}
+use Rattle.std.proofs.Common.{◌≡◌, ℕ, zero, suc, ◌+◌, ◌*◌, ◌<◌, ◌≤◌, ◌==◌, ◌||◌, ℤ, pos, Bool, true, false, List, [], ◌∷◌, length, Some, None, Option, refl, ap, arith}
 use Rattle.std.specs.Prelude.{slice_get, if◌then◌else◌}
 use Rattle.std.specs.List.{list_any, position}
 use Rattle.std.specs.Prelude.{nat_lt, cond}
 use Rattle.std.specs.Option.{unwrap_or}
-use Rattle.std.proofs.lemmas.Bool.{cases_Bool, ltb-true}
+use Rattle.std.proofs.lemmas.Bool.{ltb-true}
 use Rattle.wasm_tree.specs.declared.kinds.ValueType.TheVariants.{I32, I64}
 use Rattle.wasm_tree.specs.declared.instr.Instr.{Instr}
-use Rattle.wasm_tree.specs.declared.instr.Instr.TheVariants.{LocalGet, I64Const, Call}
 use Rattle.wasm_tree.specs.declared.instr.Numeric.TheVariants as numeric
 use Rattle.wasm_tree.specs.declared.instr.Operation.TheVariants.{Add, Sub, Mul, And, Or, Xor}
-use Rattle.wasm_tree.specs.declared.instr.Relation.{Relation}
 use Rattle.wasm_tree.specs.Validity.{Context, Leads}
 use Rattle.m2_typed.specs.declared.computed.Arithmetic.{Arithmetic}
 use Rattle.m2_typed.specs.declared.computed.Arithmetic.TheVariants as op
@@ -30,12 +28,12 @@ use Rattle.m2_layout.specs.Types.{Ty, Scalar, Cell, Hidden, Array, Nothing, Fiel
 use Rattle.m2_layout.specs.Sizes.{size}
 use Rattle.m2_layout.specs.Shapes.{tree}
 use Rattle.m2_scheme.specs.Scheme.{type_from}
-use Rattle.m2_scheme.specs.Coded.{Setting, number, raised, operation, relation, wrapped, extended, fault, stop, check, quotient, remainder, checked}
-use Rattle.m2_scheme.specs.Cells.{load_of, width_room, lower, is_nought, unless_nought, load_scalar, store_scalar, load_tree, store_tree, loaded, stored, word, in_range, in_type, base_of, is_free, is_subrange, check_taken, check_changed}
+use Rattle.m2_scheme.specs.Coded.{Setting, raised, wrapped, fault, stop, check, quotient, remainder, checked}
+use Rattle.m2_scheme.specs.Cells.{load_of, lower, is_nought, unless_nought, load_scalar, store_scalar, load_tree, store_tree, loaded, stored, word, in_range, in_type, base_of, is_free, is_subrange, check_taken, check_changed}
 use Rattle.m2_scheme.specs.Exprs.{import_place, is_own, base_global, slots_global, outwards, frame_code, slot_path, slot_code, kept_address, open_address, high_code, index_of, element_tree, scaled, from_lower, element_code, open_element_code, arithmetic_code, complement, set_code, empty_code, ord_check, procedure_code, global_code, text_code}
 use Rattle.m2_valid.specs.WellFormed.{is_cell, is_known, IsKnown}
-use Rattle.m2_valid.proofs.Leading.{Stack, then_leads, above, get, set, tee, glob, short, long, calc, load, store, stuck, done, invoke}
-use Rattle.m2_valid.proofs.Fits.{Body, Holds, at, labelled}
+use Rattle.m2_valid.proofs.Leading.{Stack, then_leads, above, get, glob, short, long, calc, load, store, stuck, done, invoke}
+use Rattle.m2_valid.proofs.Fits.{Body, Holds, labelled}
 
 abbrev pub S : Stack
 S = I32 ∷ []

@@ -1,17 +1,14 @@
 -- The code of well formed statements is valid.
-use Rattle.std.proofs.Common.{◌≡◌, ℕ, suc, Bool, true, false, ℤ, List, [], ◌∷◌, ◌++◌, map, Some, None, Option, refl, subst}
-use Rattle.m2_typed.specs.declared.computed.Call.{Call}
-use Rattle.m2_typed.specs.declared.computed.Place.{Place}
-use Rattle.m2_typed.specs.declared.computed.TypedExpr.{TypedExpr}
-use Rattle.m2_typed.specs.declared.statement.TypedArm.{TypedArm, TypedArm-F, out-TypedArm}
+use Rattle.std.proofs.Common.{◌≡◌, ℕ, suc, Bool, true, false, List, [], ◌++◌, map, Some, None, refl, subst}
+use Rattle.m2_typed.specs.declared.statement.TypedArm.{TypedArm, out-TypedArm}
 use Rattle.m2_typed.specs.declared.statement.TypedStmt.{TypedStmt, TypedStmt-F, out-TypedStmt}
 use Rattle.m2_typed.specs.declared.statement.TypedStmt.TheOpen as step
 use Rattle.m2_typed.specs.declared.statement.TypedStmt.TheVariants as stmt
 use Rattle.m2_scheme.specs.Signatures.{Signatures, joined, optional, of_expr, of_place, of_call, of_step}
 use Rattle.m2_scheme.specs.Signatures as sign
-use Rattle.m2_valid.specs.WellFormed.{IsStmt, Assign, Copy, CopyText, ProcedureCall, Put, Changed, Member, Halt, If, Case, While, Repeat, Loop, Exit, Return, Give, For, With, AreStmts, no_stmts, more_stmts, AreOthers, no_others, others, AreArms, no_arms, more_arms}
+use Rattle.m2_valid.specs.WellFormed.{IsStmt, Assign, Copy, CopyText, ProcedureCall, Put, Changed, Member, Halt, If, Case, While, Repeat, Loop, Exit, Return, Give, For, With, AreStmts, no_stmts, more_stmts, no_others, others, AreArms, no_arms, more_arms}
 use Rattle.m2_valid.proofs.Fits.{Body, Holds, fits_nothing, fits_then}
-use Rattle.m2_valid.proofs.Opened.{of_arm, step_signed, step_signs, arm_signed, arm_signs}
+use Rattle.m2_valid.proofs.Opened.{of_arm, step_signed, step_signs, arm_signs}
 use Rattle.m2_valid.proofs.Exprs.{AreKnown, first_known, rest_known}
 use Rattle.m2_valid.proofs.Values.{expr_valid, place_valid, call_valid}
 use Rattle.m2_valid.proofs.Steps as fine

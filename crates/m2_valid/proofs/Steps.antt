@@ -1,15 +1,13 @@
 -- Statements: a lemma for each construct, and then the induction.
-use Rattle.std.proofs.Common.{◌≡◌, ℕ, zero, suc, ◌+◌, ◌-◌, ◌<◌, ◌≤◌, ℤ, pos, Bool, true, false, List, [], ◌∷◌, ◌++◌, map, length, Some, None, Option, refl, sym, ap, subst, ◌∙◌, arith}
-use Rattle.std.specs.Prelude.{slice_get, if◌then◌else◌}
-use Rattle.std.specs.List.{flat_map}
+use Rattle.std.proofs.Common.{◌≡◌, ℕ, suc, ◌-◌, ℤ, pos, Bool, true, false, List, [], ◌∷◌, ◌++◌, map, length, Some, None, refl, ap, ◌∙◌, arith}
 use Rattle.std.specs.Int.{w64, cast_unsigned}
 use Rattle.wasm_tree.specs.declared.kinds.ValueType.TheVariants.{I32, I64}
 use Rattle.wasm_tree.specs.declared.instr.Instr.{Instr}
-use Rattle.wasm_tree.specs.declared.instr.Instr.TheVariants.{If as Ifs, Br, BrIf, Return as Returns, Call as Calls, LocalGet, LocalSet, LocalTee, I32Const, I64Const}
+use Rattle.wasm_tree.specs.declared.instr.Instr.TheVariants.{Br, Call as Calls, I32Const}
 use Rattle.wasm_tree.specs.declared.instr.Numeric.TheVariants as numeric
 use Rattle.wasm_tree.specs.declared.instr.Operation.TheVariants.{Add, Sub, And, Or, Shl}
 use Rattle.wasm_tree.specs.declared.instr.Relation.{Relation}
-use Rattle.wasm_tree.specs.Validity.{Context, Leads}
+use Rattle.wasm_tree.specs.Validity.{Leads}
 use Rattle.m2_typed.specs.declared.computed.Call.{Call}
 use Rattle.m2_typed.specs.declared.computed.Place.{Place}
 use Rattle.m2_typed.specs.declared.computed.TypedExpr.{TypedExpr}
@@ -17,7 +15,7 @@ use Rattle.m2_typed.specs.declared.statement.Change.{Change}
 use Rattle.m2_typed.specs.declared.statement.Change.TheVariants as change
 use Rattle.m2_typed.specs.declared.statement.Membership.{Membership}
 use Rattle.m2_typed.specs.declared.statement.Membership.TheVariants as member
-use Rattle.m2_typed.specs.declared.statement.TypedArm.{TypedArm, TypedArm-F, out-TypedArm}
+use Rattle.m2_typed.specs.declared.statement.TypedArm.{TypedArm, out-TypedArm}
 use Rattle.m2_typed.specs.declared.statement.TypedStmt.{TypedStmt, TypedStmt-F, out-TypedStmt}
 use Rattle.m2_typed.specs.declared.statement.TypedStmt.TheOpen as step
 use Rattle.m2_typed.specs.declared.statement.TypedStmt.TheVariants as stmt
@@ -27,19 +25,19 @@ use Rattle.m2_typed.specs.Types.{char, bitset}
 use Rattle.m2_layout.specs.Sizes.{size}
 use Rattle.m2_layout.specs.Shapes.{tree}
 use Rattle.m2_scheme.specs.Scheme.{type_from}
-use Rattle.m2_scheme.specs.Coded.{Coded, Setting, plain, ◌⨾◌, all_coded, within, with_address, with_number, with_text, with_setting, number, raised, relation, operation, wrapped, is_zero, put, copy, fill, fault, checked}
-use Rattle.m2_scheme.specs.Cells.{loaded, stored, in_type, check_taken, check_changed}
-use Rattle.m2_scheme.specs.Exprs.{Part, behind, complement, text_code, expr_part, place_code, call_code}
-use Rattle.m2_scheme.specs.Steps.{block_loop, loop as loop_of, block as block_of, Arm, else_code, step_layer, arm_layer, step_code, taken, passes, for_turn, change_operation, read_again, changed, member_operation, with_member, text_copied}
+use Rattle.m2_scheme.specs.Coded.{Coded, plain, all_coded, with_setting, number, relation, operation, wrapped, is_zero, put, copy, fill, fault}
+use Rattle.m2_scheme.specs.Cells.{loaded, stored, in_type, check_taken}
+use Rattle.m2_scheme.specs.Exprs.{behind, expr_part, place_code}
+use Rattle.m2_scheme.specs.Steps.{block_loop, loop as loop_of, Arm, step_layer, step_code, taken, passes, change_operation, read_again, changed, member_operation, with_member, text_copied}
 use Rattle.m2_scheme.specs.Signatures.{Signatures, of_step}
 use Rattle.m2_scheme.specs.Signatures as sign
 use Rattle.m2_scheme.specs.Addresses.{total, addresses_of, addresses_armed}
 use Rattle.m2_scheme.specs.Addresses as count
 use Rattle.m2_valid.specs.WellFormed.{IsScalar}
 use Rattle.m2_valid.proofs.Leading.{Stack, then_leads, above, same_stacks, get, set, tee, long, short, calc, br, br_if, return, block, loop, one_of, done, invoke}
-use Rattle.m2_valid.proofs.Fits.{Body, Holds, Suits, Fits, at, labelled, IsNumber, IsAddress, blocks, moved, moved_twice, into_loop, fits_code, fits_plain, fits_nothing, fits_then, fits_above, fits_given, fits_number, fits_address, fits_text, fits_as, fits_moved, fits_within, fits_twice, fits_leaving, fits_under, fits_sides}
+use Rattle.m2_valid.proofs.Fits.{Body, Holds, Fits, labelled, IsNumber, IsAddress, moved, moved_twice, into_loop, fits_code, fits_plain, fits_then, fits_above, fits_given, fits_number, fits_address, fits_text, fits_as, fits_moved, fits_within, fits_twice, fits_leaving, fits_under, fits_sides}
 use Rattle.m2_valid.proofs.Parts.{S, N, checked_leads, type_leads, taken_leads, changed_leads, fault_leads, loaded_leads, stored_leads, raised_leads, text_leads, complement_leads}
-use Rattle.m2_valid.proofs.Opened.{armed, step_opened, step_at, arm_opened, arm_at, step_counted, step_counts, arm_counted, arm_counts}
+use Rattle.m2_valid.proofs.Opened.{armed, step_opened, step_at, arm_at, step_counted, step_counts, arm_counts}
 use Rattle.m2_valid.proofs.Exprs.{SN, FineExpr, FinePlace, FineCall, behind_fine}
 use Rattle.m2_valid.proofs.Cases.{FineArms, case_fine}
 

@@ -1,61 +1,33 @@
 -- The code of well formed expressions, designators, calls and arguments is valid.
-use Rattle.std.proofs.Common.{◌≡◌, ℕ, zero, suc, ◌+◌, ◌<◌, ℤ, pos, Bool, true, false, List, [], ◌∷◌, ◌++◌, map, length, Some, None, Option, refl, sym, ap, subst, ◌∙◌, arith}
+use Rattle.std.proofs.Common.{◌≡◌, ℕ, zero, suc, ◌+◌, Bool, true, List, [], ◌∷◌, ◌++◌, map, refl, ap, subst, ◌∙◌, arith}
 use Rattle.std.proofs.lemmas.List.{append-nil}
-use Rattle.std.specs.Prelude.{slice_get, if◌then◌else◌}
-use Rattle.wasm_tree.specs.declared.kinds.ValueType.TheVariants.{I32, I64}
-use Rattle.wasm_tree.specs.declared.kinds.ValueType.{ValueType}
-use Rattle.wasm_tree.specs.declared.kinds.FuncType.{FuncType}
-use Rattle.wasm_tree.specs.declared.instr.Instr.{Instr}
-use Rattle.wasm_tree.specs.declared.instr.Instr.TheVariants.{LocalGet, LocalSet, GlobalGet, I64Const, Call as Calls}
-use Rattle.wasm_tree.specs.declared.instr.Numeric.TheVariants as numeric
-use Rattle.wasm_tree.specs.declared.instr.Operation.TheVariants.{Add, Sub, And, ShrU}
-use Rattle.wasm_tree.specs.declared.instr.Relation.TheVariants.{LtS, LeU}
-use Rattle.wasm_tree.specs.Validity.{Context, Leads}
+use Rattle.std.specs.Prelude.{if◌then◌else◌}
+use Rattle.wasm_tree.specs.declared.kinds.ValueType.TheVariants.{I64}
 use Rattle.m2_typed.specs.declared.computed.Argument.{Argument, Argument-F, out-Argument}
 use Rattle.m2_typed.specs.declared.computed.Argument.TheOpen as layer
 use Rattle.m2_typed.specs.declared.computed.Argument.TheVariants as argument
-use Rattle.m2_typed.specs.declared.computed.Arithmetic.{Arithmetic}
 use Rattle.m2_typed.specs.declared.computed.Call.{Call, Call-F, out-Call}
 use Rattle.m2_typed.specs.declared.computed.Call.TheVariants as call
-use Rattle.m2_typed.specs.declared.computed.Comparison.{Comparison}
 use Rattle.m2_typed.specs.declared.computed.Component.{Component, Component-F, out-Component}
 use Rattle.m2_typed.specs.declared.computed.Component.TheVariants as component
-use Rattle.m2_typed.specs.declared.computed.Inclusion.{Inclusion}
-use Rattle.m2_typed.specs.declared.computed.Inclusion.TheVariants as inclusion
 use Rattle.m2_typed.specs.declared.computed.Link.{Link, Link-F, out-Link}
 use Rattle.m2_typed.specs.declared.computed.Link.TheVariants as link
-use Rattle.m2_typed.specs.declared.computed.LocalProcedure.{LocalProcedure}
 use Rattle.m2_typed.specs.declared.computed.Place.{Place, Place-F, out-Place}
-use Rattle.m2_typed.specs.declared.computed.Root.{Root}
-use Rattle.m2_typed.specs.declared.computed.Root.TheVariants as root
-use Rattle.m2_typed.specs.declared.computed.SetOperator.{SetOperator}
-use Rattle.m2_typed.specs.declared.computed.Slot.{Slot}
 use Rattle.m2_typed.specs.declared.computed.TypedExpr.{TypedExpr, TypedExpr-F, out-TypedExpr}
 use Rattle.m2_typed.specs.declared.computed.TypedExpr.TheVariants as expr
-use Rattle.m2_typed.specs.declared.known_types.Types.{Types}
-use Rattle.m2_typed.specs.declared.meaning.Procedure.{Procedure}
-use Rattle.m2_typed.specs.declared.meaning.Variable.{Variable}
 use Rattle.m2_typed.specs.declared.shape.Formal.{Formal}
-use Rattle.m2_typed.specs.declared.types.TypeNo.{TypeNo}
-use Rattle.m2_typed.specs.declared.typed_module.Routine.{Routine}
-use Rattle.m2_typed.specs.declared.typed_module.TypedModule.{TypedModule}
-use Rattle.m2_typed.specs.Types.{are_same, integer}
 use Rattle.m2_layout.specs.Frames.{formals_of}
-use Rattle.m2_layout.specs.Sizes.{offset}
-use Rattle.m2_layout.specs.Shapes.{tree}
-use Rattle.m2_layout.specs.Texts.{passed}
-use Rattle.m2_scheme.specs.Coded.{Coded, Setting, plain, ◌⨾◌, nothing, all_coded, within, with_number, with_setting, top_local, number, raised, relation, operation, wrapped, extended, checked}
-use Rattle.m2_scheme.specs.Cells.{loaded, in_type, check_taken}
-use Rattle.m2_scheme.specs.Exprs.{Part, Linked, Numbered, all_arguments, arguments_of, has_result, is_own, relation_of, arithmetic_code, complement, empty_code, include_code, chosen_number, and_code, or_code, in_code, absolute_code, abs_code, capital_code, ord_check, behind, procedure_code, high_code, loaded_from, chain_code, argument_layer, call_layer, component_layer, link_layer, expr_layer, place_layer, root_layer, root_layer, with_code, global_code, slot_code, kept_address, open_address, open_element_code, element_code, high_index, passed_text, text_code, top_code, indirect, module_call, link_code, nested_call, value_call, slots_global, slot_number, expr_part, place_code, call_code}
+use Rattle.m2_scheme.specs.Coded.{all_coded}
+use Rattle.m2_scheme.specs.Exprs.{all_arguments, arguments_of, is_own, chain_code}
 use Rattle.m2_scheme.specs.Signatures.{Signatures, Signature, signature, of_heading, joined, is_among, so_many, results_of, type_of, of_expr, of_place, of_call}
 use Rattle.m2_scheme.specs.Signatures as sign
-use Rattle.m2_valid.specs.WellFormed.{IsScalar, IsKnown, IsRoutine, IsProcedure, IsRoot, IsExpr, Constant, Load, ProcedureValue, Plus, Negate, Chain, Compare, Not, Include, In, Abs, Cap, Chr, Odd, Ord, Val, High, FunctionCall, AreLinks, no_links, more_links, IsLink, Operated, And as AndOf, Or as OrOf, Combine, IsPlace, Designator, AreComponents, no_components, more_components, IsComponent, FieldOf, Element, OpenElement, IsCall, OfModule, OfProcedure, OfVariable, AreArguments, no_arguments, more_arguments, IsArgument, Value, Actual, ActualArray, Open, Text}
+use Rattle.m2_valid.specs.WellFormed.{IsExpr, Constant, Load, ProcedureValue, Plus, Negate, Chain, Compare, Not, Include, In, Abs, Cap, Chr, Odd, Ord, Val, High, FunctionCall, AreLinks, no_links, more_links, IsLink, Operated, And as AndOf, Or as OrOf, Combine, IsPlace, Designator, AreComponents, no_components, more_components, IsComponent, FieldOf, Element, OpenElement, IsCall, OfModule, OfProcedure, OfVariable, AreArguments, no_arguments, more_arguments, IsArgument, Value, Actual, ActualArray, Open, Text}
 use Rattle.m2_valid.proofs.Exprs as fine
 use Rattle.m2_valid.proofs.Exprs.{AreKnown, first_known, rest_known}
-use Rattle.m2_valid.proofs.Leading.{Stack, Callable, then_leads, above, same_stacks, get, set, glob, long, calc, one_of, done, invoke, invoke_slot}
-use Rattle.m2_valid.proofs.Fits.{Body, Holds, Suits, Fits, at, labelled, IsNumber, fits_code, fits_plain, fits_nothing, fits_then, fits_above, fits_given, fits_number, fits_text, fits_valued, fits_as, fits_stacks}
-use Rattle.m2_valid.proofs.Parts.{S, N, if_leads, checked_leads, type_leads, taken_leads, loaded_leads, raised_leads, frame_leads, slot_leads, kept_leads, open_leads, high_leads, element_leads, open_element_leads, text_leads, arithmetic_leads, complement_leads, set_leads, empty_leads, ord_leads, slots_there, global_leads, procedure_leads}
-use Rattle.m2_valid.proofs.Opened.{argument_code, component_code, link_part, expr_opened, expr_at, link_opened, link_at, component_opened, component_at, place_opened, place_at, call_opened, call_at, argument_opened, argument_at, of_argument, of_component, of_link, expr_signed, expr_signs, link_signed, link_signs, component_signed, component_signs, place_signed, place_signs, call_signed, call_signs, argument_signed, argument_signs}
+use Rattle.m2_valid.proofs.Leading.{Stack}
+use Rattle.m2_valid.proofs.Fits.{Body, Holds, fits_nothing, fits_then, fits_above, fits_stacks}
+use Rattle.m2_valid.proofs.Parts.{S, N}
+use Rattle.m2_valid.proofs.Opened.{argument_code, component_code, link_part, of_argument, of_component, of_link, expr_signed, expr_signs, link_signed, link_signs, component_signed, component_signs, place_signed, place_signs, call_signed, call_signs, argument_signed, argument_signs}
 
 so_many_more : (k n : ℕ) → so_many k ++ so_many n ≡ so_many (k + n)
 so_many_more zero n = let e : n ≡ 0 + n = omega arith in ap so_many e
