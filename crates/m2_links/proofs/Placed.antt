@@ -266,3 +266,75 @@ module _ (p : Program) (pages spare : ℕ) (room : bytes_in p + spare ≡ 65536 
       let l : Linked = state m new_slots old_bytes in let after : Linked = state m new_slots (with_text (c ∷ cs)) in
       step_on with_segment (record { memory = 0; offset = GlobalGet 2 ∷ []; bytes = c ∷ cs }) [] l after (Ok after)
       (rw (text_value, bytes_fit (c ∷ cs) many) (ap (λ (s : List ℕ). Ok (state m new_slots s)) (bytes_pasted (c ∷ cs) many))) (step_none with_segment after)
+
+  functions_are : (m : ℕ) → m ≡ 1 + k → owns 1 before ++ own_from m 0 (count b) ≡ owns 1 (before ++ b ∷ [])
+  functions_are m e = ap (λ (n : ℕ). owns 1 before ++ own_from n 0 (count b)) e ∙ sym (owns_more 1 before b)
+
+  -- the instance, where its first function has this address
+  abbrev own_instance : ℕ → Instance
+  own_instance a = record { functions = 0 ∷ 1 ∷ numbers_from a (count b); tables = 0 ∷ []; memories = 0 ∷ []; globals = places_of }
+
+  instances_are : instances p 3 before ++ own_instance first_address ∷ [] ≡ instances p 3 (before ++ b ∷ [])
+  instances_are = ap (λ (a : ℕ). instances p 3 before ++ own_instance a ∷ []) address ∙ sym (instances_more p 3 before b)
+
+  -- the store with these functions, bytes and instances
+  abbrev built : List Callee → List ℕ → List Instance → Store
+  built f s i = record (store p pages spare (before ++ b ∷ []) rest) {
+    functions = Put ∷ Stop ∷ Own 0 0 ∷ f;
+    memories = record { bytes = s; max = Some pages } ∷ [];
+    instances = link_instance p ∷ i;
+  }
+
+  -- imports alone
+  abbrev got : Instance
+  got = record { functions = 0 ∷ 1 ∷ []; tables = 0 ∷ []; memories = 0 ∷ []; globals = places_of }
+
+  all_there : (m : ℕ) → with_functions m 0 (functions b) (record { store = there; instance = got }) ≡ state m old_slots old_bytes
+  all_there m = functions_added m 0 (functions b) (record { store = there; instance = got })
+
+  pub body_linked : (m : ℕ) → m ≡ 1 + k → 1 ≤ pages → All (IsAmong (names p)) (imported_names b) → linked_one (all p pages) m (typed_module b) there ≡ Ok (store p pages spare (before ++ b ∷ []) rest)
+  body_linked m e le among =
+      let own : IsAmong (names p) b.name = subst (λ (q : Program). IsAmong (names q) b.name) (sym is) (own_among before rest b) in
+      let size : bytes_in before + (bytes_in (b ∷ rest) + spare) ≡ 65536 * pages =
+      (let i = bytes_behind before (b ∷ rest) in let j : bytes_in p ≡ bytes_in (before ++ b ∷ rest) = ap (λ (q : Program). bytes_in q) is in omega (arith, i, j, room))
+      in
+      let half : Linked = state m old_slots old_bytes in
+      let slotted : Linked = state m new_slots old_bytes in
+      let last : Linked = state m new_slots (with_text (text b)) in
+      linked_by (all p pages) m (typed_module b) there got half half half slotted last (body_imported p pages spare before (b ∷ rest) b le size own among)
+      (step_none _ (with_functions m 0 (functions b) (record { store = there; instance = got })) ∙ ap Ok (all_there m)) (step_none _ half) (step_none _ half)
+      (step_on with_element element [] half slotted (Ok slotted) (slot_filled m) (step_none with_element slotted)) (text_placed m (text b) (text_length (module_texts b)))
+      ∙ ap (λ (f : List Callee). Ok (built f (with_text (text b)) (instances p 3 before ++ own_instance first_address ∷ []))) (functions_are m e)
+      ∙ ap (λ (s : List ℕ). Ok (built (owns 1 (before ++ b ∷ [])) s (instances p 3 before ++ own_instance first_address ∷ []))) new_parts
+      ∙ ap (λ (i : List Instance). Ok (built (owns 1 (before ++ b ∷ [])) new_bytes i)) instances_are
+
+-- ---- all bodies
+
+module _ (p : Program) (pages spare : ℕ) (room : bytes_in p + spare ≡ 65536 * pages) (le : 1 ≤ pages) (distinct : AreDistinct (names p)) where
+  bodies_linked : (before rest : Program) → p ≡ before ++ rest → (m : ℕ) → m ≡ 1 + length before → All (λ b. All (IsAmong (names p)) (imported_names b)) rest
+      → linked_from (all p pages) m (map typed_module rest) (store p pages spare before rest) ≡ Ok (store p pages spare p [])
+  unfolding linked_from
+  bodies_linked before [] is m e among = ap (λ (q : Program). Ok (store p pages spare q [])) (sym (is ∙ append-nil before))
+  bodies_linked before (b ∷ rest) is m e among =
+      let here = body_linked p pages spare room before rest b is distinct m e le (All-head (λ b. All (IsAmong (names p)) (imported_names b)) b rest among) in
+      let next : suc m ≡ 1 + length (before ++ b ∷ []) = omega (arith, e, length-append before (b ∷ [])) in
+      rw here (bodies_linked (before ++ b ∷ []) rest (is ∙ sym (append_assoc before (b ∷ []) rest)) (suc m) next (All-tail (λ b. All (IsAmong (names p)) (imported_names b)) b rest among))
+
+  all_linked : All (λ b. All (IsAmong (names p)) (imported_names b)) p → linked_from (all p pages) 0 (all p pages) host_store ≡ Ok (store p pages spare p [])
+  unfolding linked_from
+  all_linked among = rw (first_linked p pages spare room) (bodies_linked [] p refl 1 refl among)
+
+-- ---- run
+
+run_found : (g : ℕ) (p : Program) → named (codes "run") (exports_from g (map part_of p) ++ run_export ∷ []) ≡ Some (exported.Function 0)
+run_found g [] = refl
+run_found g (b ∷ bs) = run_found (g + 3) bs
+
+begun : (p : Program) (pages spare : ℕ) → bytes_in p + spare ≡ 65536 * pages → 1 ≤ pages → AreDistinct (names p) → All (λ b. All (IsAmong (names p)) (imported_names b)) p → link (all p pages) ≡ Ok (Going (store p pages spare p []) (begin p) [])
+unfolding link
+begun p pages spare room le distinct among = rw (run_found 1 p, all_linked p pages spare room le distinct among) refl
+
+pub modules_link : (p : Program) (pages : ℕ) → IsLinkable p pages → link (all p pages) ≡ Ok (Going (linked_store p pages) (begin p) [])
+modules_link p pages h =
+    let room = h.room in
+    begun p pages (65536 * pages - bytes_in p) (omega (arith, room)) h.memory h.distinct h.imports
