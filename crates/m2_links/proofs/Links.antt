@@ -1,5 +1,5 @@
 -- The module link is linked, and what bodies import from it.
-use Rattle.std.proofs.Common.{◌≡◌, ℕ, zero, suc, ◌+◌, ◌*◌, ◌/◌, ◌<◌, ◌≤◌, true, leb, List, [], ◌∷◌, ◌++◌, length, map, Option, Some, None, Ok, refl, sym, ap, ◌∙◌, append_assoc, replicate, codes, arith, Result}
+use Rattle.std.proofs.Common.{◌≡◌, ℕ, suc, ◌+◌, ◌*◌, ◌/◌, ◌<◌, ◌≤◌, true, leb, List, [], ◌∷◌, ◌++◌, length, map, Option, Some, None, Ok, refl, sym, ap, ◌∙◌, append_assoc, replicate, codes, arith, Result}
 use Rattle.std.specs.Prelude.{All}
 use Rattle.std.proofs.lemmas.Bool.{le-leb}
 use Rattle.std.proofs.lemmas.List.{length-replicate, length-append, length-map, append-nil}
@@ -20,7 +20,7 @@ use Rattle.m2_typed.specs.declared.typed_module.TypedModule.{TypedModule}
 use Rattle.m2_layout.specs.Texts.{characters, module_texts}
 use Rattle.m2_scheme.specs.Scheme.{constant_global, imported_globals, host_imports, base_name, text_name, tab_name, from_link, from_host, at_least_one}
 use Rattle.m2_scheme.specs.Modules.{slots, imports, part_of, globals_from, typed_module, typed_link}
-use Rattle.m2_links.specs.Linked.{Program, names, imported_names, all, variables, values, filled, image, places, base_at, text_at, tab_at, own_places, imported_places, link_values, slots_in, bytes_in, store, IsAmong}
+use Rattle.m2_links.specs.Linked.{Program, names, imported_names, all, variables, values, filled, image, places, base_at, text_at, tab_at, own_places, imported_places, slots_in, bytes_in, store, IsAmong}
 use Rattle.m2_links.proofs.Stores.{image_length, global_place, link_value, place_within, link_exports, base_found, text_found, tab_found}
 
 -- ---- a module in steps

@@ -27,8 +27,8 @@ use Rattle.m2_layout.specs.Texts.{characters, module_texts}
 use Rattle.m2_scheme.specs.Coded.{body_index}
 use Rattle.m2_scheme.specs.Functions.{functions_from}
 use Rattle.m2_scheme.specs.Modules.{slots, functions, numbered, data_of, part_of, exports_from, typed_module}
-use Rattle.m2_links.specs.Linked.{Program, names, imported_names, all, variables, text, count, numbers_from, own_from, somes_from, owns, filled, image, place_of, tab_at, text_at, own_places, imported_places, module_instance, instances, link_instance, link_values, slots_in, bytes_in, store, linked_store, begin, IsAmong, IsLinkable}
-use Rattle.m2_links.proofs.Stores.{counts, text_length, owns_more, filled_more, instances_more, image_more, slots_more, owns_length, somes_length, filled_length, image_length, slot_is, text_is, run_export}
+use Rattle.m2_links.specs.Linked.{Program, names, imported_names, all, variables, text, count, numbers_from, own_from, somes_from, owns, filled, image, place_of, tab_at, text_at, own_places, imported_places, instances, link_instance, link_values, slots_in, bytes_in, store, linked_store, begin, IsAmong, IsLinkable}
+use Rattle.m2_links.proofs.Stores.{counts, text_length, owns_more, filled_more, instances_more, image_more, owns_length, somes_length, filled_length, image_length, slot_is, text_is, run_export}
 use Rattle.m2_links.proofs.Links.{linked_by, step_on, step_none, first_linked, body_imported}
 
 -- ---- where a module's own name stands

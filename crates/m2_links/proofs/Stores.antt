@@ -1,6 +1,6 @@
 -- The store while modules are linked: one module more, and what stands where.
-use Rattle.std.proofs.Common.{◌≡◌, ℕ, zero, suc, ◌+◌, ◌*◌, ◌<◌, ◌≤◌, Bool, true, false, List, [], ◌∷◌, ◌++◌, length, map, replicate, Option, Some, None, refl, sym, ap, ◌∙◌, append_assoc, codes, arith}
-use Rattle.std.specs.Prelude.{slice_get, if◌then◌else◌}
+use Rattle.std.proofs.Common.{◌≡◌, ℕ, zero, suc, ◌+◌, ◌*◌, ◌<◌, Bool, true, false, List, [], ◌∷◌, ◌++◌, length, map, replicate, Option, Some, refl, sym, ap, ◌∙◌, append_assoc, codes, arith}
+use Rattle.std.specs.Prelude.{slice_get}
 use Rattle.std.specs.Str.{bytes_eq}
 use Rattle.std.proofs.lemmas.List.{length-append, length-replicate, append-nil}
 use Rattle.wasm_tree.specs.declared.module.Export.{Export}
@@ -8,14 +8,13 @@ use Rattle.wasm_tree.specs.declared.module.ExportKind.{ExportKind}
 use Rattle.wasm_tree.specs.declared.module.ExportKind.TheVariants as exported
 use Rattle.wasm_tree.specs.declared.store.Callee.{Callee}
 use Rattle.wasm_tree.specs.declared.store.Instance.{Instance}
-use Rattle.wasm_tree.specs.declared.store.Value.{Value}
 use Rattle.wasm_tree.specs.declared.store.Value.TheVariants.{I32}
 use Rattle.wasm_tree.specs.Linking.{named}
 use Rattle.m2_typed.specs.declared.typed_module.TypedModule.{TypedModule}
 use Rattle.m2_layout.specs.Texts.{Texts, characters, module_texts}
 use Rattle.m2_scheme.specs.Scheme.{base_name, text_name, tab_name, exported_as}
 use Rattle.m2_scheme.specs.Modules.{slots, all_characters, part_of, exports_from}
-use Rattle.m2_links.specs.Linked.{Program, names, variables, text, count, values, numbers_from, own_from, somes_from, owns, filled, image, places, place_of, base_at, text_at, tab_at, module_instance, instances, link_instance, link_values, slots_in, bytes_in, IsAmong}
+use Rattle.m2_links.specs.Linked.{Program, names, variables, text, count, values, own_from, somes_from, owns, filled, image, places, place_of, base_at, text_at, tab_at, module_instance, instances, link_instance, link_values, slots_in, bytes_in, IsAmong}
 
 -- so many functions of modules
 abbrev pub counts : Program → ℕ
