@@ -1,4 +1,5 @@
 mod Leading
+mod Cells
 mod Fits
 mod Parts
 mod Opened

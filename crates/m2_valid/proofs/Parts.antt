@@ -31,7 +31,8 @@ use Rattle.m2_scheme.specs.Scheme.{type_from}
 use Rattle.m2_scheme.specs.Coded.{Setting, raised, wrapped, fault, stop, check, quotient, remainder, checked}
 use Rattle.m2_scheme.specs.Cells.{load_of, lower, is_nought, unless_nought, load_scalar, store_scalar, load_tree, store_tree, loaded, stored, word, in_range, in_type, base_of, is_free, is_subrange, check_taken, check_changed}
 use Rattle.m2_scheme.specs.Exprs.{import_place, is_own, base_global, slots_global, outwards, frame_code, slot_path, slot_code, kept_address, open_address, high_code, index_of, element_tree, scaled, from_lower, element_code, open_element_code, arithmetic_code, complement, set_code, empty_code, ord_check, procedure_code, global_code, text_code}
-use Rattle.m2_valid.specs.WellFormed.{is_cell, is_known, IsKnown}
+use Rattle.m2_valid.specs.WellFormed.{IsScalar, is_known, IsKnown}
+use Rattle.m2_valid.proofs.Cells.{is_cell, cell_of}
 use Rattle.m2_valid.proofs.Leading.{Stack, then_leads, above, get, glob, short, long, calc, load, store, stuck, done, invoke}
 use Rattle.m2_valid.proofs.Fits.{Body, Holds, labelled}
 
@@ -114,11 +115,11 @@ module _ (b : Body) (h : Holds b) (ls : List Stack) where
   stored_cell Nothing e = absurd cc
   stored_cell (Field t others) e = absurd cc
 
-  pub loaded_leads : (types : Types) (t : TypeNo) → is_cell (tree types t) ≡ true → Leads here (loaded types t) S N
-  loaded_leads types t e = loaded_cell (tree types t) e
+  pub loaded_leads : (types : Types) (t : TypeNo) → IsScalar types t → Leads here (loaded types t) S N
+  loaded_leads types t e = loaded_cell (tree types t) (cell_of types t e)
 
-  pub stored_leads : (types : Types) (t : TypeNo) → is_cell (tree types t) ≡ true → Leads here (stored types t) (I32 ∷ I64 ∷ []) []
-  stored_leads types t e = stored_cell (tree types t) e
+  pub stored_leads : (types : Types) (t : TypeNo) → IsScalar types t → Leads here (stored types t) (I32 ∷ I64 ∷ []) []
+  stored_leads types t e = stored_cell (tree types t) (cell_of types t e)
 
   -- ---- places
 

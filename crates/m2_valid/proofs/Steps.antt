@@ -41,7 +41,6 @@ use Rattle.m2_valid.proofs.Opened.{armed, step_opened, step_at, arm_at, step_cou
 use Rattle.m2_valid.proofs.Exprs.{SN, FineExpr, FinePlace, FineCall, behind_fine}
 use Rattle.m2_valid.proofs.Cases.{FineArms, case_fine}
 
--- the room of a set is a cell
 set_cell : (types : Types) → IsScalar types bitset
 set_cell types = refl
 

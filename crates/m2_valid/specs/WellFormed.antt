@@ -31,23 +31,15 @@ use Rattle.m2_typed.specs.declared.statement.TypedStmt.TheVariants as stmt
 use Rattle.m2_typed.specs.declared.typed_module.Routine.{Routine}
 use Rattle.m2_typed.specs.declared.typed_module.TypedModule.{TypedModule}
 use Rattle.m2_typed.specs.declared.types.TypeNo.{TypeNo}
-use Rattle.m2_layout.specs.Types.{Ty, Cell, Hidden, Array, Nothing, Field}
-use Rattle.m2_layout.specs.Shapes.{tree}
+use Rattle.m2_typed.specs.Known.{is_result}
 use Rattle.m2_layout.specs.Frames.{formals_of}
 use Rattle.m2_scheme.specs.Exprs.{is_own, has_result}
 
 -- ---- what a body may name
 
--- a variable of the type holds one number
-abbrev pub is_cell : Ty → Bool
-is_cell (Cell c) = true
-is_cell (Hidden n) = false
-is_cell (Array n t) = false
-is_cell Nothing = false
-is_cell (Field t others) = false
-
+-- no array and no record
 abbrev pub IsScalar : Types → TypeNo → Type 0
-IsScalar types t = is_cell (tree types t) ≡ true
+IsScalar types t = is_result types t ≡ true
 
 -- the module itself, and those that it imports
 abbrev pub is_known : TypedModule → (home : ℕ) → Bool
