@@ -62,5 +62,5 @@ of_contents m number tables (contents.Implementation b) = of_checked (typed_body
 of_contents m number tables (contents.Program b) = of_checked (typed_body m number tables)
 
 -- A module is blocked where one that it needs is refused or blocked.
-abbrev pub compiled : Module → (number : ℕ) → List Compiled → Compiled
+unfoldable pub compiled : Module → (number : ℕ) → List Compiled → Compiled
 compiled m number needed = cond (list_all is_sound needed) (of_contents m number (tables_of needed) m.contents) Blocked

@@ -79,6 +79,7 @@ fn body(
 /// Else each is checked, with its types known by the job's number, and told of where it breaks a rule. A definition gives its
 /// table. A body gives its module, or 60 where its variables and texts, or a frame, are too large. The only error is that
 /// memory ran out.
+#[tactic(auto, unfolding(crate::specs::Compiling::compiled))]
 pub fn compile(
     alloc: Global,
     tree: &Module,

@@ -38,6 +38,7 @@ made name bytes v t s = record { name = name; bytes = bytes; variables = v; text
 
 pub emitted_is : (m : TypedModule) (x : Layout) (name bytes : List ℕ) (n : ℕ) → IsLayout m x → AllFits m → name ≡ m.name → bytes ≡ module_spelling (typed_module m) → n ≡ slots m
     → made name bytes x.variables.size x.texts n ≡ emitted m
+unfolding emitted
 emitted_is m x name bytes n h f e b s =
     ap (λ (k : List ℕ). made k bytes x.variables.size x.texts n) e ∙ ap (λ (k : List ℕ). made m.name k x.variables.size x.texts n) b
     ∙ ap (λ (k : ℕ). made m.name (module_spelling (typed_module m)) k x.texts n) (variables_are m x h f)

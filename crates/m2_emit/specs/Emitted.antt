@@ -12,7 +12,7 @@ use Rattle.m2_scheme.specs.Modules.{Part, slots, typed_module, exports_from}
 use Rattle.m2_emit.specs.declared.emitted.ModuleBytes.{ModuleBytes}
 
 -- its bytes, and what link needs of it
-abbrev pub emitted : TypedModule → ModuleBytes
+unfoldable pub emitted : TypedModule → ModuleBytes
 emitted m = record {
   name = m.name;
   bytes = module_spelling (typed_module m);

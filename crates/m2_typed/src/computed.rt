@@ -1,9 +1,14 @@
 //! Variables and values of bodies, with every name replaced by what it means and a type at every value.
 
+ghost use Rattle.std.specs.Prelude.{IfOk, ◌≡◌, ◌∷◌, []};
+ghost use Rattle.m2_typed.specs.declared.computed.TypedExpr.TheVariants.{Chain};
+ghost use Rattle.m2_typed.specs.Chains.{linked};
+
 use crate::meaning::{Procedure, Variable};
 use crate::shared::Shared;
 use crate::types::TypeNo;
 use m2_tree::{Boxed, Items, Quoted};
+use std::alloc::{AllocError, Global};
 
 /// A formal or a variable of a procedure.
 #[derive(Clone, Copy, Debug, PartialEq, Eq)]
@@ -105,7 +110,6 @@ pub enum Component {
 
 /// An expression.
 #[cycle(computed)]
-#[derive(Drop)]
 pub enum TypedExpr {
     /// A constant of a scalar type by its ordinal number, or of BITSET, where element k is there if bit k is 1.
     Constant(TypeNo, i64),
@@ -137,6 +141,86 @@ pub enum TypedExpr {
     High(Slot),
     /// What a function gives, of this type.
     Call(TypeNo, Boxed<Call>),
+}
+
+// Written by hand, so that proofs above take a drop as one call, and not as a case for each variant.
+impl Drop for TypedExpr {
+    #[cycle(dropped)]
+    fn drop(self) {
+        match self {
+            TypedExpr::Constant(_, _) => {}
+            TypedExpr::Load(_, place) => drop(place),
+            TypedExpr::Procedure(_) => {}
+            TypedExpr::Plus(_, e) => drop(e),
+            TypedExpr::Negate(e) => drop(e),
+            TypedExpr::Chain(first, links) => {
+                drop(first);
+                drop(links);
+            }
+            TypedExpr::Compare(_, first, second) => {
+                drop(first);
+                drop(second);
+            }
+            TypedExpr::Not(e) => drop(e),
+            TypedExpr::Include(_, first, second) => {
+                drop(first);
+                drop(second);
+            }
+            TypedExpr::In(element, set) => {
+                drop(element);
+                drop(set);
+            }
+            TypedExpr::Abs(_, e) => drop(e),
+            TypedExpr::Cap(e) => drop(e),
+            TypedExpr::Chr(e) => drop(e),
+            TypedExpr::Odd(e) => drop(e),
+            TypedExpr::Ord(e) => drop(e),
+            TypedExpr::Val(_, e) => drop(e),
+            TypedExpr::High(_) => {}
+            TypedExpr::Call(_, call) => drop(call),
+        }
+    }
+}
+
+/// A chain with one operator.
+fn chain_of(alloc: Global, first: TypedExpr, link: Link) -> Result<TypedExpr, AllocError>
+    ensures { IfOk result (λ e. e ≡ Chain first (link ∷ [])) }
+{
+    let mut links = Items::new(alloc);
+    links.push(link)?;
+    Ok(TypedExpr::Chain(Boxed::new(alloc, first)?, links))
+}
+
+impl TypedExpr {
+    /// This expression with one more operator and its second operand.
+    pub(crate) fn with_link(self, alloc: Global, link: Link) -> Result<TypedExpr, AllocError>
+        ensures { IfOk result (λ e. e ≡ linked self link) }
+    {
+        match self {
+            TypedExpr::Chain(start, links) => {
+                let mut links = links;
+                links.push(link)?;
+                Ok(TypedExpr::Chain(start, links))
+            }
+            TypedExpr::Constant(..)
+            | TypedExpr::Load(..)
+            | TypedExpr::Procedure(..)
+            | TypedExpr::Plus(..)
+            | TypedExpr::Negate(..)
+            | TypedExpr::Compare(..)
+            | TypedExpr::Not(..)
+            | TypedExpr::Include(..)
+            | TypedExpr::In(..)
+            | TypedExpr::Abs(..)
+            | TypedExpr::Cap(..)
+            | TypedExpr::Chr(..)
+            | TypedExpr::Odd(..)
+            | TypedExpr::Ord(..)
+            | TypedExpr::Val(..)
+            | TypedExpr::High(..)
+            | TypedExpr::Call(..) => chain_of(alloc, self, link),
+        }
+    }
 }
 
 /// An operator with its second operand.

@@ -40,14 +40,17 @@ seconds [] = refl
 seconds (m ∷ ms) = ap (λ (xs : List (List ℕ)). bytes_of m ∷ xs) (seconds ms)
 
 named_emitted : (p : Modules) → map named_bytes (map emitted p) ≡ map built_of p
+unfolding emitted
 named_emitted [] = refl
 named_emitted (m ∷ ms) = ap (λ (xs : List (List ℕ × List ℕ)). built_of m ∷ xs) (named_emitted ms)
 
 parts_emitted : (p : Modules) → parts (map emitted p) ≡ map part_of p
+unfolding emitted
 parts_emitted [] = refl
 parts_emitted (m ∷ ms) = ap (λ (xs : List Part). part_of m ∷ xs) (parts_emitted ms)
 
 names_emitted : (p : Modules) → map (λ m. m.name) (map emitted p) ≡ names p
+unfolding emitted
 names_emitted [] = refl
 names_emitted (m ∷ ms) = ap (λ (xs : List (List ℕ)). m.name ∷ xs) (names_emitted ms)
 

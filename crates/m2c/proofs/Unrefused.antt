@@ -55,6 +55,7 @@ contents_sound m n ts (contents.Program b) h = checked_sound (typed_body m n ts)
 
 -- a module whose needed ones are sound is compiled by its contents
 pub compiled_is : (m : Module) (n : ℕ) (needed : List Compiled) → list_all is_sound needed ≡ true → compiled m n needed ≡ of_contents m n (tables_of needed) m.contents
+unfolding compiled
 compiled_is m n needed e = ap (λ (b : Bool). cond b (of_contents m n (tables_of needed) m.contents) Blocked) e
 
 one_sound : (o : Option Module) (n : ℕ) (needed : List Compiled) → list_all is_sound needed ≡ true → (m : Module) → o ≡ Some m → IsUnrefused (compiled_in o n needed) → is_sound (compiled_in o n needed) ≡ true

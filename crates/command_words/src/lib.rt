@@ -1,0 +1,65 @@
+//! The words of a command line, as the programs read them.
+#![tactic(auto)]
+
+ghost use Rattle.std.specs.Prelude.{◌≤◌};
+ghost use Rattle.std.specs.Option.{IfSome};
+
+use std::env::FillError;
+use std::rt::Env;
+use std::{env, io, str};
+
+/// The most bytes of a word that is searched for what is no text.
+const LONGEST_WORD: usize = 4096;
+
+/// A number of decimal digits alone, from 1 to a bound. Nothing for any other text.
+pub fn number(text: &str, most: u64) -> Option<u64>
+    ensures least { IfSome result (λ n. 1 ≤ n) }
+    ensures most { IfSome result (λ n. n ≤ most) }
+{
+    if !text.bytes().all(|b| b.is_ascii_digit()) {
+        return None;
+    }
+    let number = text.parse::<u64>().ok()?;
+    if 1 <= number && number <= most {
+        Some(number)
+    } else {
+        None
+    }
+}
+
+/// What a command line holds.
+#[derive(Drop)]
+pub enum CommandLine {
+    /// The program's name, and its words.
+    Words(Vec<String>),
+    /// The word at this place is no UTF-8 text. The program's name stands at place 0.
+    NoText(usize),
+}
+
+/// Where the first word stands that is no UTF-8 text. A word longer than 4096 bytes is passed over.
+fn first_that_is_no_text<R: Env + AllocGlobal>(rt: &R) -> Option<usize> {
+    let mut bytes = vec![in rt.alloc(); 0; LONGEST_WORD].ok()?;
+    for at in 0..usize::MAX {
+        match rt.arg(at, &mut bytes) {
+            Ok(count) => {
+                if str::from_utf8(&bytes[..count]).is_err() {
+                    return Some(at);
+                }
+            }
+            Err(FillError::TooLong) => {}
+            Err(FillError::NotPresent) => return None,
+        }
+    }
+    None
+}
+
+/// The words of the command line. The only error is that memory ran out.
+pub fn command_line<R: Env + AllocGlobal>(rt: &R) -> io::Result<CommandLine> {
+    match env::args(rt) {
+        Ok(words) => Ok(CommandLine::Words(words.collect(rt.alloc())?)),
+        Err(error) => match first_that_is_no_text(rt) {
+            None => Err(error),
+            Some(at) => Ok(CommandLine::NoText(at)),
+        },
+    }
+}

@@ -1,0 +1,10 @@
+pub mod Parts
+pub mod Words
+pub mod Checks
+pub mod Operators
+pub mod Relations
+pub mod Locals
+pub mod Places
+pub mod Stores
+pub mod Statements
+pub mod Loops
