@@ -1,0 +1,3 @@
+mod Stores
+mod Links
+mod Placed

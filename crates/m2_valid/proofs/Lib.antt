@@ -1,0 +1,16 @@
+mod Leading
+mod Cells
+mod Fits
+mod Parts
+mod Opened
+mod Exprs
+mod Values
+mod Cases
+mod Steps
+mod Statements
+mod Numbers
+mod Own
+mod Functions
+mod Names
+mod LinkModule
+mod Modules
