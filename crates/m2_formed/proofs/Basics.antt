@@ -1,0 +1,104 @@
+-- Results that are as a fact says, and types that are kept.
+use Rattle.std.proofs.Common.{◌≡◌, ℕ, Bool, true, false, Option, Some, None, Result, Ok, Err, refl, ap, ◌∙◌}
+use Rattle.m2_tree.specs.declared.pos.Pos.{Pos}
+use Rattle.m2_typed.specs.declared.known_types.Types.{Types}
+use Rattle.m2_typed.specs.declared.shape.Made.{Made}
+use Rattle.m2_typed.specs.declared.shape.Shape.{Shape}
+use Rattle.m2_typed.specs.declared.shape.Shape.TheVariants as shape
+use Rattle.m2_typed.specs.declared.shape.Signature.{Signature}
+use Rattle.m2_typed.specs.declared.types.Home.{Home}
+use Rattle.m2_typed.specs.declared.types.Home.TheVariants.{Predeclared, Module}
+use Rattle.m2_typed.specs.declared.types.TypeNo.{TypeNo}
+use Rattle.m2_typed.specs.Known.{made_at, is_result_shape, is_result_made, is_result_from, is_result}
+use Rattle.m2_judged.specs.Judged.{Gathers, told, told_where, both, ◌▷◌}
+use Rattle.m2_computed.specs.declared.class.Class.{Class}
+use Rattle.m2_computed.specs.declared.class.Class.TheVariants as class
+use Rattle.m2_computed.specs.Classes.{class_shape, class_made, class_from, class_at, signature_shape, signature_made, signature_at}
+use Rattle.m2_layout.specs.Frames.{formals_in, formals_made, formals_of}
+use Rattle.m2_scheme.specs.Exprs.{is_there, result_in, result_made, has_result}
+use Rattle.m2_formed.specs.Formed.{Holds, fine, broken}
+
+module _ {A B T : Type 0} where
+  pub then_holds : {P : A → Type 0} {Q : B → Type 0} {r : Result A T} {f : A → Result B T} → Holds P r → ((x : A) → P x → Holds Q (f x)) → Holds Q (r ▷ f)
+  then_holds (fine x p) k = k x p
+  then_holds (broken e) k = broken e
+
+pub holds_weaker : {A T : Type 0} {P Q : A → Type 0} {r : Result A T} → ((x : A) → P x → Q x) → Holds P r → Holds Q r
+holds_weaker k (fine x p) = fine x (k x p)
+holds_weaker k (broken e) = broken e
+
+module _ (g : Gathers) where
+  pub told_holds : {A : Type 0} {P : A → Type 0} (at : Pos) (n : ℕ) → Holds P (told g {A = A} at n)
+  told_holds at n = broken _
+
+  pub where_holds : {A : Type 0} {P : A → Type 0} (q : Bool) (at : Pos) (n : ℕ) {r : Result A g.Told} → Holds P r → Holds P (told_where g q at n r)
+  where_holds true at n h = broken _
+  where_holds false at n h = h
+
+  pub both_holds : {A B : Type 0} {P : A → Type 0} {Q : B → Type 0} {a : Result A g.Told} {b : Result B g.Told} → Holds P a → Holds Q b → Holds (λ (x : A × B). P x.0 × Q x.1) (both g a b)
+  both_holds (fine x p) (fine y q) = fine (x, y) (p, q)
+  both_holds (fine x p) (broken e) = broken e
+  both_holds (broken e) (fine y q) = broken e
+  both_holds (broken e) (broken f) = broken (g.join e f)
+
+-- nothing is said of it
+pub any_holds : {A T : Type 0} (r : Result A T) → Holds (λ x. Unit {0}) r
+any_holds (Ok x) = fine x tt
+any_holds (Err e) = broken e
+
+-- ---- types
+
+-- an array or a record
+abbrev pub is_whole : Class → Bool
+is_whole (class.Scalar s) = false
+is_whole class.Set = false
+is_whole class.Procedure = false
+is_whole class.Whole = true
+
+abbrev pub Grows : Types → Types → Type 0
+Grows known all = (t : TypeNo) (x : Made) → made_at known t ≡ Some x → made_at all t ≡ Some x
+
+scalar_shape : (s : Shape) → is_whole (class_shape s) ≡ false → is_result_shape s ≡ true
+scalar_shape (shape.Scalar r) h = refl
+scalar_shape shape.Set h = refl
+scalar_shape (shape.Array i e) h = absurd cc
+scalar_shape (shape.Record fs) h = absurd cc
+scalar_shape (shape.Procedure p) h = refl
+scalar_shape (shape.Open e) h = absurd cc
+
+module _ (known all : Types) (grows : Grows known all) where
+  made_scalar : (t : TypeNo) (o : Option Made) → made_at known t ≡ o → is_whole (class_made o) ≡ false → is_result_made (made_at all t) ≡ true
+  made_scalar t None e h = absurd cc
+  made_scalar t (Some x) e h = ap is_result_made (grows t x e) ∙ scalar_shape x.shape h
+
+  scalar_from : (home : Home) (n : ℕ) → is_whole (class_from known (record { home = home; number = n }) home) ≡ false → is_result_from all home n ≡ true
+  scalar_from Predeclared n h = refl
+  scalar_from (Module k) n h = made_scalar (record { home = Module k; number = n }) (made_at known (record { home = Module k; number = n })) refl h
+
+  pub scalar_kept : (t : TypeNo) → is_whole (class_at known t) ≡ false → is_result all t ≡ true
+  scalar_kept t h = scalar_from t.home t.number h
+
+  -- ---- procedure types
+
+  pub record HasHeading (t : TypeNo) (h : Signature) : Type 0 where
+    pub formals : formals_of all t ≡ h.formals
+    pub result : has_result all t ≡ is_there h.result
+
+  shape_heading : (t : TypeNo) (x : Made) (s : Shape) (h : Signature) → made_at all t ≡ Some x → x.shape ≡ s → signature_shape s ≡ Some h → HasHeading t h
+  shape_heading t x (shape.Procedure p) h e q r =
+      let same : p ≡ h = cc in record {
+        formals = ap formals_made e ∙ ap formals_in q ∙ ap (λ (i : Signature). i.formals) same;
+        result = ap result_made e ∙ ap result_in q ∙ ap (λ (i : Signature). is_there i.result) same;
+      }
+  shape_heading t x (shape.Scalar p) h e q r = absurd cc
+  shape_heading t x shape.Set h e q r = absurd cc
+  shape_heading t x (shape.Array i j) h e q r = absurd cc
+  shape_heading t x (shape.Record fs) h e q r = absurd cc
+  shape_heading t x (shape.Open j) h e q r = absurd cc
+
+  made_heading : (t : TypeNo) (o : Option Made) (h : Signature) → made_at known t ≡ o → signature_made o ≡ Some h → HasHeading t h
+  made_heading t None h e r = absurd cc
+  made_heading t (Some x) h e r = shape_heading t x x.shape h (grows t x e) refl r
+
+  pub heading_kept : (t : TypeNo) (h : Signature) → signature_at known t ≡ Some h → HasHeading t h
+  heading_kept t h r = made_heading t (made_at known t) h refl r

@@ -1,0 +1,4 @@
+mod Basics
+mod Operators
+mod Calls
+mod Meanings
