@@ -1,3 +1,4 @@
 pub mod Contents
 pub mod Characters
 pub mod Seen
+pub mod Surroundings
