@@ -2,3 +2,4 @@ pub mod Layers
 pub mod Spreads
 pub mod Puts
 pub mod Stores
+pub mod Threads

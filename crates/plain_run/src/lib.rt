@@ -4,6 +4,7 @@
 //! - `specs/Contents` says what a tree holds at each location.
 #![tactic(auto)]
 
+mod checks;
 mod copying;
 mod held;
 mod opened_tree;
@@ -16,6 +17,8 @@ mod variables;
 pub use copying::copy;
 pub use held::{Held, read};
 pub use program::{Around, Callee, Named, Passed, Prepared, Program, copy_frames, under};
+pub use checks::{Operands, as_type, capital, character, combined_with, compared, denied, distance, in_base, included, is_in, negated, odd, operated, operated_with, ordinal, taken, within};
+pub use operators::{is_true, with_element};
 pub use state::{Answer, Outcome, RunFault, State, Stop, copy_to, deeper, load, print, put_at, store, text_to};
-pub use operators::{absolute, bits, capital, combined, compared, difference, has, included, is_between, is_odd, is_true, product, quotient, remainder, single, sum, truth, without};
+
 pub use variables::{assigned, characters, copied, put};
