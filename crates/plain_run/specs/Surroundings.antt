@@ -15,7 +15,7 @@ use Rattle.m2_meaning.specs.Around.{Around as Setting, Named as Name, Callee as 
 use Rattle.m2_meaning.specs.Expressions.{Asks, Gives, Reaches, Continues, one_by_one, all_given, argument_layer, call_layer, component_layer, link_layer, expr_layer, place_layer, value, locate, called}
 use Rattle.m2_meaning.specs.Statements.{does, in_turn}
 use Rattle.m2_meaning.specs.Calls.{calling}
-use Rattle.plain_run.specs.declared.program.Prepared.{Prepared}
+use Rattle.plain_run.specs.declared.prepared.Prepared.{Prepared}
 use Rattle.plain_run.specs.declared.program.Program.{Program}
 use Rattle.plain_run.specs.declared.program.Named.{Named}
 use Rattle.plain_run.specs.declared.program.Named.TheVariants as name

@@ -3,16 +3,11 @@
 ghost use Rattle.std.specs.Prelude.{◌≡◌, ◌++◌, ◌∷◌, [], IfOk};
 ghost use Rattle.plain_run.specs.Surroundings.{IsUnder};
 
+use crate::prepared::Prepared;
 use crate::state::RunFault;
 use m2_tree::Items;
-use m2_typed::{Routine, TypedModule};
+use m2_typed::Routine;
 use std::alloc::{AllocError, Global};
-
-/// A module of a program.
-#[derive(Clone, Copy)]
-pub struct Prepared<'a> {
-    pub body: &'a TypedModule,
-}
 
 /// A program, and its bound.
 #[derive(Clone, Copy)]
