@@ -5,7 +5,7 @@ use Rattle.std.specs.Option.{option_map}
 use Rattle.std.specs.List.{drop-map}
 use Rattle.m2_typed.specs.declared.typed_module.Routine.{Routine}
 use Rattle.m2_typed.specs.declared.typed_module.TypedModule.{TypedModule}
-use Rattle.m2_meaning.specs.Around.{Modules, Entry, Body, Procedure, Frames, callee_with, procedure_in, nested_in, module_callee, entries, entry_of, entry_callee}
+use Rattle.m2_meaning.specs.Around.{Modules, Entry, Body, Procedure, Frames, callee_with, procedure_in, nested_in, module_callee, entries, entries_from, entry_of, entry_callee}
 use Rattle.m2_meaning.specs.Around.{Callee as Asked, Named as Name}
 use Rattle.plain_run.specs.declared.prepared.Prepared.{Prepared}
 use Rattle.plain_run.specs.declared.program.Program.{Program}
@@ -72,10 +72,20 @@ entry_is p None f h = sym (ap (λ (x : Option Found). found_callee p x) h)
 entry_is p (Some Body) f h = sym (ap (λ (x : Option Found). found_callee p x) h)
 entry_is p (Some (Procedure place number)) f h = sym (ap (λ (x : Option Found). found_callee p x) h)
 
-pub variable_none : (p : Program) (v : ℤ) (k : ℕ) (f : Option Found) → v ≡ pos (suc k) → f ≡ found_in (slice_get (entries (modules_of p)) k) → f ≡ None → entry_callee (modules_of p) (entry_of (modules_of p) v) ≡ None
-variable_none p v k f e h g = ap (λ (x : ℤ). entry_callee (modules_of p) (entry_of (modules_of p) x)) e ∙ entry_is (modules_of p) (slice_get (entries (modules_of p)) k) f h ∙ ap (λ (x : Option Found). found_callee (modules_of p) x) g
+pub variable_zero : (p : Program) (v : ℤ) (n : ℕ) → v ≡ pos n → n ≡ 0 → entry_callee (modules_of p) (entry_of (modules_of p) v) ≡ None
+variable_zero p v n e h = ap (λ (x : ℤ). entry_callee (modules_of p) (entry_of (modules_of p) x)) e ∙ ap (λ (k : ℕ). entry_callee (modules_of p) (entry_of (modules_of p) (pos k))) h
 
-pub variable_some : (p : Program) (v : ℤ) (k : ℕ) (f : Option Found) (x : Found) → v ≡ pos (suc k) → f ≡ found_in (slice_get (entries (modules_of p)) k) → f ≡ Some x → entry_callee (modules_of p) (entry_of (modules_of p) v) ≡ module_callee (modules_of p) x.place x.number
-variable_some p v k f x e h g = ap (λ (y : ℤ). entry_callee (modules_of p) (entry_of (modules_of p) y)) e ∙ entry_is (modules_of p) (slice_get (entries (modules_of p)) k) f h ∙ ap (λ (y : Option Found). found_callee (modules_of p) y) g
+pub variable_is : (p : Program) (v : ℤ) (n k : ℕ) (f : Option Found) → v ≡ pos n → n ≡ suc k → f ≡ found_in (slice_get (entries_from 0 (modules_in p.modules.now)) k) → entry_callee (modules_of p) (entry_of (modules_of p) v) ≡ found_callee (modules_of p) f
+unfolding modules_of
+variable_is p v n k f e g h =
+    ap (λ (x : ℤ). entry_callee (modules_of p) (entry_of (modules_of p) x)) e
+    ∙ ap (λ (i : ℕ). entry_callee (modules_of p) (entry_of (modules_of p) (pos i))) g
+    ∙ entry_is (modules_of p) (slice_get (entries (modules_of p)) k) f h
 
-pub ruleset variables = (variable_none, variable_some)
+pub variable_none : (p : Program) (v : ℤ) (n k : ℕ) (f : Option Found) → v ≡ pos n → n ≡ suc k → f ≡ found_in (slice_get (entries_from 0 (modules_in p.modules.now)) k) → f ≡ None → entry_callee (modules_of p) (entry_of (modules_of p) v) ≡ None
+variable_none p v n k f e g h q = variable_is p v n k f e g h ∙ ap (λ (x : Option Found). found_callee (modules_of p) x) q
+
+pub variable_some : (p : Program) (v : ℤ) (n k : ℕ) (f : Option Found) (x : Found) (c : Option Asked) → v ≡ pos n → n ≡ suc k → f ≡ found_in (slice_get (entries_from 0 (modules_in p.modules.now)) k) → f ≡ Some x → c ≡ module_callee (modules_of p) x.place x.number → c ≡ entry_callee (modules_of p) (entry_of (modules_of p) v)
+variable_some p v n k f x c e g h q d = d ∙ sym (variable_is p v n k f e g h ∙ ap (λ (y : Option Found). found_callee (modules_of p) y) q)
+
+pub ruleset variables = (variable_zero, variable_none, variable_some)

@@ -26,6 +26,7 @@ use Rattle.plain_run.specs.declared.state.State.{State}
 use Rattle.plain_run.specs.declared.state.Stop.{Stop}
 use Rattle.plain_run.specs.declared.state.Stop.TheVariants as stop
 use Rattle.plain_run.specs.declared.program.Around.{Around}
+use Rattle.plain_run.specs.declared.program.Program.{Program}
 use Rattle.plain_run.specs.declared.simple.Target.{Target}
 use Rattle.plain_run.specs.declared.simple.Ends.{Ends}
 use Rattle.plain_run.specs.declared.simple.Turns.{Turns}
@@ -51,24 +52,30 @@ armed_is p ask n x = fold_out-TypedArm Does Arm (step_layer p ask n) (arm_layer 
 
 -- ---- two parts, and what is made of both
 
-target_last : (s : Given ℤ) (l : Location) (k : Location → ℤ → Meant → Course) → with_answer s (λ v st. k l v st) ≡ with_answer (then_give s (λ v st. Gave {A = Target} (record { l = l; v = v }) st)) (λ x st. k x.l x.v st)
+abbrev target_of : Location → ℤ → Target
+target_of l v = record { l = l; v = v }
+
+abbrev ends_of : (to from : Location) → Ends
+ends_of l l' = record { to = l; from = l' }
+
+target_last : (s : Given ℤ) (l : Location) (k : Location → ℤ → Meant → Course) → with_answer s (λ v st. k l v st) ≡ with_answer (then_give s (λ v st. Gave (target_of l v) st)) (λ (x : Target) (st : Meant). k x.l x.v st)
 target_last (Gave v st) l k = refl
 target_last (Ended n out) l k = refl
 target_last (Running out) l k = refl
 
 target_both : (r : Given Location) (f : Meant → Given ℤ) (k : Location → ℤ → Meant → Course)
-    → with_answer r (λ l st. with_answer (f st) (λ v st. k l v st)) ≡ with_answer (then_give r (λ l st. then_give (f st) (λ v st. Gave {A = Target} (record { l = l; v = v }) st))) (λ x st. k x.l x.v st)
+    → with_answer r (λ l st. with_answer (f st) (λ v st. k l v st)) ≡ with_answer (then_give r (λ l st. then_give (f st) (λ v st. Gave (target_of l v) st))) (λ (x : Target) (st : Meant). k x.l x.v st)
 target_both (Gave l st) f k = target_last (f st) l k
 target_both (Ended n out) f k = refl
 target_both (Running out) f k = refl
 
-ends_last : (s : Given Location) (l : Location) (k : Location → Location → Meant → Course) → with_answer s (λ l' st. k l l' st) ≡ with_answer (then_give s (λ l' st. Gave {A = Ends} (record { to = l; from = l' }) st)) (λ x st. k x.to x.from st)
+ends_last : (s : Given Location) (l : Location) (k : Location → Location → Meant → Course) → with_answer s (λ l' st. k l l' st) ≡ with_answer (then_give s (λ l' st. Gave (ends_of l l') st)) (λ (x : Ends) (st : Meant). k x.to x.from st)
 ends_last (Gave v st) l k = refl
 ends_last (Ended n out) l k = refl
 ends_last (Running out) l k = refl
 
 ends_both : (r : Given Location) (f : Meant → Given Location) (k : Location → Location → Meant → Course)
-    → with_answer r (λ l st. with_answer (f st) (λ l' st. k l l' st)) ≡ with_answer (then_give r (λ l st. then_give (f st) (λ l' st. Gave {A = Ends} (record { to = l; from = l' }) st))) (λ x st. k x.to x.from st)
+    → with_answer r (λ l st. with_answer (f st) (λ l' st. k l l' st)) ≡ with_answer (then_give r (λ l st. then_give (f st) (λ l' st. Gave (ends_of l l') st))) (λ (x : Ends) (st : Meant). k x.to x.from st)
 ends_both (Gave l st) f k = ends_last (f st) l k
 ends_both (Ended n out) f k = refl
 ends_both (Running out) f k = refl
@@ -213,7 +220,7 @@ unfolding under_in steps_in
 under_is a inner l xs st i = sym (
     ap (λ (s : Setting). in_turn (map (does (modules_of inner.program.now) (asks_of inner) inner.program.now.bound) xs) s st) i.setting
     ∙ ap (λ (k : Asks). in_turn (map (does (modules_of inner.program.now) k inner.program.now.bound) xs) (record (surroundings a) { withs = (surroundings a).withs ++ l ∷ [] }) st) i.asks
-    ∙ ap (λ (p : _). in_turn (map (does (modules_of p) (asks_of a) p.bound) xs) (record (surroundings a) { withs = (surroundings a).withs ++ l ∷ [] }) st) i.program)
+    ∙ ap (λ (p : Program). in_turn (map (does (modules_of p) (asks_of a) p.bound) xs) (record (surroundings a) { withs = (surroundings a).withs ++ l ∷ [] }) st) i.program)
 
 pub for_over : (a : Around) (t : TypeNo) (by w : ℤ) (xs : List TypedStmt) (x : Turns) (st st' : Meant) → st' ≡ stored x.l x.v st → w ≡ st'.store x.l → has_passed by x.last w ≡ true → for_begun a t by xs x st ≡ Went st'
 unfolding for_begun

@@ -77,13 +77,16 @@ unfolding value locate called linked reached given
 at_argument p ask e x h = fold_out-Argument (Gives Sent) (Gives ℤ) Reaches Continues (Gives ℤ) (Gives Location) (argument_layer p ask) (call_layer p ask) (component_layer p ask) (link_layer p ask) (expr_layer p ask) (place_layer p ask) e ∙ ap (λ (y : Argument-F Argument Call Component Link TypedExpr Place). argument_layer p ask (opened_argument p ask y)) h
 
 -- two operands, and what is made of both
-after_second : {A : Type 0} (s : Given ℤ) (x : ℤ) (k : ℤ → ℤ → Meant → Given A) → then_give s (λ y st. k x y st) ≡ then_give (then_give s (λ y st. Gave {A = Operands} (record { first = x; second = y }) st)) (λ xy st. k xy.first xy.second st)
+abbrev two_of : ℤ → ℤ → Operands
+two_of x y = record { first = x; second = y }
+
+after_second : {A : Type 0} (s : Given ℤ) (x : ℤ) (k : ℤ → ℤ → Meant → Given A) → then_give s (λ y st. k x y st) ≡ then_give (then_give s (λ y st. Gave (two_of x y) st)) (λ (xy : Operands) (st : Meant). k xy.first xy.second st)
 after_second (Gave y st) x k = refl
 after_second (Ended n out) x k = refl
 after_second (Running out) x k = refl
 
 after_both : {A : Type 0} (r : Given ℤ) (f : Meant → Given ℤ) (k : ℤ → ℤ → Meant → Given A)
-    → then_give r (λ x st. then_give (f st) (λ y st. k x y st)) ≡ then_give (then_give r (λ x st. then_give (f st) (λ y st. Gave {A = Operands} (record { first = x; second = y }) st))) (λ xy st. k xy.first xy.second st)
+    → then_give r (λ x st. then_give (f st) (λ y st. k x y st)) ≡ then_give (then_give r (λ x st. then_give (f st) (λ y st. Gave (two_of x y) st))) (λ (xy : Operands) (st : Meant). k xy.first xy.second st)
 after_both (Gave x st) f k = after_second (f st) x k
 after_both (Ended n out) f k = refl
 after_both (Running out) f k = refl

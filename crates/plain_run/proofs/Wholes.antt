@@ -17,7 +17,7 @@ use Rattle.m2_meaning.specs.Answer.{Went, Left, Came, Stopped, Unfinished}
 use Rattle.m2_meaning.specs.Around.{Modules, Around as Setting, Named as Name}
 use Rattle.m2_meaning.specs.Statements.{does, in_turn}
 use Rattle.m2_meaning.specs.Calls.{body_does, calling}
-use Rattle.m2_meaning.specs.Runs.{run, bodies, storage, body_frame, first_state, around_body, then_body}
+use Rattle.m2_meaning.specs.Runs.{run, bodies, data_size, storage, body_frame, first_state, around_body, then_body}
 use Rattle.plain_run.specs.declared.state.State.{State}
 use Rattle.plain_run.specs.declared.state.Stop.{Stop}
 use Rattle.plain_run.specs.declared.state.Stop.TheVariants as stop
@@ -45,6 +45,12 @@ texts_exact m r x h e =
 
 pub module_size : (m : TypedModule) (b : Blank) → b ≡ variables_of m → b.size ≡ size (module_row m)
 module_size m b h = ap (λ (x : Blank). x.size) h ∙ module_size_is m
+
+pub data_more : (m : TypedModule) (ms : Modules) (b : Blank) (t own later n : ℕ) → b ≡ variables_of m → t ≡ characters (module_texts m) → own ≡ b.size + t → later ≡ data_size ms → n ≡ own + later → n ≡ data_size (m ∷ ms)
+data_more m ms b t own later n e f g h k = sums (size (module_row m)) (characters (module_texts m)) b.size t own later (data_size ms) n (module_size m b e) f g h k
+  where
+    sums : (s c b t own later d n : ℕ) → b ≡ s → t ≡ c → own ≡ b + t → later ≡ d → n ≡ own + later → n ≡ s + c + d
+    sums s c b t own later d n e f g h k = omega (arith, e, f, g, h, k)
 
 pub body_frame_is : body_frame ≡ 16
 unfolding size

@@ -9,10 +9,10 @@ ghost use Rattle.std.specs.Prelude.{drop};
 
 use crate::places::{module_place, whole};
 use crate::prepared::Prepared;
-use crate::program::{Around, Callee, Program, copy_frames};
+use crate::program::{Around, Callee, Named, Program, copy_frames};
 use crate::state::RunFault;
 use m2_tree::Items;
-use std::alloc::AllocError;
+use std::alloc::{AllocError, Global};
 
 /// The place of a module, and the number of a procedure among its own.
 #[derive(Clone, Copy)]
@@ -90,6 +90,36 @@ fn procedure_at(
     }
 }
 
+/// The module at a place.
+fn home_at<'a>(modules: &[Prepared<'a>], place: usize) -> Option<Prepared<'a>>
+    ensures { result ≡ slice_get modules.now place }
+{
+    match modules {
+        [] => None,
+        [m, rest @ ..] => match less_one(place) {
+            None => Some(*m),
+            Some(place) => home_at(rest, place),
+        },
+    }
+}
+
+/// The frames so many procedures outwards.
+fn outer(
+    alloc: Global,
+    frames: &[Items<Named>],
+    up: usize,
+) -> Result<Items<Items<Named>>, AllocError>
+    ensures { IfOk result (λ all. all ≡ drop up frames.now) }
+{
+    match less_one(up) {
+        None => copy_frames(alloc, frames),
+        Some(up) => match frames {
+            [] => Ok(Items::new(alloc)),
+            [_, rest @ ..] => outer(alloc, rest, up),
+        },
+    }
+}
+
 #[tactic(auto, using(crate::proofs::Asking::callees))]
 fn callee<'a>(
     program: &Program<'a>,
@@ -98,13 +128,13 @@ fn callee<'a>(
 ) -> Option<Callee<'a>>
     ensures { option_map callee_of result ≡ module_callee (modules_of program.now) place number }
 {
-    match program.modules.get(place) {
+    match home_at(program.modules, place) {
         None => None,
         Some(home) => match home.body.procedures.get(number) {
             None => None,
             Some(routine) => Some(Callee {
                 place,
-                home: *home,
+                home,
                 routine,
                 frames: Items::new(program.alloc),
             }),
@@ -159,17 +189,15 @@ pub fn nested_callee<'a>(
         let home = slice_get (modules_of around.now.program.now) a.place in
         IfOk result (λ c. option_map callee_of c ≡ nested_in a.place home (drop up a.frames) number) }
 {
-    match around.program.modules.get(around.place) {
+    match home_at(around.program.modules, around.place) {
         None => Ok(None),
         Some(home) => match home.body.locals.get(number) {
             None => Ok(None),
             Some(routine) => {
-                let frames = around.frames.as_slice();
-                let from = up.min(frames.len());
-                let frames = copy_frames(around.program.alloc, &frames[from..])?;
+                let frames = outer(around.program.alloc, around.frames.as_slice(), up)?;
                 Ok(Some(Callee {
                     place: around.place,
-                    home: *home,
+                    home,
                     routine,
                     frames,
                 }))

@@ -151,7 +151,7 @@ fn pass_elements(
 }
 
 /// A string that is passed to an open array.
-#[tactic(auto, using(crate::proofs::Begins::stores, crate::proofs::Begins::high_of_text))]
+#[tactic(auto, using(crate::proofs::Begins::stores))]
 fn pass_text(
     alloc: Global,
     is_var: bool,

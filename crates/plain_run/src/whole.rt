@@ -104,15 +104,15 @@ fn module_blanks(alloc: Global, homes: &[Prepared<'_>]) -> Result<Items<Blank>, 
 }
 
 /// The bytes of the variables and the texts of all modules.
-#[tactic(auto, using(crate::proofs::Wholes::module_size))]
+#[tactic(auto, using(crate::proofs::Wholes::data_more))]
 fn data_size(alloc: Global, homes: &[Prepared<'_>]) -> Result<usize, RunFault>
     ensures { IfOk result (λ n. n ≡ data_size (modules_in homes.now)) }
 {
     match homes {
         [] => Ok(0),
         [home, rest @ ..] => {
-            let variables = module_blank(alloc, home)?.size;
-            let own = plus(variables, texts_size(alloc, home.body)?)?;
+            let blank = module_blank(alloc, home)?;
+            let own = plus(blank.size, texts_size(alloc, home.body)?)?;
             plus(own, data_size(alloc, rest)?)
         }
     }
