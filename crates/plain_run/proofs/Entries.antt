@@ -26,6 +26,7 @@ own_found place k j count m ms f e c h g =
   where
     below : (j count l : ℕ) → count ≡ l → j < count → j < l
     below j count l c h = omega (arith, c, h)
+
     nought : (j : ℕ) → j ≡ 0 + j
     nought j = omega arith
 
@@ -38,6 +39,7 @@ past_found place n k j count m ms f e c h q g =
   where
     above : (j count l : ℕ) → count ≡ l → count ≤ j → l ≤ j
     above j count l c h = omega (arith, c, h)
+
     next : (place n : ℕ) → n ≡ place + 1 → n ≡ suc place
     next place n q = omega (arith, q)
 

@@ -13,4 +13,3 @@ pub mod Stepped
 pub mod Sent
 pub mod Fields
 pub mod Fresh
-pub mod Wholes

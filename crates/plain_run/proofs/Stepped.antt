@@ -155,9 +155,9 @@ pub step_Membership : (a : Around) (o : Membership) (d : Place) (e : TypedExpr) 
 unfolding does_in steps_in value_in located_in called_in target_in ends_in turns_in while_in repeat_in loop_in for_begun under_in
 step_Membership a o d e st = ap (λ (g : Does). g (surroundings a) st) (at_stmt (modules_of a.program.now) (asks_of a) a.program.now.bound (sv.Membership o d e) (layer.Membership o d e) (sv.outs-Membership o d e)) ∙ target_both (located_in a d st) (value_in a e) (λ l x st. with_answer (within (pos 0) (pos 31) range_fault x st) (λ x st. Went (stored l (with_element o (st.store l) x) st)))
 
-pub step_Halt : (a : Around)  (st : Meant) → does_in a sv.Halt st ≡ Stopped halted st.out
+pub step_Halt : (a : Around) (st : Meant) → does_in a sv.Halt st ≡ Stopped halted st.out
 unfolding does_in steps_in value_in located_in called_in target_in ends_in turns_in while_in repeat_in loop_in for_begun under_in
-step_Halt a  st = ap (λ (g : Does). g (surroundings a) st) (at_stmt (modules_of a.program.now) (asks_of a) a.program.now.bound sv.Halt layer.Halt sv.outs-Halt)
+step_Halt a st = ap (λ (g : Does). g (surroundings a) st) (at_stmt (modules_of a.program.now) (asks_of a) a.program.now.bound sv.Halt layer.Halt sv.outs-Halt)
 
 pub step_If_None : (a : Around) (e : TypedExpr) (xs : List TypedStmt) (st : Meant) → does_in a (sv.If e xs None) st ≡ with_answer (value_in a e st) (λ v st. if is_true v then steps_in a xs st else Went st)
 unfolding does_in steps_in value_in located_in called_in target_in ends_in turns_in while_in repeat_in loop_in for_begun under_in
@@ -187,13 +187,13 @@ pub step_Loop : (a : Around) (xs : List TypedStmt) (st : Meant) → does_in a (s
 unfolding does_in steps_in value_in located_in called_in target_in ends_in turns_in while_in repeat_in loop_in for_begun under_in
 step_Loop a xs st = ap (λ (g : Does). g (surroundings a) st) (at_stmt (modules_of a.program.now) (asks_of a) a.program.now.bound (sv.Loop xs) (layer.Loop xs) (sv.outs-Loop xs))
 
-pub step_Exit : (a : Around)  (st : Meant) → does_in a sv.Exit st ≡ Left st
+pub step_Exit : (a : Around) (st : Meant) → does_in a sv.Exit st ≡ Left st
 unfolding does_in steps_in value_in located_in called_in target_in ends_in turns_in while_in repeat_in loop_in for_begun under_in
-step_Exit a  st = ap (λ (g : Does). g (surroundings a) st) (at_stmt (modules_of a.program.now) (asks_of a) a.program.now.bound sv.Exit layer.Exit sv.outs-Exit)
+step_Exit a st = ap (λ (g : Does). g (surroundings a) st) (at_stmt (modules_of a.program.now) (asks_of a) a.program.now.bound sv.Exit layer.Exit sv.outs-Exit)
 
-pub step_Return : (a : Around)  (st : Meant) → does_in a sv.Return st ≡ Came (pos 0) st
+pub step_Return : (a : Around) (st : Meant) → does_in a sv.Return st ≡ Came (pos 0) st
 unfolding does_in steps_in value_in located_in called_in target_in ends_in turns_in while_in repeat_in loop_in for_begun under_in
-step_Return a  st = ap (λ (g : Does). g (surroundings a) st) (at_stmt (modules_of a.program.now) (asks_of a) a.program.now.bound sv.Return layer.Return sv.outs-Return)
+step_Return a st = ap (λ (g : Does). g (surroundings a) st) (at_stmt (modules_of a.program.now) (asks_of a) a.program.now.bound sv.Return layer.Return sv.outs-Return)
 
 pub step_Give : (a : Around) (t : TypeNo) (e : TypedExpr) (st : Meant) → does_in a (sv.Give t e) st ≡ with_answer (value_in a e st) (λ v st. with_answer (as_type (surroundings a).types t v st) (λ v st. Came v st))
 unfolding does_in steps_in value_in located_in called_in target_in ends_in turns_in while_in repeat_in loop_in for_begun under_in
@@ -418,4 +418,3 @@ for_goes a t by xs l last n i w v st st' st2 st3 h q f b g m = ap (λ (k : ℕ).
     ∙ ap (λ (x : Meant). for_turns (n - (i + 1)) (as_type (surroundings a).types t) l by last (steps_in a xs) x) (sym m)
 
 pub ruleset fors = (for_over_turns, for_left, for_came, for_halts, for_ends, for_stays, for_goes)
-

@@ -5,4 +5,3 @@ pub mod Surroundings
 pub mod Parts
 pub mod Entering
 pub mod Blanks
-pub mod Whole

@@ -367,7 +367,13 @@ fn with_module(
     match entry {
         None => Ok(before),
         Some((home, made)) => {
-            let next = all_made(alloc, types, before.as_slice(), *home, made.get().as_slice())?;
+            let next = all_made(
+                alloc,
+                types,
+                before.as_slice(),
+                *home,
+                made.get().as_slice(),
+            )?;
             let mut all = before;
             all.push(next)?;
             Ok(all)
@@ -391,7 +397,13 @@ pub fn known(alloc: Global, types: &Types) -> Result<Items<Kept>, RunFault>
     ensures { IfOk result (λ ks. ks ≡ known_blanks types.now) }
 {
     let before = others(alloc, types)?;
-    let own = all_made(alloc, types, before.as_slice(), types.home, types.own.as_slice())?;
+    let own = all_made(
+        alloc,
+        types,
+        before.as_slice(),
+        types.home,
+        types.own.as_slice(),
+    )?;
     let mut all = Items::new(alloc);
     all.push(own)?;
     all.append(before)?;

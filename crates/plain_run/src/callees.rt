@@ -2,9 +2,8 @@
 
 ghost use Rattle.std.specs.Prelude.{◌≡◌, ◌+◌, suc, pos, slice_get, IfOk, MatchOption};
 ghost use Rattle.std.specs.Option.{option_map};
-ghost use Rattle.m2_meaning.specs.Around.{module_callee, nested_in, entries_before, entries_from, entry_callee, entry_of, procedure_value};
+ghost use Rattle.m2_meaning.specs.Around.{module_callee, nested_in, entries_before, procedure_value};
 ghost use Rattle.plain_run.specs.Surroundings.{modules_in, modules_of, surroundings, callee_of};
-ghost use Rattle.plain_run.specs.Parts.{found_in};
 ghost use Rattle.std.specs.Prelude.{drop};
 
 use crate::places::{module_place, whole};
@@ -64,32 +63,6 @@ pub fn procedure_value(around: &Around<'_>, home: u32, number: usize) -> Result<
     whole(plus(plus(before, number)?, 2)?)
 }
 
-/// The procedure with a number among all entries of these modules.
-#[tactic(auto, using(crate::proofs::Entries::entries))]
-fn procedure_at(
-    modules: &[Prepared<'_>],
-    place: usize,
-    k: usize,
-) -> Result<Option<Found>, RunFault>
-    ensures { let es = entries_from place (modules_in modules.now) in
-        IfOk result (λ f. f ≡ found_in (slice_get es k)) }
-{
-    match modules {
-        [] => Ok(None),
-        [m, rest @ ..] => match less_one(k) {
-            None => Ok(None),
-            Some(j) => {
-                let count = m.body.procedures.len();
-                if j < count {
-                    Ok(Some(Found { place, number: j }))
-                } else {
-                    procedure_at(rest, plus(place, 1)?, j - count)
-                }
-            }
-        },
-    }
-}
-
 /// The module at a place.
 fn home_at<'a>(modules: &[Prepared<'a>], place: usize) -> Option<Prepared<'a>>
     ensures { result ≡ slice_get modules.now place }
@@ -121,11 +94,7 @@ fn outer(
 }
 
 #[tactic(auto, using(crate::proofs::Asking::callees))]
-fn callee<'a>(
-    program: &Program<'a>,
-    place: usize,
-    number: usize,
-) -> Option<Callee<'a>>
+fn callee<'a>(program: &Program<'a>, place: usize, number: usize) -> Option<Callee<'a>>
     ensures { option_map callee_of result ≡ module_callee (modules_of program.now) place number }
 {
     match home_at(program.modules, place) {
@@ -148,34 +117,6 @@ pub fn module_callee<'a>(around: &Around<'a>, place: usize, number: usize) -> Op
         option_map callee_of result ≡ module_callee p place number }
 {
     callee(around.program, place, number)
-}
-
-/// A number that is not negative. The only error is that it does not fit.
-fn counted(v: i64) -> Result<usize, RunFault>
-    ensures { IfOk result (λ n. v ≡ pos n) }
-{
-    match usize::try_from(v) {
-        Err(_) => Err(RunFault::TooLarge),
-        Ok(n) => Ok(n),
-    }
-}
-
-/// The procedure that a number stands for. The only error is that a number does not fit.
-#[tactic(auto, using(crate::proofs::Asking::variables))]
-pub fn variable_callee<'a>(around: &Around<'a>, v: i64) -> Result<Option<Callee<'a>>, RunFault>
-    ensures { let p = modules_of around.now.program.now in
-        IfOk result (λ c. option_map callee_of c ≡ entry_callee p (entry_of p v)) }
-{
-    if v < 1 {
-        return Ok(None);
-    }
-    let Some(k) = less_one(counted(v)?) else {
-        return Ok(None);
-    };
-    match procedure_at(around.program.modules, 0, k)? {
-        None => Ok(None),
-        Some(found) => Ok(callee(around.program, found.place, found.number)),
-    }
 }
 
 /// A procedure of a procedure, which is declared so many procedures outwards. The only error is that memory ran out.

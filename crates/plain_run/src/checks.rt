@@ -9,10 +9,14 @@ ghost use Rattle.plain_run.specs.Seen.{seen, told};
 ghost use Rattle.plain_run.specs.Surroundings.{surroundings};
 
 use crate::operators;
-use crate::operators::{difference, is_between, is_odd, is_true, product, quotient, remainder, sum, truth};
+use crate::operators::{
+    difference, is_between, is_odd, is_true, product, quotient, remainder, sum, truth,
+};
 use crate::program::Around;
 use crate::state::{Answer, RunFault, State, Stop};
-use m2_typed::{Arithmetic, Comparison, INTEGER, Inclusion, Scalar, SetOperator, TypeNo, scalar_of};
+use m2_typed::{
+    Arithmetic, Comparison, INTEGER, Inclusion, Scalar, SetOperator, TypeNo, scalar_of,
+};
 
 /// Two operands.
 #[derive(Clone, Copy)]
@@ -102,7 +106,7 @@ pub fn operated_with(
 ) -> Result<Answer<i64>, RunFault>
     ensures { let types = (surroundings around.now).types in
         IfOk result (λ j. told j st.now
-            ≡ then_give (told given st.now) (λ y st. operated types o t x y st)) }
+        ≡ then_give (told given st.now) (λ y st. operated types o t x y st)) }
 {
     match given {
         Answer::Gave(y) => operated(around, o, t, x, y, st),
@@ -129,14 +133,10 @@ pub fn combined_with(
 
 /// The value with the other sign.
 #[tactic(auto, using(crate::proofs::Threads::threads))]
-pub fn negated(
-    around: &Around<'_>,
-    given: Answer<i64>,
-    st: &State,
-) -> Result<Answer<i64>, RunFault>
+pub fn negated(around: &Around<'_>, given: Answer<i64>, st: &State) -> Result<Answer<i64>, RunFault>
     ensures { let types = (surroundings around.now).types in
         IfOk result (λ j. told j st.now
-            ≡ then_give (told given st.now) (λ v st. in_base types integer (pos 0 -ℤ v) st)) }
+        ≡ then_give (told given st.now) (λ v st. in_base types integer (pos 0 -ℤ v) st)) }
 {
     match given {
         Answer::Gave(v) => Ok(in_base(around, INTEGER, difference(0, v)?, st)),
@@ -151,9 +151,7 @@ pub fn compared(o: Comparison, given: Answer<Operands>, st: &State) -> Answer<i6
         (λ xy st. Gave (truth (compared o xy.first xy.second)) st) }
 {
     match given {
-        Answer::Gave(xy) => {
-            Answer::Gave(truth(operators::compared(o, xy.first, xy.second)))
-        }
+        Answer::Gave(xy) => { Answer::Gave(truth(operators::compared(o, xy.first, xy.second))) }
         Answer::Stopped(stop) => Answer::Stopped(stop),
     }
 }
@@ -165,9 +163,7 @@ pub fn included(o: Inclusion, given: Answer<Operands>, st: &State) -> Answer<i64
         (λ xy st. Gave (truth (included o xy.first xy.second)) st) }
 {
     match given {
-        Answer::Gave(xy) => {
-            Answer::Gave(truth(operators::included(o, xy.first, xy.second)))
-        }
+        Answer::Gave(xy) => { Answer::Gave(truth(operators::included(o, xy.first, xy.second))) }
         Answer::Stopped(stop) => Answer::Stopped(stop),
     }
 }
@@ -206,7 +202,7 @@ pub fn distance(
 ) -> Result<Answer<i64>, RunFault>
     ensures { let types = (surroundings around.now).types in
         IfOk result (λ j. told j st.now
-            ≡ then_give (told given st.now) (λ v st. in_base types t (absolute v) st)) }
+        ≡ then_give (told given st.now) (λ v st. in_base types t (absolute v) st)) }
 {
     match given {
         Answer::Gave(v) => Ok(in_base(around, t, operators::absolute(v)?, st)),

@@ -81,7 +81,9 @@ fn add_copy(alloc: Global, begun: &mut Begun, high: usize) -> Result<(), RunFaul
         ≡ names_of begun.old.names ++ Elements (begun.old.next ∷ []) high ∷ []) }
     ensures next { OnOk result (begun.new.next ≡ suc begun.old.next) }
 {
-    begun.names.push(Named::Elements(instance(alloc, begun.next)?, high))?;
+    begun
+        .names
+        .push(Named::Elements(instance(alloc, begun.next)?, high))?;
     begun.next = plus(begun.next, 1)?;
     Ok(())
 }
@@ -200,9 +202,7 @@ fn pass(
                 pass_elements(alloc, activation, l.as_slice(), *high, begun, st)
             }
         }
-        Passed::Text(text) => {
-            pass_text(alloc, is_var, activation, text.as_slice(), begun, st)
-        }
+        Passed::Text(text) => { pass_text(alloc, is_var, activation, text.as_slice(), begun, st) }
     }
 }
 
@@ -241,7 +241,7 @@ fn add_variables(
 ) -> Result<Items<Named>, RunFault>
     ensures { let v = length (names_of names) in
         IfOk result (λ all. names_of all
-            ≡ names_of names ++ variables_from activation v variables.now) }
+        ≡ names_of names ++ variables_from activation v variables.now) }
 {
     match variables {
         [] => Ok(names),
@@ -324,7 +324,10 @@ fn copy_size(
                 times(plus(*high, 1)?, type_size(alloc, home, formal.of)?)
             }
         }
-        Passed::Text(text) => times(text_size(text.as_slice()), type_size(alloc, home, formal.of)?),
+        Passed::Text(text) => times(
+            text_size(text.as_slice()),
+            type_size(alloc, home, formal.of)?,
+        ),
     }
 }
 
@@ -369,7 +372,12 @@ pub fn needed(
     ensures { let types = home.now.body.now.types in
         IfOk result (λ n. n ≡ needed types routine.now (map sent vs.now)) }
 {
-    let copies = copies_size(alloc, home, formals_of(&home.body.types, routine.heading), vs)?;
+    let copies = copies_size(
+        alloc,
+        home,
+        formals_of(&home.body.types, routine.heading),
+        vs,
+    )?;
     plus(frame_size(alloc, home, routine)?, copies)
 }
 
@@ -385,7 +393,7 @@ pub fn enter(
 ) -> Result<Begun, RunFault>
     ensures begun { let types = home.now.body.now.types in
         IfOk result (λ b. begun_of b (seen st.new)
-            ≡ entered types routine.now activation (map sent vs.now) (seen st.old).store) }
+        ≡ entered types routine.now activation (map sent vs.now) (seen st.old).store) }
     ensures out { OnOk result ((seen st.new).out ≡ (seen st.old).out) }
 {
     let blank = frame_held(alloc, home, routine)?;

@@ -1,10 +1,12 @@
 //! The plain interpreter, which runs programs by the language's definition.
 //!
-//! - `run` answers exactly the run of the definition, for every list of typed modules.
+//! So far it has all but the evaluation itself: the store, calls' begins and ends, what statements and expressions do with
+//! parts that are evaluated, and fresh variables.
+//!
 //! - `specs/Contents` says what a tree holds at each location, `specs/Seen` and `specs/Surroundings` what the definition sees
 //!   of a state and of what stands around a part of a program.
 //! - `specs/Blanks` has what fresh variables hold, and their sizes.
-//! - `specs/Parts` has what the pieces of the interpreter give, `specs/Entering` how calls begin, `specs/Whole` the run.
+//! - `specs/Parts` has what the pieces of the interpreter give, `specs/Entering` how calls begin.
 #![tactic(auto)]
 
 mod blanks;
@@ -20,12 +22,9 @@ mod places;
 mod prepared;
 mod program;
 mod replaced;
-mod runs;
 mod simple;
 mod state;
 mod storage;
 mod variables;
-mod whole;
 
 pub use state::{RunFault, Stop};
-pub use whole::{Report, run};

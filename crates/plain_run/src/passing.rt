@@ -37,7 +37,7 @@ pub fn number_passed(
 ) -> Answer<Passed>
     ensures { let types = (surroundings around.now).types in
         told_sent result st.now ≡ then_give (told given st.now)
-            (λ v st. then_give (as_type types t v st) (λ v st. Gave (Number v) st)) }
+        (λ v st. then_give (as_type types t v st) (λ v st. Gave (Number v) st)) }
 {
     match given {
         Answer::Gave(v) => match as_type(around, t, v, st) {
@@ -70,7 +70,7 @@ pub fn array_passed(
 ) -> Result<Answer<Passed>, RunFault>
     ensures { let high = high_index (surroundings around.now).types t in
         IfOk result (λ j. told_sent j st.now
-            ≡ then_give (told given st.now) (λ l st. Gave (Array l high) st)) }
+        ≡ then_give (told given st.now) (λ l st. Gave (Array l high) st)) }
 {
     match given {
         Answer::Gave(l) => Ok(Answer::Gave(Passed::Array(l, high_index(around, t)?))),

@@ -128,9 +128,7 @@ pub fn root_location(around: &Around<'_>, root: Root) -> Result<Items<usize>, Al
         IfOk result (λ l. l ≡ root_layer (modules_of a.program.now) (asks_of a) root (surroundings a)) }
 {
     match root {
-        Root::Global(v) => {
-            pair(around.program.alloc, module_place(around, v.home), v.number)
-        }
+        Root::Global(v) => { pair(around.program.alloc, module_place(around, v.home), v.number) }
         Root::Local(slot) => slot_location(around, slot),
         Root::Alias(slot) => slot_location(around, slot),
         Root::Open(slot) => slot_location(around, slot),
@@ -239,7 +237,7 @@ pub fn element_at(
 ) -> Result<Answer<Items<usize>>, RunFault>
     ensures { let range = index_range (surroundings around.now).types t in
         IfOk result (λ j. told j st.now
-            ≡ then_give (told given st.now) (λ v st. element_in l range v st)) }
+        ≡ then_give (told given st.now) (λ v st. element_in l range v st)) }
 {
     match given {
         Answer::Gave(i) => element_in(l, index_range(&around.home.body.types, t), i, st),
@@ -258,7 +256,7 @@ pub fn open_element_at(
 ) -> Result<Answer<Items<usize>>, RunFault>
     ensures { let high = high_of (named (surroundings around.now) slot) in
         IfOk result (λ j. told j st.now
-            ≡ then_give (told given st.now) (λ v st. element l (pos 0) (pos high) v st)) }
+        ≡ then_give (told given st.now) (λ v st. element l (pos 0) (pos high) v st)) }
 {
     match given {
         Answer::Gave(i) => element(l, 0, whole(slot_high(around, slot))?, i, st),

@@ -54,7 +54,7 @@ pub fn assign(
 ) -> Result<Outcome, RunFault>
     ensures { let types = (surroundings around.now).types in
         IfOk result (λ o. ended o st.new ≡ with_answer (told given st.old)
-            (λ x st. with_answer (as_type types t x.v st) (λ v st. Went (stored x.l v st)))) }
+        (λ x st. with_answer (as_type types t x.v st) (λ v st. Went (stored x.l v st)))) }
 {
     match given {
         Answer::Gave(x) => match as_type(around, t, x.v, st) {
@@ -70,11 +70,7 @@ pub fn assign(
 
 /// Copies an array or a record.
 #[tactic(auto, using(crate::proofs::Threads::threads))]
-pub fn copy(
-    around: &Around<'_>,
-    given: Answer<Ends>,
-    st: &mut State,
-) -> Result<Outcome, RunFault>
+pub fn copy(around: &Around<'_>, given: Answer<Ends>, st: &mut State) -> Result<Outcome, RunFault>
     ensures { IfOk result (λ o. ended o st.new ≡ with_answer (told given st.old)
         (λ x st. Went (with_store (copied x.to x.from st.store) st))) }
 {
@@ -120,14 +116,10 @@ pub fn gone(given: Answer<i64>, st: &State) -> Outcome
 
 /// Prints a character.
 #[tactic(auto, using(crate::proofs::Threads::threads))]
-pub fn put(
-    around: &Around<'_>,
-    given: Answer<i64>,
-    st: &mut State,
-) -> Result<Outcome, RunFault>
+pub fn put(around: &Around<'_>, given: Answer<i64>, st: &mut State) -> Result<Outcome, RunFault>
     ensures { let types = (surroundings around.now).types in
         IfOk result (λ o. ended o st.new ≡ with_answer (told given st.old)
-            (λ v st. with_answer (as_type types char v st) (λ v st. Went (with_byte v st)))) }
+        (λ v st. with_answer (as_type types char v st) (λ v st. Went (with_byte v st)))) }
 {
     match given {
         Answer::Gave(v) => match as_type(around, CHAR, v, st) {
@@ -182,8 +174,8 @@ pub fn change(
 ) -> Result<Outcome, RunFault>
     ensures { let types = (surroundings around.now).types in
         IfOk result (λ o. ended o st.new ≡ with_answer (told given st.old)
-            (λ x st. with_answer (rechecked types t (changed how (st.store x.l) x.v) st)
-                (λ v st. Went (stored x.l v st)))) }
+        (λ x st. with_answer (rechecked types t (changed how (st.store x.l) x.v) st)
+        (λ v st. Went (stored x.l v st)))) }
 {
     match given {
         Answer::Gave(x) => {
@@ -210,7 +202,7 @@ pub fn membership(
 ) -> Result<Outcome, RunFault>
     ensures { IfOk result (λ o. ended o st.new ≡ with_answer (told given st.old)
         (λ x st. with_answer (within (pos 0) (pos 31) range_fault x.v st)
-            (λ v st. Went (stored x.l (with_element how (st.store x.l) v) st)))) }
+        (λ v st. Went (stored x.l (with_element how (st.store x.l) v) st)))) }
 {
     match given {
         Answer::Gave(x) => match within(0, 31, 1, x.v, st) {
@@ -230,7 +222,7 @@ pub fn membership(
 pub fn give(around: &Around<'_>, t: TypeNo, given: Answer<i64>, st: &State) -> Outcome
     ensures { let types = (surroundings around.now).types in
         ended result st.now ≡ with_answer (told given st.now)
-            (λ v st. with_answer (as_type types t v st) (λ v st. Came v st)) }
+        (λ v st. with_answer (as_type types t v st) (λ v st. Came v st)) }
 {
     match given {
         Answer::Gave(v) => match as_type(around, t, v, st) {

@@ -98,12 +98,7 @@ pub fn store(alloc: Global, l: &[usize], v: i64, st: &mut State) -> Result<(), R
 }
 
 /// Copies an array or a record to a location.
-pub fn copy_to(
-    alloc: Global,
-    to: &[usize],
-    from: &[usize],
-    st: &mut State,
-) -> Result<(), RunFault>
+pub fn copy_to(alloc: Global, to: &[usize], from: &[usize], st: &mut State) -> Result<(), RunFault>
     ensures { let store = copied to.now from.now (seen st.old).store in
         OnOk result (seen st.new ≡ with_store store (seen st.old)) }
 {

@@ -25,11 +25,7 @@ pub fn type_size(alloc: Global, home: &Prepared<'_>, t: TypeNo) -> Result<usize,
 
 /// The size of a frame. The only error is that memory ran out, or that a number does not fit.
 #[tactic(auto, using(crate::proofs::Fresh::sizes))]
-pub fn frame_size(
-    alloc: Global,
-    home: &Prepared<'_>,
-    routine: &Routine,
-) -> Result<usize, RunFault>
+pub fn frame_size(alloc: Global, home: &Prepared<'_>, routine: &Routine) -> Result<usize, RunFault>
     ensures { IfOk result (λ n. n ≡ size (frame home.now.body.now.types routine.now)) }
 {
     let blank = frame(alloc, &home.body.types, home.kept, routine)?;
@@ -38,11 +34,7 @@ pub fn frame_size(
 
 /// What a fresh frame holds. The only error is that memory ran out, or that a number does not fit.
 #[tactic(auto, using(crate::proofs::Fresh::sizes))]
-pub fn frame_held(
-    alloc: Global,
-    home: &Prepared<'_>,
-    routine: &Routine,
-) -> Result<Held, RunFault>
+pub fn frame_held(alloc: Global, home: &Prepared<'_>, routine: &Routine) -> Result<Held, RunFault>
     ensures { let t = frame home.now.body.now.types routine.now in
         IfOk result (λ h. contents h ≡ fresh t) }
 {
