@@ -2,3 +2,14 @@ pub mod Layers
 pub mod Spreads
 pub mod Puts
 pub mod Stores
+pub mod Threads
+pub mod Lists
+pub mod Entries
+pub mod Asking
+pub mod Begins
+pub mod Bodies
+pub mod Variants
+pub mod Stepped
+pub mod Sent
+pub mod Fields
+pub mod Fresh

@@ -1,0 +1,63 @@
+-- What the body of a call does.
+use Rattle.std.proofs.Common.{◌≡◌, ℕ, ◌-◌, ◌<◌, ◌≤◌, ℤ, Bool, true, false, List, [], ◌∷◌, ◌++◌, map, length, nat_lt, refl, ap, sym, ◌∙◌, lt-ltb, le-ltb}
+use Rattle.std.specs.Prelude.{if◌then◌else◌}
+use Rattle.m2_meaning.specs.Store.{Store}
+use Rattle.m2_meaning.specs.Answer.{State as Meant, Answer as Given, Outcome as Course}
+use Rattle.m2_meaning.specs.Answer.{Ended, storage_fault}
+use Rattle.m2_meaning.specs.Around.{Modules, Named as Name, Passed as Sent, Around as Setting, Callee as Asked}
+use Rattle.m2_meaning.specs.Expressions.{Asks}
+use Rattle.m2_meaning.specs.Statements.{does, in_turn}
+use Rattle.m2_meaning.specs.Calls.{Entered, variables_from, entered, around_of, body_does, calling, needed, is_function, result, runs, runs_in}
+use Rattle.m2_typed.specs.declared.statement.TypedStmt.{TypedStmt}
+use Rattle.m2_typed.specs.declared.known_types.Types.{Types}
+use Rattle.plain_run.specs.declared.prepared.Prepared.{Prepared}
+use Rattle.plain_run.specs.declared.program.Program.{Program}
+use Rattle.plain_run.specs.declared.program.Around.{Around}
+use Rattle.plain_run.specs.declared.program.Callee.{Callee}
+use Rattle.plain_run.specs.declared.entering.Begun.{Begun}
+use Rattle.plain_run.specs.Surroundings.{modules_of, asks_of, surroundings, frames_of, callee_of, steps_in}
+use Rattle.plain_run.specs.Entering.{names_of, begun_of, IsBodyOf}
+
+abbrev setting_of : ℕ → Types → List (List Name) → List (List ℕ) → ℕ → ℕ → Setting
+setting_of place types frames withs next left = record { place = place; types = types; frames = frames; withs = withs; next = next; left = left }
+
+setting_is : (program : Program) (depth : ℕ) (c : Callee) (activation : ℕ) (b : Begun) (left : ℕ) (a : Around) (st : Meant) → IsBodyOf program depth c activation b left a
+    → surroundings a ≡ around_of (callee_of c) activation (begun_of b st) left
+unfolding surroundings callee_of
+setting_is program depth c activation b left a st i =
+    ap (λ (k : ℕ). setting_of (k) (a.home.body.now.types) (frames_of a.frames) (a.withs) (a.next) (a.left)) i.place
+    ∙ ap (λ (m : Prepared). setting_of (c.place) (m.body.now.types) (frames_of a.frames) (a.withs) (a.next) (a.left)) i.home
+    ∙ ap (λ (fs : List (List Name)). setting_of (c.place) (c.home.body.now.types) (fs) (a.withs) (a.next) (a.left)) i.frames
+    ∙ ap (λ (ws : List (List ℕ)). setting_of (c.place) (c.home.body.now.types) ((names_of b.names ++ variables_from activation (length (names_of b.names)) c.routine.now.variables) ∷ frames_of c.frames) (ws) (a.next) (a.left)) i.withs
+    ∙ ap (λ (k : ℕ). setting_of (c.place) (c.home.body.now.types) ((names_of b.names ++ variables_from activation (length (names_of b.names)) c.routine.now.variables) ∷ frames_of c.frames) ([]) (k) (a.left)) i.next
+    ∙ ap (λ (k : ℕ). setting_of (c.place) (c.home.body.now.types) ((names_of b.names ++ variables_from activation (length (names_of b.names)) c.routine.now.variables) ∷ frames_of c.frames) ([]) (b.next) (k)) i.free
+
+steps_are : (program : Program) (depth : ℕ) (c : Callee) (activation : ℕ) (b : Begun) (left : ℕ) (a : Around) (st0 : Meant) → IsBodyOf program depth c activation b left a → (ss : List TypedStmt) (st : Meant)
+    → steps_in a ss st ≡ body_does (modules_of program) program.bound (calling (modules_of program) program.bound depth) ss (around_of (callee_of c) activation (begun_of b st0) left) st
+unfolding steps_in asks_of
+steps_are program depth c activation b left a st0 i ss st =
+    ap (λ (x : Setting). in_turn (map (does (modules_of a.program.now) (calling (modules_of a.program.now) a.program.now.bound a.depth) a.program.now.bound) ss) x st) (setting_is program depth c activation b left a st0 i)
+    ∙ ap (λ (p : Program). in_turn (map (does (modules_of p) (calling (modules_of p) p.bound a.depth) p.bound) ss) (around_of (callee_of c) activation (begun_of b st0) left) st) i.of
+    ∙ ap (λ (d : ℕ). in_turn (map (does (modules_of program) (calling (modules_of program) program.bound d) program.bound) ss) (around_of (callee_of c) activation (begun_of b st0) left) st) i.nests
+
+pub too_small : (p : Modules) (n : ℕ) (ask : Asks) (c : Callee) (vs : List Sent) (next left need : ℕ) (st : Meant) → need ≡ needed c.home.body.now.types c.routine.now vs → left < need
+    → runs p n ask (callee_of c) vs next left st ≡ Ended storage_fault st.out
+unfolding callee_of
+too_small p n ask c vs next left need st e h =
+    ap (λ (k : ℕ). if nat_lt left k then Ended storage_fault st.out else runs_in p n ask (callee_of c) next (entered c.home.body.now.types c.routine.now next vs st.store) (left - k) st) (sym e)
+    ∙ ap (λ (b : Bool). if b then Ended storage_fault st.out else runs_in p n ask (callee_of c) next (entered c.home.body.now.types c.routine.now next vs st.store) (left - need) st) (lt-ltb left need h)
+
+pub fits : (program : Program) (depth : ℕ) (c : Callee) (vs : List Sent) (next left need : ℕ) (b : Begun) (a : Around) (st st1 : Meant) → need ≡ needed c.home.body.now.types c.routine.now vs → need ≤ left
+    → IsBodyOf program depth c next b (left - need) a → begun_of b st1 ≡ entered c.home.body.now.types c.routine.now next vs st.store → st1.out ≡ st.out
+    → runs (modules_of program) program.bound (calling (modules_of program) program.bound depth) (callee_of c) vs next left st ≡ result (is_function c.home.body.now.types c.routine.now) (steps_in a c.routine.now.body st1)
+unfolding callee_of
+fits program depth c vs next left need b a st st1 e h i g o =
+    let p : Modules = modules_of program in
+    let ask : Asks = calling (modules_of program) program.bound depth in
+    ap (λ (k : ℕ). if nat_lt left k then Ended storage_fault st.out else runs_in p program.bound ask (callee_of c) next (entered c.home.body.now.types c.routine.now next vs st.store) (left - k) st) (sym e)
+    ∙ ap (λ (x : Bool). if x then Ended storage_fault st.out else runs_in p program.bound ask (callee_of c) next (entered c.home.body.now.types c.routine.now next vs st.store) (left - need) st) (le-ltb left need h)
+    ∙ ap (λ (x : Entered). runs_in p program.bound ask (callee_of c) next x (left - need) st) (sym g)
+    ∙ ap (λ (out : List ℕ). result (is_function c.home.body.now.types c.routine.now) (body_does p program.bound ask c.routine.now.body (around_of (callee_of c) next (begun_of b st1) (left - need)) (record { store = st1.store; out = out }))) (sym o)
+    ∙ ap (λ (x : Course). result (is_function c.home.body.now.types c.routine.now) x) (sym (steps_are program depth c next b (left - need) a st1 i c.routine.now.body st1))
+
+pub ruleset bodies = (too_small, fits)
