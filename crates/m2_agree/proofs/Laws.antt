@@ -1,24 +1,31 @@
 -- The laws of constructs, from their pieces.
-use Rattle.std.proofs.Common.{◌≡◌, ℤ, ◌+ℤ◌, ◌-ℤ◌, ◌*ℤ◌, false, not, if◌then◌else◌, List, [], ◌∷◌, ◌++◌, refl, sym, ap, subst}
+use Rattle.std.proofs.Common.{◌≡◌, ℤ, pos, ◌+ℤ◌, ◌-ℤ◌, ◌*ℤ◌, Bool, true, false, not, if◌then◌else◌, List, [], ◌∷◌, ◌++◌, refl, sym, ap, subst, arith}
+use Rattle.std.proofs.lemmas.Int.{ints}
+use Rattle.wasm_tree.specs.declared.instr.Instr.TheVariants as instr
+use Rattle.wasm_tree.specs.declared.instr.Operation.TheVariants.{And, Sub}
+use Rattle.m2_typed.specs.Known.{scalar_at}
 use Rattle.wasm_tree.specs.declared.instr.Instr.{Instr}
 use Rattle.wasm_tree.specs.declared.store.Value.TheVariants.{I64}
 use Rattle.m2_typed.specs.declared.types.TypeNo.{TypeNo}
 use Rattle.m2_typed.specs.declared.known_types.Types.{Types}
-use Rattle.m2_typed.specs.Types.{boolean}
-use Rattle.m2_meaning.specs.Answer.{State as Source, Answer, Gave, Went, then_give}
-use Rattle.m2_meaning.specs.Expressions.{Gives, Continues, one_by_one, in_base, link_layer}
+use Rattle.m2_typed.specs.Types.{are_same, integer, cardinal, boolean, char}
+use Rattle.m2_meaning.specs.Answer.{State as Source, Answer, Gave, Went, then_give, range_fault, overflow}
+use Rattle.m2_meaning.specs.Expressions.{Gives, Continues, one_by_one, within, within_range, ordinal, as_type, in_base, link_layer}
 use Rattle.m2_meaning.specs.Around.{Around}
-use Rattle.m2_meaning.specs.Operators.{truth, compared, is_true}
+use Rattle.m2_meaning.specs.Operators.{truth, compared, is_true, absolute, capital, odd}
 use Rattle.m2_meaning.specs.Statements.{Does}
-use Rattle.m2_scheme.specs.Coded.{Coded, plain, ◌⨾◌, with_setting, wrapped, relation, extended}
+use Rattle.m2_scheme.specs.Coded.{Coded, plain, ◌⨾◌, with_setting, with_number, wrapped, number, operation, checked, relation, extended}
 use Rattle.m2_scheme.specs.Cells as cells
-use Rattle.m2_scheme.specs.Exprs.{Linked, chain_type, chain_code, empty_code, arithmetic_code, relation_of}
+use Rattle.m2_scheme.specs.Cells.{in_type}
+use Rattle.m2_scheme.specs.Exprs.{abs_code, absolute_code, capital_code, ord_check, Linked, chain_type, chain_code, empty_code, arithmetic_code, relation_of}
 use Rattle.m2_scheme.specs.Steps.{if_only, if_else}
 use Rattle.m2_typed.specs.declared.computed.Argument.TheOpen as layer
 use Rattle.m2_typed.specs.declared.computed.Arithmetic.TheVariants as op
-use Rattle.m2_agree.specs.Scene.{Scene, runs, word, Into, GivesNumber, inside, GoesOn}
-use Rattle.m2_agree.specs.Laws.{Constants, Sums, Differences, Products, Conjunctions, Disjunctions, AreLinked, no_links, more_links, Chains, Relations, Negations, Loads, Assigns, Puts, Halts, Exits, Returns, Rows, LoneIfs, Ifs, Whiles, Repeats, Loops}
-use Rattle.m2_agree.proofs.Parts.{grows_same, then_agrees, then_goes, plain_goes}
+use Rattle.m2_agree.specs.Scene.{Scene, runs, word, Into, GivesNumber, inside, Agrees, GoesOn}
+use Rattle.m2_agree.specs.Laws.{Constants, Sums, Differences, Products, Conjunctions, Disjunctions, AreLinked, no_links, more_links, Chains, Relations, Negations, Identities, Opposites, Absolutes, Capitals, Characters, Parities, Ordinals, Conversions, Loads, Assigns, Puts, Halts, Exits, Returns, Rows, LoneIfs, Ifs, Whiles, Repeats, Loops}
+use Rattle.m2_agree.proofs.Parts.{grows_same, then_agrees, then_goes, plain_goes, IsPlain, Goes}
+use Rattle.m2_agree.proofs.Locals.{number_goes}
+use Rattle.m2_agree.proofs.Unary.{among_agrees, odd_goes, chr_goes, val_goes, ord_goes, capital_goes, absolute_goes, stays_agrees}
 use Rattle.m2_agree.proofs.Operators.{constant_agrees, second_goes, sum_goes, difference_goes}
 use Rattle.m2_agree.proofs.Products.{product_goes}
 use Rattle.m2_agree.proofs.Relations.{compare_makes, not_goes, and_goes, or_goes}
@@ -77,6 +84,60 @@ pub negations : Negations
 negations k set p ask x value hx =
     let opposite : ℤ → Gives ℤ = λ v a s. Gave (truth (not (is_true v))) s in
     then_agrees k boolean boolean x.code (plain empty_code) value opposite hx (plain_goes k boolean boolean (plain empty_code) empty_code opposite (λ e c. refl) (not_goes k set.helpers set.small))
+
+agrees_alike : (k : Scene) (t : TypeNo) (code : Coded) (f g : Gives ℤ) → ((s : Source) → f k.around s ≡ g k.around s) → Agrees k t code f → Agrees k t code g
+agrees_alike k t code f g same h = record {
+  grows = h.grows;
+  gives = λ e c free full s st stands rest stack. subst (Into (GivesNumber k t (runs k rest) stack) (runs k ((code (inside k e) c).0 ++ rest) st stack)) (same s) (h.gives e c free full s st stands rest stack);
+}
+
+pub identities : Identities
+identities k set p ask t x value hx among = among_agrees k set.helpers set.small x.of t x.code value hx among
+
+pub opposites : Opposites
+opposites k set p ask x value hx =
+    let types : Types = k.setting.home.types in
+    let after : Coded = with_setting (λ s. plain (operation Sub ∷ in_type s.home.types integer 2)) in
+    let opposite : ℤ → ℤ → Around → Source → Answer ℤ = λ v w a s. within_range (scalar_at types integer) overflow (v -ℤ w) s in
+    then_agrees k boolean integer (plain (number (pos 0) ∷ [])) (x.code ⨾ after) (λ a s. Gave (pos 0) s) (λ v a s. then_give (value a s) (λ w s. opposite v w a s))
+    (constant_agrees k set.helpers set.small boolean (pos 0) (omega (arith, ints), omega (arith, ints)))
+    (second_goes k set.helpers set.small boolean x.of integer x.code after (operation Sub ∷ in_type types integer 2) value opposite hx (λ e c. refl) (difference_goes k set.helpers set.small boolean x.of integer (λ e. cc e)))
+
+pub absolutes : Absolutes
+absolutes k set p ask t x value hx among natural =
+    agrees_alike k t (abs_code t x.code) (λ a s. then_give (value a s) (λ v s. in_base k.setting.home.types t (absolute v) s)) (λ a s. then_give (value a s) (λ v s. in_base a.types t (absolute v) s))
+    (λ s. ap (λ (types : Types). then_give (value k.around s) (λ v s. in_base types t (absolute v) s)) (sym set.types)) (by (are_same t integer) refl)
+  where
+    here : Agrees k t x.code value
+    here = among_agrees k set.helpers set.small x.of t x.code value hx among
+
+    by : (b : Bool) → are_same t integer ≡ b → Agrees k t (if b then x.code ⨾ with_number (λ n. plain (absolute_code n)) else x.code) (λ a s. then_give (value a s) (λ v s. in_base k.setting.home.types t (absolute v) s))
+    by true e = then_agrees k t t x.code (with_number (λ n. plain (absolute_code n))) value (λ v a s. in_base k.setting.home.types t (absolute v) s) here (number_goes k t t absolute_code (λ v a s. in_base k.setting.home.types t (absolute v) s) (absolute_goes k set.helpers set.small t e))
+    by false e = stays_agrees k set.helpers set.small t (natural e) x.code value here
+
+pub capitals : Capitals
+capitals k set p ask x value hx = then_agrees k char char x.code (with_number (λ n. plain (capital_code n))) value (λ v a s. Gave (capital v) s) hx (number_goes k char char capital_code (λ v a s. Gave (capital v) s) (capital_goes k set.helpers set.small))
+
+-- what is made of a value by code without locals
+plainly_agrees : (k : Scene) (t u : TypeNo) (x after : Coded) (list : List Instr) (value : Gives ℤ) (next : ℤ → Gives ℤ) → Agrees k t x value → IsPlain k after list → Goes k t u list (λ v s. next v k.around s) → Agrees k u (x ⨾ after) (λ a s. then_give (value a s) (λ v s. next v a s))
+plainly_agrees k t u x after list value next hx is go = then_agrees k t u x after value next hx (plain_goes k t u after list next is go)
+
+pub characters : Characters
+characters k set p ask x value hx = plainly_agrees k x.of char x.code (plain (checked (pos 0) (pos 255) 1)) (checked (pos 0) (pos 255) 1) value (λ v a s. within (pos 0) (pos 255) range_fault v s) hx (λ e c. refl) (chr_goes k set.helpers set.small x.of)
+
+pub parities : Parities
+parities k set p ask x value hx =
+    plainly_agrees k x.of boolean x.code (plain (instr.I64Const 1 ∷ operation And ∷ [])) (instr.I64Const 1 ∷ operation And ∷ []) value (λ v a s. Gave (truth (odd v)) s) hx (λ e c. refl) (odd_goes k set.helpers set.small x.of)
+
+pub ordinals : Ordinals
+ordinals k set p ask x value hx among natural =
+    plainly_agrees k x.of cardinal x.code (with_setting (λ s. plain (ord_check s.home.types x.of))) (ord_check k.setting.home.types x.of) value (λ v a s. ordinal v s) hx (λ e c. refl) (ord_goes k set.helpers set.small x.of among natural)
+
+pub conversions : Conversions
+conversions k set p ask t x value hx some =
+    agrees_alike k t (x.code ⨾ with_setting (λ s. plain (in_type s.home.types t 1))) (λ a s. then_give (value a s) (λ v s. as_type k.setting.home.types t v s)) (λ a s. then_give (value a s) (λ v s. as_type a.types t v s))
+    (λ s. ap (λ (types : Types). then_give (value k.around s) (λ v s. as_type types t v s)) (sym set.types))
+    (plainly_agrees k x.of t x.code (with_setting (λ s. plain (in_type s.home.types t 1))) (in_type k.setting.home.types t 1) value (λ v a s. as_type k.setting.home.types t v s) hx (λ e c. refl) (val_goes k set.helpers set.small x.of t some))
 
 pub loads : Loads
 loads k set p ask t c d found cell hd = load_agrees k set.helpers set.small set.room t c d (with_setting (λ s. plain (cells.loaded s.home.types t))) found cell hd (λ e counts. refl)

@@ -10,4 +10,5 @@ pub mod Statements
 pub mod Loops
 pub mod Products
 pub mod Assigned
+pub mod Unary
 pub mod Laws

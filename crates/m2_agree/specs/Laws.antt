@@ -4,7 +4,7 @@ use Rattle.m2_typed.specs.declared.computed.Argument.TheOpen as layer
 use Rattle.m2_typed.specs.declared.computed.Arithmetic.TheVariants as op
 use Rattle.m2_typed.specs.declared.computed.Comparison.{Comparison}
 use Rattle.m2_typed.specs.declared.types.TypeNo.{TypeNo}
-use Rattle.m2_typed.specs.Types.{boolean, char}
+use Rattle.m2_typed.specs.Types.{are_same, integer, cardinal, boolean, char}
 use Rattle.m2_typed.specs.Known.{scalar_at}
 use Rattle.m2_layout.specs.Types.{Scalar, Cell}
 use Rattle.m2_meaning.specs.Store.{Location}
@@ -17,10 +17,11 @@ use Rattle.m2_meaning.specs.Statements.{Does, stored, while_true, until_true, lo
 use Rattle.wasm_tree.specs.declared.instr.Instr.TheVariants as instr
 use Rattle.m2_scheme.specs.Coded.{Coded, plain, ◌⨾◌, within, with_setting, is_zero, wrapped, put, fault}
 use Rattle.m2_scheme.specs.Cells as cells
+use Rattle.m2_scheme.specs.Cells.{base_of}
 use Rattle.m2_scheme.specs.Exprs as code
 use Rattle.m2_scheme.specs.Exprs.{Part, Linked, behind, chain_type, chain_code}
 use Rattle.m2_scheme.specs.Steps.{block_loop, loop, leaving, if_only, if_else}
-use Rattle.m2_agree.specs.Scene.{Scene, IsSet, IsValue, IsCell, Agrees, GoesOn, Locates, Executes}
+use Rattle.m2_agree.specs.Scene.{Scene, IsSet, IsValue, AreAmong, AreNatural, IsCell, Agrees, GoesOn, Locates, Executes}
 
 -- ---- expressions
 
@@ -73,6 +74,52 @@ abbrev pub Negations : Type 0
 Negations =
     (k : Scene) → IsSet k → (p : Modules) (ask : Asks) (x : Part) (value : Gives ℤ) → Agrees k boolean x.code value
     → Agrees k boolean (code.expr_layer (layer.Not x)).code (meaning.expr_layer p ask (layer.Not value))
+
+-- a value of an operand's type is one of its base type
+abbrev pub Identities : Type 0
+Identities =
+    (k : Scene) → IsSet k → (p : Modules) (ask : Asks) (t : TypeNo) (x : Part) (value : Gives ℤ) → Agrees k x.of x.code value → AreAmong k.setting.home.types x.of t
+    → Agrees k t (code.expr_layer (layer.Plus t x)).code (meaning.expr_layer p ask (layer.Plus t value))
+
+abbrev pub Opposites : Type 0
+Opposites =
+    (k : Scene) → IsSet k → (p : Modules) (ask : Asks) (x : Part) (value : Gives ℤ) → Agrees k x.of x.code value
+    → Agrees k integer (code.expr_layer (layer.Negate x)).code (meaning.expr_layer p ask (layer.Negate value))
+
+-- INTEGER alone has negative values
+abbrev pub Absolutes : Type 0
+Absolutes =
+    (k : Scene) → IsSet k → (p : Modules) (ask : Asks) (t : TypeNo) (x : Part) (value : Gives ℤ) → Agrees k x.of x.code value → AreAmong k.setting.home.types x.of t
+    → (are_same t integer ≡ false → AreNatural k.setting.home.types t)
+    → Agrees k t (code.expr_layer (layer.Abs t x)).code (meaning.expr_layer p ask (layer.Abs t value))
+
+abbrev pub Capitals : Type 0
+Capitals =
+    (k : Scene) → IsSet k → (p : Modules) (ask : Asks) (x : Part) (value : Gives ℤ) → Agrees k char x.code value
+    → Agrees k char (code.expr_layer (layer.Cap x)).code (meaning.expr_layer p ask (layer.Cap value))
+
+abbrev pub Characters : Type 0
+Characters =
+    (k : Scene) → IsSet k → (p : Modules) (ask : Asks) (x : Part) (value : Gives ℤ) → Agrees k x.of x.code value
+    → Agrees k char (code.expr_layer (layer.Chr x)).code (meaning.expr_layer p ask (layer.Chr value))
+
+abbrev pub Parities : Type 0
+Parities =
+    (k : Scene) → IsSet k → (p : Modules) (ask : Asks) (x : Part) (value : Gives ℤ) → Agrees k x.of x.code value
+    → Agrees k boolean (code.expr_layer (layer.Odd x)).code (meaning.expr_layer p ask (layer.Odd value))
+
+-- the values of a type are among those of its base; INTEGER alone of the bases has negative ones
+abbrev pub Ordinals : Type 0
+Ordinals =
+    (k : Scene) → IsSet k → (p : Modules) (ask : Asks) (x : Part) (value : Gives ℤ) → Agrees k x.of x.code value
+    → AreAmong k.setting.home.types x.of (base_of k.setting.home.types x.of) → (are_same (base_of k.setting.home.types x.of) integer ≡ false → AreNatural k.setting.home.types x.of)
+    → Agrees k cardinal (code.expr_layer (layer.Ord x)).code (meaning.expr_layer p ask (layer.Ord value))
+
+-- VAL's type is a scalar type
+abbrev pub Conversions : Type 0
+Conversions =
+    (k : Scene) → IsSet k → (p : Modules) (ask : Asks) (t : TypeNo) (x : Part) (value : Gives ℤ) → Agrees k x.of x.code value → (scalar_at k.setting.home.types t ≡ None → ⊥)
+    → Agrees k t (code.expr_layer (layer.Val t x)).code (meaning.expr_layer p ask (layer.Val t value))
 
 abbrev pub Loads : Type 0
 Loads =

@@ -91,6 +91,14 @@ pub record IsSmall (r : Range) : Type 0 where
 abbrev pub AreSmall : Types → Type 0
 AreSmall types = (t : TypeNo) (r : Range) → scalar_at types t ≡ Some r → IsSmall r
 
+-- each value of one type is one of the other: a value of a subrange is one of its base
+abbrev pub AreAmong : Types → (t u : TypeNo) → Type 0
+AreAmong types t u = (v : ℤ) → IsValue types t v → IsValue types u v
+
+-- no value of the type is negative
+abbrev pub AreNatural : Types → TypeNo → Type 0
+AreNatural types t = (v : ℤ) → IsValue types t v → pos 0 ≤ℤ v
+
 -- what is known where the code of a body runs
 pub record IsSet (k : Scene) : Type 0 where
   pub helpers : HasHelpers k

@@ -6,7 +6,7 @@
 //! - `specs/Laws` has the laws, one for each construct that is proved so far.
 #![tactic(auto)]
 
-ghost use Rattle.m2_agree.specs.Laws.{Assigns, Chains, Conjunctions, Constants, Differences, Disjunctions, Exits, Halts, Ifs, Loads, LoneIfs, Loops, Negations, Products, Puts, Relations, Repeats, Returns, Rows, Sums, Whiles};
+ghost use Rattle.m2_agree.specs.Laws.{Absolutes, Assigns, Capitals, Chains, Characters, Conjunctions, Constants, Conversions, Differences, Disjunctions, Exits, Halts, Identities, Ifs, Loads, LoneIfs, Loops, Negations, Opposites, Ordinals, Parities, Products, Puts, Relations, Repeats, Returns, Rows, Sums, Whiles};
 
 /// The code of an expression leaves its value.
 pub fn expression_laws()
@@ -22,6 +22,15 @@ pub fn expression_laws()
     ensures chains { Chains }
     ensures relations { Relations }
     ensures negations { Negations }
+    // Signs and standard functions.
+    ensures identities { Identities }
+    ensures opposites { Opposites }
+    ensures absolutes { Absolutes }
+    ensures capitals { Capitals }
+    ensures characters { Characters }
+    ensures parities { Parities }
+    ensures ordinals { Ordinals }
+    ensures conversions { Conversions }
     // A scalar variable is read.
     ensures loads { Loads }
 {}
