@@ -10,9 +10,9 @@ use Rattle.m2_typed.specs.declared.types.TypeNo.{TypeNo}
 use Rattle.m2_typed.specs.declared.known_types.Types.{Types}
 use Rattle.m2_typed.specs.Types.{are_same, integer, cardinal, boolean, char}
 use Rattle.m2_meaning.specs.Answer.{State as Source, Answer, Gave, Went, then_give, range_fault, overflow}
-use Rattle.m2_meaning.specs.Expressions.{Gives, Continues, one_by_one, within, within_range, ordinal, as_type, in_base, link_layer}
+use Rattle.m2_meaning.specs.Expressions.{Gives, Continues, one_by_one, within, within_range, divided, ordinal, as_type, in_base, link_layer}
 use Rattle.m2_meaning.specs.Around.{Around}
-use Rattle.m2_meaning.specs.Operators.{truth, compared, is_true, absolute, capital, odd}
+use Rattle.m2_meaning.specs.Operators.{truth, compared, is_true, absolute, capital, odd, quotient, remainder}
 use Rattle.m2_meaning.specs.Statements.{Does}
 use Rattle.m2_scheme.specs.Coded.{Coded, plain, ◌⨾◌, with_setting, with_number, wrapped, number, operation, checked, relation, extended}
 use Rattle.m2_scheme.specs.Cells as cells
@@ -22,12 +22,13 @@ use Rattle.m2_scheme.specs.Steps.{if_only, if_else}
 use Rattle.m2_typed.specs.declared.computed.Argument.TheOpen as layer
 use Rattle.m2_typed.specs.declared.computed.Arithmetic.TheVariants as op
 use Rattle.m2_agree.specs.Scene.{Scene, runs, word, Into, GivesNumber, inside, Agrees, GoesOn}
-use Rattle.m2_agree.specs.Laws.{Constants, Sums, Differences, Products, Conjunctions, Disjunctions, AreLinked, no_links, more_links, Chains, Relations, Negations, Identities, Opposites, Absolutes, Capitals, Characters, Parities, Ordinals, Conversions, Loads, Assigns, Puts, Halts, Exits, Returns, Rows, LoneIfs, Ifs, Whiles, Repeats, Loops}
+use Rattle.m2_agree.specs.Laws.{Constants, Sums, Differences, Products, Quotients, Remainders, Conjunctions, Disjunctions, AreLinked, no_links, more_links, Chains, Relations, Negations, Identities, Opposites, Absolutes, Capitals, Characters, Parities, Ordinals, Conversions, Loads, Assigns, Puts, Halts, Exits, Returns, Rows, LoneIfs, Ifs, Whiles, Repeats, Loops}
 use Rattle.m2_agree.proofs.Parts.{grows_same, then_agrees, then_goes, plain_goes, IsPlain, Goes}
 use Rattle.m2_agree.proofs.Locals.{number_goes}
 use Rattle.m2_agree.proofs.Unary.{among_agrees, odd_goes, chr_goes, val_goes, ord_goes, capital_goes, absolute_goes, stays_agrees}
 use Rattle.m2_agree.proofs.Operators.{constant_agrees, second_goes, sum_goes, difference_goes}
 use Rattle.m2_agree.proofs.Products.{product_goes}
+use Rattle.m2_agree.proofs.Quotients.{quotient_makes, remainder_makes}
 use Rattle.m2_agree.proofs.Relations.{compare_makes, not_goes, and_goes, or_goes}
 use Rattle.m2_agree.proofs.Assigned.{load_agrees, assign_executes}
 use Rattle.m2_agree.proofs.Statements.{then_executes, with_executes, put_executes, halt_executes, exit_executes, return_executes, if_only_executes, if_else_executes}
@@ -66,6 +67,16 @@ products k set p ask t w y value ha some =
     let here : ℤ → Gives ℤ = λ x a s. then_give (value a s) (λ u s. in_base types w (x *ℤ u) s) in
     goes_alike k t w (y.code ⨾ after) here (link_layer p ask (layer.Arithmetic op.Multiply w value)) (λ v s. ap (λ (types : Types). then_give (value k.around s) (λ u s. in_base types w (v *ℤ u) s)) (sym set.types))
     (second_goes k set.helpers set.small t y.of w y.code after (arithmetic_code types op.Multiply w) value (λ x u a s. in_base types w (x *ℤ u) s) ha (λ e c. refl) (product_goes k set.helpers set.small t y.of w some))
+
+pub quotients : Quotients
+quotients k set p ask t w y value ha among nought =
+    second_goes k set.helpers set.small t y.of w y.code (with_setting (λ s. plain (arithmetic_code s.home.types op.Divide w))) (instr.Call 5 ∷ []) value (λ x u a s. divided quotient x u s) ha (λ e c. refl)
+    (quotient_makes k set.helpers set.small t y.of w among nought)
+
+pub remainders : Remainders
+remainders k set p ask t w y value ha among nought =
+    second_goes k set.helpers set.small t y.of w y.code (with_setting (λ s. plain (arithmetic_code s.home.types op.Remainder w))) (instr.Call 6 ∷ []) value (λ x u a s. divided remainder x u s) ha (λ e c. refl)
+    (remainder_makes k set.helpers set.small t y.of w among nought)
 
 pub conjunctions : Conjunctions
 conjunctions k set p ask y value ha = and_goes k set.helpers set.small y.code value ha

@@ -11,4 +11,6 @@ pub mod Loops
 pub mod Products
 pub mod Assigned
 pub mod Unary
+pub mod Quotients
+pub mod Sets
 pub mod Laws

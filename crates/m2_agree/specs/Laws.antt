@@ -45,6 +45,17 @@ Products =
     (k : Scene) → IsSet k → (p : Modules) (ask : Asks) (t w : TypeNo) (y : Part) (value : Gives ℤ) → Agrees k y.of y.code value → (scalar_at k.setting.home.types w ≡ None → ⊥)
     → GoesOn k t w (code.link_layer (layer.Arithmetic op.Multiply w y)).code (meaning.link_layer p ask (layer.Arithmetic op.Multiply w value))
 
+-- the base type of the operands has 0
+abbrev pub Quotients : Type 0
+Quotients =
+    (k : Scene) → IsSet k → (p : Modules) (ask : Asks) (t w : TypeNo) (y : Part) (value : Gives ℤ) → Agrees k y.of y.code value → AreAmong k.setting.home.types t w → IsValue k.setting.home.types w (pos 0)
+    → GoesOn k t w (code.link_layer (layer.Arithmetic op.Divide w y)).code (meaning.link_layer p ask (layer.Arithmetic op.Divide w value))
+
+abbrev pub Remainders : Type 0
+Remainders =
+    (k : Scene) → IsSet k → (p : Modules) (ask : Asks) (t w : TypeNo) (y : Part) (value : Gives ℤ) → Agrees k y.of y.code value → AreAmong k.setting.home.types y.of w → IsValue k.setting.home.types w (pos 0)
+    → GoesOn k t w (code.link_layer (layer.Arithmetic op.Remainder w y)).code (meaning.link_layer p ask (layer.Arithmetic op.Remainder w value))
+
 abbrev pub Conjunctions : Type 0
 Conjunctions =
     (k : Scene) → IsSet k → (p : Modules) (ask : Asks) (y : Part) (value : Gives ℤ) → Agrees k boolean y.code value

@@ -6,7 +6,7 @@
 //! - `specs/Laws` has the laws, one for each construct that is proved so far.
 #![tactic(auto)]
 
-ghost use Rattle.m2_agree.specs.Laws.{Absolutes, Assigns, Capitals, Chains, Characters, Conjunctions, Constants, Conversions, Differences, Disjunctions, Exits, Halts, Identities, Ifs, Loads, LoneIfs, Loops, Negations, Opposites, Ordinals, Parities, Products, Puts, Relations, Repeats, Returns, Rows, Sums, Whiles};
+ghost use Rattle.m2_agree.specs.Laws.{Absolutes, Assigns, Capitals, Chains, Characters, Conjunctions, Constants, Conversions, Differences, Disjunctions, Exits, Halts, Identities, Ifs, Loads, LoneIfs, Loops, Negations, Opposites, Ordinals, Parities, Products, Puts, Quotients, Relations, Remainders, Repeats, Returns, Rows, Sums, Whiles};
 
 /// The code of an expression leaves its value.
 pub fn expression_laws()
@@ -15,6 +15,9 @@ pub fn expression_laws()
     ensures sums { Sums }
     ensures differences { Differences }
     ensures products { Products }
+    // The divisor of DIV and MOD is checked.
+    ensures quotients { Quotients }
+    ensures remainders { Remainders }
     // AND and OR evaluate their second operand only where the first does not decide.
     ensures conjunctions { Conjunctions }
     ensures disjunctions { Disjunctions }

@@ -1,4 +1,4 @@
-use Rattle.m2_agree.proofs.Laws.{constants, sums, differences, products, conjunctions, disjunctions, chains, relations, negations, identities, opposites, absolutes, capitals, characters, parities, ordinals, conversions, loads}
+use Rattle.m2_agree.proofs.Laws.{constants, sums, differences, products, quotients, remainders, conjunctions, disjunctions, chains, relations, negations, identities, opposites, absolutes, capitals, characters, parities, ordinals, conversions, loads}
 use Rattle.m2_agree.proofs.expression_laws.Goals as goal
 
 pub returns-clause-constants : goal.returns-clause-constants
@@ -54,3 +54,9 @@ returns-clause-ordinals c = ordinals
 
 pub returns-clause-conversions : goal.returns-clause-conversions
 returns-clause-conversions c = conversions
+
+pub returns-clause-quotients : goal.returns-clause-quotients
+returns-clause-quotients c = quotients
+
+pub returns-clause-remainders : goal.returns-clause-remainders
+returns-clause-remainders c = remainders
