@@ -1,6 +1,8 @@
 -- The laws of constructs, from their pieces.
 use Rattle.std.proofs.Common.{◌≡◌, ℤ, pos, ◌+ℤ◌, ◌-ℤ◌, ◌*ℤ◌, Bool, true, false, not, if◌then◌else◌, List, [], ◌∷◌, ◌++◌, refl, sym, ap, subst, arith}
+use Rattle.std.specs.Prelude.{◌==◌, bit_and, bit_xor}
 use Rattle.std.proofs.lemmas.Int.{ints}
+use Rattle.m2_typed.specs.declared.computed.Inclusion.TheVariants as inclusion
 use Rattle.wasm_tree.specs.declared.instr.Instr.TheVariants as instr
 use Rattle.wasm_tree.specs.declared.instr.Operation.TheVariants.{And, Sub}
 use Rattle.m2_typed.specs.Known.{scalar_at}
@@ -8,27 +10,28 @@ use Rattle.wasm_tree.specs.declared.instr.Instr.{Instr}
 use Rattle.wasm_tree.specs.declared.store.Value.TheVariants.{I64}
 use Rattle.m2_typed.specs.declared.types.TypeNo.{TypeNo}
 use Rattle.m2_typed.specs.declared.known_types.Types.{Types}
-use Rattle.m2_typed.specs.Types.{are_same, integer, cardinal, boolean, char}
+use Rattle.m2_typed.specs.Types.{are_same, integer, cardinal, boolean, char, bitset}
 use Rattle.m2_meaning.specs.Answer.{State as Source, Answer, Gave, Went, then_give, range_fault, overflow}
 use Rattle.m2_meaning.specs.Expressions.{Gives, Continues, one_by_one, within, within_range, divided, ordinal, as_type, in_base, link_layer}
 use Rattle.m2_meaning.specs.Around.{Around}
-use Rattle.m2_meaning.specs.Operators.{truth, compared, is_true, absolute, capital, odd, quotient, remainder}
+use Rattle.m2_meaning.specs.Operators.{truth, compared, is_true, absolute, capital, odd, quotient, remainder, bits, without, combined, has}
 use Rattle.m2_meaning.specs.Statements.{Does}
 use Rattle.m2_scheme.specs.Coded.{Coded, plain, ◌⨾◌, with_setting, with_number, wrapped, number, operation, checked, relation, extended}
 use Rattle.m2_scheme.specs.Cells as cells
 use Rattle.m2_scheme.specs.Cells.{in_type}
-use Rattle.m2_scheme.specs.Exprs.{abs_code, absolute_code, capital_code, ord_check, Linked, chain_type, chain_code, empty_code, arithmetic_code, relation_of}
+use Rattle.m2_scheme.specs.Exprs.{complement, set_code, abs_code, absolute_code, capital_code, ord_check, Linked, chain_type, chain_code, empty_code, arithmetic_code, relation_of}
 use Rattle.m2_scheme.specs.Steps.{if_only, if_else}
 use Rattle.m2_typed.specs.declared.computed.Argument.TheOpen as layer
 use Rattle.m2_typed.specs.declared.computed.Arithmetic.TheVariants as op
 use Rattle.m2_agree.specs.Scene.{Scene, runs, word, Into, GivesNumber, inside, Agrees, GoesOn}
-use Rattle.m2_agree.specs.Laws.{Constants, Sums, Differences, Products, Quotients, Remainders, Conjunctions, Disjunctions, AreLinked, no_links, more_links, Chains, Relations, Negations, Identities, Opposites, Absolutes, Capitals, Characters, Parities, Ordinals, Conversions, Loads, Assigns, Puts, Halts, Exits, Returns, Rows, LoneIfs, Ifs, Whiles, Repeats, Loops}
+use Rattle.m2_agree.specs.Laws.{Combinations, Inclusions, Elements, Constants, Sums, Differences, Products, Quotients, Remainders, Conjunctions, Disjunctions, AreLinked, no_links, more_links, Chains, Relations, Negations, Identities, Opposites, Absolutes, Capitals, Characters, Parities, Ordinals, Conversions, Loads, Assigns, Puts, Halts, Exits, Returns, Rows, LoneIfs, Ifs, Whiles, Repeats, Loops}
 use Rattle.m2_agree.proofs.Parts.{grows_same, then_agrees, then_goes, plain_goes, IsPlain, Goes}
 use Rattle.m2_agree.proofs.Locals.{number_goes}
 use Rattle.m2_agree.proofs.Unary.{among_agrees, odd_goes, chr_goes, val_goes, ord_goes, capital_goes, absolute_goes, stays_agrees}
 use Rattle.m2_agree.proofs.Operators.{constant_agrees, second_goes, sum_goes, difference_goes}
 use Rattle.m2_agree.proofs.Products.{product_goes}
 use Rattle.m2_agree.proofs.Quotients.{quotient_makes, remainder_makes}
+use Rattle.m2_agree.proofs.Sets.{combine_makes, within_makes, complement_goes, around_makes, has_code, in_goes}
 use Rattle.m2_agree.proofs.Relations.{compare_makes, not_goes, and_goes, or_goes}
 use Rattle.m2_agree.proofs.Assigned.{load_agrees, assign_executes}
 use Rattle.m2_agree.proofs.Statements.{then_executes, with_executes, put_executes, halt_executes, exit_executes, return_executes, if_only_executes, if_else_executes}
@@ -90,6 +93,31 @@ relations k set p ask o x y first second hx hy =
     let both : ℤ → ℤ → Around → Source → Answer ℤ = λ v w a s. Gave (truth (compared o v w)) s in
     then_agrees k x.of boolean x.code (y.code ⨾ plain list) first (λ v a s. then_give (second a s) (λ w s. both v w a s)) hx
     (second_goes k set.helpers set.small x.of y.of boolean y.code (plain list) list second both hy (λ e c. refl) (compare_makes k set.helpers set.small x.of y.of o))
+
+pub combinations : Combinations
+combinations k set p ask o y value ha =
+    second_goes k set.helpers set.small bitset bitset bitset y.code (plain (set_code o)) (set_code o) value (λ x u a s. Gave (combined o x u) s) ha (λ e c. refl) (combine_makes k set.helpers set.small o)
+
+pub inclusions : Inclusions
+inclusions k set p ask inclusion.Within x y first second hx hy =
+    let list : List Instr = complement ++ (operation And ∷ empty_code) in
+    let both : ℤ → ℤ → Around → Source → Answer ℤ = λ v w a s. Gave (truth (without (bits v) (bits w) == 0)) s in
+    then_agrees k bitset boolean x.code (y.code ⨾ plain list) first (λ v a s. then_give (second a s) (λ w s. both v w a s)) hx
+    (second_goes k set.helpers set.small bitset bitset boolean y.code (plain list) list second both hy (λ e c. refl) (within_makes k set.helpers set.small))
+inclusions k set p ask inclusion.Around x y first second hx hy =
+    let list : List Instr = operation And ∷ empty_code in
+    let rest_of : ℤ → Gives ℤ = λ v a s. Gave (pos (bit_xor (bits v) 4294967295)) s in
+    let both : ℤ → ℤ → Around → Source → Answer ℤ = λ v w a s. Gave (truth (bit_and (bits w) (bits v) == 0)) s in
+    then_agrees k bitset boolean x.code (plain complement ⨾ y.code ⨾ plain list) first (λ v a s. then_give (rest_of v a s) (λ v s. then_give (second a s) (λ w s. both v w a s))) hx
+    (then_goes k bitset bitset boolean (plain complement) (y.code ⨾ plain list) rest_of (λ v a s. then_give (second a s) (λ w s. both v w a s))
+    (plain_goes k bitset bitset (plain complement) complement rest_of (λ e c. refl) (complement_goes k set.helpers set.small))
+    (second_goes k set.helpers set.small bitset bitset boolean y.code (plain list) list second both hy (λ e c. refl) (around_makes k set.helpers set.small)))
+
+pub elements : Elements
+elements k set p ask x y first second hx hy beside =
+    then_agrees k x.of boolean x.code (has_code k set.helpers set.small y.code second hy beside) first
+    (λ x a s. then_give (within (pos 0) (pos 31) range_fault x s) (λ x s. then_give (second a s) (λ y s. Gave (truth (has y x)) s))) hx
+    (in_goes k set.helpers set.small y.code second hy beside x.of)
 
 pub negations : Negations
 negations k set p ask x value hx =

@@ -17,14 +17,17 @@ use Rattle.m2_typed.specs.declared.types.TypeNo.{TypeNo}
 use Rattle.m2_typed.specs.declared.computed.SetOperator.{SetOperator}
 use Rattle.m2_typed.specs.declared.computed.SetOperator.TheVariants as sets
 use Rattle.m2_typed.specs.Types.{boolean, bitset}
-use Rattle.m2_meaning.specs.Answer.{State as Source, Answer, Gave}
+use Rattle.m2_meaning.specs.Answer.{State as Source, Answer, Gave, Ended, then_give, range_fault}
 use Rattle.m2_meaning.specs.Operators as of
-use Rattle.m2_meaning.specs.Operators.{bits, without, combined, has}
-use Rattle.m2_scheme.specs.Coded.{operation}
+use Rattle.m2_meaning.specs.Operators.{is_between, bits, without, combined, has}
+use Rattle.m2_meaning.specs.Expressions.{Gives, within}
+use Rattle.m2_scheme.specs.Coded.{Coded, Counts, plain, ◌⨾◌, with_number, operation, checked}
 use Rattle.m2_scheme.specs.Exprs.{complement, set_code, empty_code}
-use Rattle.m2_agree.specs.Scene.{Scene, calls, runs, HasHelpers, IsValue, AreSmall, word, Stands, Into, GivesNumber}
+use Rattle.m2_agree.specs.Scene.{Scene, calls, runs, HasHelpers, IsValue, AreSmall, word, Stands, keeping, Into, GivesNumber, IsFree, HasLocals, inside, Agrees, AgreesBeside, GoesOn}
 use Rattle.m2_agree.proofs.Parts.{Goes}
-use Rattle.m2_agree.proofs.Operators.{Makes, operation_runs}
+use Rattle.m2_agree.proofs.Operators.{wide, narrow, between_in, Makes, operation_runs}
+use Rattle.m2_agree.proofs.Checks.{checked_gives}
+use Rattle.m2_agree.proofs.Locals.{forgets, kept_runs, kept_grows, kept_gives}
 use Rattle.m2_agree.proofs.Relations.{truth_gives, extended_runs, zero_runs}
 
 -- ---- the word of a set is its bits
@@ -138,3 +141,41 @@ module _ (k : Scene) (has_helpers : HasHelpers k) (small : AreSmall k.setting.ho
       ∙ operation_runs k has_helpers small ShrU (bits y) (bits x) n (instr.I64Const 1 ∷ operation And ∷ rest) st stack (ap (λ (m : ℕ). Some (bits y / 2 ^ m)) few)
       ∙ i64_runs k.modules k.fixed k.turns (calls k) k.own (operation And ∷ rest) st 1 (stack ++ I64 n ∷ [])
       ∙ operation_runs k has_helpers small And n 1 (truth (has y x)) rest st stack (ap Some (bit_is n)))
+
+  module _ (y : Coded) (second : Gives ℤ) (hy : Agrees k bitset y second) (beside : AgreesBeside k bitset y second) where
+    abbrev pub has_code : Coded
+    has_code = plain (checked (pos 0) (pos 31) 1) ⨾ with_number (λ n. plain (instr.LocalSet n ∷ []) ⨾ y ⨾ plain (instr.LocalGet n ∷ shifted))
+
+    abbrev has_element : ℤ → Source → Answer ℤ
+    has_element x s = then_give (second k.around s) (λ y s. Gave (of.truth (has y x)) s)
+
+    pub in_goes : (t : TypeNo) → GoesOn k t boolean has_code (λ x a s. then_give (within (pos 0) (pos 31) range_fault x s) (λ x s. then_give (second a s) (λ y s. Gave (of.truth (has y x)) s)))
+    in_goes t = record {
+      grows = λ e c. kept_grows k bitset boolean y (λ n. instr.LocalGet n ∷ shifted) second (λ y s. Gave (of.truth (has y (pos 0))) s) (pos 0) hy beside e c;
+      gives = λ e c free full x is s st h rest stack. by e c free full x is s st h rest stack (is_between (pos 0) x (pos 31)) refl;
+    }
+      where
+        after : (x : ℤ) → pos 0 ≤ℤ x → x ≤ℤ pos 31 → (n : ℕ) → k.kept n ≡ None → (y : ℤ) → IsValue k.setting.home.types bitset y → (s : Source) (st : Target) → Stands (keeping k n (I64 (word x))) s st → (rest : List Instr) (stack : List Value)
+            → Into (GivesNumber k boolean (runs k rest) stack) (runs k ((instr.LocalGet n ∷ shifted) ++ rest) st (stack ++ I64 (word y) ∷ [])) (Gave (of.truth (has y x)) s)
+        after x l u n new y hy s st h rest stack =
+            let p = in_gives x y l u hy s st (forgets k n (I64 (word x)) new s st h) rest stack in
+            record { st = p.st; stands = p.stands; is = p.is; run = kept_runs k n (I64 (word x)) (shifted ++ rest) s st (stack ++ I64 (word y) ∷ []) h ∙ p.run }
+
+        by : (e : ℕ) (c : Counts) → IsFree k c → HasLocals k (has_code (inside k e) c).1 → (x : ℤ) → IsValue k.setting.home.types t x → (s : Source) (st : Target) → Stands k s st → (rest : List Instr) (stack : List Value)
+            → (b : Bool) → is_between (pos 0) x (pos 31) ≡ b
+            → Into (GivesNumber k boolean (runs k rest) stack) (runs k ((has_code (inside k e) c).0 ++ rest) st (stack ++ I64 (word x) ∷ [])) (then_give (if b then Gave x s else Ended range_fault s.out) has_element)
+        by e c free full x is s st h rest stack b same =
+            let code : List Instr = (with_number (λ n. plain (instr.LocalSet n ∷ []) ⨾ y ⨾ plain (instr.LocalGet n ∷ shifted)) (inside k e) c).0 in
+            let p = checked_gives k has_helpers t (pos 0) (pos 31) x 1 (record { low = omega (arith, ints); high = omega (arith, ints) }) (record { low = omega (arith, ints); high = omega (arith, ints) })
+            (wide x (narrow k has_helpers small t x is)) (omega arith) (omega arith) (λ q. is) s st h (code ++ rest) stack in
+            decided b same (subst (λ (b : Bool). Into (GivesNumber k t (runs k (code ++ rest)) stack) (runs k (checked (pos 0) (pos 31) 1 ++ (code ++ rest)) st (stack ++ I64 (word x) ∷ [])) (if b then Gave x s else Ended range_fault s.out)) same p)
+          where
+            decided : (b : Bool) → is_between (pos 0) x (pos 31) ≡ b
+                → Into (GivesNumber k t (runs k ((with_number (λ n. plain (instr.LocalSet n ∷ []) ⨾ y ⨾ plain (instr.LocalGet n ∷ shifted)) (inside k e) c).0 ++ rest)) stack)
+                (runs k (checked (pos 0) (pos 31) 1 ++ ((with_number (λ n. plain (instr.LocalSet n ∷ []) ⨾ y ⨾ plain (instr.LocalGet n ∷ shifted)) (inside k e) c).0 ++ rest)) st (stack ++ I64 (word x) ∷ [])) (if b then Gave x s else Ended range_fault s.out)
+                → Into (GivesNumber k boolean (runs k rest) stack) (runs k ((has_code (inside k e) c).0 ++ rest) st (stack ++ I64 (word x) ∷ [])) (then_give (if b then Gave x s else Ended range_fault s.out) has_element)
+            decided true same p =
+                let q = between_in (pos 0) (pos 31) x same in
+                subst (λ (r : Effect). Into (GivesNumber k boolean (runs k rest) stack) r (has_element x s)) (sym p.run)
+                (kept_gives k bitset boolean y (λ n. instr.LocalGet n ∷ shifted) second (λ y s. Gave (of.truth (has y x)) s) x hy beside (after x q.0 q.1) e c free full s p.st p.stands rest stack)
+            decided false same p = p

@@ -3,8 +3,10 @@ use Rattle.std.specs.Prelude.{◌≡◌, ℤ, pos, Bool, false, List, [], ◌∷
 use Rattle.m2_typed.specs.declared.computed.Argument.TheOpen as layer
 use Rattle.m2_typed.specs.declared.computed.Arithmetic.TheVariants as op
 use Rattle.m2_typed.specs.declared.computed.Comparison.{Comparison}
+use Rattle.m2_typed.specs.declared.computed.Inclusion.{Inclusion}
+use Rattle.m2_typed.specs.declared.computed.SetOperator.{SetOperator}
 use Rattle.m2_typed.specs.declared.types.TypeNo.{TypeNo}
-use Rattle.m2_typed.specs.Types.{are_same, integer, cardinal, boolean, char}
+use Rattle.m2_typed.specs.Types.{are_same, integer, cardinal, boolean, char, bitset}
 use Rattle.m2_typed.specs.Known.{scalar_at}
 use Rattle.m2_layout.specs.Types.{Scalar, Cell}
 use Rattle.m2_meaning.specs.Store.{Location}
@@ -21,7 +23,7 @@ use Rattle.m2_scheme.specs.Cells.{base_of}
 use Rattle.m2_scheme.specs.Exprs as code
 use Rattle.m2_scheme.specs.Exprs.{Part, Linked, behind, chain_type, chain_code}
 use Rattle.m2_scheme.specs.Steps.{block_loop, loop, leaving, if_only, if_else}
-use Rattle.m2_agree.specs.Scene.{Scene, IsSet, IsValue, AreAmong, AreNatural, IsCell, Agrees, GoesOn, Locates, Executes}
+use Rattle.m2_agree.specs.Scene.{Scene, IsSet, IsValue, AreAmong, AreNatural, IsCell, Agrees, AgreesBeside, GoesOn, Locates, Executes}
 
 -- ---- expressions
 
@@ -66,6 +68,11 @@ Disjunctions =
     (k : Scene) → IsSet k → (p : Modules) (ask : Asks) (y : Part) (value : Gives ℤ) → Agrees k boolean y.code value
     → GoesOn k boolean boolean (code.link_layer (layer.Or y)).code (meaning.link_layer p ask (layer.Or value))
 
+abbrev pub Combinations : Type 0
+Combinations =
+    (k : Scene) → IsSet k → (p : Modules) (ask : Asks) (o : SetOperator) (y : Part) (value : Gives ℤ) → Agrees k bitset y.code value
+    → GoesOn k bitset bitset (code.link_layer (layer.Combine o y)).code (meaning.link_layer p ask (layer.Combine o value))
+
 -- operators behind one another, where each takes what the one before gives
 pub data AreLinked (k : Scene) : TypeNo → List Linked → List Continues → Type 0 where
   no_links : (t : TypeNo) → AreLinked k t [] []
@@ -85,6 +92,17 @@ abbrev pub Negations : Type 0
 Negations =
     (k : Scene) → IsSet k → (p : Modules) (ask : Asks) (x : Part) (value : Gives ℤ) → Agrees k boolean x.code value
     → Agrees k boolean (code.expr_layer (layer.Not x)).code (meaning.expr_layer p ask (layer.Not value))
+
+abbrev pub Inclusions : Type 0
+Inclusions =
+    (k : Scene) → IsSet k → (p : Modules) (ask : Asks) (o : Inclusion) (x y : Part) (first second : Gives ℤ) → Agrees k bitset x.code first → Agrees k bitset y.code second
+    → Agrees k boolean (code.expr_layer (layer.Include o x y)).code (meaning.expr_layer p ask (layer.Include o first second))
+
+-- the element is kept while the set is evaluated
+abbrev pub Elements : Type 0
+Elements =
+    (k : Scene) → IsSet k → (p : Modules) (ask : Asks) (x y : Part) (first second : Gives ℤ) → Agrees k x.of x.code first → Agrees k bitset y.code second → AgreesBeside k bitset y.code second
+    → Agrees k boolean (code.expr_layer (layer.In x y)).code (meaning.expr_layer p ask (layer.In first second))
 
 -- a value of an operand's type is one of its base type
 abbrev pub Identities : Type 0

@@ -24,7 +24,7 @@ use Rattle.m2_meaning.specs.Around.{Around}
 use Rattle.m2_meaning.specs.Expressions.{Gives}
 use Rattle.m2_meaning.specs.Statements.{Does}
 use Rattle.m2_cells.specs.Relation.{Holds}
-use Rattle.m2_scheme.specs.Coded.{Coded, Counts, Setting, number_local}
+use Rattle.m2_scheme.specs.Coded.{Coded, Counts, Setting, address_local, number_local}
 use Rattle.m2_scheme.specs.Exprs.{base_global, variables_row}
 use Rattle.m2_scheme.specs.Helpers.{check_typed, divisor_checked, div_rest, mod_typed, helper}
 use Rattle.m2_helpers.specs.Called.{HasMemory}
@@ -169,12 +169,14 @@ pub record Grows (c d : Counts) : Type 0 where
   pub addresses : c.addresses ≤ d.addresses
 
 -- nothing is kept in the locals that code may ask for
-abbrev pub IsFree : Scene → Counts → Type 0
-IsFree k c = (w : ℕ) → number_local k.setting c.numbers ≤ w → k.kept w ≡ None
+pub record IsFree (k : Scene) (c : Counts) : Type 0 where
+  pub numbers : (w : ℕ) → number_local k.setting c.numbers ≤ w → k.kept w ≡ None
+  pub addresses : (w : ℕ) → address_local k.setting c.addresses ≤ w → w < number_local k.setting 0 → k.kept w ≡ None
 
 -- the function has the locals that its code asks for
-abbrev pub HasLocals : Scene → Counts → Type 0
-HasLocals k c = number_local k.setting c.numbers ≤ k.locals
+pub record HasLocals (k : Scene) (c : Counts) : Type 0 where
+  pub numbers : number_local k.setting c.numbers ≤ k.locals
+  pub addresses : c.addresses ≤ k.setting.addresses
 
 -- inside blocks EXIT leads elsewhere; else all is the same
 abbrev pub inside : Scene → (exit : ℕ) → Setting
@@ -188,6 +190,10 @@ pub record Agrees (k : Scene) (t : TypeNo) (code : Coded) (value : Gives ℤ) : 
   pub gives : (exit : ℕ) (c : Counts) → IsFree k c → HasLocals k (code (inside k exit) c).1
       → (s : Source) (st : Target) → Stands k s st → (rest : List Instr) (stack : List Value)
       → Into (GivesNumber k t (runs k rest) stack) (runs k ((code (inside k exit) c).0 ++ rest) st stack) (value k.around s)
+
+-- it does so also where something more is kept
+abbrev pub AgreesBeside : Scene → TypeNo → Coded → Gives ℤ → Type 0
+AgreesBeside k t code value = (n : ℕ) (v : Value) → k.kept n ≡ None → Agrees (keeping k n v) t code value
 
 -- the code of a designator gives its address
 pub record Locates (k : Scene) (t : Ty) (code : Coded) (found : Gives Location) : Type 0 where

@@ -6,7 +6,7 @@
 //! - `specs/Laws` has the laws, one for each construct that is proved so far.
 #![tactic(auto)]
 
-ghost use Rattle.m2_agree.specs.Laws.{Absolutes, Assigns, Capitals, Chains, Characters, Conjunctions, Constants, Conversions, Differences, Disjunctions, Exits, Halts, Identities, Ifs, Loads, LoneIfs, Loops, Negations, Opposites, Ordinals, Parities, Products, Puts, Quotients, Relations, Remainders, Repeats, Returns, Rows, Sums, Whiles};
+ghost use Rattle.m2_agree.specs.Laws.{Absolutes, Assigns, Capitals, Chains, Characters, Combinations, Conjunctions, Constants, Conversions, Differences, Disjunctions, Elements, Exits, Halts, Identities, Ifs, Inclusions, Loads, LoneIfs, Loops, Negations, Opposites, Ordinals, Parities, Products, Puts, Quotients, Relations, Remainders, Repeats, Returns, Rows, Sums, Whiles};
 
 /// The code of an expression leaves its value.
 pub fn expression_laws()
@@ -21,9 +21,13 @@ pub fn expression_laws()
     // AND and OR evaluate their second operand only where the first does not decide.
     ensures conjunctions { Conjunctions }
     ensures disjunctions { Disjunctions }
+    ensures combinations { Combinations }
     // Operators follow one another from left to right.
     ensures chains { Chains }
     ensures relations { Relations }
+    ensures inclusions { Inclusions }
+    // The element is kept while the set is evaluated.
+    ensures elements { Elements }
     ensures negations { Negations }
     // Signs and standard functions.
     ensures identities { Identities }

@@ -1,4 +1,4 @@
-use Rattle.m2_agree.proofs.Laws.{constants, sums, differences, products, quotients, remainders, conjunctions, disjunctions, chains, relations, negations, identities, opposites, absolutes, capitals, characters, parities, ordinals, conversions, loads}
+use Rattle.m2_agree.proofs.Laws.{constants, sums, differences, products, combinations, inclusions, elements, quotients, remainders, conjunctions, disjunctions, chains, relations, negations, identities, opposites, absolutes, capitals, characters, parities, ordinals, conversions, loads}
 use Rattle.m2_agree.proofs.expression_laws.Goals as goal
 
 pub returns-clause-constants : goal.returns-clause-constants
@@ -60,3 +60,12 @@ returns-clause-quotients c = quotients
 
 pub returns-clause-remainders : goal.returns-clause-remainders
 returns-clause-remainders c = remainders
+
+pub returns-clause-combinations : goal.returns-clause-combinations
+returns-clause-combinations c = combinations
+
+pub returns-clause-inclusions : goal.returns-clause-inclusions
+returns-clause-inclusions c = inclusions
+
+pub returns-clause-elements : goal.returns-clause-elements
+returns-clause-elements c = elements
