@@ -7,24 +7,28 @@ use Rattle.wasm_tree.specs.declared.instr.Instr.TheVariants as instr
 use Rattle.wasm_tree.specs.declared.instr.Operation.TheVariants.{And, Sub}
 use Rattle.m2_typed.specs.Known.{scalar_at}
 use Rattle.wasm_tree.specs.declared.instr.Instr.{Instr}
-use Rattle.wasm_tree.specs.declared.store.Value.TheVariants.{I64}
+use Rattle.wasm_tree.specs.declared.store.Value.TheVariants.{I32, I64}
 use Rattle.m2_typed.specs.declared.types.TypeNo.{TypeNo}
 use Rattle.m2_typed.specs.declared.known_types.Types.{Types}
 use Rattle.m2_typed.specs.Types.{are_same, integer, cardinal, boolean, char, bitset}
-use Rattle.m2_meaning.specs.Answer.{State as Source, Answer, Gave, Went, then_give, range_fault, overflow}
-use Rattle.m2_meaning.specs.Expressions.{Gives, Continues, one_by_one, within, within_range, divided, ordinal, as_type, in_base, link_layer}
-use Rattle.m2_meaning.specs.Around.{Around}
+use Rattle.m2_meaning.specs.Answer.{State as Source, Answer, Gave, Went, then_give, with_answer, range_fault, overflow}
+use Rattle.m2_meaning.specs.Expressions.{Gives, Continues, Reaches as Reached, root_layer, component_layer, element_in, index_range, one_by_one, within, within_range, divided, ordinal, as_type, in_base, link_layer}
+use Rattle.m2_meaning.specs.Around.{Around, module_place}
+use Rattle.m2_meaning.specs.Store.{Location}
 use Rattle.m2_meaning.specs.Operators.{truth, compared, is_true, absolute, capital, odd, quotient, remainder, bits, without, combined, has}
-use Rattle.m2_meaning.specs.Statements.{Does}
-use Rattle.m2_scheme.specs.Coded.{Coded, plain, ◌⨾◌, with_setting, with_number, wrapped, number, operation, checked, relation, extended}
+use Rattle.m2_meaning.specs.Statements.{Does, changed, rechecked, stored}
+use Rattle.m2_scheme.specs.Coded.{Coded, plain, ◌⨾◌, all_coded, raised, with_setting, with_number, wrapped, number, operation, checked, relation, extended}
+use Rattle.m2_layout.specs.Types.{Ty}
+use Rattle.m2_layout.specs.Sizes.{offset}
+use Rattle.m2_layout.specs.Shapes.{tree}
 use Rattle.m2_scheme.specs.Cells as cells
 use Rattle.m2_scheme.specs.Cells.{in_type}
-use Rattle.m2_scheme.specs.Exprs.{complement, set_code, abs_code, absolute_code, capital_code, ord_check, Linked, chain_type, chain_code, empty_code, arithmetic_code, relation_of}
-use Rattle.m2_scheme.specs.Steps.{if_only, if_else}
+use Rattle.m2_scheme.specs.Exprs.{root_layer as root_code, global_code, element_code, complement, set_code, abs_code, absolute_code, capital_code, ord_check, Linked, chain_type, chain_code, empty_code, arithmetic_code, relation_of}
+use Rattle.m2_scheme.specs.Steps.{under, change_code, if_only, if_else}
 use Rattle.m2_typed.specs.declared.computed.Argument.TheOpen as layer
 use Rattle.m2_typed.specs.declared.computed.Arithmetic.TheVariants as op
-use Rattle.m2_agree.specs.Scene.{Scene, runs, word, Into, GivesNumber, inside, Agrees, GoesOn}
-use Rattle.m2_agree.specs.Laws.{Combinations, Inclusions, Elements, Constants, Sums, Differences, Products, Quotients, Remainders, Conjunctions, Disjunctions, AreLinked, no_links, more_links, Chains, Relations, Negations, Identities, Opposites, Absolutes, Capitals, Characters, Parities, Ordinals, Conversions, Loads, Assigns, Puts, Halts, Exits, Returns, Rows, LoneIfs, Ifs, Whiles, Repeats, Loops}
+use Rattle.m2_agree.specs.Scene.{Scene, runs, place, word, Into, GivesNumber, GivesPlace, inside, Agrees, Reaches, GoesOn, Ends, Executes}
+use Rattle.m2_agree.specs.Laws.{Globals, Opened, Fields, Elements, Designators, Combinations, Inclusions, Members, Constants, Sums, Differences, Products, Quotients, Remainders, Conjunctions, Disjunctions, AreLinked, no_links, more_links, Chains, Relations, Negations, Identities, Opposites, Absolutes, Capitals, Characters, Parities, Ordinals, Conversions, Loads, Assigns, Changes, Memberships, Puts, Halts, Exits, Returns, Rows, LoneIfs, Ifs, Withs, Whiles, Repeats, Loops}
 use Rattle.m2_agree.proofs.Parts.{grows_same, then_agrees, then_goes, plain_goes, IsPlain, Goes}
 use Rattle.m2_agree.proofs.Locals.{number_goes}
 use Rattle.m2_agree.proofs.Unary.{among_agrees, odd_goes, chr_goes, val_goes, ord_goes, capital_goes, absolute_goes, stays_agrees}
@@ -33,7 +37,10 @@ use Rattle.m2_agree.proofs.Products.{product_goes}
 use Rattle.m2_agree.proofs.Quotients.{quotient_makes, remainder_makes}
 use Rattle.m2_agree.proofs.Sets.{combine_makes, within_makes, complement_goes, around_makes, has_code, in_goes}
 use Rattle.m2_agree.proofs.Relations.{compare_makes, not_goes, and_goes, or_goes}
-use Rattle.m2_agree.proofs.Assigned.{load_agrees, assign_executes}
+use Rattle.m2_agree.proofs.Components.{with_locates, field_reaches, element_reaches, all_reach, root_then}
+use Rattle.m2_agree.proofs.Assigned.{global_locates, load_agrees, assign_executes}
+use Rattle.m2_agree.proofs.Kept.{address_kept, under_executes}
+use Rattle.m2_agree.proofs.Changes.{change_executes, member_executes}
 use Rattle.m2_agree.proofs.Statements.{then_executes, with_executes, put_executes, halt_executes, exit_executes, return_executes, if_only_executes, if_else_executes}
 use Rattle.m2_agree.proofs.Loops.{while_executes, repeat_executes, loop_executes}
 
@@ -113,8 +120,8 @@ inclusions k set p ask inclusion.Around x y first second hx hy =
     (plain_goes k bitset bitset (plain complement) complement rest_of (λ e c. refl) (complement_goes k set.helpers set.small))
     (second_goes k set.helpers set.small bitset bitset boolean y.code (plain list) list second both hy (λ e c. refl) (around_makes k set.helpers set.small)))
 
-pub elements : Elements
-elements k set p ask x y first second hx hy beside =
+pub members : Members
+members k set p ask x y first second hx hy beside =
     then_agrees k x.of boolean x.code (has_code k set.helpers set.small y.code second hy beside) first
     (λ x a s. then_give (within (pos 0) (pos 31) range_fault x s) (λ x s. then_give (second a s) (λ y s. Gave (truth (has y x)) s))) hx
     (in_goes k set.helpers set.small y.code second hy beside x.of)
@@ -178,12 +185,55 @@ conversions k set p ask t x value hx some =
     (λ s. ap (λ (types : Types). then_give (value k.around s) (λ v s. as_type types t v s)) (sym set.types))
     (plainly_agrees k x.of t x.code (with_setting (λ s. plain (in_type s.home.types t 1))) (in_type k.setting.home.types t 1) value (λ v a s. as_type k.setting.home.types t v s) hx (λ e c. refl) (val_goes k set.helpers set.small x.of t some))
 
+-- ---- designators
+
+pub globals : Globals
+globals k set p ask v t is = global_locates k set.helpers set.small set.room v (module_place p v.home ∷ v.number ∷ []) t (with_setting (λ s. plain (global_code s.home v))) is (λ e c. refl)
+
+pub opened : Opened
+opened k p ask j l t is = with_locates k j l t is
+
+pub fields : Fields
+fields k set p ask t j u there =
+    field_reaches k set.helpers set.small set.room (tree k.setting.home.types t) u j (with_setting (λ s. plain (raised (offset (tree s.home.types t) (j ∷ []))))) there (λ e c. refl)
+
+pub elements : Elements
+elements k set p ask t r u i value range array hi =
+    reaches_alike k (tree k.setting.home.types t) u (i.code ⨾ with_setting (λ s. plain (element_code s.home.types t))) (λ l a s. then_give (value a s) (λ v s. element_in l (index_range k.setting.home.types t) v s))
+    (component_layer p ask (layer.Element t value)) (λ l s. ap (λ (types : Types). then_give (value k.around s) (λ v s. element_in l (index_range types t) v s)) (sym set.types))
+    (element_reaches k set.helpers set.small set.room t i.of r u i.code (with_setting (λ s. plain (element_code s.home.types t))) value range array hi (λ e c. refl))
+  where
+    reaches_alike : (k : Scene) (t u : Ty) (code : Coded) (f g : Reached) → ((l : Location) (s : Source) → f l k.around s ≡ g l k.around s) → Reaches k t u code f → Reaches k t u code g
+    reaches_alike k t u code f g same h = record {
+      grows = h.grows;
+      gives = λ e c free full l type some s st stands rest stack.
+          subst (Into (GivesPlace k u (runs k rest) stack) (runs k ((code (inside k e) c).0 ++ rest) st (stack ++ I32 (place k l) ∷ []))) (same l s) (h.gives e c free full l type some s st stands rest stack);
+    }
+
+pub designators : Designators
+designators k p ask r t u cs rs hr hs = root_then k t u (root_code r) (all_coded cs) (λ a s. Gave (root_layer p ask r a) s) (one_by_one rs) hr (all_reach k t u cs rs hs)
+
 pub loads : Loads
 loads k set p ask t c d found cell hd = load_agrees k set.helpers set.small set.room t c d (with_setting (λ s. plain (cells.loaded s.home.types t))) found cell hd (λ e counts. refl)
 
 pub assigns : Assigns
 assigns k set function t c d e found value cell hd he =
     assign_executes k set.helpers set.small set.room function t c d e (with_setting (λ s. plain (cells.stored s.home.types t))) found value cell hd he (λ x counts. refl)
+
+executes_alike : (k : Scene) (function : Bool) (code : Coded) (f g : Does) → ((s : Source) → f k.around s ≡ g k.around s) → Executes k function code f → Executes k function code g
+executes_alike k function code f g same h = record {
+  grows = h.grows;
+  goes = λ e c free full s st stands rest stack. subst (Ends k function e stack (λ st. runs k rest st stack) (runs k ((code (inside k e) c).0 ++ rest) st stack)) (same s) (h.goes e c free full s st stands rest stack);
+}
+
+pub changes : Changes
+changes k set function o t c d x found value cell some based hd hx beside =
+    let here : Types → Does = λ types a s. with_answer (found a s) (λ l s. with_answer (value a s) (λ y s. with_answer (rechecked types t (changed o (s.store l) y) s) (λ v s. Went (stored l v s)))) in
+    executes_alike k function (change_code o d t x.code) (here k.setting.home.types) (λ a s. here a.types a s) (λ s. ap (λ (types : Types). here types k.around s) (sym set.types))
+    (change_executes k set.helpers set.small set.room function o t x.of c d x.code found value cell some based hd hx beside)
+
+pub memberships : Memberships
+memberships k set function o c d x found value cell hd hx beside = member_executes k set.helpers set.small set.room function o x.of c cell x.code value beside d found hd hx
 
 pub puts : Puts
 puts k set function e value he = put_executes k function set.helpers e value he
@@ -209,6 +259,10 @@ pub ifs : Ifs
 ifs k set function e value x y step other he hx hy =
     let chosen : ℤ → Does = λ v a s. if is_true v then step a s else other a s in
     with_executes k function boolean e (plain (wrapped ∷ []) ⨾ if_else x y) value chosen he (if_else_executes k function set.helpers set.small x y step other hx hy)
+
+pub withs : Withs
+withs k function t d x found step hd growing hx =
+    address_kept k function t d found (λ w. under w x) (λ l a s. step (record a { withs = a.withs ++ l ∷ [] }) s) hd (λ w e c. growing w e c) (λ w l new type some. under_executes k function w l x step (hx w l new type some))
 
 pub whiles : Whiles
 whiles k set function e value x step he hx = while_executes k function set.helpers set.small e x value step he hx

@@ -13,4 +13,7 @@ pub mod Assigned
 pub mod Unary
 pub mod Quotients
 pub mod Sets
+pub mod Components
+pub mod Kept
+pub mod Changes
 pub mod Laws

@@ -33,7 +33,7 @@ length_set (x ∷ xs) zero v = refl
 length_set (x ∷ xs) (suc i) v = ap suc (length_set xs i v)
 
 module _ (k : Scene) (n : ℕ) (v : Value) where
-  abbrev if_kept : Bool → Option Value → Option Value
+  abbrev pub if_kept : Bool → Option Value → Option Value
   if_kept b o = if b then Some v else o
 
   -- what is set is kept

@@ -32,19 +32,19 @@ use Rattle.m2_agree.proofs.Relations.{truth_gives, extended_runs, zero_runs}
 
 -- ---- the word of a set is its bits
 
-set_word : (v : ℤ) → pos 0 ≤ℤ v → v ≤ℤ pos 4294967295 → word v ≡ bits v
+pub set_word : (v : ℤ) → pos 0 ≤ℤ v → v ≤ℤ pos 4294967295 → word v ≡ bits v
 set_word v l h = omega (arith, ints)
 
-set_small : (v : ℤ) → pos 0 ≤ℤ v → v ≤ℤ pos 4294967295 → bits v < 2 ^ 32
+pub set_small : (v : ℤ) → pos 0 ≤ℤ v → v ≤ℤ pos 4294967295 → bits v < 2 ^ 32
 set_small v l h = omega (arith, ints)
 
-bits_word : (n : ℕ) → n < 2 ^ 32 → word (pos n) ≡ n
+pub bits_word : (n : ℕ) → n < 2 ^ 32 → word (pos n) ≡ n
 bits_word n h = omega (arith, ints, h)
 
-bits_in : (n : ℕ) → n < 2 ^ 32 → (pos 0 ≤ℤ pos n) × (pos n ≤ℤ pos 4294967295)
+pub bits_in : (n : ℕ) → n < 2 ^ 32 → (pos 0 ≤ℤ pos n) × (pos n ≤ℤ pos 4294967295)
 bits_in n h = (omega (arith, ints), omega (arith, ints, h))
 
-and_small : (a b : ℕ) → a < 2 ^ 32 → bit_and a b < 2 ^ 32
+pub and_small : (a b : ℕ) → a < 2 ^ 32 → bit_and a b < 2 ^ 32
 and_small a b h = let l = and_le_l a b in omega (arith, h, l)
 
 module _ (k : Scene) (has_helpers : HasHelpers k) (small : AreSmall k.setting.home.types) where
@@ -60,7 +60,7 @@ module _ (k : Scene) (has_helpers : HasHelpers k) (small : AreSmall k.setting.ho
     run = e ∙ ap (λ (i : ℕ). runs k rest st (stack ++ I64 i ∷ [])) (sym (bits_word n less));
   }
 
-  complement_runs : (i : ℕ) (rest : List Instr) (st : Target) (stack : List Value) → runs k (complement ++ rest) st (stack ++ I64 i ∷ []) ≡ runs k rest st (stack ++ I64 (bit_xor i 4294967295) ∷ [])
+  pub complement_runs : (i : ℕ) (rest : List Instr) (st : Target) (stack : List Value) → runs k (complement ++ rest) st (stack ++ I64 i ∷ []) ≡ runs k rest st (stack ++ I64 (bit_xor i 4294967295) ∷ [])
   complement_runs i rest st stack =
       i64_runs k.modules k.fixed k.turns (calls k) k.own (operation Xor ∷ rest) st 4294967295 (stack ++ I64 i ∷ [])
       ∙ operation_runs k has_helpers small Xor i 4294967295 (bit_xor i 4294967295) rest st stack refl

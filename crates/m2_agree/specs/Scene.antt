@@ -127,6 +127,15 @@ pub record IsGlobal (k : Scene) (v : Variable) (l : Location) (t : Ty) : Type 0 
   pub at : base + offset (variables_row k.setting.home v.home) (v.number ∷ []) ≡ place k l
   pub some : 0 < length l
 
+-- where the record of a WITH is: a local has its address
+pub record IsWith (k : Scene) (j : ℕ) (l : Location) (t : Ty) : Type 0 where
+  pub local : ℕ
+  pub there : slice_get k.setting.withs j ≡ Some local
+  pub kept : k.kept local ≡ Some (I32 (place k l))
+  pub is : slice_get k.around.withs j ≡ Some l
+  pub type : component (row k.world) l ≡ Some t
+  pub some : 0 < length l
+
 -- ---- what stands on both sides
 
 pub record Stands (k : Scene) (s : Source) (st : Target) : Type 0 where
@@ -139,6 +148,14 @@ pub record Stands (k : Scene) (s : Source) (st : Target) : Type 0 where
 -- a scene in which one more local is kept
 abbrev pub keeping : Scene → ℕ → Value → Scene
 keeping k n v = record k { kept = λ w. if nat_eq w n then Some v else k.kept w }
+
+-- the scene inside a WITH: the address of its record is kept
+abbrev pub opening : Scene → (w : ℕ) → Location → Scene
+opening k w l = record k {
+  kept = λ n. if nat_eq n w then Some (I32 (place k l)) else k.kept n;
+  setting = record k.setting { withs = k.setting.withs ++ w ∷ [] };
+  around = record k.around { withs = k.around.withs ++ l ∷ [] };
+}
 
 -- the effect is what the answer says: P of what it gives, or the same end
 abbrev pub Into : {A : Type 0} → (A → Source → Effect → Type 0) → Effect → Answer A → Type 0
@@ -167,6 +184,10 @@ pub record GivesPlace (k : Scene) (t : Ty) (go : Effects) (stack : List Value) (
 pub record Grows (c d : Counts) : Type 0 where
   pub numbers : c.numbers ≤ d.numbers
   pub addresses : c.addresses ≤ d.addresses
+
+-- the counts never fall
+abbrev pub IsGrowing : Scene → Coded → Type 0
+IsGrowing k code = (exit : ℕ) (c : Counts) → Grows c (code (record k.setting { exit = exit }) c).1
 
 -- nothing is kept in the locals that code may ask for
 pub record IsFree (k : Scene) (c : Counts) : Type 0 where
@@ -201,6 +222,14 @@ pub record Locates (k : Scene) (t : Ty) (code : Coded) (found : Gives Location) 
   pub gives : (exit : ℕ) (c : Counts) → IsFree k c → HasLocals k (code (inside k exit) c).1
       → (s : Source) (st : Target) → Stands k s st → (rest : List Instr) (stack : List Value)
       → Into (GivesPlace k t (runs k rest) stack) (runs k ((code (inside k exit) c).0 ++ rest) st stack) (found k.around s)
+
+-- the code of a component goes on from the address of what has type t to that of a component with type u
+pub record Reaches (k : Scene) (t u : Ty) (code : Coded) (reach : Location → Gives Location) : Type 0 where
+  pub grows : (exit : ℕ) (c : Counts) → Grows c (code (inside k exit) c).1
+  pub gives : (exit : ℕ) (c : Counts) → IsFree k c → HasLocals k (code (inside k exit) c).1
+      → (l : Location) → component (row k.world) l ≡ Some t → 0 < length l
+      → (s : Source) (st : Target) → Stands k s st → (rest : List Instr) (stack : List Value)
+      → Into (GivesPlace k u (runs k rest) stack) (runs k ((code (inside k exit) c).0 ++ rest) st (stack ++ I32 (place k l) ∷ [])) (reach l k.around s)
 
 -- and that of what is behind a value of one type gives one of another
 pub record GoesOn (k : Scene) (t u : TypeNo) (code : Coded) (value : ℤ → Gives ℤ) : Type 0 where

@@ -6,7 +6,7 @@
 //! - `specs/Laws` has the laws, one for each construct that is proved so far.
 #![tactic(auto)]
 
-ghost use Rattle.m2_agree.specs.Laws.{Absolutes, Assigns, Capitals, Chains, Characters, Combinations, Conjunctions, Constants, Conversions, Differences, Disjunctions, Elements, Exits, Halts, Identities, Ifs, Inclusions, Loads, LoneIfs, Loops, Negations, Opposites, Ordinals, Parities, Products, Puts, Quotients, Relations, Remainders, Repeats, Returns, Rows, Sums, Whiles};
+ghost use Rattle.m2_agree.specs.Laws.{Absolutes, Assigns, Capitals, Chains, Changes, Characters, Combinations, Conjunctions, Constants, Conversions, Differences, Designators, Disjunctions, Elements, Exits, Fields, Globals, Halts, Identities, Ifs, Inclusions, Loads, LoneIfs, Loops, Members, Memberships, Negations, Opened, Opposites, Ordinals, Parities, Products, Puts, Quotients, Relations, Remainders, Repeats, Returns, Rows, Sums, Whiles, Withs};
 
 /// The code of an expression leaves its value.
 pub fn expression_laws()
@@ -27,7 +27,7 @@ pub fn expression_laws()
     ensures relations { Relations }
     ensures inclusions { Inclusions }
     // The element is kept while the set is evaluated.
-    ensures elements { Elements }
+    ensures members { Members }
     ensures negations { Negations }
     // Signs and standard functions.
     ensures identities { Identities }
@@ -42,9 +42,23 @@ pub fn expression_laws()
     ensures loads { Loads }
 {}
 
+/// The code of a designator leaves the address of the location.
+pub fn designator_laws()
+    ensures globals { Globals }
+    // The record of a WITH, whose address is kept in a local.
+    ensures opened { Opened }
+    ensures fields { Fields }
+    // An index is checked.
+    ensures elements { Elements }
+    ensures designators { Designators }
+{}
+
 /// The code of a statement does what the statement does, with the same bound on turns.
 pub fn statement_laws()
     ensures assigns { Assigns }
+    // INC and DEC, INCL and EXCL: the variable's address is kept.
+    ensures changes { Changes }
+    ensures memberships { Memberships }
     ensures puts { Puts }
     ensures halts { Halts }
     ensures exits { Exits }
@@ -52,6 +66,8 @@ pub fn statement_laws()
     ensures rows { Rows }
     ensures lone_ifs { LoneIfs }
     ensures ifs { Ifs }
+    // The record of a WITH is found once.
+    ensures withs { Withs }
     ensures whiles { Whiles }
     ensures repeats { Repeats }
     // EXIT leaves the innermost LOOP.

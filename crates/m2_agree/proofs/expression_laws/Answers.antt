@@ -1,4 +1,4 @@
-use Rattle.m2_agree.proofs.Laws.{constants, sums, differences, products, combinations, inclusions, elements, quotients, remainders, conjunctions, disjunctions, chains, relations, negations, identities, opposites, absolutes, capitals, characters, parities, ordinals, conversions, loads}
+use Rattle.m2_agree.proofs.Laws.{constants, sums, differences, products, combinations, inclusions, members, quotients, remainders, conjunctions, disjunctions, chains, relations, negations, identities, opposites, absolutes, capitals, characters, parities, ordinals, conversions, loads}
 use Rattle.m2_agree.proofs.expression_laws.Goals as goal
 
 pub returns-clause-constants : goal.returns-clause-constants
@@ -67,5 +67,5 @@ returns-clause-combinations c = combinations
 pub returns-clause-inclusions : goal.returns-clause-inclusions
 returns-clause-inclusions c = inclusions
 
-pub returns-clause-elements : goal.returns-clause-elements
-returns-clause-elements c = elements
+pub returns-clause-members : goal.returns-clause-members
+returns-clause-members c = members
