@@ -16,19 +16,19 @@ use Rattle.m2_meaning.specs.Expressions.{Gives, Continues, Reaches as Reached, r
 use Rattle.m2_meaning.specs.Around.{Around, module_place}
 use Rattle.m2_meaning.specs.Store.{Location}
 use Rattle.m2_meaning.specs.Operators.{truth, compared, is_true, absolute, capital, odd, quotient, remainder, bits, without, combined, has}
-use Rattle.m2_meaning.specs.Statements.{Does, changed, rechecked, stored}
+use Rattle.m2_meaning.specs.Statements.{Does, changed, rechecked, for_all, stored}
 use Rattle.m2_scheme.specs.Coded.{Coded, plain, ◌⨾◌, all_coded, raised, with_setting, with_number, wrapped, number, operation, checked, relation, extended}
 use Rattle.m2_layout.specs.Types.{Ty}
 use Rattle.m2_layout.specs.Sizes.{offset}
 use Rattle.m2_layout.specs.Shapes.{tree}
 use Rattle.m2_scheme.specs.Cells as cells
 use Rattle.m2_scheme.specs.Cells.{in_type}
-use Rattle.m2_scheme.specs.Exprs.{root_layer as root_code, global_code, element_code, complement, set_code, abs_code, absolute_code, capital_code, ord_check, Linked, chain_type, chain_code, empty_code, arithmetic_code, relation_of}
-use Rattle.m2_scheme.specs.Steps.{under, change_code, if_only, if_else}
+use Rattle.m2_scheme.specs.Exprs.{root_layer as root_code, behind, global_code, element_code, complement, set_code, abs_code, absolute_code, capital_code, ord_check, Linked, chain_type, chain_code, empty_code, arithmetic_code, relation_of}
+use Rattle.m2_scheme.specs.Steps.{for_code, under, change_code, if_only, if_else}
 use Rattle.m2_typed.specs.declared.computed.Argument.TheOpen as layer
 use Rattle.m2_typed.specs.declared.computed.Arithmetic.TheVariants as op
 use Rattle.m2_agree.specs.Scene.{Scene, runs, place, word, Into, GivesNumber, GivesPlace, inside, Agrees, Reaches, GoesOn, Ends, Executes}
-use Rattle.m2_agree.specs.Laws.{Globals, Opened, Fields, Elements, Designators, Combinations, Inclusions, Members, Constants, Sums, Differences, Products, Quotients, Remainders, Conjunctions, Disjunctions, AreLinked, no_links, more_links, Chains, Relations, Negations, Identities, Opposites, Absolutes, Capitals, Characters, Parities, Ordinals, Conversions, Loads, Assigns, Changes, Memberships, Puts, Halts, Exits, Returns, Rows, LoneIfs, Ifs, Withs, Whiles, Repeats, Loops}
+use Rattle.m2_agree.specs.Laws.{Globals, Entire, Opened, Fields, Elements, Designators, Combinations, Inclusions, Members, Constants, Sums, Differences, Products, Quotients, Remainders, Conjunctions, Disjunctions, AreLinked, no_links, more_links, Chains, Relations, Negations, Identities, Opposites, Absolutes, Capitals, Characters, Parities, Ordinals, Conversions, Loads, Assigns, Changes, Memberships, Puts, Halts, Exits, Returns, Rows, LoneIfs, Ifs, Withs, Fors, Whiles, Repeats, Loops}
 use Rattle.m2_agree.proofs.Parts.{grows_same, then_agrees, then_goes, plain_goes, IsPlain, Goes}
 use Rattle.m2_agree.proofs.Locals.{number_goes}
 use Rattle.m2_agree.proofs.Unary.{among_agrees, odd_goes, chr_goes, val_goes, ord_goes, capital_goes, absolute_goes, stays_agrees}
@@ -39,6 +39,8 @@ use Rattle.m2_agree.proofs.Sets.{combine_makes, within_makes, complement_goes, a
 use Rattle.m2_agree.proofs.Relations.{compare_makes, not_goes, and_goes, or_goes}
 use Rattle.m2_agree.proofs.Components.{with_locates, field_reaches, element_reaches, all_reach, root_then}
 use Rattle.m2_agree.proofs.Assigned.{global_locates, load_agrees, assign_executes}
+use Rattle.m2_agree.proofs.Places.{global_there}
+use Rattle.m2_agree.proofs.Fors.{for_executes}
 use Rattle.m2_agree.proofs.Kept.{address_kept, under_executes}
 use Rattle.m2_agree.proofs.Changes.{change_executes, member_executes}
 use Rattle.m2_agree.proofs.Statements.{then_executes, with_executes, put_executes, halt_executes, exit_executes, return_executes, if_only_executes, if_else_executes}
@@ -190,6 +192,9 @@ conversions k set p ask t x value hx some =
 pub globals : Globals
 globals k set p ask v t is = global_locates k set.helpers set.small set.room v (module_place p v.home ∷ v.number ∷ []) t (with_setting (λ s. plain (global_code s.home v))) is (λ e c. refl)
 
+pub entire : Entire
+entire k set v l t is exit s st h rest stack = global_there k set.helpers set.small set.room v l t is s st h rest stack
+
 pub opened : Opened
 opened k p ask j l t is = with_locates k j l t is
 
@@ -266,6 +271,13 @@ withs k function t d x found step hd growing hx =
 
 pub whiles : Whiles
 whiles k set function e value x step he hx = while_executes k function set.helpers set.small e x value step he hx
+
+pub fors : Fors
+fors k set function t c l at start bound step_by x first last step cell some type there low high hstart hbound growing hx =
+    let here : Types → Does = λ types a s. with_answer (first a s) (λ v s. with_answer (last a s) (λ limit s. for_all k.turns (as_type types t) l step_by limit (step a) (stored l v s))) in
+    executes_alike k function (for_code (with_setting (λ s. plain (at s))) t start bound step_by x) (here k.setting.home.types) (λ a s. here a.types a s) (λ s. ap (λ (types : Types). here types k.around s) (sym set.types))
+    (for_executes k set.helpers set.small set.room function t bound.of c cell some l type step_by (record { low = low; high = high }) at there
+    (behind start.code (λ types. cells.check_taken types t start.constant start.of)) bound.code x first last step hstart hbound growing hx)
 
 pub repeats : Repeats
 repeats k set function e value x step he hx = repeat_executes k function set.helpers set.small e x value step he hx

@@ -16,4 +16,5 @@ pub mod Sets
 pub mod Components
 pub mod Kept
 pub mod Changes
+pub mod Fors
 pub mod Laws

@@ -1,5 +1,5 @@
 -- What is proved of constructs: the scheme's code of each does what the definition of a run says, where that of its parts does.
-use Rattle.std.specs.Prelude.{◌≡◌, ℕ, ◌<◌, ℤ, length, pos, Bool, false, List, [], ◌∷◌, ◌++◌, Some, None, unsigned_abs, if◌then◌else◌}
+use Rattle.std.specs.Prelude.{◌≡◌, ℕ, ◌<◌, ℤ, length, pos, negsuc, ◌≤ℤ◌, Bool, false, List, [], ◌∷◌, ◌++◌, Some, None, unsigned_abs, if◌then◌else◌}
 use Rattle.m2_typed.specs.declared.computed.Argument.TheOpen as layer
 use Rattle.m2_typed.specs.declared.computed.Arithmetic.TheVariants as op
 use Rattle.m2_typed.specs.declared.computed.Comparison.{Comparison}
@@ -21,16 +21,18 @@ use Rattle.m2_meaning.specs.Answer.{Gave, Went, Left, Came, Stopped, with_answer
 use Rattle.m2_meaning.specs.Around.{Modules, module_place}
 use Rattle.m2_meaning.specs.Operators.{is_true}
 use Rattle.m2_meaning.specs.Expressions as meaning
-use Rattle.m2_meaning.specs.Expressions.{within as bounded, Asks, Gives, Continues, one_by_one}
-use Rattle.m2_meaning.specs.Statements.{Does, changed, rechecked, with_element, stored, while_true, until_true, looped}
+use Rattle.m2_meaning.specs.Expressions.{within as bounded, as_type, Asks, Gives, Continues, one_by_one}
+use Rattle.m2_meaning.specs.Statements.{Does, changed, rechecked, with_element, for_all, stored, while_true, until_true, looped}
+use Rattle.wasm_tree.specs.declared.instr.Instr.{Instr}
 use Rattle.wasm_tree.specs.declared.instr.Instr.TheVariants as instr
-use Rattle.m2_scheme.specs.Coded.{Coded, plain, ◌⨾◌, all_coded, with_address, within, with_setting, is_zero, wrapped, put, fault}
+use Rattle.wasm_tree.specs.declared.store.Value.{Value}
+use Rattle.m2_scheme.specs.Coded.{Coded, Setting, plain, ◌⨾◌, all_coded, with_address, within, with_setting, is_zero, wrapped, put, fault}
 use Rattle.m2_scheme.specs.Cells as cells
 use Rattle.m2_scheme.specs.Cells.{base_of}
 use Rattle.m2_scheme.specs.Exprs as code
 use Rattle.m2_scheme.specs.Exprs.{Part, Linked, behind, chain_type, chain_code}
-use Rattle.m2_scheme.specs.Steps.{change_code, member_code, under, block_loop, loop, leaving, if_only, if_else}
-use Rattle.m2_agree.specs.Scene.{Scene, IsSet, IsValue, AreAmong, AreNatural, IsCell, IsGlobal, IsWith, opening, IsGrowing, Agrees, AgreesBeside, GoesOn, Reaches, Locates, Executes}
+use Rattle.m2_scheme.specs.Steps.{change_code, member_code, under, for_code, block_loop, loop, leaving, if_only, if_else}
+use Rattle.m2_agree.specs.Scene.{Scene, IsSet, IsValue, AreAmong, AreNatural, IsCell, IsGlobal, IsWith, IsThere, keeping, opening, IsGrowing, Agrees, AgreesBeside, GoesOn, Reaches, Locates, Executes}
 
 -- ---- expressions
 
@@ -165,6 +167,9 @@ Globals =
     (k : Scene) → IsSet k → (p : Modules) (ask : Asks) (v : Variable) (t : Ty) → IsGlobal k v (module_place p v.home ∷ v.number ∷ []) t
     → Locates k t (code.root_layer (root.Global v)) (λ a s. Gave (meaning.root_layer p ask (root.Global v) a) s)
 
+abbrev pub Entire : Type 0
+Entire = (k : Scene) → IsSet k → (v : Variable) (l : Location) (t : Ty) → IsGlobal k v l t → IsThere k (λ s. code.global_code s.home v) l
+
 -- the record of a WITH
 abbrev pub Opened : Type 0
 Opened =
@@ -263,6 +268,16 @@ abbrev pub Whiles : Type 0
 Whiles =
     (k : Scene) → IsSet k → (function : Bool) (e : Coded) (value : Gives ℤ) (x : Coded) (step : Does) → Agrees k boolean e value → Executes k function x step
     → Executes k function (within 2 block_loop (e ⨾ plain (is_zero ∷ instr.BrIf 1 ∷ []) ⨾ x ⨾ plain (instr.Br 0 ∷ []))) (λ a s. while_true k.turns (value a) (step a) s)
+
+-- The control variable is an entire variable of a scalar type. The limit is kept in a local, and the step is a constant of
+-- 32 bits.
+abbrev pub Fors : Type 0
+Fors =
+    (k : Scene) → IsSet k → (function : Bool) (t : TypeNo) (c : Scalar) (l : Location) (at : Setting → List Instr) (start bound : Part) (by : ℤ) (x : Coded) (first last : Gives ℤ) (step : Does)
+    → IsCell k.setting.home.types t c → (scalar_at k.setting.home.types t ≡ None → ⊥) → component (row k.world) l ≡ Some (Cell c) → IsThere k at l → negsuc 2147483647 ≤ℤ by → by ≤ℤ pos 4294967295
+    → Agrees k t (behind start.code (λ types. cells.check_taken types t start.constant start.of)) first → Agrees k bound.of bound.code last
+    → IsGrowing k x → ((n : ℕ) (v : Value) → k.kept n ≡ None → Executes (keeping k n v) function x step)
+    → Executes k function (for_code (with_setting (λ s. plain (at s))) t start bound by x) (λ a s. with_answer (first a s) (λ v s. with_answer (last a s) (λ limit s. for_all k.turns (as_type a.types t) l by limit (step a) (stored l v s))))
 
 abbrev pub Repeats : Type 0
 Repeats =

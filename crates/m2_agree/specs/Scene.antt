@@ -203,6 +203,12 @@ pub record HasLocals (k : Scene) (c : Counts) : Type 0 where
 abbrev pub inside : Scene → (exit : ℕ) → Setting
 inside k exit = record k.setting { exit = exit }
 
+-- code that leaves the address of an entire variable at once, in whatever blocks it stands
+abbrev pub IsThere : Scene → (Setting → List Instr) → Location → Type 0
+IsThere k at l =
+    (exit : ℕ) (s : Source) (st : Target) → Stands k s st → (rest : List Instr) (stack : List Value)
+    → runs k (at (inside k exit) ++ rest) st stack ≡ runs k rest st (stack ++ I32 (place k l) ∷ [])
+
 -- ---- code that does what the definition says
 
 -- the code of an expression gives its value, which is one of the type

@@ -6,7 +6,7 @@
 //! - `specs/Laws` has the laws, one for each construct that is proved so far.
 #![tactic(auto)]
 
-ghost use Rattle.m2_agree.specs.Laws.{Absolutes, Assigns, Capitals, Chains, Changes, Characters, Combinations, Conjunctions, Constants, Conversions, Differences, Designators, Disjunctions, Elements, Exits, Fields, Globals, Halts, Identities, Ifs, Inclusions, Loads, LoneIfs, Loops, Members, Memberships, Negations, Opened, Opposites, Ordinals, Parities, Products, Puts, Quotients, Relations, Remainders, Repeats, Returns, Rows, Sums, Whiles, Withs};
+ghost use Rattle.m2_agree.specs.Laws.{Absolutes, Assigns, Capitals, Chains, Changes, Characters, Combinations, Conjunctions, Constants, Conversions, Differences, Designators, Disjunctions, Elements, Exits, Entire, Fields, Fors, Globals, Halts, Identities, Ifs, Inclusions, Loads, LoneIfs, Loops, Members, Memberships, Negations, Opened, Opposites, Ordinals, Parities, Products, Puts, Quotients, Relations, Remainders, Repeats, Returns, Rows, Sums, Whiles, Withs};
 
 /// The code of an expression leaves its value.
 pub fn expression_laws()
@@ -45,6 +45,8 @@ pub fn expression_laws()
 /// The code of a designator leaves the address of the location.
 pub fn designator_laws()
     ensures globals { Globals }
+    // The variable of a FOR is an entire one.
+    ensures entire { Entire }
     // The record of a WITH, whose address is kept in a local.
     ensures opened { Opened }
     ensures fields { Fields }
@@ -68,6 +70,8 @@ pub fn statement_laws()
     ensures ifs { Ifs }
     // The record of a WITH is found once.
     ensures withs { Withs }
+    // The limit of a FOR is kept, and its variable steps on where that does not pass the limit.
+    ensures fors { Fors }
     ensures whiles { Whiles }
     ensures repeats { Repeats }
     // EXIT leaves the innermost LOOP.

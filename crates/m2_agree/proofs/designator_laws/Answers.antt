@@ -1,4 +1,4 @@
-use Rattle.m2_agree.proofs.Laws.{globals, opened, fields, elements, designators}
+use Rattle.m2_agree.proofs.Laws.{globals, entire, opened, fields, elements, designators}
 use Rattle.m2_agree.proofs.designator_laws.Goals as goal
 
 pub returns-clause-globals : goal.returns-clause-globals
@@ -15,3 +15,6 @@ returns-clause-elements c = elements
 
 pub returns-clause-designators : goal.returns-clause-designators
 returns-clause-designators c = designators
+
+pub returns-clause-entire : goal.returns-clause-entire
+returns-clause-entire c = entire

@@ -1,4 +1,4 @@
-use Rattle.m2_agree.proofs.Laws.{assigns, withs, changes, memberships, puts, halts, exits, returns, lone_ifs, rows, ifs, whiles, repeats, loops}
+use Rattle.m2_agree.proofs.Laws.{assigns, fors, withs, changes, memberships, puts, halts, exits, returns, lone_ifs, rows, ifs, whiles, repeats, loops}
 use Rattle.m2_agree.proofs.statement_laws.Goals as goal
 
 pub returns-clause-assigns : goal.returns-clause-assigns
@@ -42,3 +42,6 @@ returns-clause-memberships c = memberships
 
 pub returns-clause-withs : goal.returns-clause-withs
 returns-clause-withs c = withs
+
+pub returns-clause-fors : goal.returns-clause-fors
+returns-clause-fors c = fors
