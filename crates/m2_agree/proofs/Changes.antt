@@ -1,6 +1,6 @@
 -- INC, DEC, INCL and EXCL: the variable's address is kept, and what is added or put in.
-use Rattle.std.proofs.Common.{◌≡◌, ℕ, suc, ◌+◌, ◌*◌, ◌%◌, ◌^◌, ◌≤◌, ◌<◌, ℤ, pos, negsuc, ◌+ℤ◌, ◌-ℤ◌, ◌≤ℤ◌, Bool, true, false, not, List, [], ◌∷◌, ◌++◌, Option, Some, None, if◌then◌else◌, refl, sym, ap, ap₂, subst, ◌∙◌, append_assoc, arith}
-use Rattle.std.specs.Prelude.{◌&&◌, ◌==◌, nat_eq, bit_or, bit_xor}
+use Rattle.std.proofs.Common.{◌≡◌, ℕ, ◌*◌, ◌%◌, ◌^◌, ◌<◌, ℤ, pos, ◌+ℤ◌, ◌-ℤ◌, ◌≤ℤ◌, Bool, true, false, not, List, [], ◌∷◌, ◌++◌, Option, Some, None, if◌then◌else◌, refl, sym, ap, ap₂, subst, ◌∙◌, append_assoc, arith}
+use Rattle.std.specs.Prelude.{◌&&◌, ◌==◌, bit_or, bit_xor}
 use Rattle.std.proofs.Math.Pow.{pow-lt}
 use Rattle.std.proofs.lemmas.Int.{ints}
 use Rattle.std.proofs.lemmas.Nat.{or_lt}
@@ -24,18 +24,17 @@ use Rattle.m2_typed.specs.declared.shape.Scalar.{Scalar as Range}
 use Rattle.m2_typed.specs.declared.known_types.Types.{Types}
 use Rattle.m2_typed.specs.Types.{are_same, is_one_home, bitset}
 use Rattle.m2_typed.specs.Known.{scalar_at, scalar_from}
-use Rattle.m2_layout.specs.Types.{Ty, Scalar, Cell, row, component}
+use Rattle.m2_layout.specs.Types.{Scalar, Cell, row, component}
 use Rattle.m2_meaning.specs.Store.{Location}
-use Rattle.m2_meaning.specs.Answer.{State as Source, Answer, Gave, Ended, then_give, Outcome, Went, Stopped, with_answer, range_fault, overflow}
+use Rattle.m2_meaning.specs.Answer.{State as Source, Answer, Gave, Ended, then_give, Outcome, Went, with_answer, range_fault}
 use Rattle.m2_meaning.specs.Operators.{is_between, bits, without, single}
 use Rattle.m2_meaning.specs.Expressions.{Gives, within, within_range, as_type, in_base}
 use Rattle.m2_meaning.specs.Statements as meaning
 use Rattle.m2_meaning.specs.Statements.{Does, rechecked, with_element, stored as stores}
 use Rattle.m2_scheme.specs.Coded.{Coded, Counts, plain, ◌⨾◌, with_number, with_setting, operation, checked}
 use Rattle.m2_scheme.specs.Cells.{loaded, stored, in_type, base_in, base_of, check_changed}
-use Rattle.m2_scheme.specs.Exprs.{complement}
 use Rattle.m2_scheme.specs.Steps.{change_operation, changed, change_code, member_operation, with_member, member_code}
-use Rattle.m2_agree.specs.Scene.{Scene, calls, runs, place, HasHelpers, IsIn, IsValue, AreSmall, IsCell, word, Stands, keeping, Into, GivesNumber, GivesPlace, IsFree, HasLocals, inside, Agrees, AgreesBeside, Locates, Ends, Executes}
+use Rattle.m2_agree.specs.Scene.{Scene, calls, runs, place, HasHelpers, IsIn, IsValue, AreSmall, IsCell, word, Stands, keeping, Into, GivesNumber, IsFree, HasLocals, inside, Agrees, AgreesBeside, Locates, Ends, Executes}
 use Rattle.m2_agree.proofs.Words.{IsWide, sum_word, difference_word}
 use Rattle.m2_agree.proofs.Parts.{into_then, grows_more}
 use Rattle.m2_agree.proofs.Checks.{checked_gives}

@@ -1,12 +1,11 @@
 -- Addresses and numbers that are kept in locals while statements run.
-use Rattle.std.proofs.Common.{◌≡◌, ℕ, suc, ◌+◌, ◌<◌, ℤ, Bool, List, [], ◌∷◌, ◌++◌, length, Option, Some, None, refl, sym, subst, ap, ◌∙◌, append_assoc, arith}
+use Rattle.std.proofs.Common.{◌≡◌, ℕ, suc, ◌<◌, ℤ, Bool, List, [], ◌∷◌, ◌++◌, length, Some, None, refl, sym, subst, append_assoc, arith}
 use Rattle.std.specs.Prelude.{slice_set}
 use Rattle.wasm_tree.specs.declared.instr.Instr.{Instr}
 use Rattle.wasm_tree.specs.declared.instr.Instr.TheVariants as instr
 use Rattle.wasm_tree.specs.declared.store.Value.{Value}
 use Rattle.wasm_tree.specs.declared.store.Value.TheVariants.{I32, I64}
 use Rattle.wasm_effect.specs.Effect.{State as Target, Effect, Does as Effects}
-use Rattle.m2_typed.specs.declared.types.TypeNo.{TypeNo}
 use Rattle.m2_layout.specs.Types.{Ty, row, component}
 use Rattle.m2_meaning.specs.Store.{Location}
 use Rattle.m2_meaning.specs.Answer.{State as Source, Answer, Gave, Ended, Running, Outcome, Went, Left, Came, Stopped, Unfinished, with_answer}
@@ -14,10 +13,9 @@ use Rattle.m2_meaning.specs.Expressions.{Gives}
 use Rattle.m2_meaning.specs.Statements.{Does}
 use Rattle.m2_scheme.specs.Steps.{under}
 use Rattle.m2_scheme.specs.Coded.{Coded, Counts, plain, ◌⨾◌, with_address, with_number, address_local, number_local}
-use Rattle.m2_agree.specs.Scene.{Scene, calls, runs, place, IsValue, word, Stands, keeping, opening, Into, GivesPlace, Grows, IsFree, HasLocals, inside, Locates, Ends, Executes}
-use Rattle.m2_agree.proofs.Parts.{grows_more, has_before, free_after}
-use Rattle.m2_agree.proofs.Locals.{set_keeps, forgets, set_runs_here, free_beside, address_beside, has_beside}
-use Rattle.m2_agree.proofs.Statements.{ExecutesWith}
+use Rattle.m2_agree.specs.Scene.{Scene, runs, place, word, Stands, keeping, opening, Into, GivesPlace, Grows, IsFree, HasLocals, inside, Locates, Ends, Executes}
+use Rattle.m2_agree.proofs.Parts.{free_after}
+use Rattle.m2_agree.proofs.Locals.{set_keeps, forgets, set_runs_here, address_beside, has_beside}
 
 module _ (k : Scene) (function : Bool) where
   -- what is kept may be forgotten at the end

@@ -1,7 +1,7 @@
 -- DIV and MOD: the helpers divide as the definition of a run does.
-use Rattle.std.proofs.Common.{◌≡◌, ℕ, zero, suc, ◌+◌, ◌-◌, ◌*◌, ◌/◌, ◌%◌, ◌^◌, ◌≤◌, ◌<◌, ℤ, pos, negsuc, ◌+ℤ◌, ◌*ℤ◌, ◌≤ℤ◌, ◌<ℤ◌, Bool, true, false, List, [], ◌∷◌, ◌++◌, if◌then◌else◌, Option, Some, None, refl, ◌⊎◌, inl, inr, div-le_self, sym, ap, ap₂, subst, ◌∙◌, append_assoc, arith}
+use Rattle.std.proofs.Common.{◌≡◌, ℕ, zero, suc, ◌-◌, ◌*◌, ◌/◌, ◌≤◌, ◌<◌, ℤ, pos, negsuc, ◌+ℤ◌, ◌*ℤ◌, ◌≤ℤ◌, Bool, true, false, List, [], ◌∷◌, ◌++◌, if◌then◌else◌, Option, Some, None, div-le_self, sym, ap, ap₂, subst, ◌∙◌, append_assoc, arith}
 use Rattle.std.specs.Prelude.{int_lt}
-use Rattle.std.specs.Int.{w64, cast_signed, cast_unsigned, int_div_euclid, int_rem_euclid}
+use Rattle.std.specs.Int.{w64, cast_signed, cast_unsigned}
 use Rattle.std.proofs.Math.Nat.{mul-le-mul}
 use Rattle.std.proofs.lemmas.Int.{ints, of_z-to_z}
 use Rattle.std.proofs.lemmas.Nat.{div-mul-add}
@@ -16,13 +16,13 @@ use Rattle.m2_typed.specs.declared.types.TypeNo.{TypeNo}
 use Rattle.m2_typed.specs.declared.shape.Scalar.{Scalar as Range}
 use Rattle.m2_typed.specs.declared.known_types.Types.{Types}
 use Rattle.m2_typed.specs.Known.{scalar_at}
-use Rattle.m2_meaning.specs.Answer.{State as Source, Answer, Gave, Ended, divisor_fault}
+use Rattle.m2_meaning.specs.Answer.{Gave, Ended, divisor_fault}
 use Rattle.m2_meaning.specs.Operators.{quotient, remainder}
 use Rattle.m2_meaning.specs.Expressions.{divided}
 use Rattle.m2_helpers.specs.Called.{divided_down, modulo, Divides}
 use Rattle.m2_helpers.proofs.Rounding.{divides_down}
 use Rattle.m2_helpers.proofs.Divides.{div_called, mod_called}
-use Rattle.m2_agree.specs.Scene.{Scene, calls, runs, HasHelpers, IsIn, IsValue, AreSmall, AreAmong, word, Stands, Into, GivesNumber}
+use Rattle.m2_agree.specs.Scene.{Scene, runs, HasHelpers, IsIn, IsValue, AreSmall, AreAmong, word, Into, GivesNumber}
 use Rattle.m2_agree.proofs.Words.{IsWide, less_is}
 use Rattle.m2_agree.proofs.Operators.{IsNarrow, wide, narrow, Makes}
 

@@ -1,5 +1,5 @@
 -- Signs and standard functions.
-use Rattle.std.proofs.Common.{◌≡◌, ℕ, zero, suc, ◌+◌, ◌-◌, ◌%◌, ◌^◌, ◌≤◌, ◌<◌, ℤ, pos, negsuc, ◌-ℤ◌, ◌≤ℤ◌, ◌<ℤ◌, ◌⊎◌, Bool, true, false, not, List, [], ◌∷◌, ◌++◌, length, Option, Some, None, if◌then◌else◌, refl, sym, ap, subst, ◌∙◌, arith}
+use Rattle.std.proofs.Common.{◌≡◌, ℕ, zero, suc, ◌+◌, ◌-◌, ◌%◌, ◌^◌, ◌<◌, ℤ, pos, negsuc, ◌-ℤ◌, ◌≤ℤ◌, ◌<ℤ◌, ◌⊎◌, Bool, true, false, not, List, [], ◌∷◌, ◌++◌, length, Option, Some, None, if◌then◌else◌, refl, sym, ap, subst, ◌∙◌, arith}
 use Rattle.std.specs.Prelude.{◌&&◌, ◌==◌, int_lt, nat_le, unsigned_abs, bit_and, slice_set}
 use Rattle.std.proofs.lemmas.Int.{ints}
 use Rattle.std.proofs.lemmas.Nat.{and_mask}
@@ -24,13 +24,13 @@ use Rattle.m2_meaning.specs.Answer.{State as Source, Answer, Gave, Ended, Runnin
 use Rattle.m2_meaning.specs.Operators as of
 use Rattle.m2_meaning.specs.Operators.{is_between, absolute, capital, odd}
 use Rattle.m2_meaning.specs.Expressions.{Gives, within, within_range, ordinal}
-use Rattle.m2_scheme.specs.Coded.{Coded, plain, ◌⨾◌, operation, relation, checked}
+use Rattle.m2_scheme.specs.Coded.{Coded, operation, relation, checked}
 use Rattle.m2_scheme.specs.Cells.{in_range, base_of}
 use Rattle.m2_scheme.specs.Exprs.{absolute_code, capital_code, chosen_number, ord_check}
 use Rattle.m2_agree.specs.Scene.{Scene, calls, runs, HasHelpers, IsIn, IsValue, AreSmall, AreAmong, AreNatural, word, Stands, keeping, Into, GivesNumber, Agrees}
 use Rattle.m2_agree.proofs.Words.{IsWide, less_is, difference_word}
-use Rattle.m2_agree.proofs.Parts.{into_then, Goes}
-use Rattle.m2_agree.proofs.Operators.{IsNarrow, wide, narrow, operation_runs, between_in, range_gives}
+use Rattle.m2_agree.proofs.Parts.{Goes}
+use Rattle.m2_agree.proofs.Operators.{wide, narrow, operation_runs, between_in, range_gives}
 use Rattle.m2_agree.proofs.Relations.{truth_gives, relation_runs, picks_first, picks_second}
 use Rattle.m2_agree.proofs.Checks.{checked_gives}
 use Rattle.m2_agree.proofs.Locals.{set_keeps, forgets, kept_runs, set_runs_here}
