@@ -26,15 +26,15 @@ use Rattle.m2_layout.specs.Shapes.{tree, elements_of}
 use Rattle.m2_cells.proofs.Places.{component_append, offset_append}
 use Rattle.m2_meaning.specs.Store.{Location}
 use Rattle.m2_meaning.specs.Answer.{State as Source, Answer, Gave, Ended, then_give, index_fault}
-use Rattle.m2_meaning.specs.Around.{or_root}
+use Rattle.m2_meaning.specs.Around.{or_root, named, location_of}
 use Rattle.m2_meaning.specs.Operators.{is_between}
 use Rattle.m2_meaning.specs.Expressions as meaning
 use Rattle.m2_meaning.specs.Expressions.{Gives, one_by_one, element, element_in}
 use Rattle.m2_scheme.specs.Coded.{Coded, Counts, plain, ◌⨾◌, all_coded, with_setting, raised, number, operation, wrapped, checked}
 use Rattle.m2_scheme.specs.Cells.{is_nought, in_range}
 use Rattle.m2_scheme.specs.Exprs as code
-use Rattle.m2_scheme.specs.Exprs.{with_code, from_lower, scaled, element_code, element_tree}
-use Rattle.m2_agree.specs.Scene.{Scene, calls, runs, place, HasHelpers, IsValue, IsSmall, AreSmall, word, Stands, Into, GivesNumber, GivesPlace, Grows, HasLocals, inside, IsWith, Agrees, Locates, Reaches}
+use Rattle.m2_scheme.specs.Exprs.{slot_code, slot_path, with_code, from_lower, scaled, element_code, element_tree}
+use Rattle.m2_agree.specs.Scene.{Scene, calls, runs, place, HasHelpers, IsValue, IsSmall, AreSmall, word, Stands, Into, GivesNumber, GivesPlace, Grows, HasLocals, inside, IsWith, IsOwn, Agrees, Locates, Reaches}
 use Rattle.m2_agree.specs.Laws.{AreReached, no_components, more_components}
 use Rattle.m2_agree.proofs.Words.{IsWide}
 use Rattle.m2_agree.proofs.Parts.{into_then, grows_more, grows_same, has_before, free_after, IsPlain}
@@ -223,6 +223,24 @@ module _ (k : Scene) (has : HasHelpers k) (small : AreSmall k.setting.home.types
   }
 
 -- ---- roots and what is behind them
+
+pub own_locates : (k : Scene) → HasHelpers k → AreSmall k.setting.home.types → k.limit < 2 ^ 32 → (i : ℕ) (l : Location) (t : Ty) → IsOwn k i l t
+    → Locates k t (with_setting (λ s. plain (slot_code s (record { up = 0; number = i }) []))) (λ a s. Gave (location_of (named a (record { up = 0; number = i }))) s)
+own_locates k has small room i l t is = record {
+  grows = λ e c. grows_same c;
+  gives = λ e c free full s st h rest stack.
+      let path : ℕ = slot_path k.setting (record { up = 0; number = i }) [] in
+      subst (λ (to : Location). Into (GivesPlace k t (runs k rest) stack) (runs k ((instr.LocalGet 0 ∷ raised path) ++ rest) st stack) (Gave to s)) (sym is.is)
+      (record {
+        st = st;
+        stands = h;
+        type = is.type;
+        some = is.some;
+        run =
+            get_runs k.modules k.fixed k.turns (calls k) k.own (raised path ++ rest) st 0 (I32 is.frame) stack (h.kept 0 (I32 is.frame) is.kept)
+            ∙ raised_runs k has small room is.frame path (place k l) rest st stack is.at (let p = place_small k has small room s st h l t is.type in omega (arith, p));
+      });
+}
 
 pub with_locates : (k : Scene) (j : ℕ) (l : Location) (t : Ty) → IsWith k j l t → Locates k t (with_setting (λ s. plain (with_code (slice_get s.withs j)))) (λ a s. Gave (or_root (slice_get a.withs j)) s)
 with_locates k j l t is = record {

@@ -16,7 +16,7 @@ use Rattle.m2_meaning.specs.Expressions.{Gives, Continues, Reaches as Reached, r
 use Rattle.m2_meaning.specs.Around.{Around, module_place}
 use Rattle.m2_meaning.specs.Store.{Location}
 use Rattle.m2_meaning.specs.Operators.{truth, compared, is_true, absolute, capital, odd, quotient, remainder, bits, without, combined, has}
-use Rattle.m2_meaning.specs.Statements.{Does, changed, rechecked, for_all, stored}
+use Rattle.m2_meaning.specs.Statements.{Does, changed, rechecked, for_all, chosen, stored}
 use Rattle.m2_scheme.specs.Coded.{Coded, plain, ◌⨾◌, all_coded, raised, with_setting, with_number, wrapped, number, operation, checked, relation, extended}
 use Rattle.m2_layout.specs.Types.{Ty}
 use Rattle.m2_layout.specs.Sizes.{offset}
@@ -24,11 +24,11 @@ use Rattle.m2_layout.specs.Shapes.{tree}
 use Rattle.m2_scheme.specs.Cells as cells
 use Rattle.m2_scheme.specs.Cells.{in_type}
 use Rattle.m2_scheme.specs.Exprs.{root_layer as root_code, behind, global_code, element_code, complement, set_code, abs_code, absolute_code, capital_code, ord_check, Linked, chain_type, chain_code, empty_code, arithmetic_code, relation_of}
-use Rattle.m2_scheme.specs.Steps.{for_code, under, change_code, if_only, if_else}
+use Rattle.m2_scheme.specs.Steps.{table_code, chain_code as tests_chain, for_code, under, change_code, if_only, if_else}
 use Rattle.m2_typed.specs.declared.computed.Argument.TheOpen as layer
 use Rattle.m2_typed.specs.declared.computed.Arithmetic.TheVariants as op
 use Rattle.m2_agree.specs.Scene.{Scene, runs, place, word, Into, GivesNumber, GivesPlace, inside, Agrees, Reaches, GoesOn, Ends, Executes}
-use Rattle.m2_agree.specs.Laws.{Globals, Entire, Opened, Fields, Elements, Designators, Combinations, Inclusions, Members, Constants, Sums, Differences, Products, Quotients, Remainders, Conjunctions, Disjunctions, AreLinked, no_links, more_links, Chains, Relations, Negations, Identities, Opposites, Absolutes, Capitals, Characters, Parities, Ordinals, Conversions, Loads, Assigns, Changes, Memberships, Puts, Halts, Exits, Returns, Rows, LoneIfs, Ifs, Withs, Fors, Whiles, Repeats, Loops}
+use Rattle.m2_agree.specs.Laws.{Globals, Own, Entire, Opened, Fields, Elements, Designators, Combinations, Inclusions, Members, Constants, Sums, Differences, Products, Quotients, Remainders, Conjunctions, Disjunctions, AreLinked, no_links, more_links, Chains, Relations, Negations, Identities, Opposites, Absolutes, Capitals, Characters, Parities, Ordinals, Conversions, Loads, Assigns, Changes, Memberships, Puts, Halts, Exits, Returns, Rows, LoneIfs, Ifs, Withs, Fors, Cases, Unlabelled, Whiles, Repeats, Loops}
 use Rattle.m2_agree.proofs.Parts.{grows_same, then_agrees, then_goes, plain_goes, IsPlain, Goes}
 use Rattle.m2_agree.proofs.Locals.{number_goes}
 use Rattle.m2_agree.proofs.Unary.{among_agrees, odd_goes, chr_goes, val_goes, ord_goes, capital_goes, absolute_goes, stays_agrees}
@@ -37,13 +37,14 @@ use Rattle.m2_agree.proofs.Products.{product_goes}
 use Rattle.m2_agree.proofs.Quotients.{quotient_makes, remainder_makes}
 use Rattle.m2_agree.proofs.Sets.{combine_makes, within_makes, complement_goes, around_makes, has_code, in_goes}
 use Rattle.m2_agree.proofs.Relations.{compare_makes, not_goes, and_goes, or_goes}
-use Rattle.m2_agree.proofs.Components.{with_locates, field_reaches, element_reaches, all_reach, root_then}
+use Rattle.m2_agree.proofs.Components.{own_locates, with_locates, field_reaches, element_reaches, all_reach, root_then}
 use Rattle.m2_agree.proofs.Assigned.{global_locates, load_agrees, assign_executes}
 use Rattle.m2_agree.proofs.Places.{global_there}
+use Rattle.m2_agree.proofs.Cases.{case_executes}
 use Rattle.m2_agree.proofs.Fors.{for_executes}
 use Rattle.m2_agree.proofs.Kept.{address_kept, under_executes}
 use Rattle.m2_agree.proofs.Changes.{change_executes, member_executes}
-use Rattle.m2_agree.proofs.Statements.{then_executes, with_executes, put_executes, halt_executes, exit_executes, return_executes, if_only_executes, if_else_executes}
+use Rattle.m2_agree.proofs.Statements.{then_executes, with_executes, put_executes, halt_executes, unlabelled_executes, exit_executes, return_executes, if_only_executes, if_else_executes}
 use Rattle.m2_agree.proofs.Loops.{while_executes, repeat_executes, loop_executes}
 
 -- what gives the same where the code runs agrees alike
@@ -192,6 +193,9 @@ conversions k set p ask t x value hx some =
 pub globals : Globals
 globals k set p ask v t is = global_locates k set.helpers set.small set.room v (module_place p v.home ∷ v.number ∷ []) t (with_setting (λ s. plain (global_code s.home v))) is (λ e c. refl)
 
+pub own : Own
+own k set p ask i l t is = own_locates k set.helpers set.small set.room i l t is
+
 pub entire : Entire
 entire k set v l t is exit s st h rest stack = global_there k set.helpers set.small set.room v l t is s st h rest stack
 
@@ -271,6 +275,14 @@ withs k function t d x found step hd growing hx =
 
 pub whiles : Whiles
 whiles k set function e value x step he hx = while_executes k function set.helpers set.small e x value step he hx
+
+pub cases : Cases
+cases k set function x value xs ys otherwise other sparse hx growing arms ho =
+    subst (λ (b : Bool). Executes k function (x.code ⨾ with_number (λ n. plain (instr.LocalSet n ∷ []) ⨾ (if b then table_code n xs otherwise else tests_chain n xs otherwise))) (λ a s. with_answer (value a s) (λ v s. chosen v ys other a s)))
+    (sym sparse) (case_executes k set.helpers set.small function xs ys otherwise other growing arms ho x.of x.code value hx)
+
+pub unlabelled : Unlabelled
+unlabelled k set function = unlabelled_executes k function set.helpers
 
 pub fors : Fors
 fors k set function t c l at start bound step_by x first last step cell some type there low high hstart hbound growing hx =

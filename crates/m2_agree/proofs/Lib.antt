@@ -17,4 +17,5 @@ pub mod Components
 pub mod Kept
 pub mod Changes
 pub mod Fors
+pub mod Cases
 pub mod Laws

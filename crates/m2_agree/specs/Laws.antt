@@ -8,6 +8,7 @@ use Rattle.m2_typed.specs.declared.computed.SetOperator.{SetOperator}
 use Rattle.m2_typed.specs.declared.computed.Root.{Root}
 use Rattle.m2_typed.specs.declared.computed.Root.TheVariants as root
 use Rattle.m2_typed.specs.declared.statement.Change.{Change}
+use Rattle.m2_typed.specs.declared.statement.Label.{Label}
 use Rattle.m2_typed.specs.declared.statement.Membership.{Membership}
 use Rattle.m2_typed.specs.declared.types.TypeNo.{TypeNo}
 use Rattle.m2_typed.specs.declared.shape.Scalar.{Scalar as Range}
@@ -22,6 +23,7 @@ use Rattle.m2_meaning.specs.Around.{Modules, module_place}
 use Rattle.m2_meaning.specs.Operators.{is_true}
 use Rattle.m2_meaning.specs.Expressions as meaning
 use Rattle.m2_meaning.specs.Expressions.{within as bounded, as_type, Asks, Gives, Continues, one_by_one}
+use Rattle.m2_meaning.specs.Statements as statements
 use Rattle.m2_meaning.specs.Statements.{Does, changed, rechecked, with_element, for_all, stored, while_true, until_true, looped}
 use Rattle.wasm_tree.specs.declared.instr.Instr.{Instr}
 use Rattle.wasm_tree.specs.declared.instr.Instr.TheVariants as instr
@@ -31,8 +33,9 @@ use Rattle.m2_scheme.specs.Cells as cells
 use Rattle.m2_scheme.specs.Cells.{base_of}
 use Rattle.m2_scheme.specs.Exprs as code
 use Rattle.m2_scheme.specs.Exprs.{Part, Linked, behind, chain_type, chain_code}
+use Rattle.m2_scheme.specs.Steps as steps
 use Rattle.m2_scheme.specs.Steps.{change_code, member_code, under, for_code, block_loop, loop, leaving, if_only, if_else}
-use Rattle.m2_agree.specs.Scene.{Scene, IsSet, IsValue, AreAmong, AreNatural, IsCell, IsGlobal, IsWith, IsThere, keeping, opening, IsGrowing, Agrees, AgreesBeside, GoesOn, Reaches, Locates, Executes}
+use Rattle.m2_agree.specs.Scene.{Scene, IsSet, IsValue, AreAmong, AreNatural, IsCell, IsGlobal, IsWith, IsThere, IsOwn, keeping, AreLabels, opening, IsGrowing, Agrees, AgreesBeside, GoesOn, Reaches, Locates, Executes}
 
 -- ---- expressions
 
@@ -167,6 +170,12 @@ Globals =
     (k : Scene) → IsSet k → (p : Modules) (ask : Asks) (v : Variable) (t : Ty) → IsGlobal k v (module_place p v.home ∷ v.number ∷ []) t
     → Locates k t (code.root_layer (root.Global v)) (λ a s. Gave (meaning.root_layer p ask (root.Global v) a) s)
 
+-- a formal or a variable of the procedure itself
+abbrev pub Own : Type 0
+Own =
+    (k : Scene) → IsSet k → (p : Modules) (ask : Asks) (i : ℕ) (l : Location) (t : Ty) → IsOwn k i l t
+    → Locates k t (code.root_layer (root.Local (record { up = 0; number = i }))) (λ a s. Gave (meaning.root_layer p ask (root.Local (record { up = 0; number = i })) a) s)
+
 abbrev pub Entire : Type 0
 Entire = (k : Scene) → IsSet k → (v : Variable) (l : Location) (t : Ty) → IsGlobal k v l t → IsThere k (λ s. code.global_code s.home v) l
 
@@ -268,6 +277,25 @@ abbrev pub Whiles : Type 0
 Whiles =
     (k : Scene) → IsSet k → (function : Bool) (e : Coded) (value : Gives ℤ) (x : Coded) (step : Does) → Agrees k boolean e value → Executes k function x step
     → Executes k function (within 2 block_loop (e ⨾ plain (is_zero ∷ instr.BrIf 1 ∷ []) ⨾ x ⨾ plain (instr.Br 0 ∷ []))) (λ a s. while_true k.turns (value a) (step a) s)
+
+-- the arms of a CASE
+pub data AreArms (k : Scene) (function : Bool) : List steps.Arm → List statements.Arm → Type 0 where
+  no_arms : AreArms k function [] []
+  more_arms :
+    (labels : List Label) (x : Coded) (xs : List steps.Arm) (d : Does) (ys : List statements.Arm) → AreLabels labels → Executes k function x d → AreArms k function xs ys
+    → AreArms k function (record { labels = labels; code = x } ∷ xs) (record { labels = labels; does = d } ∷ ys)
+
+-- CASE where its labels are tested one after another: they are too few or too far apart for a table
+abbrev pub Cases : Type 0
+Cases =
+    (k : Scene) → IsSet k → (function : Bool) (x : Part) (value : Gives ℤ) (xs : List steps.Arm) (ys : List statements.Arm) (otherwise : Coded) (other : Does)
+    → steps.is_dense (length xs) (steps.all_labels xs) ≡ false → Agrees k x.of x.code value → ((n : ℕ) → IsGrowing k (steps.chain_code n xs otherwise))
+    → ((n : ℕ) (v : Value) → k.kept n ≡ None → AreArms (keeping k n v) function xs ys) → ((n : ℕ) (v : Value) → k.kept n ≡ None → Executes (keeping k n v) function otherwise other)
+    → Executes k function (steps.case_code x.code xs otherwise) (λ a s. with_answer (value a s) (λ v s. statements.chosen v ys other a s))
+
+-- without ELSE there is a fault where no label is that of the value
+abbrev pub Unlabelled : Type 0
+Unlabelled = (k : Scene) → IsSet k → (function : Bool) → Executes k function (steps.else_code None) (statements.or_else None)
 
 -- The control variable is an entire variable of a scalar type. The limit is kept in a local, and the step is a constant of
 -- 32 bits.

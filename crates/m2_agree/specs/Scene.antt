@@ -10,6 +10,7 @@ use Rattle.wasm_tree.specs.declared.store.Callee.TheVariants.{Put, Stop, Own}
 use Rattle.wasm_tree.specs.Machine.{callee_at, global_at, own_function}
 use Rattle.wasm_effect.specs.Effect.{Fixed, State as Target, store_of, Effect, StillRunning, Does as Effects, Calling, effect, calling}
 use Rattle.wasm_effect.specs.Effect as does
+use Rattle.m2_typed.specs.declared.statement.Label.{Label}
 use Rattle.m2_typed.specs.declared.types.TypeNo.{TypeNo}
 use Rattle.m2_typed.specs.declared.shape.Scalar.{Scalar as Range}
 use Rattle.m2_typed.specs.declared.meaning.Variable.{Variable}
@@ -20,12 +21,12 @@ use Rattle.m2_layout.specs.Sizes.{offset}
 use Rattle.m2_layout.specs.Shapes.{tree}
 use Rattle.m2_meaning.specs.Store.{Location}
 use Rattle.m2_meaning.specs.Answer.{State as Source, Answer, Gave, Ended, Running, Outcome, Went, Left, Came, Stopped, Unfinished}
-use Rattle.m2_meaning.specs.Around.{Around}
+use Rattle.m2_meaning.specs.Around.{Around, named, location_of}
 use Rattle.m2_meaning.specs.Expressions.{Gives}
 use Rattle.m2_meaning.specs.Statements.{Does}
 use Rattle.m2_cells.specs.Relation.{Holds}
 use Rattle.m2_scheme.specs.Coded.{Coded, Counts, Setting, address_local, number_local}
-use Rattle.m2_scheme.specs.Exprs.{base_global, variables_row}
+use Rattle.m2_scheme.specs.Exprs.{base_global, variables_row, slot_path}
 use Rattle.m2_scheme.specs.Helpers.{check_typed, divisor_checked, div_rest, mod_typed, helper}
 use Rattle.m2_helpers.specs.Called.{HasMemory}
 
@@ -125,6 +126,15 @@ pub record IsGlobal (k : Scene) (v : Variable) (l : Location) (t : Ty) : Type 0 
   pub there : (bytes : List ℕ) → global_at (store_of k.fixed bytes) k.own (base_global k.setting.home v.home) ≡ Some (I32 base)
   pub type : component (row k.world) l ≡ Some t
   pub at : base + offset (variables_row k.setting.home v.home) (v.number ∷ []) ≡ place k l
+  pub some : 0 < length l
+
+-- where a formal or a variable of the procedure is: local 0 has the address of its frame
+pub record IsOwn (k : Scene) (i : ℕ) (l : Location) (t : Ty) : Type 0 where
+  pub frame : ℕ
+  pub kept : k.kept 0 ≡ Some (I32 frame)
+  pub is : location_of (named k.around (record { up = 0; number = i })) ≡ l
+  pub at : frame + slot_path k.setting (record { up = 0; number = i }) [] ≡ place k l
+  pub type : component (row k.world) l ≡ Some t
   pub some : 0 < length l
 
 -- where the record of a WITH is: a local has its address
@@ -246,6 +256,16 @@ pub record GoesOn (k : Scene) (t u : TypeNo) (code : Coded) (value : ℤ → Giv
       → Into (GivesNumber k u (runs k rest) stack) (runs k ((code (inside k exit) c).0 ++ rest) st (stack ++ I64 (word v) ∷ [])) (value v k.around s)
 
 -- ---- statements
+
+-- a label of a CASE, whose bounds are numbers of 32 bits in order
+pub record IsLabel (x : Label) : Type 0 where
+  pub low : negsuc 2147483647 ≤ℤ x.low
+  pub order : x.low ≤ℤ x.high
+  pub high : x.high ≤ℤ pos 4294967295
+
+abbrev pub AreLabels : List Label → Type 0
+AreLabels [] = Unit {0}
+AreLabels (x ∷ xs) = IsLabel x × AreLabels xs
 
 -- the run goes on from a state that stands
 pub record GoesTo (k : Scene) (on : Target → Effect) (s : Source) (r : Effect) : Type 0 where

@@ -6,7 +6,7 @@
 //! - `specs/Laws` has the laws, one for each construct that is proved so far.
 #![tactic(auto)]
 
-ghost use Rattle.m2_agree.specs.Laws.{Absolutes, Assigns, Capitals, Chains, Changes, Characters, Combinations, Conjunctions, Constants, Conversions, Differences, Designators, Disjunctions, Elements, Exits, Entire, Fields, Fors, Globals, Halts, Identities, Ifs, Inclusions, Loads, LoneIfs, Loops, Members, Memberships, Negations, Opened, Opposites, Ordinals, Parities, Products, Puts, Quotients, Relations, Remainders, Repeats, Returns, Rows, Sums, Whiles, Withs};
+ghost use Rattle.m2_agree.specs.Laws.{Absolutes, Assigns, Capitals, Cases, Chains, Changes, Characters, Combinations, Conjunctions, Constants, Conversions, Differences, Designators, Disjunctions, Elements, Exits, Entire, Fields, Fors, Globals, Halts, Identities, Ifs, Inclusions, Loads, LoneIfs, Loops, Members, Memberships, Negations, Opened, Opposites, Ordinals, Own, Parities, Products, Puts, Quotients, Relations, Remainders, Repeats, Returns, Rows, Sums, Unlabelled, Whiles, Withs};
 
 /// The code of an expression leaves its value.
 pub fn expression_laws()
@@ -45,6 +45,8 @@ pub fn expression_laws()
 /// The code of a designator leaves the address of the location.
 pub fn designator_laws()
     ensures globals { Globals }
+    // A formal or a variable of the procedure itself.
+    ensures own { Own }
     // The variable of a FOR is an entire one.
     ensures entire { Entire }
     // The record of a WITH, whose address is kept in a local.
@@ -70,6 +72,9 @@ pub fn statement_laws()
     ensures ifs { Ifs }
     // The record of a WITH is found once.
     ensures withs { Withs }
+    // The labels of a CASE are tested one after another, and without ELSE there is a fault where none fits.
+    ensures cases { Cases }
+    ensures unlabelled { Unlabelled }
     // The limit of a FOR is kept, and its variable steps on where that does not pass the limit.
     ensures fors { Fors }
     ensures whiles { Whiles }

@@ -1,4 +1,4 @@
-use Rattle.m2_agree.proofs.Laws.{globals, entire, opened, fields, elements, designators}
+use Rattle.m2_agree.proofs.Laws.{globals, own, entire, opened, fields, elements, designators}
 use Rattle.m2_agree.proofs.designator_laws.Goals as goal
 
 pub returns-clause-globals : goal.returns-clause-globals
@@ -18,3 +18,6 @@ returns-clause-designators c = designators
 
 pub returns-clause-entire : goal.returns-clause-entire
 returns-clause-entire c = entire
+
+pub returns-clause-own : goal.returns-clause-own
+returns-clause-own c = own

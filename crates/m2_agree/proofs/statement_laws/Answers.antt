@@ -1,4 +1,4 @@
-use Rattle.m2_agree.proofs.Laws.{assigns, fors, withs, changes, memberships, puts, halts, exits, returns, lone_ifs, rows, ifs, whiles, repeats, loops}
+use Rattle.m2_agree.proofs.Laws.{assigns, unlabelled, cases, fors, withs, changes, memberships, puts, halts, exits, returns, lone_ifs, rows, ifs, whiles, repeats, loops}
 use Rattle.m2_agree.proofs.statement_laws.Goals as goal
 
 pub returns-clause-assigns : goal.returns-clause-assigns
@@ -45,3 +45,9 @@ returns-clause-withs c = withs
 
 pub returns-clause-fors : goal.returns-clause-fors
 returns-clause-fors c = fors
+
+pub returns-clause-cases : goal.returns-clause-cases
+returns-clause-cases c = cases
+
+pub returns-clause-unlabelled : goal.returns-clause-unlabelled
+returns-clause-unlabelled c = unlabelled
