@@ -282,8 +282,8 @@ Whiles =
 pub data AreArms (k : Scene) (function : Bool) : List steps.Arm → List statements.Arm → Type 0 where
   no_arms : AreArms k function [] []
   more_arms :
-    (labels : List Label) (x : Coded) (xs : List steps.Arm) (d : Does) (ys : List statements.Arm) → AreLabels labels → Executes k function x d → AreArms k function xs ys
-    → AreArms k function (record { labels = labels; code = x } ∷ xs) (record { labels = labels; does = d } ∷ ys)
+      (labels : List Label) (x : Coded) (xs : List steps.Arm) (d : Does) (ys : List statements.Arm) → AreLabels labels → Executes k function x d → AreArms k function xs ys
+      → AreArms k function (record { labels = labels; code = x } ∷ xs) (record { labels = labels; does = d } ∷ ys)
 
 -- CASE where its labels are tested one after another: they are too few or too far apart for a table
 abbrev pub Cases : Type 0
