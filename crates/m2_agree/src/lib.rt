@@ -72,7 +72,7 @@ pub fn statement_laws()
     ensures ifs { Ifs }
     // The record of a WITH is found once.
     ensures withs { Withs }
-    // The labels of a CASE are tested one after another, and without ELSE there is a fault where none fits.
+    // The labels of a CASE are tested in turn, and without ELSE there is a fault where none fits.
     ensures cases { Cases }
     ensures unlabelled { Unlabelled }
     // The limit of a FOR is kept, and its variable steps on where that does not pass the limit.
