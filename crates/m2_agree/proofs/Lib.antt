@@ -10,4 +10,12 @@ pub mod Statements
 pub mod Loops
 pub mod Products
 pub mod Assigned
+pub mod Unary
+pub mod Quotients
+pub mod Sets
+pub mod Components
+pub mod Kept
+pub mod Changes
+pub mod Fors
+pub mod Cases
 pub mod Laws

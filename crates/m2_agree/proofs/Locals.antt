@@ -1,18 +1,19 @@
 -- Locals in which numbers and addresses are kept.
-use Rattle.std.proofs.Common.{◌≡◌, ℕ, zero, suc, ◌<◌, ℤ, Bool, List, [], ◌∷◌, ◌++◌, length, Option, Some, None, if◌then◌else◌, refl, sym, ap, ◌∙◌, ⊎_elim, arith}
+use Rattle.std.proofs.Common.{◌≡◌, ℕ, zero, suc, ◌<◌, ℤ, Bool, List, [], ◌∷◌, ◌++◌, length, Option, Some, None, if◌then◌else◌, refl, sym, ap, subst, ◌∙◌, append_assoc, ⊎_elim, arith}
 use Rattle.std.specs.Prelude.{slice_get, slice_set}
 use Rattle.std.proofs.lemmas.Bool.{cases_eq, eq-eqb, ne_eqb}
 use Rattle.wasm_tree.specs.declared.instr.Instr.{Instr}
 use Rattle.wasm_tree.specs.declared.instr.Instr.TheVariants as instr
 use Rattle.wasm_tree.specs.declared.store.Value.{Value}
-use Rattle.wasm_effect.specs.Effect.{State as Target}
+use Rattle.wasm_tree.specs.declared.store.Value.TheVariants.{I64}
+use Rattle.wasm_effect.specs.Effect.{State as Target, Effect}
 use Rattle.wasm_effect.proofs.Steps.{get_runs, set_runs}
 use Rattle.m2_typed.specs.declared.types.TypeNo.{TypeNo}
-use Rattle.m2_meaning.specs.Answer.{State as Source}
+use Rattle.m2_meaning.specs.Answer.{State as Source, Answer, then_give}
 use Rattle.m2_meaning.specs.Expressions.{Gives}
-use Rattle.m2_scheme.specs.Coded.{plain, with_number, number_local}
-use Rattle.m2_agree.specs.Scene.{Scene, calls, runs, Stands, keeping, GoesOn}
-use Rattle.m2_agree.proofs.Parts.{Goes}
+use Rattle.m2_scheme.specs.Coded.{Coded, Counts, plain, ◌⨾◌, with_number, number_local, address_local}
+use Rattle.m2_agree.specs.Scene.{Scene, calls, runs, HasHelpers, IsValue, word, Stands, keeping, Into, GivesNumber, Grows, IsFree, HasLocals, inside, Agrees, AgreesBeside, GoesOn}
+use Rattle.m2_agree.proofs.Parts.{Goes, into_then}
 
 get_set : {A : Type 0} (xs : List A) (i : ℕ) (v : A) → i < length xs → slice_get (slice_set xs i v) i ≡ Some v
 get_set [] i v h = absurd (omega (arith, h))
@@ -32,7 +33,7 @@ length_set (x ∷ xs) zero v = refl
 length_set (x ∷ xs) (suc i) v = ap suc (length_set xs i v)
 
 module _ (k : Scene) (n : ℕ) (v : Value) where
-  abbrev if_kept : Bool → Option Value → Option Value
+  abbrev pub if_kept : Bool → Option Value → Option Value
   if_kept b o = if b then Some v else o
 
   -- what is set is kept
@@ -85,6 +86,67 @@ module _ (k : Scene) where
     grows = λ e c. record { numbers = omega arith; addresses = omega arith };
     gives = λ e c free full v is s st h rest stack.
         let n : ℕ = number_local k.setting c.numbers in
-        let within : n < k.locals = omega (arith, full) in
-        go n within (free n (omega arith)) v is s st h rest stack;
+        let within : n < k.locals = omega (arith, full.numbers) in
+        go n within (free.numbers n (omega arith)) v is s st h rest stack;
   }
+
+  -- what a number is kept beside stays free
+  pub free_beside : (n : ℕ) (v : Value) (c : Counts) → n ≡ number_local k.setting c.numbers → IsFree k c → IsFree (keeping k n v) (record c { numbers = suc c.numbers })
+  free_beside n v c at free = record {
+    numbers = λ w l. ap (λ (b : Bool). if_kept k n v b (k.kept w)) (ne_eqb w n (λ same. omega (arith, l, at, same))) ∙ free.numbers w (omega (arith, l));
+    addresses = λ w l m. ap (λ (b : Bool). if_kept k n v b (k.kept w)) (ne_eqb w n (λ same. omega (arith, l, m, at, same))) ∙ free.addresses w l m;
+  }
+
+  -- and what an address is kept beside
+  pub address_beside : (n : ℕ) (v : Value) (c : Counts) → n ≡ address_local k.setting c.addresses → c.addresses < k.setting.addresses → IsFree k c → IsFree (keeping k n v) (record c { addresses = suc c.addresses })
+  address_beside n v c at less free = record {
+    numbers = λ w l. ap (λ (b : Bool). if_kept k n v b (k.kept w)) (ne_eqb w n (λ same. omega (arith, l, at, less, same))) ∙ free.numbers w l;
+    addresses = λ w l m. ap (λ (b : Bool). if_kept k n v b (k.kept w)) (ne_eqb w n (λ same. omega (arith, l, m, at, same))) ∙ free.addresses w (omega (arith, l)) m;
+  }
+
+  pub has_beside : (n : ℕ) (v : Value) (c : Counts) → HasLocals k c → HasLocals (keeping k n v) c
+  has_beside n v c h = record { numbers = h.numbers; addresses = h.addresses }
+
+  pub helpers_beside : (n : ℕ) (v : Value) → HasHelpers k → HasHelpers (keeping k n v)
+  helpers_beside n v has = record {
+    memory = has.memory;
+    put = has.put;
+    stop = has.stop;
+    check = has.check;
+    check_index = has.check_index;
+    check_there = has.check_there;
+    quotient = has.quotient;
+    quotient_index = has.quotient_index;
+    quotient_there = has.quotient_there;
+    remainder = has.remainder;
+    remainder_index = has.remainder_index;
+    remainder_there = has.remainder_there;
+  }
+
+  -- a number is kept while the code of an operand runs
+  module _ (u w : TypeNo) (y : Coded) (list : ℕ → List Instr) (second : Gives ℤ) (f : ℤ → Source → Answer ℤ) (x : ℤ) (hy : Agrees k u y second) (beside : AgreesBeside k u y second) where
+    abbrev kept_code : Coded
+    kept_code = with_number (λ n. plain (instr.LocalSet n ∷ []) ⨾ y ⨾ plain (list n))
+
+    pub kept_grows : (e : ℕ) (c : Counts) → Grows c (kept_code (inside k e) c).1
+    kept_grows e c = let g = hy.grows e (record c { numbers = suc c.numbers }) in record { numbers = omega (arith, g.numbers); addresses = omega (arith, g.addresses) }
+
+    pub kept_gives : ((n : ℕ) → k.kept n ≡ None → (y : ℤ) → IsValue k.setting.home.types u y → (s : Source) (st : Target) → Stands (keeping k n (I64 (word x))) s st → (rest : List Instr) (stack : List Value)
+        → Into (GivesNumber k w (runs k rest) stack) (runs k (list n ++ rest) st (stack ++ I64 (word y) ∷ [])) (f y s))
+        → (e : ℕ) (c : Counts) → IsFree k c → HasLocals k (kept_code (inside k e) c).1 → (s : Source) (st : Target) → Stands k s st → (rest : List Instr) (stack : List Value)
+        → Into (GivesNumber k w (runs k rest) stack) (runs k ((kept_code (inside k e) c).0 ++ rest) st (stack ++ I64 (word x) ∷ [])) (then_give (second k.around s) f)
+    kept_gives after e c free full s st h rest stack =
+        let n : ℕ = number_local k.setting c.numbers in
+        let more_numbers : Counts = record c { numbers = suc c.numbers } in
+        let v : Value = I64 (word x) in
+        let code : List Instr = (y (inside k e) more_numbers).0 in
+        let g = hy.grows e more_numbers in
+        let less : n < k.locals = omega (arith, g.numbers, full.numbers) in
+        let new : k.kept n ≡ None = free.numbers n (omega arith) in
+        let set : Target = record st { locals = slice_set st.locals n v } in
+        let kept : Stands (keeping k n v) s set = set_keeps k n v new less s st h in
+        subst (λ (c : List Instr). Into (GivesNumber k w (runs k rest) stack) (runs k (instr.LocalSet n ∷ c) st (stack ++ v ∷ [])) (then_give (second k.around s) f)) (sym (append_assoc code (list n) rest))
+        (subst (λ (r : Effect). Into (GivesNumber k w (runs k rest) stack) r (then_give (second k.around s) f)) (sym (set_runs_here k n v (code ++ (list n ++ rest)) s st stack less h))
+        (into_then (GivesNumber (keeping k n v) u (runs k (list n ++ rest)) stack) (GivesNumber k w (runs k rest) stack) (runs k (code ++ (list n ++ rest)) set stack) (second k.around s) f
+        ((beside n v new).gives e more_numbers (free_beside n v c refl free) (has_beside n v (y (inside k e) more_numbers).1 full) s set kept (list n ++ rest) stack)
+        (λ y s' p. subst (λ (r : Effect). Into (GivesNumber k w (runs k rest) stack) r (f y s')) (sym p.run) (after n new y p.is s' p.st p.stands rest stack))))

@@ -22,7 +22,7 @@ use Rattle.m2_agree.proofs.Operators.{wide, narrow}
 use Rattle.m2_agree.proofs.Relations.{zero_runs, is_zero_true}
 
 -- a branch to a label without results, from where the block began
-label_here : (st : Target) (stack : List Value) (go : Effects) → to_label 0 (length stack) st stack go ≡ go st stack
+pub label_here : (st : Target) (stack : List Value) (go : Effects) → to_label 0 (length stack) st stack go ≡ go st stack
 label_here st stack go =
     ap (λ (s : List Value). to_label 0 (length stack) st s go) (sym (append-nil (stack ++ []) ∙ append-nil stack)) ∙ to_label_keeps stack [] [] 0 (length stack) st go refl refl ∙ ap (go st) (append-nil stack)
 
@@ -67,7 +67,7 @@ module _ (k : Scene) (function : Bool) (has : HasHelpers k) (small : AreSmall k.
     abbrev out_loop : Effect → Effect
     out_loop r = then_run (out_of 0 (length stack) (then_run r (runs k []))) (runs k rest)
 
-    after_loop : (r : Effect) (o : Outcome) → Ends k function (suc exit) stack (leaves 0 stack) r o → Ends k function exit stack (λ st. runs k rest st stack) (out_loop r) o
+    pub after_loop : (r : Effect) (o : Outcome) → Ends k function (suc exit) stack (leaves 0 stack) r o → Ends k function exit stack (λ st. runs k rest st stack) (out_loop r) o
     after_loop r (Went s) p = record {
       st = p.st;
       stands = p.stands;

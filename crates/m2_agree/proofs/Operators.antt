@@ -41,6 +41,9 @@ in_narrow (Some r) small v is =
     let s = small r refl in let a = s.low in let b = s.high in let l = is.0 in let h = is.1 in
     record { low = omega (arith, ints); high = omega (arith, ints) }
 
+pub between_in : (low high v : ℤ) → is_between low v high ≡ true → (low ≤ℤ v) × (v ≤ℤ high)
+between_in low high v e = let p = and_parts (int_le low v) (int_le v high) e in (from_le low v p.0, from_le v high p.1)
+
 module _ (k : Scene) (has : HasHelpers k) (small : AreSmall k.setting.home.types) where
   abbrev types : Types
   types = k.setting.home.types
@@ -62,9 +65,6 @@ module _ (k : Scene) (has : HasHelpers k) (small : AreSmall k.setting.home.types
   })
 
   -- ---- a value as one of a type
-
-  between_in : (low high v : ℤ) → is_between low v high ≡ true → (low ≤ℤ v) × (v ≤ℤ high)
-  between_in low high v e = let p = and_parts (int_le low v) (int_le v high) e in (from_le low v p.0, from_le v high p.1)
 
   pub range_gives : (t : TypeNo) (o : Option Range) → scalar_at types t ≡ o → (j : ℕ) → 1 ≤ j → j ≤ 255 → (v : ℤ) → IsWide v → (o ≡ None → IsIn None v)
       → (s : Source) (st : Target) → Stands k s st → (rest : List Instr) (stack : List Value)

@@ -24,10 +24,13 @@ grows_same c = record { numbers = omega arith; addresses = omega arith }
 
 module _ (k : Scene) where
   pub has_before : {c d : Counts} → Grows c d → HasLocals k d → HasLocals k c
-  has_before g h = omega (arith, g.numbers, h)
+  has_before g h = record { numbers = omega (arith, g.numbers, h.numbers); addresses = omega (arith, g.addresses, h.addresses) }
 
   pub free_after : {c d : Counts} → Grows c d → IsFree k c → IsFree k d
-  free_after g h w l = h w (omega (arith, g.numbers, l))
+  free_after g h = record {
+    numbers = λ w l. h.numbers w (omega (arith, g.numbers, l));
+    addresses = λ w l m. h.addresses w (omega (arith, g.addresses, l)) m;
+  }
 
   abbrev Numbers : (u : TypeNo) (rest : List Instr) (stack : List Value) → ℤ → Source → Effect → Type 0
   Numbers u rest stack = GivesNumber k u (runs k rest) stack

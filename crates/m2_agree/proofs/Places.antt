@@ -117,6 +117,12 @@ module _ (k : Scene) (has : HasHelpers k) (small : AreSmall k.setting.home.types
 
   -- ---- a variable of a module
 
+  pub global_there : (v : Variable) (l : Location) (t : Ty) → IsGlobal k v l t → (s : Source) (st : Target) → Stands k s st → (rest : List Instr) (stack : List Value)
+      → runs k (global_code k.setting.home v ++ rest) st stack ≡ runs k rest st (stack ++ I32 (place k l) ∷ [])
+  global_there v l t is s st h rest stack =
+      global_runs k.modules k.fixed k.turns (calls k) k.own (raised (offset (variables_row k.setting.home v.home) (v.number ∷ [])) ++ rest) st (base_global k.setting.home v.home) (I32 is.base) stack (is.there st.bytes)
+      ∙ raised_runs is.base (offset (variables_row k.setting.home v.home) (v.number ∷ [])) (place k l) rest st stack is.at (let p = place_small s st h l t is.type in omega (arith, p))
+
   pub global_gives : (v : Variable) (l : Location) (t : Ty) → IsGlobal k v l t → (s : Source) (st : Target) → Stands k s st → (rest : List Instr) (stack : List Value)
       → GivesPlace k t (runs k rest) stack l s (runs k (global_code k.setting.home v ++ rest) st stack)
   global_gives v l t is s st h rest stack = record {
@@ -124,7 +130,5 @@ module _ (k : Scene) (has : HasHelpers k) (small : AreSmall k.setting.home.types
     stands = h;
     type = is.type;
     some = is.some;
-    run =
-        global_runs k.modules k.fixed k.turns (calls k) k.own (raised (offset (variables_row k.setting.home v.home) (v.number ∷ [])) ++ rest) st (base_global k.setting.home v.home) (I32 is.base) stack (is.there st.bytes)
-        ∙ raised_runs is.base (offset (variables_row k.setting.home v.home) (v.number ∷ [])) (place k l) rest st stack is.at (let p = place_small s st h l t is.type in omega (arith, p));
+    run = global_there v l t is s st h rest stack;
   }

@@ -1,23 +1,21 @@
 -- Products: those of INTEGERs have 63 bits, and those of CARDINALs 64, where the sign bit makes the check fail.
-use Rattle.std.proofs.Common.{◌≡◌, ℕ, zero, suc, ◌+◌, ◌-◌, ◌*◌, ◌%◌, ◌^◌, ◌≤◌, ◌<◌, ℤ, pos, negsuc, ◌+ℤ◌, ◌-ℤ◌, ◌*ℤ◌, ◌≤ℤ◌, ◌<ℤ◌, Bool, true, false, List, [], ◌∷◌, ◌++◌, if◌then◌else◌, Option, Some, None, refl, sym, ap, ap₂, subst, ◌∙◌, arith}
-use Rattle.std.specs.Prelude.{int_lt, int_le}
+use Rattle.std.proofs.Common.{◌≡◌, ℕ, suc, ◌-◌, ◌*◌, ◌%◌, ◌^◌, ◌≤◌, ℤ, pos, negsuc, ◌*ℤ◌, ◌≤ℤ◌, ◌<ℤ◌, Bool, true, false, [], ◌∷◌, ◌++◌, if◌then◌else◌, Option, Some, None, refl, sym, ap, ap₂, subst, ◌∙◌, arith}
+use Rattle.std.specs.Prelude.{int_le}
 use Rattle.std.specs.Int.{w64, cast_signed, cast_unsigned, int_wrap}
 use Rattle.std.proofs.Math.Nat.{mul-le-mul}
 use Rattle.std.proofs.lemmas.Int.{ints, of_z-to_z, int_wrap_fits, wrapping_mul-bits}
-use Rattle.wasm_tree.specs.declared.instr.Instr.{Instr}
 use Rattle.wasm_tree.specs.declared.instr.Operation.TheVariants.{Mul}
-use Rattle.wasm_tree.specs.declared.store.Value.{Value}
 use Rattle.wasm_tree.specs.declared.store.Value.TheVariants.{I64}
 use Rattle.wasm_effect.specs.Effect.{State as Target, Effect}
 use Rattle.wasm_effect.specs.Effect as does
 use Rattle.m2_typed.specs.declared.types.TypeNo.{TypeNo}
 use Rattle.m2_typed.specs.declared.shape.Scalar.{Scalar as Range}
 use Rattle.m2_typed.specs.Known.{scalar_at}
-use Rattle.m2_meaning.specs.Answer.{State as Source, Gave, Ended, overflow}
+use Rattle.m2_meaning.specs.Answer.{Gave, Ended, overflow}
 use Rattle.m2_meaning.specs.Expressions.{within_range}
 use Rattle.m2_scheme.specs.Coded.{operation}
 use Rattle.m2_scheme.specs.Cells.{in_range}
-use Rattle.m2_agree.specs.Scene.{Scene, HasHelpers, AreSmall, runs, Stands, Into, GivesNumber, word}
+use Rattle.m2_agree.specs.Scene.{Scene, HasHelpers, AreSmall, runs, Into, GivesNumber, word}
 use Rattle.m2_agree.proofs.Checks.{below_fails}
 use Rattle.m2_agree.proofs.Words.{IsWide, fits_wide, word_small, signed, from_le, not_le, above_between}
 use Rattle.m2_agree.proofs.Operators.{IsNarrow, wide, narrow, Makes, operation_runs, range_gives}

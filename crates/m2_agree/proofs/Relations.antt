@@ -60,11 +60,11 @@ compared_is compare.AtMost x y hx hy = ap₂ int_le (signed x hx) (signed y hy)
 compared_is compare.Greater x y hx hy = less_is y x hy hx
 compared_is compare.AtLeast x y hx hy = ap₂ int_le (signed y hy) (signed x hx)
 
-truth_word : (b : Bool) → truth b ≡ word (of.truth b)
+pub truth_word : (b : Bool) → truth b ≡ word (of.truth b)
 truth_word true = refl
 truth_word false = refl
 
-truth_in : (b : Bool) → (pos 0 ≤ℤ of.truth b) × (of.truth b ≤ℤ pos 1)
+pub truth_in : (b : Bool) → (pos 0 ≤ℤ of.truth b) × (of.truth b ≤ℤ pos 1)
 truth_in true = (omega (arith, ints), omega (arith, ints))
 truth_in false = (omega (arith, ints), omega (arith, ints))
 
@@ -81,7 +81,7 @@ module _ (k : Scene) (has : HasHelpers k) (small : AreSmall k.setting.home.types
     run = e ∙ ap (λ (n : ℕ). runs k rest st (stack ++ I64 n ∷ [])) (truth_word b);
   }
 
-  extended_runs : (n : ℕ) (rest : List Instr) (st : Target) (stack : List Value) → runs k (extended ∷ rest) st (stack ++ I32 n ∷ []) ≡ runs k rest st (stack ++ I64 n ∷ [])
+  pub extended_runs : (n : ℕ) (rest : List Instr) (st : Target) (stack : List Value) → runs k (extended ∷ rest) st (stack ++ I32 n ∷ []) ≡ runs k rest st (stack ++ I64 n ∷ [])
   extended_runs n rest st stack = number_runs k.modules k.fixed k.turns (calls k) k.own rest st numeric.I64ExtendI32U (stack ++ I32 n ∷ []) stack (I64 n) (one_32 stack n I64)
 
   pub wrapped_runs : (n : ℕ) (rest : List Instr) (st : Target) (stack : List Value) → runs k (wrapped ∷ rest) st (stack ++ I64 n ∷ []) ≡ runs k rest st (stack ++ I32 (n % 2 ^ 32) ∷ [])
@@ -123,11 +123,11 @@ module _ (k : Scene) (has : HasHelpers k) (small : AreSmall k.setting.home.types
   abbrev leaves_block : List Value → Effect → Effect
   leaves_block s e = out_of 1 (length s) e
 
-  left_number : (st : Target) (stack : List Value) (n : ℕ) → leaves_block stack (FellThrough st (stack ++ I64 n ∷ [])) ≡ FellThrough st (stack ++ I64 n ∷ [])
+  pub left_number : (st : Target) (stack : List Value) (n : ℕ) → leaves_block stack (FellThrough st (stack ++ I64 n ∷ [])) ≡ FellThrough st (stack ++ I64 n ∷ [])
   left_number st stack n = refl
 
   -- what a side of the if leaves, with the rest behind it
-  side : (u : TypeNo) (rest : List Instr) (stack : List Value) (r : Effect) (a : Answer ℤ) → Into (Numbers u [] stack) r a → Into (Numbers u rest stack) (then_run (leaves_block stack r) (runs k rest)) a
+  pub side : (u : TypeNo) (rest : List Instr) (stack : List Value) (r : Effect) (a : Answer ℤ) → Into (Numbers u [] stack) r a → Into (Numbers u rest stack) (then_run (leaves_block stack r) (runs k rest)) a
   side u rest stack r (Gave v s) p = record {
     st = p.st;
     stands = p.stands;
@@ -142,12 +142,12 @@ module _ (k : Scene) (has : HasHelpers k) (small : AreSmall k.setting.home.types
     chooses = chosen_number first second
 
     -- the condition decides which side runs
-    picks_first : (n : ℕ) → (n == 0) ≡ false → runs k (chooses ∷ rest) st (stack ++ I32 n ∷ []) ≡ then_run (leaves_block stack (runs k first st stack)) (runs k rest)
+    pub picks_first : (n : ℕ) → (n == 0) ≡ false → runs k (chooses ∷ rest) st (stack ++ I32 n ∷ []) ≡ then_run (leaves_block stack (runs k first st stack)) (runs k rest)
     picks_first n e =
         if_runs k.modules k.fixed k.turns (calls k) k.own rest st (Some kind.I64) first second stack n
         ∙ ap (λ (b : Bool). then_run (leaves_block stack (exec (if b then map (effects.does k.modules k.fixed k.turns (calls k) k.own) second else map (effects.does k.modules k.fixed k.turns (calls k) k.own) first) st stack)) (runs k rest)) e
 
-    picks_second : (n : ℕ) → (n == 0) ≡ true → runs k (chooses ∷ rest) st (stack ++ I32 n ∷ []) ≡ then_run (leaves_block stack (runs k second st stack)) (runs k rest)
+    pub picks_second : (n : ℕ) → (n == 0) ≡ true → runs k (chooses ∷ rest) st (stack ++ I32 n ∷ []) ≡ then_run (leaves_block stack (runs k second st stack)) (runs k rest)
     picks_second n e =
         if_runs k.modules k.fixed k.turns (calls k) k.own rest st (Some kind.I64) first second stack n
         ∙ ap (λ (b : Bool). then_run (leaves_block stack (exec (if b then map (effects.does k.modules k.fixed k.turns (calls k) k.own) second else map (effects.does k.modules k.fixed k.turns (calls k) k.own) first) st stack)) (runs k rest)) e

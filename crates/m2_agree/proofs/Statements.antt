@@ -89,6 +89,16 @@ module _ (k : Scene) (function : Bool) where
         ∙ ap (λ (out : List ℕ). effects.Ended 9 out) h.out;
   }
 
+  -- the fault of a CASE
+  pub unlabelled_executes : HasHelpers k → Executes k function (plain (fault 5)) (λ a s. Stopped 5 s.out)
+  unlabelled_executes has = record {
+    grows = λ e c. grows_same c;
+    goes = λ e c free full s st h rest stack.
+        i64_runs k.modules k.fixed k.turns (calls k) k.own (instr.Call 1 ∷ instr.Unreachable ∷ rest) st 5 stack
+        ∙ stop_runs k.modules k.fixed k.turns (calls k) k.own (instr.Unreachable ∷ rest) st 1 5 stack (has.stop st.bytes)
+        ∙ ap (λ (out : List ℕ). effects.Ended 5 out) h.out;
+  }
+
   -- ---- RETURN of a procedure without a result
 
   pub return_executes : function ≡ false → Executes k function (plain (instr.Return ∷ [])) (λ a s. Came (pos 0) s)

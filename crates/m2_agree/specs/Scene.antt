@@ -10,6 +10,7 @@ use Rattle.wasm_tree.specs.declared.store.Callee.TheVariants.{Put, Stop, Own}
 use Rattle.wasm_tree.specs.Machine.{callee_at, global_at, own_function}
 use Rattle.wasm_effect.specs.Effect.{Fixed, State as Target, store_of, Effect, StillRunning, Does as Effects, Calling, effect, calling}
 use Rattle.wasm_effect.specs.Effect as does
+use Rattle.m2_typed.specs.declared.statement.Label.{Label}
 use Rattle.m2_typed.specs.declared.types.TypeNo.{TypeNo}
 use Rattle.m2_typed.specs.declared.shape.Scalar.{Scalar as Range}
 use Rattle.m2_typed.specs.declared.meaning.Variable.{Variable}
@@ -20,12 +21,12 @@ use Rattle.m2_layout.specs.Sizes.{offset}
 use Rattle.m2_layout.specs.Shapes.{tree}
 use Rattle.m2_meaning.specs.Store.{Location}
 use Rattle.m2_meaning.specs.Answer.{State as Source, Answer, Gave, Ended, Running, Outcome, Went, Left, Came, Stopped, Unfinished}
-use Rattle.m2_meaning.specs.Around.{Around}
+use Rattle.m2_meaning.specs.Around.{Around, named, location_of}
 use Rattle.m2_meaning.specs.Expressions.{Gives}
 use Rattle.m2_meaning.specs.Statements.{Does}
 use Rattle.m2_cells.specs.Relation.{Holds}
-use Rattle.m2_scheme.specs.Coded.{Coded, Counts, Setting, number_local}
-use Rattle.m2_scheme.specs.Exprs.{base_global, variables_row}
+use Rattle.m2_scheme.specs.Coded.{Coded, Counts, Setting, address_local, number_local}
+use Rattle.m2_scheme.specs.Exprs.{base_global, variables_row, slot_path}
 use Rattle.m2_scheme.specs.Helpers.{check_typed, divisor_checked, div_rest, mod_typed, helper}
 use Rattle.m2_helpers.specs.Called.{HasMemory}
 
@@ -91,6 +92,14 @@ pub record IsSmall (r : Range) : Type 0 where
 abbrev pub AreSmall : Types → Type 0
 AreSmall types = (t : TypeNo) (r : Range) → scalar_at types t ≡ Some r → IsSmall r
 
+-- each value of one type is one of the other: a value of a subrange is one of its base
+abbrev pub AreAmong : Types → (t u : TypeNo) → Type 0
+AreAmong types t u = (v : ℤ) → IsValue types t v → IsValue types u v
+
+-- no value of the type is negative
+abbrev pub AreNatural : Types → TypeNo → Type 0
+AreNatural types t = (v : ℤ) → IsValue types t v → pos 0 ≤ℤ v
+
 -- what is known where the code of a body runs
 pub record IsSet (k : Scene) : Type 0 where
   pub helpers : HasHelpers k
@@ -119,6 +128,24 @@ pub record IsGlobal (k : Scene) (v : Variable) (l : Location) (t : Ty) : Type 0 
   pub at : base + offset (variables_row k.setting.home v.home) (v.number ∷ []) ≡ place k l
   pub some : 0 < length l
 
+-- where a formal or a variable of the procedure is: local 0 has the address of its frame
+pub record IsOwn (k : Scene) (i : ℕ) (l : Location) (t : Ty) : Type 0 where
+  pub frame : ℕ
+  pub kept : k.kept 0 ≡ Some (I32 frame)
+  pub is : location_of (named k.around (record { up = 0; number = i })) ≡ l
+  pub at : frame + slot_path k.setting (record { up = 0; number = i }) [] ≡ place k l
+  pub type : component (row k.world) l ≡ Some t
+  pub some : 0 < length l
+
+-- where the record of a WITH is: a local has its address
+pub record IsWith (k : Scene) (j : ℕ) (l : Location) (t : Ty) : Type 0 where
+  pub local : ℕ
+  pub there : slice_get k.setting.withs j ≡ Some local
+  pub kept : k.kept local ≡ Some (I32 (place k l))
+  pub is : slice_get k.around.withs j ≡ Some l
+  pub type : component (row k.world) l ≡ Some t
+  pub some : 0 < length l
+
 -- ---- what stands on both sides
 
 pub record Stands (k : Scene) (s : Source) (st : Target) : Type 0 where
@@ -131,6 +158,14 @@ pub record Stands (k : Scene) (s : Source) (st : Target) : Type 0 where
 -- a scene in which one more local is kept
 abbrev pub keeping : Scene → ℕ → Value → Scene
 keeping k n v = record k { kept = λ w. if nat_eq w n then Some v else k.kept w }
+
+-- the scene inside a WITH: the address of its record is kept
+abbrev pub opening : Scene → (w : ℕ) → Location → Scene
+opening k w l = record k {
+  kept = λ n. if nat_eq n w then Some (I32 (place k l)) else k.kept n;
+  setting = record k.setting { withs = k.setting.withs ++ w ∷ [] };
+  around = record k.around { withs = k.around.withs ++ l ∷ [] };
+}
 
 -- the effect is what the answer says: P of what it gives, or the same end
 abbrev pub Into : {A : Type 0} → (A → Source → Effect → Type 0) → Effect → Answer A → Type 0
@@ -160,17 +195,29 @@ pub record Grows (c d : Counts) : Type 0 where
   pub numbers : c.numbers ≤ d.numbers
   pub addresses : c.addresses ≤ d.addresses
 
+-- the counts never fall
+abbrev pub IsGrowing : Scene → Coded → Type 0
+IsGrowing k code = (exit : ℕ) (c : Counts) → Grows c (code (record k.setting { exit = exit }) c).1
+
 -- nothing is kept in the locals that code may ask for
-abbrev pub IsFree : Scene → Counts → Type 0
-IsFree k c = (w : ℕ) → number_local k.setting c.numbers ≤ w → k.kept w ≡ None
+pub record IsFree (k : Scene) (c : Counts) : Type 0 where
+  pub numbers : (w : ℕ) → number_local k.setting c.numbers ≤ w → k.kept w ≡ None
+  pub addresses : (w : ℕ) → address_local k.setting c.addresses ≤ w → w < number_local k.setting 0 → k.kept w ≡ None
 
 -- the function has the locals that its code asks for
-abbrev pub HasLocals : Scene → Counts → Type 0
-HasLocals k c = number_local k.setting c.numbers ≤ k.locals
+pub record HasLocals (k : Scene) (c : Counts) : Type 0 where
+  pub numbers : number_local k.setting c.numbers ≤ k.locals
+  pub addresses : c.addresses ≤ k.setting.addresses
 
 -- inside blocks EXIT leads elsewhere; else all is the same
 abbrev pub inside : Scene → (exit : ℕ) → Setting
 inside k exit = record k.setting { exit = exit }
+
+-- code that leaves the address of an entire variable at once, in whatever blocks it stands
+abbrev pub IsThere : Scene → (Setting → List Instr) → Location → Type 0
+IsThere k at l =
+    (exit : ℕ) (s : Source) (st : Target) → Stands k s st → (rest : List Instr) (stack : List Value)
+    → runs k (at (inside k exit) ++ rest) st stack ≡ runs k rest st (stack ++ I32 (place k l) ∷ [])
 
 -- ---- code that does what the definition says
 
@@ -181,12 +228,24 @@ pub record Agrees (k : Scene) (t : TypeNo) (code : Coded) (value : Gives ℤ) : 
       → (s : Source) (st : Target) → Stands k s st → (rest : List Instr) (stack : List Value)
       → Into (GivesNumber k t (runs k rest) stack) (runs k ((code (inside k exit) c).0 ++ rest) st stack) (value k.around s)
 
+-- it does so also where something more is kept
+abbrev pub AgreesBeside : Scene → TypeNo → Coded → Gives ℤ → Type 0
+AgreesBeside k t code value = (n : ℕ) (v : Value) → k.kept n ≡ None → Agrees (keeping k n v) t code value
+
 -- the code of a designator gives its address
 pub record Locates (k : Scene) (t : Ty) (code : Coded) (found : Gives Location) : Type 0 where
   pub grows : (exit : ℕ) (c : Counts) → Grows c (code (inside k exit) c).1
   pub gives : (exit : ℕ) (c : Counts) → IsFree k c → HasLocals k (code (inside k exit) c).1
       → (s : Source) (st : Target) → Stands k s st → (rest : List Instr) (stack : List Value)
       → Into (GivesPlace k t (runs k rest) stack) (runs k ((code (inside k exit) c).0 ++ rest) st stack) (found k.around s)
+
+-- the code of a component goes on from the address of what has type t to that of a component with type u
+pub record Reaches (k : Scene) (t u : Ty) (code : Coded) (reach : Location → Gives Location) : Type 0 where
+  pub grows : (exit : ℕ) (c : Counts) → Grows c (code (inside k exit) c).1
+  pub gives : (exit : ℕ) (c : Counts) → IsFree k c → HasLocals k (code (inside k exit) c).1
+      → (l : Location) → component (row k.world) l ≡ Some t → 0 < length l
+      → (s : Source) (st : Target) → Stands k s st → (rest : List Instr) (stack : List Value)
+      → Into (GivesPlace k u (runs k rest) stack) (runs k ((code (inside k exit) c).0 ++ rest) st (stack ++ I32 (place k l) ∷ [])) (reach l k.around s)
 
 -- and that of what is behind a value of one type gives one of another
 pub record GoesOn (k : Scene) (t u : TypeNo) (code : Coded) (value : ℤ → Gives ℤ) : Type 0 where
@@ -197,6 +256,16 @@ pub record GoesOn (k : Scene) (t u : TypeNo) (code : Coded) (value : ℤ → Giv
       → Into (GivesNumber k u (runs k rest) stack) (runs k ((code (inside k exit) c).0 ++ rest) st (stack ++ I64 (word v) ∷ [])) (value v k.around s)
 
 -- ---- statements
+
+-- a label of a CASE, whose bounds are numbers of 32 bits in order
+pub record IsLabel (x : Label) : Type 0 where
+  pub low : negsuc 2147483647 ≤ℤ x.low
+  pub order : x.low ≤ℤ x.high
+  pub high : x.high ≤ℤ pos 4294967295
+
+abbrev pub AreLabels : List Label → Type 0
+AreLabels [] = Unit {0}
+AreLabels (x ∷ xs) = IsLabel x × AreLabels xs
 
 -- the run goes on from a state that stands
 pub record GoesTo (k : Scene) (on : Target → Effect) (s : Source) (r : Effect) : Type 0 where

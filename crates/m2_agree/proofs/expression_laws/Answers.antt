@@ -1,4 +1,4 @@
-use Rattle.m2_agree.proofs.Laws.{constants, sums, differences, products, conjunctions, disjunctions, chains, relations, negations, loads}
+use Rattle.m2_agree.proofs.Laws.{constants, sums, differences, products, combinations, inclusions, members, quotients, remainders, conjunctions, disjunctions, chains, relations, negations, identities, opposites, absolutes, capitals, characters, parities, ordinals, conversions, loads}
 use Rattle.m2_agree.proofs.expression_laws.Goals as goal
 
 pub returns-clause-constants : goal.returns-clause-constants
@@ -30,3 +30,42 @@ returns-clause-loads c = loads
 
 pub returns-clause-products : goal.returns-clause-products
 returns-clause-products c = products
+
+pub returns-clause-identities : goal.returns-clause-identities
+returns-clause-identities c = identities
+
+pub returns-clause-opposites : goal.returns-clause-opposites
+returns-clause-opposites c = opposites
+
+pub returns-clause-absolutes : goal.returns-clause-absolutes
+returns-clause-absolutes c = absolutes
+
+pub returns-clause-capitals : goal.returns-clause-capitals
+returns-clause-capitals c = capitals
+
+pub returns-clause-characters : goal.returns-clause-characters
+returns-clause-characters c = characters
+
+pub returns-clause-parities : goal.returns-clause-parities
+returns-clause-parities c = parities
+
+pub returns-clause-ordinals : goal.returns-clause-ordinals
+returns-clause-ordinals c = ordinals
+
+pub returns-clause-conversions : goal.returns-clause-conversions
+returns-clause-conversions c = conversions
+
+pub returns-clause-quotients : goal.returns-clause-quotients
+returns-clause-quotients c = quotients
+
+pub returns-clause-remainders : goal.returns-clause-remainders
+returns-clause-remainders c = remainders
+
+pub returns-clause-combinations : goal.returns-clause-combinations
+returns-clause-combinations c = combinations
+
+pub returns-clause-inclusions : goal.returns-clause-inclusions
+returns-clause-inclusions c = inclusions
+
+pub returns-clause-members : goal.returns-clause-members
+returns-clause-members c = members

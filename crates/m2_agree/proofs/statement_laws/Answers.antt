@@ -1,4 +1,4 @@
-use Rattle.m2_agree.proofs.Laws.{assigns, puts, halts, exits, returns, lone_ifs, rows, ifs, whiles, repeats, loops}
+use Rattle.m2_agree.proofs.Laws.{assigns, unlabelled, cases, fors, withs, changes, memberships, puts, halts, exits, returns, lone_ifs, rows, ifs, whiles, repeats, loops}
 use Rattle.m2_agree.proofs.statement_laws.Goals as goal
 
 pub returns-clause-assigns : goal.returns-clause-assigns
@@ -33,3 +33,21 @@ returns-clause-lone_ifs c = lone_ifs
 
 pub returns-clause-gives_back : goal.returns-clause-gives_back
 returns-clause-gives_back c = returns
+
+pub returns-clause-changes : goal.returns-clause-changes
+returns-clause-changes c = changes
+
+pub returns-clause-memberships : goal.returns-clause-memberships
+returns-clause-memberships c = memberships
+
+pub returns-clause-withs : goal.returns-clause-withs
+returns-clause-withs c = withs
+
+pub returns-clause-fors : goal.returns-clause-fors
+returns-clause-fors c = fors
+
+pub returns-clause-cases : goal.returns-clause-cases
+returns-clause-cases c = cases
+
+pub returns-clause-unlabelled : goal.returns-clause-unlabelled
+returns-clause-unlabelled c = unlabelled
