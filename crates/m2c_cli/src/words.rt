@@ -107,7 +107,7 @@ fn read_words<R: Print + Eprint + AllocGlobal>(rt: &R, words: &[String]) -> Resu
 }
 
 /// What the command line asks for.
-pub fn asked<R: Env + Print + Eprint + AllocGlobal>(rt: &R) -> Result<Words> {
+pub fn read_command_line<R: Env + Print + Eprint + AllocGlobal>(rt: &R) -> Result<Words> {
     match command_line(rt)? {
         CommandLine::Words(words) => read_words(rt, &words),
         CommandLine::NoText(at) => {
