@@ -1,8 +1,11 @@
 //! The words of a command line, as the programs read them.
 #![tactic(auto)]
 
-ghost use Rattle.std.specs.Prelude.{◌≤◌};
+ghost use Rattle.command_words.specs.Words.{number_of};
 ghost use Rattle.std.specs.Option.{IfSome};
+ghost use Rattle.std.specs.Prelude.{◌≡◌, ◌≤◌};
+ghost use Rattle.std.specs.Char.{is_ascii_digit};
+ghost use Rattle.std.specs.List.{list_all};
 
 use std::env::FillError;
 use std::rt::Env;
@@ -11,19 +14,31 @@ use std::{env, io, str};
 /// The most bytes of a word that is searched for what is no text.
 const LONGEST_WORD: usize = 4096;
 
+/// Whether there are decimal digits alone.
+fn are_digits(text: &[u8]) -> bool
+    ensures { result ≡ list_all is_ascii_digit text.now }
+{
+    text.iter().all(|b| b.is_ascii_digit())
+}
+
 /// A number of decimal digits alone, from 1 to a bound. Nothing for any other text.
+
 pub fn number(text: &str, most: u64) -> Option<u64>
-    ensures least { IfSome result (λ n. 1 ≤ n) }
+    ensures exact { result ≡ number_of text.now most }
     ensures most { IfSome result (λ n. n ≤ most) }
 {
-    if !text.bytes().all(|b| b.is_ascii_digit()) {
+    if !are_digits(text.as_bytes()) {
         return None;
     }
-    let number = text.parse::<u64>().ok()?;
-    if 1 <= number && number <= most {
-        Some(number)
-    } else {
-        None
+    match text.parse::<u64>() {
+        Err(_) => None,
+        Ok(number) => {
+            if 1 <= number && number <= most {
+                Some(number)
+            } else {
+                None
+            }
+        }
     }
 }
 

@@ -48,7 +48,10 @@ fn variable_passed(t: TypeNo, at: Pos, designated: Designated) -> Judged<Argumen
             }
             Ok(Argument::Place(place))
         }
-        Designated::Value(_) => told(at, 44),
+        Designated::Value(value) => {
+            drop(value);
+            told(at, 44)
+        }
         Designated::Open(_, _) => told(at, 44),
         Designated::Type(_) => told(at, 44),
         Designated::Procedure(_) => told(at, 44),
@@ -75,7 +78,10 @@ fn open_passed(types: &Types, t: TypeNo, at: Pos, designated: Designated) -> Jud
             }
             Ok(Argument::Open(slot))
         }
-        Designated::Value(_) => told(at, 44),
+        Designated::Value(value) => {
+            drop(value);
+            told(at, 44)
+        }
         Designated::Type(_) => told(at, 44),
         Designated::Procedure(_) => told(at, 44),
         Designated::Nested(_) => told(at, 44),
@@ -151,7 +157,10 @@ fn whole_passed(t: TypeNo, at: Pos, designated: Designated) -> Judged<Argument>
             }
             Ok(Argument::Place(place))
         }
-        Designated::Value(_) => told(at, 43),
+        Designated::Value(value) => {
+            drop(value);
+            told(at, 43)
+        }
         Designated::Open(_, _) => told(at, 43),
         Designated::Type(_) => told(at, 40),
         Designated::Procedure(_) => told(at, 43),

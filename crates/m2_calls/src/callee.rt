@@ -50,7 +50,10 @@ pub fn callee_of(types: &Types, at: Pos, designated: Designated) -> Judged<Calle
         Designated::Nested(p) => Ok(Called::Routine(p.heading, Callee::Nested(p))),
         Designated::Variable(t, place) => held_by(types, at, t, place),
         Designated::Standard(standard) => Ok(Called::Standard(standard)),
-        Designated::Value(_) => told(at, 40),
+        Designated::Value(value) => {
+            drop(value);
+            told(at, 40)
+        }
         Designated::Open(_, _) => told(at, 40),
         Designated::Type(_) => told(at, 40),
         Designated::Module(_) => told(at, 40),

@@ -27,7 +27,10 @@ fn target_of(at: Pos, designated: Designated) -> Judged<Target>
     match designated {
         Designated::Variable(t, place) => Ok(Target::Variable(t, place)),
         Designated::Open(_, _) => Ok(Target::Open),
-        Designated::Value(_) => told(at, 40),
+        Designated::Value(value) => {
+            drop(value);
+            told(at, 40)
+        }
         Designated::Type(_) => told(at, 40),
         Designated::Procedure(_) => told(at, 40),
         Designated::Nested(_) => told(at, 40),
@@ -100,7 +103,10 @@ pub fn changed(types: &Types, at: Pos, designated: Designated) -> Judged<(TypeNo
 {
     match designated {
         Designated::Variable(t, place) => changed_as(at, t, place, class_of(types, t)),
-        Designated::Value(_) => told(at, 44),
+        Designated::Value(value) => {
+            drop(value);
+            told(at, 44)
+        }
         Designated::Open(_, _) => told(at, 44),
         Designated::Type(_) => told(at, 44),
         Designated::Procedure(_) => told(at, 44),
@@ -127,7 +133,10 @@ pub fn set_variable(types: &Types, at: Pos, designated: Designated) -> Judged<Pl
 {
     match designated {
         Designated::Variable(t, place) => set_as(at, place, class_of(types, t)),
-        Designated::Value(_) => told(at, 44),
+        Designated::Value(value) => {
+            drop(value);
+            told(at, 44)
+        }
         Designated::Open(_, _) => told(at, 44),
         Designated::Type(_) => told(at, 44),
         Designated::Procedure(_) => told(at, 44),

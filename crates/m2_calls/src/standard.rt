@@ -127,7 +127,10 @@ pub fn type_named(types: &Types, at: Pos, designated: Designated) -> Judged<(Typ
 {
     match designated {
         Designated::Type(t) => scalar_type(at, t, scalar_of(types, t)),
-        Designated::Value(_) => told(at, 33),
+        Designated::Value(value) => {
+            drop(value);
+            told(at, 33)
+        }
         Designated::Variable(_, _) => told(at, 33),
         Designated::Open(_, _) => told(at, 33),
         Designated::Procedure(_) => told(at, 33),
@@ -208,7 +211,10 @@ pub fn high_of(at: Pos, designated: Designated) -> Judged<Computed>
         Designated::Open(_, slot) => {
             Ok(Computed::Scalar(CARDINAL, CARDINAL, TypedExpr::High(slot)))
         }
-        Designated::Value(_) => told(at, 43),
+        Designated::Value(value) => {
+            drop(value);
+            told(at, 43)
+        }
         Designated::Variable(_, _) => told(at, 43),
         Designated::Type(_) => told(at, 40),
         Designated::Procedure(_) => told(at, 43),

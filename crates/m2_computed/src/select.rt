@@ -75,7 +75,10 @@ pub fn field(
 {
     match from {
         Designated::Variable(t, place) => component(types, at, name, t, place),
-        Designated::Value(_) => Ok(told(at, 40)),
+        Designated::Value(value) => {
+            drop(value);
+            Ok(told(at, 40))
+        }
         Designated::Open(_, _) => Ok(told(at, 40)),
         Designated::Type(_) => Ok(told(at, 40)),
         Designated::Procedure(_) => Ok(told(at, 40)),
@@ -115,7 +118,10 @@ pub fn indices(types: &Types, at: Pos, from: Designated) -> Judged<Subscripted>
     match from {
         Designated::Variable(t, place) => array_indexed(at, t, place, array_of(types, t)),
         Designated::Open(t, slot) => Ok(Subscripted::Open(t, slot)),
-        Designated::Value(_) => told(at, 40),
+        Designated::Value(value) => {
+            drop(value);
+            told(at, 40)
+        }
         Designated::Type(_) => told(at, 40),
         Designated::Procedure(_) => told(at, 40),
         Designated::Nested(_) => told(at, 40),

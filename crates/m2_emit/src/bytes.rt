@@ -1,9 +1,9 @@
 //! The bytes of modules.
 
-ghost use Rattle.std.specs.Prelude.{◌≡◌, ◌≤◌, IfOk, map};
-ghost use Rattle.wasm_binary.specs.Binary.{module_spelling};
+ghost use Rattle.std.specs.Prelude.{◌≡◌, ◌≤◌, IfOk, OnOk, map, true};
+ghost use Rattle.wasm_binary.specs.Binary.{module_fits, Spells};
 ghost use Rattle.m2_layout.specs.Layouts.{IsLayout, AllFits};
-ghost use Rattle.m2_scheme.specs.Modules.{link_of};
+ghost use Rattle.m2_scheme.specs.Modules.{link_of, typed_module};
 ghost use Rattle.m2_emit.specs.Emitted.{emitted, parts};
 
 use crate::emitted::ModuleBytes;
@@ -16,7 +16,8 @@ use std::alloc::{AllocError, Global};
 use wasm_binary::write_module;
 
 /// The bytes of a body's module, and what link needs of it. The layout is the module's, and nothing of it is too large, as
-/// `layout_of` answers it. The only error is that memory ran out, or that a number does not fit into 32 bits.
+/// `layout_of` answers it. The module has a spelling. The only error is that memory ran out, or that it has none, as a
+/// number does not fit into 32 bits.
 pub fn emit(
     alloc: Global,
     module_body: &TypedModule,
@@ -24,7 +25,8 @@ pub fn emit(
 ) -> Result<ModuleBytes, AllocError>
     requires layout { IsLayout module_body.now layout.now }
     requires fits { AllFits module_body.now }
-    ensures { IfOk result (λ x. x ≡ emitted module_body.now) }
+    ensures emitted { IfOk result (λ x. x ≡ emitted module_body.now) }
+    ensures fits { OnOk result (module_fits (typed_module module_body.now) ≡ true) }
 {
     let tree = module_of(alloc, module_body, layout)?;
     let bytes = write_module(alloc, &tree)?;
@@ -38,11 +40,12 @@ pub fn emit(
 }
 
 /// The bytes of the module link for these modules, which are in start order: it has so many pages (of 65536 bytes) of
-/// memory, and runs the bodies. The only error is that memory ran out, or that a number does not fit into 32 bits.
+/// memory, and runs the bodies. The only error is that memory ran out, or that link has no spelling, as a number does not
+/// fit into 32 bits.
 pub fn emit_link(alloc: Global, modules: &[&ModuleBytes], pages: u32) -> Result<Vec<u8>, AllocError>
     requires { pages ≤ 1024 }
     ensures { let ms = parts (map (λ m. m.now) modules.now) in
-        IfOk result (λ bytes. bytes.items ≡ module_spelling (link_of ms pages)) }
+        IfOk result (λ bytes. Spells bytes.items (link_of ms pages)) }
 {
     let tree = link_of(alloc, modules, pages)?;
     write_module(alloc, &tree)

@@ -1,3 +1,4 @@
 pub mod Crossing
 pub mod CrossingModules
 pub mod Rounds
+pub mod Below

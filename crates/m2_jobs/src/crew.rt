@@ -1,9 +1,10 @@
 //! Who works on a build: the two rounds of its jobs, over threads.
 
-ghost use Rattle.std.specs.Prelude.{◌≡◌, ◌≢◌, ◌≤◌, Err, IfOk, Ok, [], length, map};
+ghost use Rattle.std.specs.Prelude.{◌≡◌, ◌≢◌, ◌≤◌, Err, IfOk, Ok, OnOk, [], length, map};
 ghost use Rattle.m2_board.specs.Graph.{IsJobGraph};
 ghost use Rattle.m2_board.specs.declared.board.Tally.{Tally as Records};
 ghost use Rattle.m2_jobs.specs.Jobs.{all_compiled};
+ghost use Rattle.m2_jobs.specs.Spelled.{AreSpelled};
 ghost use Rattle.m2_jobs.specs.Lent.{lent, modules_lent};
 ghost use Rattle.m2_graph.specs.Files.{numbered};
 ghost use Rattle.m2_graph.specs.Graph.{IsGraph, CompileEach};
@@ -129,9 +130,11 @@ impl<R: Threads + Sync, G: Gate> Crew<'_, R, G> {
         requires graph { IsGraph (numbered 0 (lent trees.now)) graph.now.files.items
             (map (λ j. j.items) graph.now.jobs.items) graph.now.starts.items }
         requires each { CompileEach (numbered 0 (lent trees.now)) graph.now.files.items }
-        ensures { IfOk result (λ all.
+        ensures becomes { IfOk result (λ all.
             all.items ≡ all_compiled (modules_lent trees.now) graph.now.files.items
             (map (λ job. job.items) graph.now.jobs.items)) }
+        ensures spelled { OnOk result (AreSpelled (modules_lent trees.now)
+            graph.now.files.items (map (λ job. job.items) graph.now.jobs.items)) }
     {
         let jobs = pooled(self.alloc, graph)?;
         self.run(&jobs, &modules_of(self.alloc, trees, graph))

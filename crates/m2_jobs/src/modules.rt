@@ -1,7 +1,8 @@
 //! The work of the jobs of a graph.
 
-ghost use Rattle.std.specs.Prelude.{◌≡◌, ◌<◌, ◌≤◌, ◌^◌, length, map, slice_get, IfOk};
+ghost use Rattle.std.specs.Prelude.{◌≡◌, ◌<◌, ◌≤◌, ◌^◌, length, map, slice_get, IfOk, OnOk};
 ghost use Rattle.m2_jobs.specs.Jobs.{compiled_in, compiled_at};
+ghost use Rattle.m2_jobs.specs.Spelled.{spelled_in, spelled_at};
 ghost use Rattle.m2_jobs.specs.Lent.{modules_lent};
 
 use m2_compile::{Compiled, compile};
@@ -19,9 +20,11 @@ fn compiled_in(
     needed: &[&Compiled],
 ) -> Result<Compiled, AllocError>
     requires { job < 2 ^ 32 }
-    ensures { IfOk result (λ c.
+    ensures becomes { IfOk result (λ c.
         c ≡ compiled_in (slice_get (modules_lent trees.now) file) job
         (map (λ n. n.now) needed.now)) }
+    ensures spelled { OnOk result
+        (spelled_in (slice_get (modules_lent trees.now) file) job (map (λ n. n.now) needed.now)) }
 {
     match at(trees, file) {
         None => Ok(Compiled::Blocked),
@@ -50,7 +53,8 @@ impl Work for Modules<'_> {
     ghost graph = { λ w. map (λ job. job.items) w.jobs.now };
 
     ghost defines = { λ w job outs c.
-        c ≡ compiled_at (modules_lent w.trees.now) w.files.now job outs };
+        (c ≡ compiled_at (modules_lent w.trees.now) w.files.now job outs)
+        × spelled_at (modules_lent w.trees.now) w.files.now job outs };
 
     fn run(&self, job: usize, prerequisites: &[&Compiled]) -> Result<Compiled, AllocError> {
         compiled_in(self.alloc, self.trees, self.files[job], job, prerequisites)

@@ -166,7 +166,8 @@ impl Cursor<'_> {
         let mut found = Items::new(self.alloc);
         found.push(self.parameter()?)?;
         // The prover has to meet the types that a formal holds before the loop.
-        let _none: (Option<Ident>, Option<Qualified>, Option<FormalType>) = (None, None, None);
+        let none: (Option<Ident>, Option<Qualified>, Option<FormalType>) = (None, None, None);
+        drop(none);
         while let Some(_comma) = self.take(Symbol::Comma) {
             found.push(self.parameter()?)?;
         }

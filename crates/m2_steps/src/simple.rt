@@ -162,7 +162,10 @@ fn record_by(types: &Types, at: Pos, designated: Designated) -> Judged<(TypeNo, 
             }
             Ok((t, place))
         }
-        Designated::Value(_) => told(at, 40),
+        Designated::Value(value) => {
+            drop(value);
+            told(at, 40)
+        }
         Designated::Open(_, _) => told(at, 40),
         Designated::Type(_) => told(at, 40),
         Designated::Procedure(_) => told(at, 40),

@@ -8,7 +8,7 @@ use crate::pos::Pos;
 use crate::stmt::Stmt;
 
 /// A type that can stand as an index: a name, an enumeration or a subrange.
-#[derive(Debug, PartialEq, Eq, Drop)]
+#[derive(Debug, PartialEq, Eq)]
 pub enum Simple {
     Named(Qualified),
     /// The place of the bracket, and the constants.
@@ -17,9 +17,23 @@ pub enum Simple {
     Subrange(Option<Qualified>, Pos, Boxed<Expr>, Boxed<Expr>),
 }
 
+impl Drop for Simple {
+    fn drop(self) {
+        match self {
+            Simple::Named(name) => drop(name),
+            Simple::Enumeration(_, names) => drop(names),
+            Simple::Subrange(base, _, low, high) => {
+                drop(base);
+                drop(low);
+                drop(high);
+            }
+        }
+    }
+}
+
 /// A type.
 #[cycle(types)]
-#[derive(Debug, PartialEq, Eq, Drop)]
+#[derive(Debug, PartialEq, Eq)]
 pub enum TypeExpr {
     Simple(Simple),
     /// The place of its first token, the index and the elements. `ARRAY a, b OF T` is `ARRAY a OF ARRAY b OF T`, in
@@ -29,6 +43,24 @@ pub enum TypeExpr {
     Record(Pos, Items<Field>),
     /// The place of the PROCEDURE, the formals, and the result.
     Procedure(Pos, Items<Parameter>, Option<Qualified>),
+}
+
+impl Drop for TypeExpr {
+    #[cycle(dropped_type)]
+    fn drop(self) {
+        match self {
+            TypeExpr::Simple(simple) => drop(simple),
+            TypeExpr::Array(_, index, elements) => {
+                drop(index);
+                drop(elements);
+            }
+            TypeExpr::Record(_, fields) => drop(fields),
+            TypeExpr::Procedure(_, formals, result) => {
+                drop(formals);
+                drop(result);
+            }
+        }
+    }
 }
 
 /// Fields of one type.

@@ -60,7 +60,7 @@ pub struct Qualified {
 
 /// An expression. The place of an expression is the place of its first token.
 #[cycle(expr)]
-#[derive(Debug, PartialEq, Eq, Drop)]
+#[derive(Debug, PartialEq, Eq)]
 pub enum Expr {
     Number(Pos, u32),
     /// A character by its code.
@@ -80,6 +80,39 @@ pub enum Expr {
     /// A sign, the first term, and the others.
     Sum(Option<Operator<Sign>>, Boxed<Expr>, Items<(Operator<AddOp>, Expr)>),
     Relation(Boxed<Expr>, Operator<RelOp>, Boxed<Expr>),
+}
+
+impl Drop for Expr {
+    #[cycle(dropped)]
+    fn drop(self) {
+        match self {
+            Expr::Number(_, _) => {}
+            Expr::Char(_, _) => {}
+            Expr::Text(_, text) => drop(text),
+            Expr::Set(of, _, items) => {
+                drop(of);
+                drop(items);
+            }
+            Expr::Not(_, operand) => drop(operand),
+            Expr::Bracketed(_, inner) => drop(inner),
+            Expr::Use(designator, arguments) => {
+                drop(designator);
+                drop(arguments);
+            }
+            Expr::Term(first, others) => {
+                drop(first);
+                drop(others);
+            }
+            Expr::Sum(_, first, others) => {
+                drop(first);
+                drop(others);
+            }
+            Expr::Relation(first, _, second) => {
+                drop(first);
+                drop(second);
+            }
+        }
+    }
 }
 
 /// One value, or a range: an element of a set, or a label of a case.

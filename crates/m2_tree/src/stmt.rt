@@ -8,7 +8,7 @@ use crate::pos::Pos;
 
 /// A statement.
 #[cycle(stmt)]
-#[derive(Debug, PartialEq, Eq, Drop)]
+#[derive(Debug, PartialEq, Eq)]
 pub enum Stmt {
     /// What is assigned to, and the value.
     Assign(Designator, Expr),
@@ -29,6 +29,54 @@ pub enum Stmt {
     For(Ident, Boxed<Expr>, Boxed<Expr>, Option<Boxed<Expr>>, Items<Stmt>),
     /// The record, and the statements in which its fields stand for themselves.
     With(Designator, Items<Stmt>),
+}
+
+impl Drop for Stmt {
+    #[cycle(dropped_statement)]
+    fn drop(self) {
+        match self {
+            Stmt::Assign(designator, value) => {
+                drop(designator);
+                drop(value);
+            }
+            Stmt::Call(designator, arguments) => {
+                drop(designator);
+                drop(arguments);
+            }
+            Stmt::If(condition, body, rest) => {
+                drop(condition);
+                drop(body);
+                drop(rest);
+            }
+            Stmt::Case(selector, arms, otherwise) => {
+                drop(selector);
+                drop(arms);
+                drop(otherwise);
+            }
+            Stmt::While(condition, body) => {
+                drop(condition);
+                drop(body);
+            }
+            Stmt::Repeat(body, condition) => {
+                drop(body);
+                drop(condition);
+            }
+            Stmt::Loop(body) => drop(body),
+            Stmt::Exit(_) => {}
+            Stmt::Return(_, value) => drop(value),
+            Stmt::For(control, start, limit, step, body) => {
+                drop(control);
+                drop(start);
+                drop(limit);
+                drop(step);
+                drop(body);
+            }
+            Stmt::With(designator, body) => {
+                drop(designator);
+                drop(body);
+            }
+        }
+    }
 }
 
 /// What follows the first part of an IF.

@@ -1,5 +1,5 @@
 -- The laws of a whole module.
-use Rattle.std.proofs.Common.{◌≡◌, ℕ, ◌^◌, ◌<◌, Bool, true, cond, ltb, eqb, ◌&&◌, ◌↔◌, ◌⊎◌, List, [], ◌∷◌, ◌++◌, length, Result, Ok, Err, IfOk, MatchResult, inl, inr, refl, sym, ap, subst, ◌∙◌, append_assoc, arith}
+use Rattle.std.proofs.Common.{◌≡◌, ℕ, ◌^◌, ◌<◌, Bool, true, cond, ltb, eqb, ◌&&◌, ◌↔◌, ◌⊎◌, List, [], ◌∷◌, ◌++◌, length, Result, Ok, Err, IfOk, OnOk, MatchResult, inl, inr, refl, sym, ap, subst, ◌∙◌, append_assoc, arith}
 use Rattle.std.specs.Global.{Vec}
 use Rattle.std.specs.List.{flat_map, list_all}
 use Rattle.std.proofs.lemmas.Bool.{eqb-true, eq-eqb, and_parts, and_from}
@@ -476,6 +476,6 @@ only_spelling bytes m e fits =
     let here : Spells bytes m = record { fits = fits; spelling = e } in
     record { spells = here; no_others = λ others h. h.spelling ∙ sym e; no_other = λ n h. one_module bytes n m h here }
 
-pub is_only_spelling : {E : Type 0} (m : WModule) (r : Result (Vec ℕ) E) → IfOk r (λ v. v.items ≡ module_spelling m) → IfOk r (λ v. module_fits m ≡ true → IsOnlySpelling v.items m)
-is_only_spelling m (Ok v) h = only_spelling v.items m h
-is_only_spelling m (Err e) h = tt
+pub is_only_spelling : {E : Type 0} (m : WModule) (r : Result (Vec ℕ) E) → IfOk r (λ v. v.items ≡ module_spelling m) → OnOk r (module_fits m ≡ true) → IfOk r (λ v. IsOnlySpelling v.items m)
+is_only_spelling m (Ok v) h fits = only_spelling v.items m h fits
+is_only_spelling m (Err e) h fits = tt

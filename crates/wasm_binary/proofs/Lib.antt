@@ -1,3 +1,4 @@
+pub mod Whole
 pub mod Loop
 pub mod LawsKinds
 pub mod LawsBinary

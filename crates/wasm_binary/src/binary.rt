@@ -1,6 +1,6 @@
 //! Values with a binary format, and lists of them.
 
-ghost use Rattle.std.specs.Prelude.{◌≡◌, ◌≢◌, Err, ◌++◌, List, ℕ, OnOk};
+ghost use Rattle.std.specs.Prelude.{◌≡◌, ◌≢◌, Err, ◌++◌, List, ℕ, OnOk, true};
 ghost use Rattle.wasm_tree.specs.Format.{Format, Gives};
 ghost use Rattle.wasm_bytes.specs.Number.{unsigned};
 ghost use Rattle.wasm_bytes.specs.Parts.{many, vector, entries, section};
@@ -15,6 +15,9 @@ use std::alloc::{AllocError, Global};
 use wasm_bytes::{Writer, closed, front, unsigned_at};
 use wasm_tree::WFault;
 
+/// The most entries of a list.
+pub const MAX_ENTRIES: usize = 4294967295;
+
 /// A value that is read from the front of bytes, and written.
 pub trait Binary: Drop {
     ghost format: { Format Self };
@@ -22,8 +25,10 @@ pub trait Binary: Drop {
     fn read(alloc: Global, bytes: &[u8]) -> Result<(Self, &[u8]), WFault>
         ensures { Gives (λ x. (x.0, x.1.now)) result (format.reading bytes.now) };
 
+    /// Appends the encoding. The only error is that memory ran out, or that the value has no encoding.
     fn write(&self, out: &mut Writer) -> Result<(), AllocError>
-        ensures { OnOk result (out.new ≡ out.old ++ format.spelling self.now) };
+        ensures written { OnOk result (out.new ≡ out.old ++ format.spelling self.now) }
+        ensures fits { OnOk result (format.fits self.now ≡ true) };
 }
 
 impl Binary for u32 {
@@ -93,10 +98,15 @@ pub fn section<T: Binary>(
     }
 }
 
-/// Appends how many there are, and then each.
+/// Appends how many there are, and then each. The only error is that memory ran out, or that one of them has no encoding,
+/// or that they are too many.
 pub fn write_vector<T: Binary>(out: &mut Writer, items: &[T]) -> Result<(), AllocError>
-    ensures { OnOk result (out.new ≡ out.old ++ (vector T.format).spelling items.now) }
+    ensures written { OnOk result (out.new ≡ out.old ++ (vector T.format).spelling items.now) }
+    ensures fits { OnOk result ((vector T.format).fits items.now ≡ true) }
 {
+    if items.len() > MAX_ENTRIES {
+        return Err(AllocError);
+    }
     out.unsigned(items.len() as u64)?;
     for item in items {
         item.write(out)?;
@@ -104,9 +114,11 @@ pub fn write_vector<T: Binary>(out: &mut Writer, items: &[T]) -> Result<(), Allo
     Ok(())
 }
 
-/// Appends the section of this number, or nothing where it has no entry.
+/// Appends the section of this number, or nothing where it has no entry. The only error is that memory ran out, or that
+/// the section has no encoding.
 pub fn write_section<T: Binary>(out: &mut Writer, number: u8, items: &[T]) -> Result<(), AllocError>
-    ensures { OnOk result (out.new ≡ out.old ++ (section number T.format).spelling items.now) }
+    ensures written { OnOk result (out.new ≡ out.old ++ (section number T.format).spelling items.now) }
+    ensures fits { OnOk result ((section number T.format).fits items.now ≡ true) }
 {
     if items.is_empty() {
         return Ok(());

@@ -1,8 +1,11 @@
 //! Whole modules in bytes (Core 1.0, section 5.5.15).
 
-ghost use Rattle.std.specs.Prelude.{◌≡◌, ◌≢◌, Err, IsOk, ◌++◌, List, ℕ, true, [], map, OnOk, IfOk, Ok, MatchResult, ◌⊎◌};
+ghost use Rattle.std.specs.Prelude.{◌≡◌, ◌≢◌, Err, IsOk, ◌++◌, List, ℕ, true, [], map, OnOk, IfOk, Ok, MatchResult, ◌⊎◌, length, nat_lt, ◌^◌};
+ghost use Rattle.std.specs.List.{list_all};
+ghost use Rattle.wasm_bytes.specs.Number.{unsigned};
+ghost use Rattle.wasm_bytes.specs.Parts.{section};
 ghost use Rattle.wasm_tree.specs.Format.{Format, Gives};
-ghost use Rattle.wasm_binary.specs.Binary.{header, skip_all, bodies, code_entries, code_content, code_section, at_end, module_at, types_of, bodies_spelling, code_spelling, first_sections, middle_sections, last_sections, module_spelling, module_fits, Spells, IsOnlySpelling};
+ghost use Rattle.wasm_binary.specs.Binary.{body, data_segment, element, export, func_type, global, import, memory_type, table_type, header, skip_all, bodies, code_entries, code_content, code_section, at_end, module_at, types_of, bodies_spelling, code_spelling, first_sections, middle_sections, last_sections, module_spelling, module_fits, Spells, IsOnlySpelling};
 ghost use Rattle.wasm_tree.specs.declared.fault.WFault.TheVariants.{NoMemory};
 ghost use Rattle.wasm_tree.specs.declared.module.WModule.{WModule};
 
@@ -155,7 +158,9 @@ pub fn read_module(alloc: Global, bytes: &[u8]) -> Result<WModule, WFault>
 
 /// Appends the code section, or nothing where there is no function.
 fn write_code_section(out: &mut Writer, functions: &[Function]) -> Result<(), AllocError>
-    ensures { OnOk result (out.new ≡ out.old ++ code_spelling functions.now) }
+    ensures written { OnOk result (out.new ≡ out.old ++ code_spelling functions.now) }
+    ensures bodies { OnOk result (list_all (λ f. body.fits f.body) functions.now ≡ true) }
+    ensures size { OnOk result (nat_lt (length (bodies_spelling functions.now)) (2 ^ 32) ≡ true) }
 {
     if functions.is_empty() {
         return Ok(());
@@ -167,7 +172,8 @@ fn write_code_section(out: &mut Writer, functions: &[Function]) -> Result<(), Al
 }
 
 fn write_bodies(out: &mut Writer, functions: &[Function]) -> Result<(), AllocError>
-    ensures { OnOk result (out.new ≡ out.old ++ bodies_spelling functions.now) }
+    ensures written { OnOk result (out.new ≡ out.old ++ bodies_spelling functions.now) }
+    ensures fits { OnOk result (list_all (λ f. body.fits f.body) functions.now ≡ true) }
 {
     out.unsigned(functions.len() as u64)?;
     for function in functions {
@@ -190,7 +196,10 @@ fn types_of(alloc: Global, functions: &[Function]) -> Result<Vec<u32>, AllocErro
 #[tactic(auto, unfolding(crate::specs::Binary::first_sections))]
 fn write_first(out: &mut Writer, uses: &[u32], tree: &WModule) -> Result<(), AllocError>
     requires { uses.now ≡ types_of tree.now.functions }
-    ensures { OnOk result (out.new ≡ out.old ++ first_sections tree.now) }
+    ensures written { OnOk result (out.new ≡ out.old ++ first_sections tree.now) }
+    ensures types { OnOk result ((section 1 func_type).fits tree.now.types ≡ true) }
+    ensures imports { OnOk result ((section 2 import).fits tree.now.imports ≡ true) }
+    ensures uses { OnOk result ((section 3 unsigned).fits uses.now ≡ true) }
 {
     out.bytes(&HEADER)?;
     write_section(out, 1, tree.types.as_slice())?;
@@ -201,7 +210,11 @@ fn write_first(out: &mut Writer, uses: &[u32], tree: &WModule) -> Result<(), All
 /// The sections of tables, memories, globals and exports.
 #[tactic(auto, unfolding(crate::specs::Binary::middle_sections))]
 fn write_middle(out: &mut Writer, tree: &WModule) -> Result<(), AllocError>
-    ensures { OnOk result (out.new ≡ out.old ++ middle_sections tree.now) }
+    ensures written { OnOk result (out.new ≡ out.old ++ middle_sections tree.now) }
+    ensures tables { OnOk result ((section 4 table_type).fits tree.now.tables ≡ true) }
+    ensures memories { OnOk result ((section 5 memory_type).fits tree.now.memories ≡ true) }
+    ensures globals { OnOk result ((section 6 global).fits tree.now.globals ≡ true) }
+    ensures exports { OnOk result ((section 7 export).fits tree.now.exports ≡ true) }
 {
     write_section(out, 4, tree.tables.as_slice())?;
     write_section(out, 5, tree.memories.as_slice())?;
@@ -212,16 +225,22 @@ fn write_middle(out: &mut Writer, tree: &WModule) -> Result<(), AllocError>
 /// The sections of elements, code and data.
 #[tactic(auto, unfolding(crate::specs::Binary::last_sections))]
 fn write_last(out: &mut Writer, tree: &WModule) -> Result<(), AllocError>
-    ensures { OnOk result (out.new ≡ out.old ++ last_sections tree.now) }
+    ensures written { OnOk result (out.new ≡ out.old ++ last_sections tree.now) }
+    ensures elements { OnOk result ((section 9 element).fits tree.now.elements ≡ true) }
+    ensures bodies { OnOk result (list_all (λ f. body.fits f.body) tree.now.functions ≡ true) }
+    ensures size { OnOk result
+        (nat_lt (length (bodies_spelling tree.now.functions)) (2 ^ 32) ≡ true) }
+    ensures contents { OnOk result ((section 11 data_segment).fits tree.now.data ≡ true) }
 {
     write_section(out, 9, tree.elements.as_slice())?;
     write_code_section(out, tree.functions.as_slice())?;
     write_section(out, 11, tree.data.as_slice())
 }
 
-#[tactic(auto, unfolding(crate::specs::Binary::module_spelling))]
+#[tactic(auto, using(crate::proofs::Whole::whole_fits), unfolding(crate::specs::Binary::module_spelling))]
 fn written(alloc: Global, tree: &WModule) -> Result<Vec<u8>, AllocError>
-    ensures { IfOk result (λ v. v.items ≡ module_spelling tree.now) }
+    ensures written { IfOk result (λ v. v.items ≡ module_spelling tree.now) }
+    ensures fits { OnOk result (module_fits tree.now ≡ true) }
 {
     let uses = types_of(alloc, tree.functions.as_slice())?;
     let mut out = Writer::new(alloc);
@@ -231,11 +250,11 @@ fn written(alloc: Global, tree: &WModule) -> Result<Vec<u8>, AllocError>
     Ok(out.into_bytes())
 }
 
-/// The bytes that spell the module: no others do. A module that has no spelling (a vector or a part too long, a name
-/// that is not UTF-8) gets bytes that no module has.
+/// The bytes that spell the module: no others do. The only error is that memory ran out, or that the module has no
+/// spelling: a vector or a part too long, blocks that nest too deep, a name that is not UTF-8.
 pub fn write_module(alloc: Global, tree: &WModule) -> Result<Vec<u8>, AllocError>
     ensures written { IfOk result (λ v. v.items ≡ module_spelling tree.now) }
-    ensures only { IfOk result (λ v. module_fits tree.now ≡ true → IsOnlySpelling v.items tree.now) }
+    ensures only { IfOk result (λ v. IsOnlySpelling v.items tree.now) }
 {
     written(alloc, tree)
 }

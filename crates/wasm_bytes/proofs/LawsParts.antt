@@ -1,5 +1,6 @@
 -- The laws of formats that are put together.
-use Rattle.std.proofs.Common.{◌≡◌, ℕ, zero, suc, ◌^◌, ◌<◌, ◌≤◌, Bool, true, cond, ltb, leb, eqb, ◌&&◌, List, [], ◌∷◌, ◌++◌, length, take, drop, Ok, Err, refl, sym, ap, subst, ◌∙◌, append_assoc, arith, inl, inr}
+use Rattle.std.proofs.Common.{◌≡◌, ℕ, zero, suc, ◌^◌, ◌<◌, ◌≤◌, Bool, true, cond, ltb, leb, eqb, ◌&&◌, List, [], ◌∷◌, ◌++◌, length, take, drop, Result, Ok, Err, refl, sym, ap, subst, ◌∙◌, append_assoc, arith, inl, inr}
+use Rattle.std.specs.Result.{OnOk}
 use Rattle.std.specs.List.{flat_map, list_all}
 use Rattle.std.specs.Str.{is_utf8}
 use Rattle.std.proofs.lemmas.Bool.{false≢true, lt-ltb, ltb-true, leb-true, le-leb, eqb-true, eq-eqb, ne_eqb, and_parts, and_from, cases_Bool}
@@ -250,9 +251,14 @@ module _ {A : Type 0} (p : Format A) where
     again = λ x rest fits. let f = and_parts (p.fits x) (ltb (length (p.spelling x)) (2 ^ 32)) fits in sized_again x rest (law.again x f.0) f.1;
   }
 
-are_bytes : (bytes : List ℕ) → IsBytes bytes → list_all (λ b. ltb b 256) bytes ≡ true
+pub are_bytes : (bytes : List ℕ) → IsBytes bytes → list_all (λ b. ltb b 256) bytes ≡ true
 are_bytes [] fits = refl
 are_bytes (b ∷ bytes) fits = and_from _ _ (lt-ltb b 256 (fits 0)) (are_bytes bytes (IsBytes-tail b bytes fits))
+
+-- what holds anyway holds where all went well
+pub anyway : {A E P : Type 0} (r : Result A E) → P → OnOk r P
+anyway (Ok x) p = p
+anyway (Err e) p = tt
 
 none_fits : IsBytes []
 none_fits i = omega arith

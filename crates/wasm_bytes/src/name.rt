@@ -1,6 +1,6 @@
 //! Names in bytes (Core 1.0, section 5.2.4).
 
-ghost use Rattle.std.specs.Prelude.{◌≡◌, ◌++◌, Err, IsOk, OnErr, OnOk};
+ghost use Rattle.std.specs.Prelude.{◌≡◌, ◌++◌, Err, IsOk, OnErr, OnOk, true};
 ghost use Rattle.std.specs.Str.{is_utf8};
 ghost use Rattle.wasm_tree.specs.Format.{Gives};
 ghost use Rattle.wasm_bytes.specs.Parts.{name};
@@ -34,11 +34,15 @@ pub fn name_at(alloc: Global, bytes: &[u8]) -> Result<(Items<u8>, &[u8]), WFault
     Ok((Items::from_slice(alloc, text)?, rest))
 }
 
-/// Appends a name; nothing where memory is refused.
+/// Appends a name; nothing where memory is refused. It is refused also for a name that is not UTF-8, or is too long.
 #[tactic(auto, unfolding(crate::specs::Parts::name))]
 pub fn write_name(out: &mut Writer, text: &[u8]) -> Result<(), AllocError>
     ensures ok { OnOk result (out.new ≡ out.old ++ name.spelling text.now) }
     ensures err { OnErr result (out.new ≡ out.old) }
+    ensures fits { OnOk result (name.fits text.now ≡ true) }
 {
+    if !is_utf8(text) {
+        return Err(AllocError);
+    }
     out.sized(text)
 }

@@ -1,7 +1,8 @@
 //! A buffer that bytes are appended to.
 
-ghost use Rattle.std.specs.Prelude.{◌≡◌, ◌++◌, ◌∷◌, [], ◌+◌, ◌-◌, ◌*◌, ◌/◌, ◌%◌, ◌^◌, ◌<◌, ◌≤◌, length, vec_len, vec_capacity, OnOk, OnErr, IsTrue, ◌↔◌};
+ghost use Rattle.std.specs.Prelude.{◌≡◌, ◌++◌, ◌∷◌, [], ◌+◌, ◌-◌, ◌*◌, ◌/◌, ◌%◌, ◌^◌, ◌<◌, ◌≤◌, length, vec_len, vec_capacity, OnOk, OnErr, IsTrue, ◌↔◌, true};
 ghost use Rattle.wasm_tree.specs.Format.{Format};
+ghost use Rattle.wasm_bytes.specs.Parts.{bytes_left, sized};
 ghost use Rattle.wasm_bytes.specs.Number.{unsigned, groups, signed32, signed64, signed_groups, shifted};
 
 use std::alloc::{AllocError, Global};
@@ -9,6 +10,9 @@ use std::marker::Model;
 
 /// The most bytes that a number takes.
 const LONGEST: u8 = 10;
+
+/// The most bytes of a part.
+const MAX_PART: usize = 4294967295;
 
 /// Bytes of the binary format, in the order in which they are written. Contracts see the list of them. Where memory is
 /// refused, nothing is appended.
@@ -103,11 +107,16 @@ impl Writer {
         Ok(())
     }
 
-    /// Appends a part behind the number of its bytes: a section's content, a body or a name.
+    /// Appends a part behind the number of its bytes: a section's content, a body or a name. The only error is that memory
+    /// ran out, or that the part has more than `MAX_PART` bytes.
     pub fn sized(&mut self, part: &[u8]) -> Result<(), AllocError>
         ensures ok { OnOk result (self.new ≡ self.old ++ (unsigned.spelling (length part.now) ++ part.now)) }
         ensures err { OnErr result (self.new ≡ self.old) }
+        ensures fits { OnOk result ((sized bytes_left).fits part.now ≡ true) }
     {
+        if part.len() > MAX_PART {
+            return Err(AllocError);
+        }
         self.bytes.reserve(usize::from(LONGEST) + part.len())?;
         push_groups(&mut self.bytes, LONGEST, part.len() as u64);
         self.bytes.extend_from_slice(part)

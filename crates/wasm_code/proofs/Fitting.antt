@@ -1,5 +1,5 @@
 -- Which instructions fit.
-use Rattle.std.proofs.Common.{◌≡◌, ℕ, suc, Bool, true, false, ◌&&◌, List, [], ◌∷◌, Option, Some, None, refl, ap, ◌∙◌}
+use Rattle.std.proofs.Common.{◌≡◌, ℕ, zero, suc, length, nat_lt, ◌^◌, sym, Bool, true, false, ◌&&◌, List, [], ◌∷◌, Option, Some, None, refl, ap, ◌∙◌}
 use Rattle.std.specs.Prelude.{map}
 use Rattle.std.specs.List.{list_all}
 use Rattle.wasm_tree.specs.declared.kinds.ValueType.{ValueType}
@@ -12,7 +12,11 @@ use Rattle.wasm_tree.specs.declared.instr.Instr.TheVariants.{Unreachable, Block,
 use Rattle.wasm_tree.specs.declared.instr.Instr.TheVariants.{outs-Unreachable, outs-Block, outs-Loop, outs-If, outs-Br, outs-BrIf, outs-BrTable, outs-Return, outs-Call, outs-CallIndirect, outs-Drop, outs-LocalGet, outs-LocalSet, outs-LocalTee, outs-GlobalGet, outs-Load, outs-Store, outs-I32Const, outs-I64Const, outs-Numeric}
 use Rattle.wasm_bytes.specs.Number.{unsigned, signed32, signed64}
 use Rattle.wasm_bytes.specs.Parts.{vector}
-use Rattle.wasm_code.specs.Instructions.{fits_step, instr_fits}
+use Rattle.wasm_code.specs.Instructions.{fits_step, instr_fits, code_within}
+use Rattle.wasm_code.specs.Inside.{fits_inside}
+use Rattle.wasm_tree.specs.declared.code.Op.{Op}
+use Rattle.wasm_tree.specs.Code.{tree, head, behind, label_of}
+use Rattle.wasm_tree.proofs.Flat.{tree_front, tree_none}
 
 at : (i : Instr) (x : Instr-F Instr) (levels : ℕ) → out-Instr i ≡ x → instr_fits i levels ≡ fits_step (map-Instr Instr (ℕ → Bool) instr_fits x) levels
 unfolding instr_fits
@@ -100,3 +104,60 @@ fits-I64Const n levels = at (I64Const n) (layer.I64Const n) levels (outs-I64Cons
 
 pub fits-Numeric : (n : numeric.Numeric) (levels : ℕ) → instr_fits (Numeric n) levels ≡ true
 fits-Numeric n levels = at (Numeric n) (layer.Numeric n) levels (outs-Numeric n)
+
+-- ---- code inside, and code in a row
+
+pub inside-Block : (t : Option ValueType) (is : List Instr) (levels : ℕ) → instr_fits (Block t is) levels ≡ fits_inside levels is
+inside-Block t is zero = none-Block t is
+inside-Block t is (suc levels) = fits-Block t is levels
+
+pub inside-Loop : (t : Option ValueType) (is : List Instr) (levels : ℕ) → instr_fits (Loop t is) levels ≡ fits_inside levels is
+inside-Loop t is zero = none-Loop t is
+inside-Loop t is (suc levels) = fits-Loop t is levels
+
+pub inside-If-None : (t : Option ValueType) (is : List Instr) (levels : ℕ) → instr_fits (If t is None) levels ≡ fits_inside levels is
+inside-If-None t is zero = none-If t is None
+inside-If-None t is (suc levels) = fits-If-None t is levels
+
+pub inside-If-Some : (t : Option ValueType) (is others : List Instr) (levels : ℕ)
+    → instr_fits (If t is (Some others)) levels ≡ (fits_inside levels is && fits_inside levels others)
+inside-If-Some t is others zero = none-If t is (Some others)
+inside-If-Some t is others (suc levels) = fits-If-Some t is others levels
+
+abbrev within : (levels : ℕ) → List Op → Bool
+within levels ops = (code_within levels).fits (tree ops)
+
+-- an instruction that fits is followed by what has to fit
+pub one_fits : (levels : ℕ) (all : Bool) (o : Op) (left rest behind_it : List Op) → instr_fits (head tree o rest) levels ≡ true → left ≡ o ∷ rest → behind_it ≡ behind o rest
+    → within levels left ≡ all → within levels behind_it ≡ all
+one_fits levels all o left rest behind_it fits f g so_far =
+    ap (within levels) g
+    ∙ sym (ap (λ (b : Bool). b && within levels (behind o rest)) fits)
+    ∙ sym (ap (λ (is : List Instr). (code_within levels).fits is) (ap tree f ∙ tree_front o rest))
+    ∙ so_far
+
+-- where one does not fit, all do not
+pub one_fails : (levels : ℕ) (all : Bool) (o : Op) (left rest : List Op) → instr_fits (head tree o rest) levels ≡ false → left ≡ o ∷ rest
+    → within levels left ≡ all → false ≡ all
+one_fails levels all o left rest fails f so_far =
+    sym (ap (λ (b : Bool). b && within levels (behind o rest)) fails)
+    ∙ sym (ap (λ (is : List Instr). (code_within levels).fits is) (ap tree f ∙ tree_front o rest))
+    ∙ so_far
+
+pub none_left : (levels : ℕ) (all : Bool) (left : List Op) → left ≡ [] → within levels left ≡ all → true ≡ all
+none_left levels all left f so_far = sym (ap (λ (is : List Instr). (code_within levels).fits is) (ap tree f ∙ tree_none)) ∙ so_far
+
+-- ---- tables of labels
+
+many_labels : (ls : List Op) → length (map label_of ls) ≡ length ls
+many_labels [] = refl
+many_labels (o ∷ ls) = ap suc (many_labels ls)
+
+each_label : (ls : List Op) → list_all unsigned.fits (map label_of ls) ≡ list_all (λ l. unsigned.fits (label_of l)) ls
+each_label [] = refl
+each_label (o ∷ ls) = ap (λ (b : Bool). unsigned.fits (label_of o) && b) (each_label ls)
+
+pub labels_fit : (ls : List Op) → (vector unsigned).fits (map label_of ls) ≡ (nat_lt (length ls) (2 ^ 32) && list_all (λ l. unsigned.fits (label_of l)) ls)
+labels_fit ls =
+    ap (λ (n : ℕ). nat_lt n (2 ^ 32) && list_all unsigned.fits (map label_of ls)) (many_labels ls)
+    ∙ ap (λ (b : Bool). nat_lt (length ls) (2 ^ 32) && b) (each_label ls)

@@ -1,3 +1,4 @@
 pub mod Opcode
 pub mod Instructions
 pub mod Piled
+pub mod Inside

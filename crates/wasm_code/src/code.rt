@@ -11,6 +11,7 @@ ghost use Rattle.wasm_bytes.specs.Parts.{many, vector};
 ghost use Rattle.wasm_code.specs.Instructions.{block_type, no_offset, memory_of, variable_of, plain_of, opens, ending_of, instr_of, code_in, opened, code_within, instr_spelling, code};
 ghost use Rattle.wasm_code.specs.Piled.{is_plain, one_sided_op, onto, onto_sequence, onto_code, sides_of};
 
+use crate::fits::code_fits;
 use crate::opcode::{load_of, load_opcode, numeric_of, numeric_opcode, store_of, store_opcode};
 use sqlite_items::Items;
 use std::alloc::{AllocError, Global};
@@ -609,11 +610,16 @@ fn write_ops(out: &mut Writer, ops: &[Op]) -> Result<(), AllocError>
     Ok(())
 }
 
-/// Appends the instructions and the end of their sequence.
+/// Appends the instructions and the end of their sequence. The only error is that memory ran out, or that the code has no
+/// encoding.
 #[tactic(auto, unfolding(crate::specs::Instructions::code))]
 pub fn write_code(out: &mut Writer, ops: &[Op]) -> Result<(), AllocError>
-    ensures { OnOk result (out.new ≡ out.old ++ code.spelling (tree ops.now)) }
+    ensures written { OnOk result (out.new ≡ out.old ++ code.spelling (tree ops.now)) }
+    ensures fits { OnOk result (code.fits (tree ops.now) ≡ true) }
 {
+    if !code_fits(ops) {
+        return Err(AllocError);
+    }
     write_ops(out, ops)?;
     out.byte(0x0B)
 }

@@ -2,6 +2,7 @@
 #![tactic(auto)]
 
 mod code;
+mod fits;
 mod opcode;
 
 pub use code::{code_at, code_over, write_code};

@@ -1,10 +1,10 @@
 //! Function bodies in bytes (Core 1.0, section 5.5.13).
 
-ghost use Rattle.std.specs.Prelude.{◌≡◌, ◌++◌, ◌+◌, OnOk};
+ghost use Rattle.std.specs.Prelude.{◌≡◌, ◌++◌, ◌+◌, OnOk, IfSome, true};
 ghost use Rattle.wasm_tree.specs.Format.{Format, Gives};
-ghost use Rattle.wasm_binary.specs.Binary.{locals, locals_at, locals_spelling, body};
+ghost use Rattle.wasm_binary.specs.Binary.{declared, locals, locals_at, locals_spelling, body};
 
-use crate::binary::Binary;
+use crate::binary::{Binary, MAX_ENTRIES};
 use sqlite_items::Items;
 use std::alloc::{AllocError, Global};
 use wasm_bytes::{Writer, closed, front, unsigned_at};
@@ -42,8 +42,9 @@ fn locals_at(alloc: Global, bytes: &[u8]) -> Result<(Items<Locals>, &[u8]), WFau
     groups_at(alloc, count, rest)
 }
 
+/// Appends the groups, one after another.
 #[tactic(auto, unfolding(crate::specs::Binary::locals))]
-fn write_locals(out: &mut Writer, groups: &[Locals]) -> Result<(), AllocError>
+fn write_groups(out: &mut Writer, groups: &[Locals]) -> Result<(), AllocError>
     ensures { OnOk result (out.new ≡ out.old ++ locals.spelling groups.now) }
 {
     out.unsigned(groups.len() as u64)?;
@@ -52,6 +53,32 @@ fn write_locals(out: &mut Writer, groups: &[Locals]) -> Result<(), AllocError>
         group.value_type.write(out)?;
     }
     Ok(())
+}
+
+/// How many locals there are, or nothing where they are too many.
+fn declared(groups: &[Locals]) -> Option<u32>
+    ensures { IfSome result (λ n. n ≡ declared groups.now) }
+{
+    let mut total = 0u32;
+    for group in groups {
+        total = total.checked_add(group.count)?;
+    }
+    Some(total)
+}
+
+/// Appends the groups of locals. The only error is that memory ran out, or that the locals are too many.
+#[tactic(auto, unfolding(crate::specs::Binary::locals))]
+fn write_locals(out: &mut Writer, groups: &[Locals]) -> Result<(), AllocError>
+    ensures written { OnOk result (out.new ≡ out.old ++ locals.spelling groups.now) }
+    ensures fits { OnOk result (locals.fits groups.now ≡ true) }
+{
+    if groups.len() > MAX_ENTRIES {
+        return Err(AllocError);
+    }
+    match declared(groups) {
+        None => Err(AllocError),
+        Some(_) => write_groups(out, groups),
+    }
 }
 
 /// A body, read over a pile that may be used again.

@@ -1,5 +1,5 @@
 use Rattle.std.proofs.Common.{◌≡◌, ℕ, List, map, Option, Some, sym, ap, subst, ◌∙◌}
-use Rattle.std.specs.Prelude.{Result, IfOk, slice_get}
+use Rattle.std.specs.Prelude.{Result, IfOk, OnOk, slice_get}
 use Rattle.std.specs.Option.{option_copied, option_map}
 use Rattle.std.specs.Borrow.{Bor}
 use Rattle.std.proofs.lemmas.Option.{slice_get-map}
@@ -7,6 +7,8 @@ use Rattle.m2_tree.specs.declared.decl.Module.{Module}
 use Rattle.m2_compile.specs.declared.outcome.Compiled.{Compiled}
 use Rattle.m2_compile.specs.Compiling.{compiled}
 use Rattle.m2_jobs.specs.Jobs.{compiled_in}
+use Rattle.m2_compile.specs.Spelled.{IsSpelled}
+use Rattle.m2_jobs.specs.Spelled.{spelled_in}
 use Rattle.m2_jobs.specs.Lent.{modules_lent}
 use Rattle.m2_jobs.proofs.modules.compiled_in.Goals as goal
 
@@ -17,9 +19,20 @@ in_place : {E : Type 0} (r : Result Compiled E) (o : Option Module) (m : Module)
     → IfOk r (λ x. x ≡ compiled m job needed) → IfOk r (λ x. x ≡ compiled_in o job needed)
 in_place r o m job needed e h = subst (λ (p : Option Module). IfOk r (λ x. x ≡ compiled_in p job needed)) (sym e) h
 
-pub returns-in-Some : goal.returns-in-Some
-returns-in-Some c =
+pub returns-in-Some-clause-becomes : goal.returns-in-Some-clause-becomes
+returns-in-Some-clause-becomes c =
     let some : slice_get (modules_lent c.args.trees.now) c.args.file ≡ Some c.in-Some.tree.now.1.now =
     slice_get-map tree_of c.args.trees.now c.args.file ∙ ap (option_map tree_of) (sym c.at.ensures ∙ ap option_copied c.in-Some.is)
     in
-    in_place c.compile.result (slice_get (modules_lent c.args.trees.now) c.args.file) c.in-Some.tree.now.1.now c.args.job (map (λ (n : Bor Compiled). n.now) c.args.needed.now) some c.compile.ensures
+    in_place c.compile.result (slice_get (modules_lent c.args.trees.now) c.args.file) c.in-Some.tree.now.1.now c.args.job (map (λ (n : Bor Compiled). n.now) c.args.needed.now) some c.compile.ensures.becomes
+
+spelled_in_place : {E : Type 0} (r : Result Compiled E) (o : Option Module) (m : Module) (job : ℕ) (needed : List Compiled) → o ≡ Some m
+    → OnOk r (IsSpelled m job needed) → OnOk r (spelled_in o job needed)
+spelled_in_place r o m job needed e h = subst (λ (p : Option Module). OnOk r (spelled_in p job needed)) (sym e) h
+
+pub returns-in-Some-clause-spelled : goal.returns-in-Some-clause-spelled
+returns-in-Some-clause-spelled c =
+    let some : slice_get (modules_lent c.args.trees.now) c.args.file ≡ Some c.in-Some.tree.now.1.now =
+    slice_get-map tree_of c.args.trees.now c.args.file ∙ ap (option_map tree_of) (sym c.at.ensures ∙ ap option_copied c.in-Some.is)
+    in
+    spelled_in_place c.compile.result (slice_get (modules_lent c.args.trees.now) c.args.file) c.in-Some.tree.now.1.now c.args.job (map (λ (n : Bor Compiled). n.now) c.args.needed.now) some c.compile.ensures.spelled

@@ -1,0 +1,74 @@
+-- What the prerequisites of a job came to: the same among the jobs before it as among all.
+use Rattle.std.proofs.Common.{◌≡◌, ℕ, zero, suc, ◌+◌, ◌<◌, ◌≤◌, List, [], ◌∷◌, ◌++◌, length, map, Option, Some, refl, sym, ap, subst, ◌∙◌, arith, inl, inr}
+use Rattle.std.specs.Prelude.{slice_get}
+use Rattle.std.proofs.lemmas.Bool.{cases_lt}
+use Rattle.std.proofs.lemmas.List.{map-id}
+use Rattle.m2_board.specs.Lists.{times}
+use Rattle.m2_board.specs.Graph.{prerequisites_of, IsJobGraph}
+use Rattle.m2_worker.specs.Results.{results_below, results, picked, with_item, AreResults, IsResult, all_jobs}
+use Rattle.m2_worker.proofs.Resulting.{results-length, as_many, as_picked, one_of, job_at, all_long, here_once, there_too, item}
+use Rattle.m2_tree.specs.declared.decl.Module.{Module}
+use Rattle.m2_compile.specs.declared.outcome.Compiled.{Compiled}
+use Rattle.m2_jobs.specs.Jobs.{compiled_at}
+use Rattle.m2_jobs.specs.Spelled.{spelled_at, needed_of, AreSpelled}
+
+get_front : {X : Type 0} (xs ys : List X) (i : ℕ) → i < length xs → slice_get (xs ++ ys) i ≡ slice_get xs i
+get_front [] ys i l = absurd (omega (arith, l))
+get_front (x ∷ xs) ys zero l = refl
+get_front (x ∷ xs) ys (suc i) l = get_front xs ys i (omega (arith, l))
+
+get_last : {X : Type 0} (xs : List X) (x : X) (i : ℕ) → i ≡ length xs → slice_get (xs ++ x ∷ []) i ≡ Some x
+get_last [] x zero e = refl
+get_last [] x (suc i) e = absurd (omega (arith, e))
+get_last (y ∷ ys) x zero e = absurd (omega (arith, e))
+get_last (y ∷ ys) x (suc i) e = get_last ys x i (omega (arith, e))
+
+picked_same : {X : Type 0} (xs ys : List X) (ps : List ℕ) → ((p : ℕ) → 0 < times p ps → slice_get xs p ≡ slice_get ys p) → picked xs ps ≡ picked ys ps
+picked_same xs ys [] same = refl
+picked_same {X} xs ys (p ∷ ps) same =
+    ap (λ (o : Option X). with_item o (picked xs ps)) (same p (here_once p ps))
+    ∙ ap (with_item (slice_get ys p)) (picked_same xs ys ps (λ q l. same q (there_too p q ps l)))
+
+module _ {X : Type 0} (graph : List (List ℕ)) (f : ℕ → List X → X) where
+  abbrev below : ℕ → List X
+  below n = results_below graph f n
+
+  at_below : (n j : ℕ) → j < n → slice_get (below n) j ≡ Some (f j (picked (below j) (prerequisites_of graph j)))
+  at_below zero j l = absurd (omega (arith, l))
+  at_below (suc n) j l = elim (cases_lt j n) [
+    | inl less ↦ get_front (below n) (f n (picked (below n) (prerequisites_of graph n)) ∷ []) j (omega (arith, less, results-length graph f n)) ∙ at_below n j less
+    | inr le ↦
+        let e : j ≡ n = omega (arith, l, le) in
+        get_last (below n) (f n (picked (below n) (prerequisites_of graph n))) j (e ∙ sym (results-length graph f n))
+        ∙ ap (λ (k : ℕ). Some (f k (picked (below k) (prerequisites_of graph k)))) (sym e)
+  ]
+
+  picked_below : IsJobGraph graph → (k : ℕ) → k < length graph → picked (results graph f) (prerequisites_of graph k) ≡ picked (below k) (prerequisites_of graph k)
+  picked_below is_graph k low =
+      picked_same (below (length graph)) (below k) (prerequisites_of graph k)
+      (λ p some. let less : p < k = (is_graph k p low).0 some in at_below (length graph) p (omega (arith, less, low)) ∙ sym (at_below k p less))
+
+-- a job's result and its inputs, where the results of all jobs are there
+module _ (trees : List Module) (files : List ℕ) (jobs : List (List ℕ)) where
+  abbrev f : ℕ → List Compiled → Compiled
+  f = compiled_at trees files
+
+  abbrev pub Defines : ℕ → List Compiled → Compiled → Type 0
+  Defines job outs c = (c ≡ compiled_at trees files job outs) × spelled_at trees files job outs
+
+  pub gives : (job : ℕ) (outs : List Compiled) (x : Compiled) → Defines job outs x → x ≡ f job (map (λ c. c) outs)
+  gives job outs x is = is.0 ∙ ap (f job) (sym (map-id outs))
+
+  pub all_spelled : (all : List Compiled) → IsJobGraph jobs → AreResults jobs Defines (all_jobs (length jobs)) all → AreSpelled trees files jobs
+  all_spelled all is_graph are = record {
+    each = λ job low.
+        let many : length all ≡ length jobs = as_many jobs Defines (all_jobs (length jobs)) all are ∙ all_long (length jobs) in
+        let x = item all job (omega (arith, low, many)) in
+        let r : IsResult jobs Defines job x.0 = one_of jobs Defines (all_jobs (length jobs)) all are job job x.0 (job_at (length jobs) job low) x.1 in
+        let inputs : r.outs ≡ needed_of trees files jobs job =
+        sym (map-id r.outs)
+        ∙ as_picked jobs Defines (λ c. c) f is_graph gives (prerequisites_of jobs job) r.outs (λ j some. let less : j < job = (is_graph job j low).0 some in omega (arith, less, low)) r.are
+        ∙ picked_below jobs f is_graph job low
+        in
+        subst (spelled_at trees files job) inputs r.defined.1;
+  }
