@@ -121,6 +121,15 @@ module _ (k : Scene) where
     remainder = has.remainder;
     remainder_index = has.remainder_index;
     remainder_there = has.remainder_there;
+    copy = has.copy;
+    copy_index = has.copy_index;
+    copy_there = has.copy_there;
+    fill = has.fill;
+    fill_index = has.fill_index;
+    fill_there = has.fill_there;
+    levels = has.levels;
+    serves = has.serves;
+    many = has.many;
   }
 
   -- a number is kept while the code of an operand runs
