@@ -148,10 +148,10 @@ module _ (k : Scene) (has : HasHelpers k) (small : AreSmall k.setting.home.types
       ∙ ap (λ (n : ℕ). runs k rest st (stack ++ I32 n ∷ [])) sum
 
   -- the code behind the index
-  abbrev located : Range → (bytes : ℕ) → List Instr
+  abbrev pub located : Range → (bytes : ℕ) → List Instr
   located r bytes = checked r.low r.high 3 ++ (from_lower (Some r) ++ scaled bytes)
 
-  element_gives : (i : TypeNo) (r : Range) (u : Ty) → IsSmall r → (l : Location) → component (row k.world) l ≡ Some (Array (elements_of (Some r)) u) → (v : ℤ) → IsValue types i v
+  pub element_gives : (i : TypeNo) (r : Range) (u : Ty) → IsSmall r → (l : Location) → component (row k.world) l ≡ Some (Array (elements_of (Some r)) u) → (v : ℤ) → IsValue types i v
       → (s : Source) (st : Target) → Stands k s st → (rest : List Instr) (stack : List Value)
       → Into (GivesPlace k u (runs k rest) stack) (runs k (located r (size u) ++ rest) st ((stack ++ I32 (place k l) ∷ []) ++ I64 (word v) ∷ [])) (element l r.low r.high v s)
   element_gives i r u sm l type v is s st h rest stack = by (is_between r.low v r.high) refl
