@@ -9,13 +9,16 @@ use Rattle.wasm_effect.specs.Effect.{store_of}
 use Rattle.m2_typed.specs.declared.meaning.Procedure.{Procedure}
 use Rattle.m2_typed.specs.declared.types.TypeNo.{TypeNo}
 use Rattle.m2_typed.specs.declared.computed.Argument.TheOpen as layer
+use Rattle.m2_typed.specs.declared.computed.Root.TheVariants as root
+use Rattle.m2_typed.specs.declared.computed.Slot.{Slot}
+use Rattle.m2_typed.specs.Types.{cardinal}
 use Rattle.m2_typed.specs.Known.{scalar_at}
 use Rattle.m2_layout.specs.Types.{Ty, Natural, Cell, Hidden, Array, row, component, IsPlain}
 use Rattle.m2_layout.specs.Sizes.{size, offset}
 use Rattle.m2_layout.specs.Shapes.{tree}
 use Rattle.m2_meaning.specs.Store.{Location, copied, placed}
-use Rattle.m2_meaning.specs.Answer.{Went, Came, then_give, with_answer}
-use Rattle.m2_meaning.specs.Around.{Modules, procedure_value}
+use Rattle.m2_meaning.specs.Answer.{Gave, Went, Came, then_give, with_answer}
+use Rattle.m2_meaning.specs.Around.{Modules, procedure_value, named, high_of}
 use Rattle.m2_meaning.specs.Expressions as meaning
 use Rattle.m2_meaning.specs.Expressions.{Asks, Gives as Given, as_type}
 use Rattle.m2_meaning.specs.Statements.{character}
@@ -24,7 +27,8 @@ use Rattle.m2_scheme.specs.Cells.{is_free, check_taken}
 use Rattle.m2_scheme.specs.Exprs as code
 use Rattle.m2_scheme.specs.Exprs.{Part, behind, slots_global, slot_number}
 use Rattle.m2_scheme.specs.Steps.{text_copied}
-use Rattle.m2_agree.specs.Scene.{Scene, IsSet, AreAmong, place, Agrees, Locates, Executes}
+use Rattle.m2_agree.specs.Scene.{Scene, IsSet, AreAmong, place, Agrees, Locates, Reaches, Executes}
+use Rattle.m2_agree_calls.specs.Frames.{Kinds, Kept, Alias, Open, kind_at, HasFrames}
 
 -- a value that is taken as one of another type: where no check is made, it is one
 abbrev pub Taken : Type 0
@@ -77,3 +81,33 @@ abbrev pub Gives : Type 0
 Gives =
     (k : Scene) (t : TypeNo) (e : Coded) (value : Given ℤ) → Agrees k t e value
     → Executes k true (e ⨾ plain (instr.Return ∷ [])) (λ a s. with_answer (value a s) (λ v s. Came v s))
+
+-- ---- formals and variables of the procedure, and of those around it
+
+abbrev pub Locals : Type 0
+Locals =
+    (k : Scene) → IsSet k → (p : Modules) (ask : Asks) (kss : List Kinds) → HasFrames k kss → (slot : Slot) (t : Ty) → kind_at kss slot ≡ Some (Kept t)
+    → Locates k t (code.root_layer (root.Local slot)) (λ a s. Gave (meaning.root_layer p ask (root.Local slot) a) s)
+
+-- a VAR formal
+abbrev pub Aliases : Type 0
+Aliases =
+    (k : Scene) → IsSet k → (p : Modules) (ask : Asks) (kss : List Kinds) → HasFrames k kss → (slot : Slot) (t : Ty) → kind_at kss slot ≡ Some (Alias t)
+    → Locates k t (code.root_layer (root.Alias slot)) (λ a s. Gave (meaning.root_layer p ask (root.Alias slot) a) s)
+
+-- an open array, which has an element for each number up to its HIGH
+abbrev pub OpenArrays : Type 0
+OpenArrays =
+    (k : Scene) → IsSet k → (p : Modules) (ask : Asks) (kss : List Kinds) → HasFrames k kss → (slot : Slot) (t : Ty) → kind_at kss slot ≡ Some (Open t)
+    → Locates k (Array (suc (high_of (named k.around slot))) t) (code.root_layer (root.Open slot)) (λ a s. Gave (meaning.root_layer p ask (root.Open slot) a) s)
+
+abbrev pub OpenElements : Type 0
+OpenElements =
+    (k : Scene) → IsSet k → (p : Modules) (ask : Asks) (kss : List Kinds) → HasFrames k kss → (slot : Slot) (t : TypeNo) → kind_at kss slot ≡ Some (Open (tree k.setting.home.types t))
+    → (i : Part) (value : Given ℤ) → Agrees k i.of i.code value
+    → Reaches k (Array (suc (high_of (named k.around slot))) (tree k.setting.home.types t)) (tree k.setting.home.types t) (code.component_layer (layer.OpenElement slot t i)) (meaning.component_layer p ask (layer.OpenElement slot t value))
+
+abbrev pub Highs : Type 0
+Highs =
+    (k : Scene) → IsSet k → (p : Modules) (ask : Asks) (kss : List Kinds) → HasFrames k kss → (slot : Slot) (t : Ty) → kind_at kss slot ≡ Some (Open t)
+    → Agrees k cardinal (code.expr_layer (layer.High slot)).code (meaning.expr_layer p ask (layer.High slot))

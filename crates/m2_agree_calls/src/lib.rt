@@ -3,7 +3,7 @@
 //! the laws.
 #![tactic(auto)]
 
-ghost use Rattle.m2_agree_calls.specs.Laws.{Copies, Gives, ProcedureValues, Strings, Taken};
+ghost use Rattle.m2_agree_calls.specs.Laws.{Aliases, Copies, Gives, Highs, Locals, OpenArrays, OpenElements, ProcedureValues, Strings, Taken};
 
 /// Values, copies and results.
 pub fn value_laws()
@@ -17,4 +17,16 @@ pub fn value_laws()
     ensures strings { Strings }
     // RETURN with a value.
     ensures gives { Gives }
+{}
+
+/// Formals and variables of procedures.
+pub fn slot_laws()
+    // Of the procedure itself, or of one around it.
+    ensures locals { Locals }
+    // A VAR formal is another name of a variable.
+    ensures aliases { Aliases }
+    // Open arrays, their elements, and HIGH.
+    ensures open_arrays { OpenArrays }
+    ensures open_elements { OpenElements }
+    ensures highs { Highs }
 {}
