@@ -68,7 +68,7 @@ shape_small types small (shape.Record fs) r h = absurd (none-some r h)
 shape_small types small (shape.Procedure p) r h = absurd (none-some r h)
 shape_small types small (shape.Open e) r h = absurd (none-some r h)
 
-made_small : (types : Types) → AreSmall types → (o : Option Made) (r : Range) → code.index_made types o ≡ Some r → IsSmall r
+pub made_small : (types : Types) → AreSmall types → (o : Option Made) (r : Range) → code.index_made types o ≡ Some r → IsSmall r
 made_small types small None r h = absurd (none-some r h)
 made_small types small (Some m) r h = shape_small types small m.shape r h
 

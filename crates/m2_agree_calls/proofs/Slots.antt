@@ -87,7 +87,7 @@ module _ (world : List Ty) (x : Location → ℕ → ℕ) where
       record { root = p.root; kinds = p.kinds; at = p.at; type = p.type; frame = p.frame; there = p.there; name = p.name; named = p.named; is = p.is }
 
 module _ (k : Scene) (set : IsSet k) where
-  place_fits : (s : Source) (st : Target) → Stands k s st → (l : Location) (t : Ty) → component (row k.world) l ≡ Some t → place k l < 2 ^ 32
+  pub place_fits : (s : Source) (st : Target) → Stands k s st → (l : Location) (t : Ty) → component (row k.world) l ≡ Some t → place k l < 2 ^ 32
   place_fits s st h l t e = let p = place_small k set.helpers set.small set.room s st h l t e in omega (arith, p)
 
   -- ---- from frame to frame
@@ -209,7 +209,7 @@ module _ (k : Scene) (set : IsSet k) (kss : List Kinds) (has : HasFrames k kss) 
         });
   }
 
-  alias_here : (t : Ty) (there : kind_at kss slot ≡ Some (Alias t)) → IsAlias k.world k.hidden (here k set kss has slot (Alias t) there).root slot.number t (location_of name_here)
+  pub alias_here : (t : Ty) (there : kind_at kss slot ≡ Some (Alias t)) → IsAlias k.world k.hidden (here k set kss has slot (Alias t) there).root slot.number t (location_of name_here)
   alias_here t there =
       let f = here k set kss has slot (Alias t) there in
       subst (λ (o : Option Named). IsAlias k.world k.hidden f.root slot.number t (location_of o)) (sym f.named) (alias_is k.world k.hidden f.root slot.number t f.name f.is)
@@ -229,7 +229,7 @@ module _ (k : Scene) (set : IsSet k) (kss : List Kinds) (has : HasFrames k kss) 
         };
   }
 
-  array_here : (t : Ty) (there : kind_at kss slot ≡ Some (Open t)) → IsArray k.world k.hidden (here k set kss has slot (Open t) there).root slot.number t (location_of name_here) (high_of name_here)
+  pub array_here : (t : Ty) (there : kind_at kss slot ≡ Some (Open t)) → IsArray k.world k.hidden (here k set kss has slot (Open t) there).root slot.number t (location_of name_here) (high_of name_here)
   array_here t there =
       let f = here k set kss has slot (Open t) there in
       subst (λ (o : Option Named). IsArray k.world k.hidden f.root slot.number t (location_of o) (high_of o)) (sym f.named) (open_is k.world k.hidden f.root slot.number t f.name f.is)
