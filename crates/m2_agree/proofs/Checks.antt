@@ -1,5 +1,5 @@
 -- Checks: what is within bounds stays, and else the run ends with a fault.
-use Rattle.std.proofs.Common.{◌≡◌, ℕ, suc, ◌≤◌, ℤ, ◌<ℤ◌, Bool, true, false, not, List, [], ◌∷◌, ◌++◌, if◌then◌else◌, refl, sym, ap, subst, ◌∙◌}
+use Rattle.std.proofs.Common.{◌≡◌, ℕ, suc, ◌≤◌, ℤ, ◌<ℤ◌, Bool, true, false, not, List, [], ◌∷◌, ◌++◌, if◌then◌else◌, refl, sym, ap, subst, ◌∙◌, arith}
 use Rattle.std.specs.Prelude.{int_lt, ◌&&◌, nat_le}
 use Rattle.std.specs.Int.{w64, cast_signed}
 use Rattle.std.proofs.lemmas.Bool.{le-leb}
@@ -8,18 +8,20 @@ use Rattle.wasm_tree.specs.declared.instr.Instr.TheVariants as instr
 use Rattle.wasm_tree.specs.declared.store.Value.{Value}
 use Rattle.wasm_tree.specs.declared.store.Value.TheVariants.{I64}
 use Rattle.wasm_tree.specs.Numbers.{is_less}
-use Rattle.wasm_effect.specs.Effect.{State as Target, Effect}
+use Rattle.wasm_effect.specs.Effect.{State as Target, Effect, then_run}
 use Rattle.wasm_effect.specs.Effect as does
-use Rattle.wasm_effect.proofs.Steps.{i64_runs}
+use Rattle.wasm_effect.proofs.Steps.{split_end_at, i64_runs}
 use Rattle.m2_typed.specs.declared.types.TypeNo.{TypeNo}
 use Rattle.m2_meaning.specs.Answer.{State as Source, Answer, Gave}
 use Rattle.m2_meaning.specs.Answer as answer
 use Rattle.m2_meaning.specs.Operators.{is_between}
 use Rattle.m2_meaning.specs.Expressions.{within}
 use Rattle.m2_scheme.specs.Coded.{checked}
+use Rattle.m2_scheme.specs.Helpers.{check_typed}
 use Rattle.m2_helpers.specs.Called.{stopped_by}
 use Rattle.m2_helpers.proofs.Helpers.{check_called}
 use Rattle.m2_agree.specs.Scene.{Scene, calls, runs, HasHelpers, IsValue, word, Stands, Into, GivesNumber}
+use Rattle.m2_agree.proofs.Served.{tested_on, served_runs}
 use Rattle.m2_agree.proofs.Words.{IsWide, signed, less_is, less_true, between_is}
 
 four_pushed : (s : List Value) (a b c d : Value) → (((s ++ a ∷ []) ++ b ∷ []) ++ c ∷ []) ++ d ∷ [] ≡ s ++ a ∷ b ∷ c ∷ d ∷ []
@@ -42,12 +44,15 @@ module _ (k : Scene) (has : HasHelpers k) where
       let s2 = s1 ++ I64 (word low) ∷ [] in
       let s3 = s2 ++ I64 (word high) ∷ [] in
       let go : List Value → Effect = runs k (instr.Call 4 ∷ rest) st in
+      let given : List Value = I64 n ∷ I64 (word low) ∷ I64 (word high) ∷ I64 j ∷ [] in
       i64_runs k.modules k.fixed k.turns (calls k) k.own (instr.I64Const (word high) ∷ instr.I64Const j ∷ instr.Call 4 ∷ rest) st (word low) s1
       ∙ i64_runs k.modules k.fixed k.turns (calls k) k.own (instr.I64Const j ∷ instr.Call 4 ∷ rest) st (word high) s2
       ∙ i64_runs k.modules k.fixed k.turns (calls k) k.own (instr.Call 4 ∷ rest) st j s3
       ∙ ap go (four_pushed stack (I64 n) (I64 (word low)) (I64 (word high)) (I64 j))
-      ∙ check_called k.modules k.fixed k.extra k.turns (suc k.depth) k.turns k.own 4 k.own 2 has.check_index st (has.check st.bytes) has.check_there (has.stop st.bytes) n (word low) (word high) j stack rest
-      ∙ ap (λ (e : Effect). if is_less w64 n (word low) then e else (if is_less w64 (word high) n then e else runs k rest st (stack ++ I64 n ∷ []))) (stops j st.out least most)
+      ∙ served_runs k has 4 2 (check_typed has.check_index) st (stack ++ given) stack given rest (omega arith) (has.check st.bytes) has.check_there (split_end_at stack given 4 refl)
+      ∙ ap (λ (e : Effect). then_run e (runs k rest)) (check_called k.modules k.fixed k.extra k.turns (suc has.levels) k.turns k.own 4 k.own 2 has.check_index st (has.check st.bytes) has.check_there (has.stop st.bytes) n (word low) (word high) j stack [])
+      ∙ ap (λ (e : Effect). then_run (if is_less w64 n (word low) then e else (if is_less w64 (word high) n then e else does.FellThrough st (stack ++ I64 n ∷ []))) (runs k rest)) (stops j st.out least most)
+      ∙ tested_on (is_less w64 n (word low)) (is_less w64 (word high) n) j st.out st (stack ++ I64 n ∷ []) (runs k rest)
 
   check_runs : (low high v : ℤ) (j : ℕ) → IsWide low → IsWide high → IsWide v → 1 ≤ j → j ≤ 255 → (rest : List Instr) (st : Target) (stack : List Value)
       → runs k (checked low high j ++ rest) st (stack ++ I64 (word v) ∷ []) ≡ tested (int_lt v low) (int_lt high v) j st.out (runs k rest st (stack ++ I64 (word v) ∷ []))

@@ -68,7 +68,7 @@ shape_small types small (shape.Record fs) r h = absurd (none-some r h)
 shape_small types small (shape.Procedure p) r h = absurd (none-some r h)
 shape_small types small (shape.Open e) r h = absurd (none-some r h)
 
-made_small : (types : Types) → AreSmall types → (o : Option Made) (r : Range) → code.index_made types o ≡ Some r → IsSmall r
+pub made_small : (types : Types) → AreSmall types → (o : Option Made) (r : Range) → code.index_made types o ≡ Some r → IsSmall r
 made_small types small None r h = absurd (none-some r h)
 made_small types small (Some m) r h = shape_small types small m.shape r h
 
@@ -148,10 +148,10 @@ module _ (k : Scene) (has : HasHelpers k) (small : AreSmall k.setting.home.types
       ∙ ap (λ (n : ℕ). runs k rest st (stack ++ I32 n ∷ [])) sum
 
   -- the code behind the index
-  abbrev located : Range → (bytes : ℕ) → List Instr
+  abbrev pub located : Range → (bytes : ℕ) → List Instr
   located r bytes = checked r.low r.high 3 ++ (from_lower (Some r) ++ scaled bytes)
 
-  element_gives : (i : TypeNo) (r : Range) (u : Ty) → IsSmall r → (l : Location) → component (row k.world) l ≡ Some (Array (elements_of (Some r)) u) → (v : ℤ) → IsValue types i v
+  pub element_gives : (i : TypeNo) (r : Range) (u : Ty) → IsSmall r → (l : Location) → component (row k.world) l ≡ Some (Array (elements_of (Some r)) u) → (v : ℤ) → IsValue types i v
       → (s : Source) (st : Target) → Stands k s st → (rest : List Instr) (stack : List Value)
       → Into (GivesPlace k u (runs k rest) stack) (runs k (located r (size u) ++ rest) st ((stack ++ I32 (place k l) ∷ []) ++ I64 (word v) ∷ [])) (element l r.low r.high v s)
   element_gives i r u sm l type v is s st h rest stack = by (is_between r.low v r.high) refl

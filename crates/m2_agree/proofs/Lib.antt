@@ -1,5 +1,6 @@
 pub mod Parts
 pub mod Words
+pub mod Served
 pub mod Checks
 pub mod Operators
 pub mod Relations

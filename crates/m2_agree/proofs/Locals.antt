@@ -15,19 +15,19 @@ use Rattle.m2_scheme.specs.Coded.{Coded, Counts, plain, ◌⨾◌, with_number, 
 use Rattle.m2_agree.specs.Scene.{Scene, calls, runs, HasHelpers, IsValue, word, Stands, keeping, Into, GivesNumber, Grows, IsFree, HasLocals, inside, Agrees, AgreesBeside, GoesOn}
 use Rattle.m2_agree.proofs.Parts.{Goes, into_then}
 
-get_set : {A : Type 0} (xs : List A) (i : ℕ) (v : A) → i < length xs → slice_get (slice_set xs i v) i ≡ Some v
+pub get_set : {A : Type 0} (xs : List A) (i : ℕ) (v : A) → i < length xs → slice_get (slice_set xs i v) i ≡ Some v
 get_set [] i v h = absurd (omega (arith, h))
 get_set (x ∷ xs) zero v h = refl
 get_set (x ∷ xs) (suc i) v h = get_set xs i v (omega (arith, h))
 
-get_other : {A : Type 0} (xs : List A) (i j : ℕ) (v : A) → (i ≡ j → ⊥) → slice_get (slice_set xs i v) j ≡ slice_get xs j
+pub get_other : {A : Type 0} (xs : List A) (i j : ℕ) (v : A) → (i ≡ j → ⊥) → slice_get (slice_set xs i v) j ≡ slice_get xs j
 get_other [] i j v ne = refl
 get_other (x ∷ xs) zero zero v ne = absurd (ne refl)
 get_other (x ∷ xs) zero (suc j) v ne = refl
 get_other (x ∷ xs) (suc i) zero v ne = refl
 get_other (x ∷ xs) (suc i) (suc j) v ne = get_other xs i j v (λ e. ne (ap suc e))
 
-length_set : {A : Type 0} (xs : List A) (i : ℕ) (v : A) → length (slice_set xs i v) ≡ length xs
+pub length_set : {A : Type 0} (xs : List A) (i : ℕ) (v : A) → length (slice_set xs i v) ≡ length xs
 length_set [] i v = refl
 length_set (x ∷ xs) zero v = refl
 length_set (x ∷ xs) (suc i) v = ap suc (length_set xs i v)
@@ -121,6 +121,15 @@ module _ (k : Scene) where
     remainder = has.remainder;
     remainder_index = has.remainder_index;
     remainder_there = has.remainder_there;
+    copy = has.copy;
+    copy_index = has.copy_index;
+    copy_there = has.copy_there;
+    fill = has.fill;
+    fill_index = has.fill_index;
+    fill_there = has.fill_there;
+    levels = has.levels;
+    serves = has.serves;
+    many = has.many;
   }
 
   -- a number is kept while the code of an operand runs

@@ -1,5 +1,5 @@
 -- DIV and MOD: the helpers divide as the definition of a run does.
-use Rattle.std.proofs.Common.{◌≡◌, ℕ, zero, suc, ◌-◌, ◌*◌, ◌/◌, ◌≤◌, ◌<◌, ℤ, pos, negsuc, ◌+ℤ◌, ◌*ℤ◌, ◌≤ℤ◌, Bool, true, false, List, [], ◌∷◌, ◌++◌, if◌then◌else◌, Option, Some, None, div-le_self, sym, ap, ap₂, subst, ◌∙◌, append_assoc, arith}
+use Rattle.std.proofs.Common.{◌≡◌, ℕ, zero, suc, ◌-◌, ◌*◌, ◌/◌, ◌≤◌, ◌<◌, ℤ, pos, negsuc, ◌+ℤ◌, ◌*ℤ◌, ◌≤ℤ◌, Bool, true, false, List, [], ◌∷◌, ◌++◌, if◌then◌else◌, Option, Some, None, div-le_self, sym, ap, ap₂, subst, ◌∙◌, refl, append_assoc, arith}
 use Rattle.std.specs.Prelude.{int_lt}
 use Rattle.std.specs.Int.{w64, cast_signed, cast_unsigned}
 use Rattle.std.proofs.Math.Nat.{mul-le-mul}
@@ -10,7 +10,7 @@ use Rattle.wasm_tree.specs.declared.instr.Instr.TheVariants as instr
 use Rattle.wasm_tree.specs.declared.store.Value.{Value}
 use Rattle.wasm_tree.specs.declared.store.Value.TheVariants.{I64}
 use Rattle.wasm_tree.specs.Numbers.{is_less}
-use Rattle.wasm_effect.specs.Effect.{State as Target, Effect}
+use Rattle.wasm_effect.specs.Effect.{State as Target, Effect, then_run}
 use Rattle.wasm_effect.specs.Effect as effects
 use Rattle.m2_typed.specs.declared.types.TypeNo.{TypeNo}
 use Rattle.m2_typed.specs.declared.shape.Scalar.{Scalar as Range}
@@ -19,10 +19,14 @@ use Rattle.m2_typed.specs.Known.{scalar_at}
 use Rattle.m2_meaning.specs.Answer.{Gave, Ended, divisor_fault}
 use Rattle.m2_meaning.specs.Operators.{quotient, remainder}
 use Rattle.m2_meaning.specs.Expressions.{divided}
+use Rattle.wasm_tree.specs.declared.kinds.ValueType.TheVariants as kind
+use Rattle.wasm_effect.proofs.Steps.{split_end_at}
+use Rattle.m2_scheme.specs.Helpers.{divisor_checked, div_rest, mod_typed, helper}
 use Rattle.m2_helpers.specs.Called.{divided_down, modulo, Divides}
 use Rattle.m2_helpers.proofs.Rounding.{divides_down}
 use Rattle.m2_helpers.proofs.Divides.{div_called, mod_called}
 use Rattle.m2_agree.specs.Scene.{Scene, runs, HasHelpers, IsIn, IsValue, AreSmall, AreAmong, word, Into, GivesNumber}
+use Rattle.m2_agree.proofs.Served.{tested_on, served_runs}
 use Rattle.m2_agree.proofs.Words.{IsWide, less_is}
 use Rattle.m2_agree.proofs.Operators.{IsNarrow, wide, narrow, Makes}
 
@@ -111,12 +115,16 @@ module _ (k : Scene) (has : HasHelpers k) (small : AreSmall k.setting.home.types
   div_here : Called 5 divided_down
   div_here x y st rest stack =
       ap (runs k (instr.Call 5 ∷ rest) st) (append_assoc stack (I64 x ∷ []) (I64 y ∷ []))
-      ∙ div_called k.modules k.fixed k.extra k.turns k.depth k.turns k.own 5 k.own 3 has.quotient_index 2 has.check_index st (has.quotient st.bytes) has.quotient_there (has.check st.bytes) has.check_there (has.stop st.bytes) x y stack rest
+      ∙ served_runs k has 5 3 (helper (kind.I64 ∷ kind.I64 ∷ []) (kind.I64 ∷ []) has.quotient_index (divisor_checked div_rest)) st (stack ++ I64 x ∷ I64 y ∷ []) stack (I64 x ∷ I64 y ∷ []) rest (omega arith) (has.quotient st.bytes) has.quotient_there (split_end_at stack (I64 x ∷ I64 y ∷ []) 2 refl)
+      ∙ ap (λ (e : Effect). then_run e (runs k rest)) (div_called k.modules k.fixed k.extra k.turns has.levels k.turns k.own 5 k.own 3 has.quotient_index 2 has.check_index st (has.quotient st.bytes) has.quotient_there (has.check st.bytes) has.check_there (has.stop st.bytes) x y stack [])
+      ∙ tested_on (is_less w64 y 1) (is_less w64 4294967295 y) 4 st.out st (stack ++ I64 (divided_down x y) ∷ []) (runs k rest)
 
   mod_here : Called 6 modulo
   mod_here x y st rest stack =
       ap (runs k (instr.Call 6 ∷ rest) st) (append_assoc stack (I64 x ∷ []) (I64 y ∷ []))
-      ∙ mod_called k.modules k.fixed k.extra k.turns k.depth k.turns k.own 6 k.own 4 has.remainder_index 2 has.check_index st (has.remainder st.bytes) has.remainder_there (has.check st.bytes) has.check_there (has.stop st.bytes) x y stack rest
+      ∙ served_runs k has 6 4 (mod_typed has.remainder_index) st (stack ++ I64 x ∷ I64 y ∷ []) stack (I64 x ∷ I64 y ∷ []) rest (omega arith) (has.remainder st.bytes) has.remainder_there (split_end_at stack (I64 x ∷ I64 y ∷ []) 2 refl)
+      ∙ ap (λ (e : Effect). then_run e (runs k rest)) (mod_called k.modules k.fixed k.extra k.turns has.levels k.turns k.own 6 k.own 4 has.remainder_index 2 has.check_index st (has.remainder st.bytes) has.remainder_there (has.check st.bytes) has.check_there (has.stop st.bytes) x y stack [])
+      ∙ tested_on (is_less w64 y 1) (is_less w64 4294967295 y) 4 st.out st (stack ++ I64 (modulo x y) ∷ []) (runs k rest)
 
   -- the divisor is checked, and then there is a result
   divided_makes : (t u w : TypeNo) (f : ℕ) (made : ℕ → ℕ → ℕ) (of : ℤ → ℤ → ℤ) → Called f made

@@ -7,7 +7,7 @@ use Rattle.wasm_tree.specs.declared.module.WModule.{WModule}
 use Rattle.wasm_tree.specs.declared.store.Value.{Value}
 use Rattle.wasm_tree.specs.declared.store.Value.TheVariants.{I32, I64}
 use Rattle.wasm_tree.specs.declared.store.Callee.TheVariants.{Put, Stop, Own}
-use Rattle.wasm_tree.specs.Machine.{callee_at, global_at, own_function}
+use Rattle.wasm_tree.specs.Machine.{Typed, callee_at, global_at, own_function}
 use Rattle.wasm_effect.specs.Effect.{Fixed, State as Target, store_of, Effect, StillRunning, Does as Effects, Calling, effect, calling}
 use Rattle.wasm_effect.specs.Effect as does
 use Rattle.m2_typed.specs.declared.statement.Label.{Label}
@@ -27,7 +27,7 @@ use Rattle.m2_meaning.specs.Statements.{Does}
 use Rattle.m2_cells.specs.Relation.{Holds}
 use Rattle.m2_scheme.specs.Coded.{Coded, Counts, Setting, address_local, number_local}
 use Rattle.m2_scheme.specs.Exprs.{base_global, variables_row, slot_path}
-use Rattle.m2_scheme.specs.Helpers.{check_typed, divisor_checked, div_rest, mod_typed, helper}
+use Rattle.m2_scheme.specs.Helpers.{copy_code, fill_code, check_typed, divisor_checked, div_rest, mod_typed, helper}
 use Rattle.m2_helpers.specs.Called.{HasMemory}
 
 -- ---- where code runs
@@ -38,7 +38,7 @@ pub record Scene : Type 0 where
   pub own : ℕ  -- the module whose code runs
   pub extra : (k f : ℕ) → ℕ
   pub turns : ℕ
-  pub depth : ℕ
+  pub functions : Calling  -- what calls of functions do
   pub around : Around
   pub setting : Setting
   pub world : List Ty  -- the types of the instances that live
@@ -47,9 +47,8 @@ pub record Scene : Type 0 where
   pub locals : ℕ
   pub kept : ℕ → Option Value  -- what is kept in locals
 
--- helpers may call helpers
 abbrev pub calls : Scene → Calling
-calls k = calling k.modules k.fixed k.extra k.turns (suc (suc k.depth))
+calls k = k.functions
 
 abbrev pub runs : Scene → List Instr → Effects
 runs k code = effect k.modules k.fixed k.turns (calls k) k.own code
@@ -72,6 +71,17 @@ pub record HasHelpers (k : Scene) : Type 0 where
   pub remainder : (bytes : List ℕ) → callee_at (store_of k.fixed bytes) k.own 6 ≡ Some (Own k.own 4)
   pub remainder_index : ℕ
   pub remainder_there : own_function k.modules k.own 4 ≡ Some (mod_typed remainder_index)
+  pub copy : (bytes : List ℕ) → callee_at (store_of k.fixed bytes) k.own 2 ≡ Some (Own k.own 0)
+  pub copy_index : ℕ
+  pub copy_there : own_function k.modules k.own 0 ≡ Some (helper (kind.I32 ∷ kind.I32 ∷ kind.I32 ∷ []) [] copy_index copy_code)
+  pub fill : (bytes : List ℕ) → callee_at (store_of k.fixed bytes) k.own 3 ≡ Some (Own k.own 1)
+  pub fill_index : ℕ
+  pub fill_there : own_function k.modules k.own 1 ≡ Some (helper (kind.I32 ∷ kind.I32 ∷ []) [] fill_index fill_code)
+  -- they serve the module: calls of them do not count, and their loops may go over all bytes
+  pub levels : ℕ
+  pub serves : (f : ℕ) → f < 5 → (t : Typed) (args : List Value) (bytes out : List ℕ)
+      → calls k k.own f t args bytes out ≡ calling k.modules k.fixed k.extra k.turns (suc (suc levels)) k.own f t args bytes out
+  pub many : (f : ℕ) → f < 2 → 2 ^ 32 ≤ k.turns + k.extra k.own f
 
 -- ---- values
 

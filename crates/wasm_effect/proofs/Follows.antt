@@ -12,8 +12,8 @@ use Rattle.wasm_tree.specs.declared.store.Callee.{Callee}
 use Rattle.wasm_tree.specs.declared.store.Callee.TheVariants.{Put, Stop, Own}
 use Rattle.wasm_tree.specs.Machine.{Label, Activation, Config, Going, Over, Trapped, Progress, Typed, trapped, or_trap, split_last, split_end, topmost, top_i32, top_i64, found, branched, inside, returned, callee_at, callee_in, own_function, type_at, callee_type, agree, entered, called, stopped, global_at, calculated, bytes_at, begun_layer, results_of, reduce}
 use Rattle.wasm_tree.specs.Numbers.{stored, load_size}
-use Rattle.wasm_effect.specs.Effect.{Fixed, State, store_of, Effect, FellThrough, Branched, Returned, Ended, Traps, StillRunning, Does, Calling, or_traps, exec, out_of, back, of_config, alone, call, does_layer, does, effect, calling}
-use Rattle.wasm_effect.specs.Laws.{Around, frame, at, Reaches, Leads, Follows, RunLeads, Runs}
+use Rattle.wasm_effect.specs.Effect.{Fixed, State, store_of, Effect, FellThrough, Branched, Returned, Ended, Traps, StillRunning, Does, Calling, or_traps, exec, out_of, back, of_config, alone, call, does_layer, does, effect, calling, nested}
+use Rattle.wasm_effect.specs.Laws.{Around, frame, at, Reaches, Leads, Follows, RunLeads, Runs, NestedFollows, NestedRuns}
 use Rattle.wasm_effect.proofs.Reaching.{got, silent, one, none, join, behind, begins, then_leads}
 use Rattle.wasm_effect.proofs.Plain.{config_of, Same, same_or, same_if, same_memory, same_leads}
 use Rattle.wasm_effect.proofs.Ways.{under, block_label, block_leads, turns_lead, callee, back_leads, found_silent, branched_silent, still}
@@ -284,3 +284,56 @@ runs modules fx extra n m f t bytes =
     run_leads_from modules fx n m (length t.type.results) _ (calling modules fx extra n (suc n) m f t [] bytes [])
     (body_leads modules fx (n + extra m f) n (omega arith) (calling modules fx extra n n) (calls_lead modules fx extra n n n (omega arith) (omega arith)) m t.function.body.code (outermost (length t.type.results))
     (record { locals = (entered m t []).locals; bytes = bytes; out = [] }) [])
+
+-- ---- where some functions serve the others
+
+module _ (modules : List WModule) (fx : Fixed) (serves : (k f : ℕ) → Bool) (extra : (k f : ℕ) → ℕ) where
+  -- what a call leads to, whether its function serves or not
+  either : (w m : ℕ) (a : Around) (rest : List Instr) (c : Config) (out : List ℕ) (arity : ℕ) (locals below : List Value) (first second : Effect) (b : Bool)
+      → (b ≡ true → Leads modules fx w m a rest c out (back arity locals below first)) → (b ≡ false → Leads modules fx w m a rest c out (back arity locals below second))
+      → Leads modules fx w m a rest c out (back arity locals below (if b then first else second))
+  either w m a rest c out arity locals below first second true h g = h refl
+  either w m a rest c out arity locals below first second false h g = g refl
+
+  pub nested_lead : (n d w : ℕ) → w ≤ n → w ≤ d → CallsLead modules fx w (nested modules fx serves extra n d)
+  unfolding nested
+  nested_lead n zero zero le le' m a before rest st stack below k f t args e =
+      either 0 m a rest (at fx m a before st stack) st.out (length t.type.results) st.locals below (calling modules fx extra n (suc (suc n)) k f t args st.bytes st.out) (StillRunning st.out) (serves k f)
+      (λ b. calls_lead modules fx extra n (suc (suc n)) 0 le (omega arith) m a before rest st stack below k f t args e)
+      (λ b. still modules fx m a (at fx m a before st stack) st.out _ _ _)
+  nested_lead n zero (suc w) le le' m a before rest st stack below k f t args e = absurd (omega (arith, le'))
+  nested_lead n (suc d) zero le le' m a before rest st stack below k f t args e =
+      let caller : Activation = frame m a rest st below in
+      let start : State = record { locals = (entered k t args).locals; bytes = st.bytes; out = st.out } in
+      let did : Effect = effect modules fx (n + extra k f) (nested modules fx serves extra n d) k t.function.body.code start [] in
+      let inner = callee modules fx m a (length t.type.results) caller in
+      either 0 m a rest (at fx m a before st stack) st.out (length t.type.results) st.locals below (calling modules fx extra n (suc (suc n)) k f t args st.bytes st.out) did (serves k f)
+      (λ b. calls_lead modules fx extra n (suc (suc n)) 0 le (omega arith) m a before rest st stack below k f t args e)
+      (λ b. behind modules fx m a 0 rest _ (callee_begins modules fx m a rest st below k t args) st.out st.out (back (length t.type.results) st.locals below did) (silent modules _ _ st.out e)
+      (back_leads modules fx m a 0 k (length t.type.results) rest (callee_begins modules fx m a rest st below k t args) st.out st below did
+      (body_leads modules fx (n + extra k f) 0 (omega arith) (nested modules fx serves extra n d) (nested_lead n d 0 le (omega arith)) k t.function.body.code inner start [])))
+  nested_lead n (suc d) (suc w) le le' m a before rest st stack below k f t args e =
+      let caller : Activation = frame m a rest st below in
+      let start : State = record { locals = (entered k t args).locals; bytes = st.bytes; out = st.out } in
+      let did : Effect = effect modules fx (n + extra k f) (nested modules fx serves extra n d) k t.function.body.code start [] in
+      let inner = callee modules fx m a (length t.type.results) caller in
+      either (suc w) m a rest (at fx m a before st stack) st.out (length t.type.results) st.locals below (calling modules fx extra n (suc (suc n)) k f t args st.bytes st.out) did (serves k f)
+      (λ b. calls_lead modules fx extra n (suc (suc n)) (suc w) le (omega (arith, le)) m a before rest st stack below k f t args e)
+      (λ b. begins modules fx m a w rest _ (callee_begins modules fx m a rest st below k t args) st.out (back (length t.type.results) st.locals below did) e
+      (back_leads modules fx m a w k (length t.type.results) rest (callee_begins modules fx m a rest st below k t args) st.out st below did
+      (body_leads modules fx (n + extra k f) w (omega (arith, le)) (nested modules fx serves extra n d) (nested_lead n d w (omega (arith, le)) (omega (arith, le'))) k t.function.body.code inner start [])))
+
+pub nested_follows : NestedFollows
+nested_follows modules fx serves extra n d m le a code rest st stack =
+    code_leads modules fx n n (omega arith) (nested modules fx serves extra n d) (nested_lead modules fx serves extra n d n (omega arith) le) m code a rest st stack
+
+pub nested_runs : NestedRuns
+unfolding nested
+nested_runs modules fx serves extra n d m f le none t bytes =
+    let start : State = record { locals = (entered m t []).locals; bytes = bytes; out = [] } in
+    let first : Effect = calling modules fx extra n (suc (suc n)) m f t [] bytes [] in
+    let did : Effect = effect modules fx (n + extra m f) (nested modules fx serves extra n d) m t.function.body.code start [] in
+    subst (λ (b : Bool). RunLeads modules n (length t.type.results) (Going (store_of fx bytes) (entered m t []) []) (if b then first else did)) (sym none)
+    (run_leads_from modules fx n m (length t.type.results) _ did
+    (body_leads modules fx (n + extra m f) n (omega arith) (nested modules fx serves extra n d) (nested_lead modules fx serves extra n d n (omega arith) le) m t.function.body.code (outermost (length t.type.results))
+    start []))

@@ -4,10 +4,10 @@ use Rattle.std.proofs.lemmas.List.{append-nil}
 use Rattle.std.proofs.lemmas.Bool.{cases_lt}
 use Rattle.wasm_tree.specs.declared.module.WModule.{WModule}
 use Rattle.wasm_tree.specs.Machine.{Config, Going, Over, Trapped, Progress, reduce, run}
-use Rattle.wasm_effect.specs.Effect.{Effect, FellThrough, Branched, Returned, Ended, Traps, StillRunning, calling}
-use Rattle.wasm_effect.specs.Laws.{after, Reaches, GoesOn, RunLeads, comes, shown, IsOver, Only, Prints}
+use Rattle.wasm_effect.specs.Effect.{Effect, FellThrough, Branched, Returned, Ended, Traps, StillRunning, calling, nested}
+use Rattle.wasm_effect.specs.Laws.{after, Reaches, GoesOn, RunLeads, comes, shown, IsOver, Only, Prints, NestedOnly, NestedPrints}
 use Rattle.wasm_effect.proofs.Reaching.{run-add, got}
-use Rattle.wasm_effect.proofs.Follows.{runs}
+use Rattle.wasm_effect.proofs.Follows.{runs, nested_runs}
 
 module _ (modules : List WModule) where
   stays : (d : Config) → IsOver d → (i : ℕ) → run modules i d ≡ got d []
@@ -74,3 +74,11 @@ run_only modules fx extra m f t bytes j d out o p =
 pub run_prints : Prints
 run_prints modules fx extra m f t bytes j =
     prints modules (length t.type.results) j _ (calling modules fx extra j (suc j) m f t [] bytes []) (runs modules fx extra j m f t bytes)
+
+pub nested_only : NestedOnly
+nested_only modules fx serves extra d m f none t bytes j le end out o p =
+    only modules (length t.type.results) j _ end out (nested modules fx serves extra j (suc d) m f t [] bytes []) o p (nested_runs modules fx serves extra j d m f le none t bytes)
+
+pub nested_prints : NestedPrints
+nested_prints modules fx serves extra d m f none t bytes j le =
+    prints modules (length t.type.results) j _ (nested modules fx serves extra j (suc d) m f t [] bytes []) (nested_runs modules fx serves extra j d m f le none t bytes)

@@ -1,6 +1,6 @@
 -- What nested code of a module does, as a function: each loop is begun at most n times, and calls nest at most n deep.
 -- The loops of a function may be given more turns.
-use Rattle.std.specs.Prelude.{ℕ, zero, suc, ◌+◌, ◌==◌, List, [], ◌∷◌, ◌++◌, length, map, slice_index_or, Option, Some, None, if◌then◌else◌}
+use Rattle.std.specs.Prelude.{ℕ, zero, suc, ◌+◌, ◌==◌, Bool, List, [], ◌∷◌, ◌++◌, length, map, slice_index_or, Option, Some, None, if◌then◌else◌}
 use Rattle.wasm_tree.specs.declared.instr.Instr.{Instr, Instr-F, map-Instr, fold-Instr}
 use Rattle.wasm_tree.specs.declared.instr.Instr.TheOpen as layer
 use Rattle.wasm_tree.specs.declared.instr.Instr.TheVariants.{Unreachable}
@@ -169,3 +169,10 @@ module _ (modules : List WModule) (fx : Fixed) where
   calling extra n zero k f t args bytes out = StillRunning out
   calling extra n (suc d) k f t args bytes out =
       effect (n + extra k f) (calling extra n d) k t.function.body.code (record { locals = (entered k t args).locals; bytes = bytes; out = out }) []
+
+  -- Calls that nest at most d deep, where functions that serve the others do not count. These call as deep as they need to.
+  unfoldable pub nested : (serves : (k f : ℕ) → Bool) (extra : (k f : ℕ) → ℕ) (n d : ℕ) → Calling
+  nested serves extra n zero k f t args bytes out = if serves k f then calling extra n (suc (suc n)) k f t args bytes out else StillRunning out
+  nested serves extra n (suc d) k f t args bytes out =
+      if serves k f then calling extra n (suc (suc n)) k f t args bytes out
+      else effect (n + extra k f) (nested serves extra n d) k t.function.body.code (record { locals = (entered k t args).locals; bytes = bytes; out = out }) []

@@ -1,11 +1,11 @@
 -- The machine does what the effect of the code says.
-use Rattle.std.specs.Prelude.{◌≡◌, ℕ, zero, suc, ◌≤◌, List, [], ◌++◌, length, nat_le, Option, Some, None, if◌then◌else◌}
+use Rattle.std.specs.Prelude.{◌≡◌, ℕ, zero, suc, ◌≤◌, Bool, false, List, [], ◌++◌, length, nat_le, Option, Some, None, if◌then◌else◌}
 use Rattle.wasm_tree.specs.declared.instr.Instr.{Instr}
 use Rattle.wasm_tree.specs.declared.module.WModule.{WModule}
 use Rattle.wasm_tree.specs.declared.store.Value.{Value}
 use Rattle.wasm_tree.specs.declared.store.Store.{Store}
 use Rattle.wasm_tree.specs.Machine.{Label, Activation, Config, Going, Over, Trapped, Progress, Typed, entered, found, branched, run}
-use Rattle.wasm_effect.specs.Effect.{Fixed, State, store_of, Effect, FellThrough, Branched, Returned, Ended, Traps, StillRunning, effect, calling}
+use Rattle.wasm_effect.specs.Effect.{Fixed, State, store_of, Effect, FellThrough, Branched, Returned, Ended, Traps, StillRunning, effect, calling, nested}
 
 -- what stands around the code that runs: how many results its function has, the labels, and the callers
 pub record Around : Type 0 where
@@ -104,3 +104,27 @@ abbrev pub Prints : Type 0
 Prints =
     (modules : List WModule) (fx : Fixed) (extra : (k f : ℕ) → ℕ) (m f : ℕ) (t : Typed) (bytes : List ℕ) (j : ℕ)
     → (rest : List ℕ) × (shown (calling modules fx extra j (suc j) m f t [] bytes []) ≡ (run modules j (Going (store_of fx bytes) (entered m t []) [])).1 ++ rest)
+
+-- ---- where some functions serve the others
+
+abbrev pub NestedFollows : Type 0
+NestedFollows =
+    (modules : List WModule) (fx : Fixed) (serves : (k f : ℕ) → Bool) (extra : (k f : ℕ) → ℕ) (n d m : ℕ) → n ≤ d → (a : Around) (code rest : List Instr) (st : State) (stack : List Value)
+    → Leads modules fx n m a rest (at fx m a (code ++ rest) st stack) st.out (effect modules fx n (nested modules fx serves extra n d) m code st stack)
+
+-- a run that begins in a function that does not serve
+abbrev pub NestedRuns : Type 0
+NestedRuns =
+    (modules : List WModule) (fx : Fixed) (serves : (k f : ℕ) → Bool) (extra : (k f : ℕ) → ℕ) (n d m f : ℕ) → n ≤ d → serves m f ≡ false → (t : Typed) (bytes : List ℕ)
+    → RunLeads modules n (length t.type.results) (Going (store_of fx bytes) (entered m t []) []) (nested modules fx serves extra n (suc d) m f t [] bytes [])
+
+abbrev pub NestedOnly : Type 0
+NestedOnly =
+    (modules : List WModule) (fx : Fixed) (serves : (k f : ℕ) → Bool) (extra : (k f : ℕ) → ℕ) (d m f : ℕ) → serves m f ≡ false → (t : Typed) (bytes : List ℕ) (j : ℕ) → j ≤ d → (end : Config) (out : List ℕ)
+    → IsOver end → run modules j (Going (store_of fx bytes) (entered m t []) []) ≡ (end, out)
+    → comes (length t.type.results) (nested modules fx serves extra j (suc d) m f t [] bytes []) ≡ Some (end, out)
+
+abbrev pub NestedPrints : Type 0
+NestedPrints =
+    (modules : List WModule) (fx : Fixed) (serves : (k f : ℕ) → Bool) (extra : (k f : ℕ) → ℕ) (d m f : ℕ) → serves m f ≡ false → (t : Typed) (bytes : List ℕ) (j : ℕ) → j ≤ d
+    → (rest : List ℕ) × (shown (nested modules fx serves extra j (suc d) m f t [] bytes []) ≡ (run modules j (Going (store_of fx bytes) (entered m t []) [])).1 ++ rest)

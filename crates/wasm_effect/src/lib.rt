@@ -6,7 +6,7 @@
 //! - `specs/Laws` says how the machine's run follows it; `proofs/Steps` has one equation for each instruction.
 #![tactic(auto)]
 
-ghost use Rattle.wasm_effect.specs.Laws.{Follows, Runs, Only, Prints};
+ghost use Rattle.wasm_effect.specs.Laws.{Follows, NestedFollows, NestedOnly, NestedPrints, NestedRuns, Only, Prints, Runs};
 
 /// The machine does what the effect of the code says, and nothing else.
 pub fn effect_laws()
@@ -18,4 +18,9 @@ pub fn effect_laws()
     ensures only { Only }
     // What a run has printed is a beginning of what the effect prints.
     ensures prints { Prints }
+    // The same where the calls of some functions, which serve the others, do not count.
+    ensures nested_follows { NestedFollows }
+    ensures nested_runs { NestedRuns }
+    ensures nested_only { NestedOnly }
+    ensures nested_prints { NestedPrints }
 {}

@@ -1,0 +1,5 @@
+pub mod Values
+pub mod Copies
+pub mod Slots
+pub mod Passes
+pub mod Called
