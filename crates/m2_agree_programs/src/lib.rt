@@ -1,0 +1,14 @@
+//! Why the linked modules of a program do what the program does, where the functions of its bodies do what their statements
+//! do. There is no code here but what names the laws.
+//!
+//! - `specs/Behaves` says what it is for a machine's run to be that of a program.
+//! - `specs/Bodies` says when the function of a body does what the definition of a run says of it.
+#![tactic(auto)]
+
+ghost use Rattle.m2_agree_programs.specs.Bodies.{BodiesBehave};
+
+/// Link's run calls the bodies in start order. Where each does what its statements do, the whole run ends as the program's
+/// run does, goes on as it does, and prints the same.
+pub fn program_laws()
+    ensures { BodiesBehave }
+{}
