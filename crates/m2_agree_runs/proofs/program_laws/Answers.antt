@@ -1,6 +1,6 @@
-use Rattle.m2_agree_programs.proofs.Bodies.{bodies_behave}
-use Rattle.m2_agree_programs.proofs.Programs.{program_behaves}
-use Rattle.m2_agree_programs.proofs.program_laws.Goals as goal
+use Rattle.m2_agree_runs.proofs.Bodies.{bodies_behave}
+use Rattle.m2_agree_runs.proofs.Programs.{program_behaves}
+use Rattle.m2_agree_runs.proofs.program_laws.Goals as goal
 
 pub returns-clause-bodies : goal.returns-clause-bodies
 returns-clause-bodies c = bodies_behave

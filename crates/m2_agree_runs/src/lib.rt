@@ -6,8 +6,8 @@
 //! - `specs/Bodies` says when the function of a body does what the definition of a run says of it.
 #![tactic(auto)]
 
-ghost use Rattle.m2_agree_programs.specs.Bodies.{BodiesBehave};
-ghost use Rattle.m2_agree_programs.specs.Programs.{ProgramBehaves};
+ghost use Rattle.m2_agree_runs.specs.Bodies.{BodiesBehave};
+ghost use Rattle.m2_agree_runs.specs.Programs.{ProgramBehaves};
 
 /// Link's run calls the bodies in start order. Where each does what its statements do, the whole run ends as the program's
 /// run does, goes on as it does, and prints the same.

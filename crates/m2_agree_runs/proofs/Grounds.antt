@@ -17,8 +17,8 @@ use Rattle.m2_cells.proofs.Worlds.{row_size}
 use Rattle.m2_cells.proofs.Frames.{zero_shows}
 use Rattle.m2_links.specs.Linked.{Program, bytes_in, image, text, variables}
 use Rattle.m2_links.proofs.Stores.{image_length, text_length}
-use Rattle.m2_agree_programs.specs.Bodies.{IsHeld}
-use Rattle.m2_agree_programs.specs.Programs.{module_type, first_bytes, ground, IsSound}
+use Rattle.m2_agree_runs.specs.Bodies.{IsHeld}
+use Rattle.m2_agree_runs.specs.Programs.{module_type, first_bytes, ground, IsSound}
 
 -- ---- the hidden room behind variables has no cell
 

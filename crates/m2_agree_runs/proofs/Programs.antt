@@ -10,11 +10,11 @@ use Rattle.m2_layout.specs.Sizes.{size}
 use Rattle.m2_helpers.specs.Bodies.{run_typed, bodies_code}
 use Rattle.m2_links.specs.Linked.{Program, all, bytes_in, image, begin, linked_store}
 use Rattle.m2_links.proofs.Placed.{modules_link}
-use Rattle.m2_agree_programs.specs.Bodies.{Ground}
-use Rattle.m2_agree_programs.specs.Programs.{ground, first_bytes, bodies_at, fixed, ProgramBehaves}
-use Rattle.m2_agree_programs.proofs.Bodies.{bodies_behave}
-use Rattle.m2_agree_programs.proofs.Grounds.{top_is, first_held}
-use Rattle.m2_agree_programs.proofs.Tabled.{link_calls, bodies_there}
+use Rattle.m2_agree_runs.specs.Bodies.{Ground}
+use Rattle.m2_agree_runs.specs.Programs.{ground, first_bytes, bodies_at, fixed, ProgramBehaves}
+use Rattle.m2_agree_runs.proofs.Bodies.{bodies_behave}
+use Rattle.m2_agree_runs.proofs.Grounds.{top_is, first_held}
+use Rattle.m2_agree_runs.proofs.Tabled.{link_calls, bodies_there}
 
 -- where link's run begins
 abbrev begins : Program → (pages : ℕ) → Config

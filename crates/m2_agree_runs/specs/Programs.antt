@@ -16,8 +16,8 @@ use Rattle.m2_scheme.specs.Functions.{module_function}
 use Rattle.m2_scheme.specs.Modules.{numbered, slots}
 use Rattle.m2_helpers.specs.Bodies.{BodyAt, body_type}
 use Rattle.m2_links.specs.Linked.{Program, IsLinkable, all, bytes_in, image, linked_store, text}
-use Rattle.m2_agree_programs.specs.Behaves.{Behaves}
-use Rattle.m2_agree_programs.specs.Bodies.{Ground, statements_do, AllDo}
+use Rattle.m2_agree_runs.specs.Behaves.{Behaves}
+use Rattle.m2_agree_runs.specs.Bodies.{Ground, statements_do, AllDo}
 
 -- ---- the memory
 

@@ -18,8 +18,8 @@ use Rattle.m2_meaning.specs.Runs.{storage, body_frame, bodies, first_state, then
 use Rattle.m2_meaning.specs.Runs as runs
 use Rattle.m2_helpers.specs.Bodies.{BodyAt, AreThere, bodies_do, run_typed}
 use Rattle.m2_helpers.proofs.Bodies.{bodies_called}
-use Rattle.m2_agree_programs.specs.Behaves.{Behaves, printed}
-use Rattle.m2_agree_programs.specs.Bodies.{Ground, IsHeld, IsBack, BodyEnds, BodyDoes, statements_do, AllDo, BodiesBehave}
+use Rattle.m2_agree_runs.specs.Behaves.{Behaves, printed}
+use Rattle.m2_agree_runs.specs.Bodies.{Ground, IsHeld, IsBack, BodyEnds, BodyDoes, statements_do, AllDo, BodiesBehave}
 
 -- ---- the run of the bodies is that of the program
 

@@ -20,7 +20,7 @@ use Rattle.m2_helpers.specs.Bodies.{BodyAt, IsThere, AreThere, bodies_code}
 use Rattle.m2_links.specs.Linked.{Program, all, count, values, own_from, somes_from, owns, filled, link_instance, link_values, slots_in}
 use Rattle.m2_links.proofs.Stores.{counts, global_place, slot_is, slots_more}
 use Rattle.m2_links.proofs.Placed.{enough}
-use Rattle.m2_agree_programs.specs.Programs.{body_typed, bodies_at, fixed}
+use Rattle.m2_agree_runs.specs.Programs.{body_typed, bodies_at, fixed}
 
 -- ---- link's code
 

@@ -16,7 +16,7 @@ use Rattle.m2_meaning.specs.Calls.{body_does, calling}
 use Rattle.m2_meaning.specs.Runs.{storage, body_frame, around_body, first_state, run}
 use Rattle.m2_cells.specs.Relation.{Holds}
 use Rattle.m2_helpers.specs.Bodies.{BodyAt, AreThere, run_typed}
-use Rattle.m2_agree_programs.specs.Behaves.{Behaves}
+use Rattle.m2_agree_runs.specs.Behaves.{Behaves}
 
 -- ---- one body
 
