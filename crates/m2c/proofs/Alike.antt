@@ -18,7 +18,8 @@ use Rattle.m2_scheme.specs.Modules.{typed_link}
 use Rattle.m2_read.specs.declared.file.SourceFile.{SourceFile}
 use Rattle.m2c.specs.declared.files.Outcome.{Outcome}
 use Rattle.m2c.specs.declared.files.Outcome.TheVariants as outcome
-use Rattle.m2c.specs.Modules.{needed_of, IsTyped, AreTyped}
+use Rattle.m2_jobs.specs.Spelled.{needed_of}
+use Rattle.m2c.specs.Modules.{IsTyped, AreTyped}
 use Rattle.m2c.specs.Build.{Told, told, told_at, AreTold, refused_of, refused_by, built_of, named, modules, data_and_stack, program_file, AreUnread, AreUngraphed, AreUncompiled, HaveGraph, IsTooLarge, IsProgram, IsBuilt, AreAlike}
 use Rattle.m2c.proofs.Same.{same_refused, one_trees, trees_or_refused}
 use Rattle.m2c.proofs.Ranks.{one_order}
@@ -129,7 +130,7 @@ module _ (files : List SourceFile) (pages : ℕ) where
   both_built : (link other : List ℕ) (built others : List (List ℕ × List ℕ)) → IsProgram files pages link built → IsProgram files pages other others → (link ≡ other) × (built ≡ others)
   both_built link other built others p q =
       let same : p.program ≡ q.program = typed_same files p.trees q.trees p.numbers q.numbers p.all_jobs q.all_jobs p.starts q.starts p.graph q.graph p.program q.program p.typed q.typed in
-      (p.code.link_bytes ∙ ap (λ (x : Modules). module_spelling (typed_link x pages)) same ∙ sym q.code.link_bytes, p.code.body_bytes ∙ ap (map built_of) same ∙ sym q.code.body_bytes)
+      (p.code.link_spelled.spelling ∙ ap (λ (x : Modules). module_spelling (typed_link x pages)) same ∙ sym q.code.link_spelled.spelling, p.code.body_bytes ∙ ap (map built_of) same ∙ sym q.code.body_bytes)
 
 pub one_built : (files : List SourceFile) (pages : ℕ) (o p : Outcome) → IsBuilt files pages o → IsBuilt files pages p → AreAlike o p
 one_built files pages (outcome.Refused rs) (outcome.Refused qs) a b = both_refused files pages rs qs a b

@@ -4,7 +4,7 @@ use Rattle.std.specs.Prelude.{All, slice_get}
 use Rattle.std.specs.Option.{option_and_then}
 use Rattle.std.specs.Borrow.{Bor}
 use Rattle.m2_tree.specs.declared.decl.Module.{Module}
-use Rattle.wasm_binary.specs.Binary.{module_spelling}
+use Rattle.wasm_binary.specs.Binary.{module_spelling, Spells}
 use Rattle.m2_graph.specs.Graph.{IsGraph}
 use Rattle.m2_graph.specs.Jobs.{ArePlaces, place_of, number_of}
 use Rattle.m2_graph_laws.specs.Started.{AreStarted}
@@ -17,6 +17,7 @@ use Rattle.m2_scheme.specs.Modules.{Part, typed_module, typed_link, part_of, lin
 use Rattle.m2_emit.specs.declared.emitted.ModuleBytes.{ModuleBytes}
 use Rattle.m2_emit.specs.Emitted.{emitted, parts}
 use Rattle.m2_headline.specs.Headline.{Keeps}
+use Rattle.m2_headline.specs.Headline as headline
 use Rattle.m2_headline.specs.Proved.{IsName, HaveNames, names}
 use Rattle.m2_headline.proofs.Kept.{module_bytes, scheme_keeps}
 use Rattle.m2_read.specs.declared.file.SourceFile.{SourceFile}
@@ -26,11 +27,20 @@ use Rattle.m2_jobs.proofs.Rounds.{jobs_count}
 use Rattle.m2_jobs.specs.Lent.{lent, modules_lent}
 use Rattle.m2c.specs.Modules.{result_of, module_in, modules_at}
 use Rattle.m2c.specs.Build.{Told, AreTold, told_at, built_of, named_bytes, modules, refusal_in, refused_from, refused_by, started, data_and_stack, program_file, HaveGraph, IsTooLarge, IsProgram}
-use Rattle.m2c.proofs.Programs.{AreBuilt, all_built, distinct_all, count_all}
+use Rattle.m2_jobs.specs.Spelled.{AreSpelled}
+use Rattle.m2c.proofs.Programs.{AreFit, AreBuilt, all_built, distinct_all, count_all}
+
+-- the bytes of modules that have spellings spell them
+pub all_spelled : (p : Modules) → AreFit p → headline.AreSpelled (map module_bytes (map typed_module p)) (map typed_module p)
+all_spelled [] f = tt
+all_spelled (m ∷ ms) f = (record { fits = f.0; spelling = refl }, all_spelled ms f.1)
 
 pub same_modules : (trees : List (Bor (List ℕ) × Bor Module)) → modules_lent trees ≡ modules (lent trees)
 same_modules [] = refl
 same_modules (t ∷ ts) = ap (λ (ms : List Module). t.1.now ∷ ms) (same_modules ts)
+
+pub spelled_lent : (trees : List (Bor (List ℕ) × Bor Module)) (numbers : List ℕ) (jobs : List (List ℕ)) → AreSpelled (modules_lent trees) numbers jobs → AreSpelled (modules (lent trees)) numbers jobs
+spelled_lent trees numbers jobs h = subst (λ (ms : List Module). AreSpelled ms numbers jobs) (same_modules trees) h
 
 abbrev bytes_of : TypedModule → List ℕ
 bytes_of m = module_spelling (typed_module m)
@@ -94,7 +104,7 @@ module _ (trees : List (Bor (List ℕ) × Bor Module)) (numbers : List ℕ) (job
 
 -- ---- the program
 
-module _ (files : List SourceFile) (fs : List (List ℕ × Module)) (numbers : List ℕ) (jobs : List (List ℕ)) (starts : List ℕ) (have : HaveGraph files fs numbers jobs starts) (none : refused_by fs numbers jobs ≡ []) where
+module _ (files : List SourceFile) (fs : List (List ℕ × Module)) (numbers : List ℕ) (jobs : List (List ℕ)) (starts : List ℕ) (have : HaveGraph files fs numbers jobs starts) (none : refused_by fs numbers jobs ≡ []) (spelled : AreSpelled (modules fs) numbers jobs) where
   pub as_many : length numbers ≡ length jobs
   as_many = jobs_count _ numbers jobs starts have.is_graph
 
@@ -104,11 +114,11 @@ module _ (files : List SourceFile) (fs : List (List ℕ × Module)) (numbers : L
   abbrev those : List ModuleBytes
   those = started fs numbers jobs starts
 
-  abbrev pub whole : AreBuilt fs numbers jobs have.each as_many none starts
-  whole = all_built fs numbers jobs have.each as_many none starts are
+  abbrev pub whole : AreBuilt fs numbers jobs have.each as_many none spelled starts
+  whole = all_built fs numbers jobs have.each as_many none spelled starts are
 
   pub program_count : length those ≤ 1024
-  program_count = omega (arith, count_all fs numbers jobs have.each as_many none starts are, ap length whole.are, length-map whole.program emitted)
+  program_count = omega (arith, count_all fs numbers jobs have.each as_many none spelled starts are, ap length whole.are, length-map whole.program emitted)
 
   pub data_is : stack_begin (parts those) + 4096 ≡ data_and_stack whole.program
   data_is = ap (λ (ms : List ModuleBytes). stack_begin (parts ms) + 4096) whole.are ∙ ap (λ (ps : List Part). stack_begin ps + 4096) (parts_emitted whole.program)
@@ -116,18 +126,19 @@ module _ (files : List SourceFile) (fs : List (List ℕ × Module)) (numbers : L
   has_names : All IsName (map (λ m. m.name) those) → HaveNames whole.program
   has_names h = record {
     are_names = subst (All IsName) (ap (λ (ms : List ModuleBytes). map (λ m. m.name) ms) whole.are ∙ names_emitted whole.program) h;
-    distinct = distinct_all fs numbers jobs have.each as_many none starts are;
-    count = count_all fs numbers jobs have.each as_many none starts are;
+    distinct = distinct_all fs numbers jobs have.each as_many none spelled starts are;
+    count = count_all fs numbers jobs have.each as_many none spelled starts are;
   }
 
   -- what is built is the program
   pub is_program : (pages : ℕ) → 1 ≤ pages → pages ≤ 1024 → stack_begin (parts those) + 4096 ≤ 65536 * pages → All IsName (map (λ m. m.name) those) → (link : List ℕ) (built : List (List ℕ × List ℕ))
-      → link ≡ module_spelling (link_of (parts those) pages) → built ≡ map named_bytes those → IsProgram files pages link built
+      → Spells link (link_of (parts those) pages) → built ≡ map named_bytes those → IsProgram files pages link built
   is_program pages least most fits named link built link_is built_are =
       let p : Modules = whole.program in
-      let link_whole : link ≡ module_spelling (typed_link p pages) =
-      link_is ∙ ap (λ (ms : List ModuleBytes). module_spelling (link_of (parts ms) pages)) whole.are ∙ ap (λ (ps : List Part). module_spelling (link_of ps pages)) (parts_emitted p)
+      let link_spelled : Spells link (typed_link p pages) =
+      subst (λ (ps : List Part). Spells link (link_of ps pages)) (parts_emitted p) (subst (λ (ms : List ModuleBytes). Spells link (link_of (parts ms) pages)) whole.are link_is)
       in
+      let link_whole : link ≡ module_spelling (typed_link p pages) = link_spelled.spelling in
       let built_whole : built ≡ map built_of p = built_are ∙ ap (map named_bytes) whole.are ∙ named_emitted p in
       let codes : map (λ m. m.1) built ≡ map module_bytes (map typed_module p) = ap (λ (ms : List (List ℕ × List ℕ)). map (λ m. m.1) ms) built_whole ∙ seconds p in record {
         trees = fs;
@@ -139,7 +150,11 @@ module _ (files : List SourceFile) (fs : List (List ℕ × Module)) (numbers : L
         program = p;
         typed = whole.typed;
         fits = subst (λ (n : ℕ). n ≤ 65536 * pages) data_is fits;
-        code = record { link_bytes = link_whole; body_bytes = built_whole };
+        code = record {
+          link_spelled = link_spelled;
+          body_bytes = built_whole;
+          spelled = subst (λ (bs : List (List ℕ)). headline.AreSpelled bs (map typed_module p)) (sym codes) (all_spelled p whole.fit);
+        };
         keeps = λ h. subst (λ (l : List ℕ). Keeps p pages l (map (λ m. m.1) built)) (sym link_whole)
             (subst (λ (ms : List (List ℕ)). Keeps p pages (module_spelling (typed_link p pages)) ms) (sym codes) (scheme_keeps p pages h (has_names named) least most));
       }

@@ -12,6 +12,7 @@ use Rattle.m2_tree.specs.declared.decl.Contents.{Contents}
 use Rattle.m2_tree.specs.declared.decl.Contents.TheVariants as contents
 use Rattle.m2_tree.specs.declared.decl.Module.{Module}
 use Rattle.wasm_tree.specs.Validity.{AreDistinct}
+use Rattle.wasm_binary.specs.Binary.{module_fits}
 use Rattle.m2_graph.specs.Files.{numbered}
 use Rattle.m2_graph.specs.Graph.{CompileEach}
 use Rattle.m2_graph.specs.Imports.{is_definition, is_definition_part}
@@ -28,6 +29,7 @@ use Rattle.m2_layout.specs.Layouts.{too_large}
 use Rattle.m2_emit.specs.declared.emitted.ModuleBytes.{ModuleBytes}
 use Rattle.m2_emit.specs.Emitted.{emitted}
 use Rattle.m2_meaning.specs.Around.{Modules}
+use Rattle.m2_scheme.specs.Modules.{typed_module}
 use Rattle.m2_headline.specs.Proved as proved
 use Rattle.m2_types.specs.Importing.{numbered_modules}
 use Rattle.m2_types.specs.Predeclared.{first_scope}
@@ -41,7 +43,9 @@ use Rattle.m2_compile.specs.declared.outcome.Compiled.{Compiled}
 use Rattle.m2_compile.specs.declared.outcome.Compiled.TheVariants.{Built}
 use Rattle.m2_compile.specs.Own.{own_table, tables_behind}
 use Rattle.m2_compile.specs.Compiling.{is_sound, tables_of, of_fit, of_checked, of_contents, typed_body, compiled}
+use Rattle.m2_compile.specs.Spelled.{IsSpelled, fit_spelled, checked_spelled, contents_spelled}
 use Rattle.m2_jobs.specs.Jobs.{compiled_in}
+use Rattle.m2_jobs.specs.Spelled.{spelled_in, AreSpelled}
 use Rattle.m2c.specs.Modules.{module_in, modules_at, IsTyped, AreTyped}
 use Rattle.m2c.specs.Build.{modules, refused_by, result_at}
 use Rattle.m2c.proofs.EachOnce.{all_within, file_job, job_of}
@@ -78,29 +82,35 @@ typed_name n m ts t e = contents_name n m (own_table m ts) _ m.contents t e
 record IsBody (m : Module) (n : ℕ) (ts : List Table) (c : Compiled) : Type 0 where
   typed : TypedModule
   is : typed_body m n ts ≡ Ok typed
+  fits : module_fits (typed_module typed) ≡ true
   becomes : c ≡ Built (emitted typed)
 
-from_fit : (m : Module) (n : ℕ) (ts : List Table) (t : TypedModule) → typed_body m n ts ≡ Ok t → (o : Option Pos) → IsUnrefused (of_fit t o) → IsBody m n ts (of_fit t o)
-from_fit m n ts t e None h = record { typed = t; is = e; becomes = refl }
-from_fit m n ts t e (Some at) h = absurd (h _ refl)
+from_fit : (m : Module) (n : ℕ) (ts : List Table) (t : TypedModule) → typed_body m n ts ≡ Ok t → (o : Option Pos) → fit_spelled t o → IsUnrefused (of_fit t o) → IsBody m n ts (of_fit t o)
+from_fit m n ts t e None s h = record { typed = t; is = e; fits = s; becomes = refl }
+from_fit m n ts t e (Some at) s h = absurd (h _ refl)
 
-from_checked : (m : Module) (n : ℕ) (ts : List Table) (r : Result TypedModule Fault) → typed_body m n ts ≡ r → IsUnrefused (of_checked r) → IsBody m n ts (of_checked r)
-from_checked m n ts (Ok t) e h = from_fit m n ts t e (too_large t) h
-from_checked m n ts (Err f) e h = absurd (h f refl)
+from_checked : (m : Module) (n : ℕ) (ts : List Table) (r : Result TypedModule Fault) → typed_body m n ts ≡ r → checked_spelled r → IsUnrefused (of_checked r) → IsBody m n ts (of_checked r)
+from_checked m n ts (Ok t) e s h = from_fit m n ts t e (too_large t) s h
+from_checked m n ts (Err f) e s h = absurd (h f refl)
 
-from_contents : (m : Module) (n : ℕ) (ts : List Table) (c : Contents) → is_definition_part c ≡ false → IsUnrefused (of_contents m n ts c) → IsBody m n ts (of_contents m n ts c)
-from_contents m n ts (contents.Definition ds) is h = absurd (false≢true (sym is))
-from_contents m n ts (contents.Implementation b) is h = from_checked m n ts (typed_body m n ts) refl h
-from_contents m n ts (contents.Program b) is h = from_checked m n ts (typed_body m n ts) refl h
+from_contents : (m : Module) (n : ℕ) (ts : List Table) (c : Contents) → is_definition_part c ≡ false → contents_spelled m n ts c → IsUnrefused (of_contents m n ts c) → IsBody m n ts (of_contents m n ts c)
+from_contents m n ts (contents.Definition ds) is s h = absurd (false≢true (sym is))
+from_contents m n ts (contents.Implementation b) is s h = from_checked m n ts (typed_body m n ts) refl s h
+from_contents m n ts (contents.Program b) is s h = from_checked m n ts (typed_body m n ts) refl s h
 
-body_of : (m : Module) (n : ℕ) (others : List Compiled) → is_definition m ≡ false → list_all is_sound others ≡ true → IsUnrefused (compiled m n others) → IsBody m n (tables_of others) (compiled m n others)
-body_of m n others is sound h =
+body_of : (m : Module) (n : ℕ) (others : List Compiled) → is_definition m ≡ false → list_all is_sound others ≡ true → IsSpelled m n others → IsUnrefused (compiled m n others) → IsBody m n (tables_of others) (compiled m n others)
+body_of m n others is sound s h =
     let e = compiled_is m n others sound in
-    subst (IsBody m n (tables_of others)) (sym e) (from_contents m n (tables_of others) m.contents is (subst IsUnrefused e h))
+    subst (IsBody m n (tables_of others)) (sym e) (from_contents m n (tables_of others) m.contents is (s.spelled sound) (subst IsUnrefused e h))
 
 -- ---- all that start
 
-module _ (fs : List (List ℕ × Module)) (numbers : List ℕ) (jobs : List (List ℕ)) (each : CompileEach (numbered 0 fs) numbers) (same : length numbers ≡ length jobs) (none : refused_by fs numbers jobs ≡ []) where
+-- their modules have spellings
+abbrev pub AreFit : Modules → Type 0
+AreFit [] = Unit {0}
+AreFit (t ∷ ts) = (module_fits (typed_module t) ≡ true) × AreFit ts
+
+module _ (fs : List (List ℕ × Module)) (numbers : List ℕ) (jobs : List (List ℕ)) (each : CompileEach (numbered 0 fs) numbers) (same : length numbers ≡ length jobs) (none : refused_by fs numbers jobs ≡ []) (spelled : AreSpelled (modules fs) numbers jobs) where
   within : (j k : ℕ) → slice_get numbers j ≡ Some k → k < length fs
   within j k e = subst (λ (n : ℕ). n < length fs) (get_or_from_slice_get numbers j k 0 e) (all_within fs numbers each j 0 (slice_get_within numbers j k e))
 
@@ -115,6 +125,7 @@ module _ (fs : List (List ℕ × Module)) (numbers : List ℕ) (jobs : List (Lis
     typed : TypedModule
     is : IsTyped (modules fs) numbers jobs s typed
     name : typed.name ≡ m.name.name
+    fits : module_fits (typed_module typed) ≡ true
     becomes : result s ≡ Some (Built (emitted typed))
 
   start : (s : ℕ) (m : Module) → slice_get (modules fs) s ≡ Some m → is_definition m ≡ false → Starts m s
@@ -126,11 +137,13 @@ module _ (fs : List (List ℕ × Module)) (numbers : List ℕ) (jobs : List (Lis
       let its : one fs numbers jobs j.0 ≡ compiled m j.0 (needed fs numbers jobs j.0) = ap (λ (k : ℕ). compiled_in (slice_get (modules fs) k) j.0 (needed fs numbers jobs j.0)) place ∙ ap (λ (o : Option Module). compiled_in o j.0 (needed fs numbers jobs j.0)) is in
       let sound : list_all is_sound (needed fs numbers jobs j.0) ≡ true = all_sound fs numbers jobs each same none within there j.0 l in
       let fine : IsUnrefused (compiled m j.0 (needed fs numbers jobs j.0)) = subst IsUnrefused its (none_refused fs numbers jobs each same none within there j.0 l) in
-      let b = body_of m j.0 (needed fs numbers jobs j.0) body sound fine in
+      let s' : IsSpelled m j.0 (needed fs numbers jobs j.0) = subst (λ (o : Option Module). spelled_in o j.0 (needed fs numbers jobs j.0)) (ap (slice_get (modules fs)) place ∙ is) (spelled.each j.0 l) in
+      let b = body_of m j.0 (needed fs numbers jobs j.0) body sound s' fine in
       record {
         typed = b.typed;
         is = record { tree = m; is_tree = is; job = j.0; is_job = job_of fs numbers each j.0 s j.1; typed = b.is };
         name = typed_name j.0 m (tables_of (needed fs numbers jobs j.0)) b.typed b.is;
+        fits = b.fits;
         becomes = result_is fs numbers jobs each same j.0 s j.1 ∙ ap (λ (c : Compiled). Some c) (its ∙ b.becomes);
       }
 
@@ -141,10 +154,11 @@ module _ (fs : List (List ℕ × Module)) (numbers : List ℕ) (jobs : List (Lis
     pub program : Modules
     pub typed : AreTyped (modules fs) numbers jobs starts program
     pub names : proved.names program ≡ names_of (at_places (modules fs) starts)
+    pub fit : AreFit program
     pub are : modules_at result starts ≡ map emitted program
 
   pub built_all : (starts : List ℕ) → All Within starts → All (λ m. is_definition m ≡ false) (at_places (modules fs) starts) → AreBuilt starts
-  built_all [] lt bodies = record { program = []; typed = tt; names = refl; are = refl }
+  built_all [] lt bodies = record { program = []; typed = tt; names = refl; fit = tt; are = refl }
   built_all (s ∷ ss) lt bodies =
       let t = some_at (modules fs) s (All-head Within s ss lt) in
       let m : Module = t.0 in
@@ -155,6 +169,7 @@ module _ (fs : List (List ℕ × Module)) (numbers : List ℕ) (jobs : List (Lis
       record {
         program = b.typed ∷ rest.program;
         typed = (b.is, rest.typed);
+        fit = (b.fits, rest.fit);
         names = ap (λ (n : List ℕ). n ∷ proved.names rest.program) b.name ∙ ap (λ (ns : List (List ℕ)). m.name.name ∷ ns) rest.names ∙ sym (ap (λ (ms : List Module). names_of ms) here);
         are = ap (λ (o : Option Compiled). module_in o ++ modules_at result ss) b.becomes ∙ ap (λ (ms : List ModuleBytes). emitted b.typed ∷ ms) rest.are;
       }
@@ -171,9 +186,9 @@ places_count trees (s ∷ ss) = by (slice_get trees s) refl (places_count trees 
     by None e le = rw e (omega (arith, le))
     by (Some m) e le = rw e (omega (arith, le))
 
-module _ (fs : List (List ℕ × Module)) (numbers : List ℕ) (jobs : List (List ℕ)) (each : CompileEach (numbered 0 fs) numbers) (same : length numbers ≡ length jobs) (none : refused_by fs numbers jobs ≡ []) (starts : List ℕ) (started : AreStarted (modules fs) starts) where
-  pub all_built : AreBuilt fs numbers jobs each same none starts
-  all_built = built_all fs numbers jobs each same none starts started.within started.bodies
+module _ (fs : List (List ℕ × Module)) (numbers : List ℕ) (jobs : List (List ℕ)) (each : CompileEach (numbered 0 fs) numbers) (same : length numbers ≡ length jobs) (none : refused_by fs numbers jobs ≡ []) (spelled : AreSpelled (modules fs) numbers jobs) (starts : List ℕ) (started : AreStarted (modules fs) starts) where
+  pub all_built : AreBuilt fs numbers jobs each same none spelled starts
+  all_built = built_all fs numbers jobs each same none spelled starts started.within started.bodies
 
   pub distinct_all : AreDistinct (proved.names all_built.program)
   distinct_all = subst AreDistinct (sym all_built.names) (apart_distinct (names_of (at_places (modules fs) starts)) started.distinct)

@@ -7,7 +7,7 @@ use Rattle.m2_tree.specs.declared.refusal.Refusal.{Refusal}
 use Rattle.m2_tree.specs.declared.decl.Contents.{Contents}
 use Rattle.m2_tree.specs.declared.decl.Contents.TheVariants as contents
 use Rattle.m2_tree.specs.declared.decl.Module.{Module}
-use Rattle.wasm_binary.specs.Binary.{module_spelling}
+use Rattle.wasm_binary.specs.Binary.{module_spelling, Spells}
 use Rattle.m2_graph.specs.declared.error.GraphError.TheVariants as graph_error
 use Rattle.m2_graph.specs.Files.{numbered}
 use Rattle.m2_graph.specs.Graph.{CompileEach, IsGraph, IsRefusal}
@@ -15,7 +15,7 @@ use Rattle.m2_typed.specs.declared.typed_module.TypedModule.{TypedModule}
 use Rattle.m2_meaning.specs.Around.{Modules}
 use Rattle.m2_scheme.specs.Modules.{typed_module, typed_link, part_of, stack_begin}
 use Rattle.m2_emit.specs.declared.emitted.ModuleBytes.{ModuleBytes}
-use Rattle.m2_headline.specs.Headline.{Keeps}
+use Rattle.m2_headline.specs.Headline.{AreSpelled, Keeps}
 use Rattle.m2_headline.specs.Proved.{AreProved}
 use Rattle.m2_read.specs.declared.file.SourceFile.{SourceFile}
 use Rattle.m2c.specs.declared.files.Outcome.{Outcome}
@@ -125,8 +125,9 @@ named m = (string_bytes m.0, m.1.items)
 
 -- the bytes of link, and in start order the name and the bytes of each module that is reached
 pub record IsCode (p : Modules) (pages : ℕ) (link : List ℕ) (built : List (List ℕ × List ℕ)) : Type 0 where
-  pub link_bytes : link ≡ module_spelling (typed_link p pages)
+  pub link_spelled : Spells link (typed_link p pages)
   pub body_bytes : built ≡ map built_of p
+  pub spelled : AreSpelled (map (λ m. m.1) built) (map typed_module p)
 
 -- ---- the answer
 

@@ -3,8 +3,6 @@ use Rattle.std.specs.Prelude.{◌≡◌, ℕ, List, [], ◌∷◌, Option, Some,
 use Rattle.std.specs.List.{flat_map}
 use Rattle.std.specs.Option.{option_and_then}
 use Rattle.m2_tree.specs.declared.decl.Module.{Module}
-use Rattle.m2_board.specs.Graph.{prerequisites_of}
-use Rattle.m2_worker.specs.Results.{results_below, picked}
 use Rattle.m2_graph.specs.Jobs.{number_of}
 use Rattle.m2_typed.specs.declared.typed_module.TypedModule.{TypedModule}
 use Rattle.m2_meaning.specs.Around.{Modules}
@@ -12,7 +10,7 @@ use Rattle.m2_emit.specs.declared.emitted.ModuleBytes.{ModuleBytes}
 use Rattle.m2_compile.specs.declared.outcome.Compiled.{Compiled}
 use Rattle.m2_compile.specs.declared.outcome.Compiled.TheVariants.{Defined, Built, Refused, Blocked}
 use Rattle.m2_compile.specs.Compiling.{tables_of, typed_body}
-use Rattle.m2_jobs.specs.Jobs.{compiled_at}
+use Rattle.m2_jobs.specs.Spelled.{needed_of}
 
 -- what became of the module of a file, where the file of each job is given by its place
 abbrev pub result_of : (files : List ℕ) → List Compiled → (file : ℕ) → Option Compiled
@@ -28,10 +26,6 @@ module_in None = []
 -- the modules of the bodies in these files
 abbrev pub modules_at : (result : ℕ → Option Compiled) → (starts : List ℕ) → List ModuleBytes
 modules_at result starts = flat_map (λ s. module_in (result s)) starts
-
--- what the prerequisites of a job came to
-abbrev pub needed_of : List Module → (files : List ℕ) → (jobs : List (List ℕ)) → (job : ℕ) → List Compiled
-needed_of trees files jobs job = picked (results_below jobs (compiled_at trees files) job) (prerequisites_of jobs job)
 
 -- the module of a file breaks no rule, and this is its body
 pub record IsTyped (trees : List Module) (files : List ℕ) (jobs : List (List ℕ)) (file : ℕ) (t : TypedModule) : Type 0 where

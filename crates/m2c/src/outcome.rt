@@ -8,6 +8,7 @@ ghost use Rattle.m2_graph.specs.Graph.{CompileEach};
 ghost use Rattle.m2_graph.specs.Jobs.{ArePlaces};
 ghost use Rattle.m2_jobs.specs.Jobs.{all_compiled};
 ghost use Rattle.m2_jobs.specs.Lent.{lent, modules_lent};
+ghost use Rattle.m2_jobs.specs.Spelled.{AreSpelled};
 ghost use Rattle.m2_read.specs.Reading.{AreRead};
 ghost use Rattle.m2c.specs.Limits.{max_pages};
 ghost use Rattle.m2c.specs.Build.{is_program_part, program_file, refused_by, started, told, told_at, AreTrees, HaveGraph, IsBuilt};
@@ -95,6 +96,8 @@ fn built(
         (map (λ j. j.items) graph.now.jobs.items) graph.now.starts.items }
     requires none { refused_by (lent trees.now) graph.now.files.items
         (map (λ j. j.items) graph.now.jobs.items) ≡ [] }
+    requires spelled { AreSpelled (modules_lent trees.now) graph.now.files.items
+        (map (λ j. j.items) graph.now.jobs.items) }
     requires modules { map (λ m. m.now) modules.now
         ≡ started (lent trees.now) graph.now.files.items
         (map (λ j. j.items) graph.now.jobs.items) graph.now.starts.items }
@@ -121,6 +124,8 @@ fn program(
         (map (λ j. j.items) graph.now.jobs.items) graph.now.starts.items }
     requires none { refused_by (lent trees.now) graph.now.files.items
         (map (λ j. j.items) graph.now.jobs.items) ≡ [] }
+    requires spelled { AreSpelled (modules_lent trees.now) graph.now.files.items
+        (map (λ j. j.items) graph.now.jobs.items) }
     requires modules { map (λ m. m.now) modules.now
         ≡ started (lent trees.now) graph.now.files.items
         (map (λ j. j.items) graph.now.jobs.items) graph.now.starts.items }
@@ -158,6 +163,8 @@ fn of_results(
     requires most { pages ≤ max_pages }
     requires graph { HaveGraph files.now (lent trees.now) graph.now.files.items
         (map (λ j. j.items) graph.now.jobs.items) graph.now.starts.items }
+    requires spelled { AreSpelled (modules_lent trees.now) graph.now.files.items
+        (map (λ j. j.items) graph.now.jobs.items) }
     requires results { results.now ≡ all_compiled (modules_lent trees.now) graph.now.files.items
         (map (λ j. j.items) graph.now.jobs.items) }
     ensures { IfOk result (IsBuilt files.now pages) }
