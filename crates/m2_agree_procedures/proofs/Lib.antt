@@ -1,3 +1,5 @@
 pub mod Rooms
 pub mod Steps
 pub mod Formals
+pub mod Formed
+pub mod Begins

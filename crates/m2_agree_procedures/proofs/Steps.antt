@@ -146,7 +146,7 @@ module _ (k : Scene) (set : IsSet k) (has : HasLimit k) (root top : ℕ) (F : Ty
 
   -- ---- the end of the storage
 
-  limit_run : (a : ℕ) (st : Target) (rest : List Instr) (stack : List Value) → st.out ≡ out → runs k (limit_check ++ rest) st (stack ++ I32 a ∷ []) ≡ (if nat_lt k.limit a then Ended 8 out else runs k rest st stack)
+  pub limit_run : (a : ℕ) (st : Target) (rest : List Instr) (stack : List Value) → st.out ≡ out → runs k (limit_check ++ rest) st (stack ++ I32 a ∷ []) ≡ (if nat_lt k.limit a then Ended 8 out else runs k rest st stack)
   limit_run a st rest stack shown =
       global_runs k.modules k.fixed k.turns (calls k) k.own (instr.Numeric (numeric.I32Relation GtU) ∷ instr.If None (fault 8) None ∷ rest) st 0 (I32 k.limit) (stack ++ I32 a ∷ []) (has.there st.bytes)
       ∙ number_runs k.modules k.fixed k.turns (calls k) k.own (instr.If None (fault 8) None ∷ rest) st (numeric.I32Relation GtU) ((stack ++ I32 a ∷ []) ++ I32 k.limit ∷ []) stack (I32 (truth (nat_lt k.limit a))) (two_32 stack a k.limit (λ n m. I32 (truth (compares w32 GtU n m))))
