@@ -291,12 +291,12 @@ one_count world x (ByArray is_var t) (Variable l) vs h = absurd h
 one_count world x (ByArray is_var t) (Whole l high) vs h = ap (λ (vs : List Value). length vs) h.3
 one_count world x (ByArray is_var t) (Text text) vs h = ap (λ (vs : List Value). length vs) h.4
 
-get_first : (vs ws : List Value) (j : ℕ) → j < length vs → slice_get (vs ++ ws) j ≡ slice_get vs j
+pub get_first : (vs ws : List Value) (j : ℕ) → j < length vs → slice_get (vs ++ ws) j ≡ slice_get vs j
 get_first [] ws j h = absurd (omega (arith, h))
 get_first (v ∷ vs) ws zero h = refl
 get_first (v ∷ vs) ws (suc j) h = get_first vs ws j (omega (arith, h))
 
-get_second : (vs ws : List Value) (j : ℕ) → slice_get (vs ++ ws) (length vs + j) ≡ slice_get ws j
+pub get_second : (vs ws : List Value) (j : ℕ) → slice_get (vs ++ ws) (length vs + j) ≡ slice_get ws j
 get_second [] ws j = ap (λ (n : ℕ). slice_get ws n) (none j)
   where
     none : (j : ℕ) → 0 + j ≡ j

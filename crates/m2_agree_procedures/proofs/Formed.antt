@@ -155,7 +155,7 @@ bytes_are world x true false t (Text text) vs h = one_row (length (passed text))
 bytes_are world x false true t (Text text) vs h = absurd h
 bytes_are world x false false t (Text text) vs h = absurd (value_text world x t text vs h)
 
-two_rows : (us vs : List Ty) → size (row (us ++ vs)) ≡ size (row us) + size (row vs)
+pub two_rows : (us vs : List Ty) → size (row (us ++ vs)) ≡ size (row us) + size (row vs)
 unfolding size
 two_rows [] vs = omega arith
 two_rows (u ∷ us) vs = let h = two_rows us vs in omega (arith, h)

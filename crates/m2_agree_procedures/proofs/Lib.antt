@@ -3,3 +3,4 @@ pub mod Steps
 pub mod Formals
 pub mod Formed
 pub mod Begins
+pub mod Routines

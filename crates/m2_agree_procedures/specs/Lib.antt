@@ -1,1 +1,2 @@
 pub mod Stage
+pub mod Laws
