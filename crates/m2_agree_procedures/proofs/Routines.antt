@@ -502,7 +502,8 @@ module _ (k : Scene) (p : Modules) (ask asks : Asks) (called : Calling) (numbere
           let here = body.executes world2 d.x' root body_around refl refl refl (set_at world2 d.x' root body_around refl) frames_of top_of' in
           let b : is_function m.types r ≡ is_some gives = (made_result m.types (made_at m.types r.heading)).1 in
           let goes : Ends K (is_function m.types r) 0 [] (λ st. runs K (end_code (is_some gives)) st []) (runs K after_forms d.st' []) (body_does p k.turns ask r.body body_around entered_state) =
-          here.goes 0 (from_text text) free_of full entered_state d.st' stands (end_code (is_some gives)) []
+          subst (λ (q : List Instr × Counts). HasLocals K q.1 → Ends K (is_function m.types r) 0 [] (λ st. runs K (end_code (is_some gives)) st []) (runs K (q.0 ++ end_code (is_some gives)) d.st' []) (body_does p k.turns ask r.body body_around entered_state)) body.same
+          (λ full'. here.goes 0 (from_text text) free_of full' entered_state d.st' stands (end_code (is_some gives)) []) full
           in
           let goes' = subst (λ (b : Bool). Ends K b 0 [] (λ st. runs K (end_code (is_some gives)) st []) (runs K after_forms d.st' []) (body_does p k.turns ask r.body body_around entered_state)) b goes in
           let came = ends_back K (helpers_at world2 d.x' root body_around) world x (F ∷ copies) joined older2 locals below gives refl (body_does p k.turns ask r.body body_around entered_state) (runs K after_forms d.st' []) (λ s'. body.stays body_around entered_state s') goes' in

@@ -18,9 +18,8 @@ use Rattle.m2_meaning.specs.Answer.{State as Source, Left}
 use Rattle.m2_meaning.specs.Around.{Modules, Around, Frames, Callee, Passed}
 use Rattle.m2_meaning.specs.Calls.{body_does, is_function, runs as asked_runs}
 use Rattle.m2_meaning.specs.Expressions.{Asks}
-use Rattle.m2_scheme.specs.Coded.{Counts}
+use Rattle.m2_scheme.specs.Coded.{Coded, Counts}
 use Rattle.m2_scheme.specs.Exprs.{Numbered, has_result}
-use Rattle.m2_scheme.specs.Steps.{body_code}
 use Rattle.m2_scheme.specs.Addresses.{addresses_in}
 use Rattle.m2_scheme.specs.Functions.{numbers_of, prologue, setting, from_text, locals_of, coded, end_code}
 use Rattle.m2_agree.specs.Scene.{Scene, HasHelpers, AreSmall, IsSet, Executes, runs}
@@ -87,11 +86,14 @@ pub record IsFunction (numbered : Numbered) (m : TypedModule) (r : Routine) (out
 
 -- the body does what the definition says, and EXIT does not leave it
 pub record DoesBody (k : Scene) (p : Modules) (ask : Asks) (numbered : Numbered) (m : TypedModule) (place : ℕ) (r : Routine) (outer : List Ty) (text : ℕ) (kss : List Kinds) (base : List Ty) (texts : Location → ℕ → ℕ) : Type 0 where
+  -- the code with its texts where they are
+  pub placed : Coded
+  pub same : placed (setting m (frame m.types r ∷ outer) (top_of m r) (addresses_in r.body)) (from_text text) ≡ coded_body numbered m r outer text
   pub executes : (world : List Ty) (x : Location → ℕ → ℕ) (root : ℕ) (a : Around) → a.types ≡ m.types → a.place ≡ place → a.withs ≡ []
       → IsSet (body_scene k m r outer (locals_in numbered m r outer text) world x root a)
       → HasFrames (body_scene k m r outer (locals_in numbered m r outer text) world x root a) (kinds_of m.types r ∷ kss)
       → HasTop (body_scene k m r outer (locals_in numbered m r outer text) world x root a) base texts
-      → Executes (body_scene k m r outer (locals_in numbered m r outer text) world x root a) (is_function m.types r) (body_code numbered r.body) (body_does p k.turns ask r.body)
+      → Executes (body_scene k m r outer (locals_in numbered m r outer text) world x root a) (is_function m.types r) placed (body_does p k.turns ask r.body)
   pub stays : (a : Around) (s s' : Source) → body_does p k.turns ask r.body a s ≡ Left s' → ⊥
 
 abbrev pub callee_of : (place : ℕ) → TypedModule → Routine → Frames → Callee
