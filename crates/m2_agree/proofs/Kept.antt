@@ -22,7 +22,7 @@ module _ (k : Scene) (function : Bool) where
   pub ends_forgets : (n : ℕ) (v : Value) → k.kept n ≡ None → (exit : ℕ) (stack : List Value) (on : Target → Effect) (r : Effect) (o : Outcome) → Ends (keeping k n v) function exit stack on r o → Ends k function exit stack on r o
   ends_forgets n v new exit stack on r (Went s) p = record { st = p.st; stands = forgets k n v new s p.st p.stands; run = p.run }
   ends_forgets n v new exit stack on r (Left s) p = record { st = p.st; stands = forgets k n v new s p.st p.stands; run = p.run }
-  ends_forgets n v new exit stack on r (Came w s) p = record { below = p.below; st = p.st; stands = forgets k n v new s p.st p.stands; run = p.run }
+  ends_forgets n v new exit stack on r (Came w s) p = record { below = p.below; st = p.st; stands = (forgets k n v new s p.st p.stands.0, p.stands.1); run = p.run }
   ends_forgets n v new exit stack on r (Stopped j out) p = p
   ends_forgets n v new exit stack on r (Unfinished out) p = p
 
@@ -116,7 +116,7 @@ module _ (k : Scene) (function : Bool) (w : ℕ) (l : Location) where
   ends_closed : (exit : ℕ) (stack : List Value) (on : Target → Effect) (r : Effect) (o : Outcome) → Ends inside_it function exit stack on r o → Ends around_it function exit stack on r o
   ends_closed exit stack on r (Went s) p = record { st = p.st; stands = closed_stands s p.st p.stands; run = p.run }
   ends_closed exit stack on r (Left s) p = record { st = p.st; stands = closed_stands s p.st p.stands; run = p.run }
-  ends_closed exit stack on r (Came v s) p = record { below = p.below; st = p.st; stands = closed_stands s p.st p.stands; run = p.run }
+  ends_closed exit stack on r (Came v s) p = record { below = p.below; st = p.st; stands = (closed_stands s p.st p.stands.0, p.stands.1); run = p.run }
   ends_closed exit stack on r (Stopped j out) p = p
   ends_closed exit stack on r (Unfinished out) p = p
 

@@ -107,10 +107,13 @@ module _ (k : Scene) (function : Bool) where
     goes = λ e c free full s st h rest stack. record {
       below = stack;
       st = st;
-      stands = h;
+      stands = (h, λ gives. absurd (true_false (sym gives ∙ proper)));
       run = return_runs k.modules k.fixed k.turns (calls k) k.own rest st stack ∙ ap (λ (b : Bool). Returned st (returned b stack (pos 0))) (sym proper);
     };
   }
+    where
+      true_false : true ≡ false → ⊥
+      true_false e = cc e
 
   -- ---- what is done with a value
 

@@ -53,7 +53,7 @@ module _ (k : Scene) (has : HasHelpers k) (small : AreSmall k.setting.home.types
       ∙ operation_runs k has small Sub (word v) (word l) (cells.lowered (Between l g) (word v)) (instr.Store (width_room (room_of (Between l g))) ∷ rest) st (stack ++ I32 a ∷ []) refl
       ∙ store_one (room_of (Between l g)) a (cells.lowered (Between l g) (word v)) rest st stack fits
 
-  scalar_stores : (c : Scalar) (v : ℤ) (a : ℕ) (rest : List Instr) (st : Target) (stack : List Value) → IsWide v → a + width c ≤ length st.bytes
+  pub scalar_stores : (c : Scalar) (v : ℤ) (a : ℕ) (rest : List Instr) (st : Target) (stack : List Value) → IsWide v → a + width c ≤ length st.bytes
       → runs k (store_scalar c ++ rest) st ((stack ++ I32 a ∷ []) ++ I64 (word v) ∷ []) ≡ runs k rest (put c a v st) stack
   scalar_stores (Natural g) v a rest st stack w fits = store_one (room_of (Natural g)) a (word v) rest st stack fits
   scalar_stores Integer v a rest st stack w fits = store_one (room_of Integer) a (word v) rest st stack fits

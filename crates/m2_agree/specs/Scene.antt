@@ -39,6 +39,7 @@ pub record Scene : Type 0 where
   pub extra : (k f : ℕ) → ℕ
   pub turns : ℕ
   pub functions : Calling  -- what calls of functions do
+  pub result : Option Range  -- the range of the function's values
   pub around : Around
   pub setting : Setting
   pub world : List Ty  -- the types of the instances that live
@@ -291,7 +292,7 @@ returned false below v = below
 pub record Returns (k : Scene) (function : Bool) (v : ℤ) (s : Source) (r : Effect) : Type 0 where
   pub below : List Value
   pub st : Target
-  pub stands : Stands k s st
+  pub stands : Stands k s st × (function ≡ true → IsIn k.result v)
   pub run : r ≡ does.Returned st (returned function below v)
 
 -- What is on goes on, EXIT branches to its label, RETURN returns, and all else ends alike.

@@ -49,7 +49,7 @@ row_component [] i kind p e = absurd (none_some kind e)
 row_component (k ∷ ks) zero kind p e = ap (λ (k : Kind). component (kind_tree k) p) (some_same k kind e)
 row_component (k ∷ ks) (suc i) kind p e = row_component ks i kind p e
 
-frame_component : (ks : Kinds) (i : ℕ) (kind : Kind) (p : Location) → slice_get ks i ≡ Some kind → component (frame_kinds ks) (suc i ∷ p) ≡ component (kind_tree kind) p
+pub frame_component : (ks : Kinds) (i : ℕ) (kind : Kind) (p : Location) → slice_get ks i ≡ Some kind → component (frame_kinds ks) (suc i ∷ p) ≡ component (kind_tree kind) p
 unfolding component
 frame_component ks i kind p e = row_component ks i kind p e
 

@@ -101,11 +101,11 @@ procedure_values k set p ask f has none =
     }))
 
 pub results : Results
-results k t e value he =
+results k t e value range he =
     value_executes k true t e (plain (instr.Return ∷ [])) (instr.Return ∷ []) value (λ v a s. Came v s) he (λ e c. refl)
     (λ v is e s st h rest stack. record {
       below = stack;
       st = st;
-      stands = h;
+      stands = (h, λ gives. subst (λ (o : Option Range). IsIn o v) range is);
       run = return_runs k.modules k.fixed k.turns (calls k) k.own rest st (stack ++ I64 (word v) ∷ []);
     })

@@ -79,7 +79,7 @@ Strings =
 -- RETURN with a value
 abbrev pub Gives : Type 0
 Gives =
-    (k : Scene) (t : TypeNo) (e : Coded) (value : Given ℤ) → Agrees k t e value
+    (k : Scene) (t : TypeNo) (e : Coded) (value : Given ℤ) → scalar_at k.setting.home.types t ≡ k.result → Agrees k t e value
     → Executes k true (e ⨾ plain (instr.Return ∷ [])) (λ a s. with_answer (value a s) (λ v s. Came v s))
 
 -- ---- formals and variables of the procedure, and of those around it
