@@ -145,6 +145,7 @@ module _ (m : TypedModule) (opens : ℕ → Bool) (g : Gathers) where
     procedures = λ n t e. e;
     heads = λ name y e. e;
     awaits = λ name e. e;
+    awaited = λ name e. refl;
     formed = λ e p. p;
   }
 
@@ -217,6 +218,7 @@ module _ (m : TypedModule) (opens : ℕ → Bool) (g : Gathers) where
     procedures = λ n y e. get_more s.procedures (t ∷ []) n y e;
     heads = λ name y e. e;
     awaits = λ name e. e;
+    awaited = λ name e. refl;
     formed = λ e p. p;
   }
 
@@ -351,7 +353,7 @@ module _ (g : Gathers) where
 
   -- ---- headings in which no rule is broken
 
-  result_holds : (s : Scope g.Told) (o : Option Qualified) → Holds (λ r. is_there r ≡ is_there o) (result_of g s o)
+  pub result_holds : (s : Scope g.Told) (o : Option Qualified) → Holds (λ r. is_there r ≡ is_there o) (result_of g s o)
   result_holds s None = fine None refl
   result_holds s (Some q) = then_holds (any_holds (named_type g s q)) (λ t k. where_holds g (not (is_result s.types t)) (first_of q) 33 (fine (Some t) refl))
 

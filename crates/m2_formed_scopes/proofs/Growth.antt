@@ -1,5 +1,5 @@
 -- What one name more does, and one type more.
-use Rattle.std.proofs.Common.{◌≡◌, ℕ, ◌==◌, Bool, true, false, cond, List, [], ◌∷◌, ◌++◌, Option, Some, None, Result, Ok, Err, refl, ap, ◌∙◌}
+use Rattle.std.proofs.Common.{◌≡◌, ℕ, ◌==◌, Bool, true, false, cond, List, [], ◌∷◌, ◌++◌, Option, Some, None, Result, Ok, Err, refl, sym, ap, ◌∙◌}
 use Rattle.std.specs.Prelude.{slice_get}
 use Rattle.m2_tree.specs.declared.name.Ident.{Ident}
 use Rattle.m2_typed.specs.declared.known_types.Types.{Types}
@@ -20,7 +20,7 @@ use Rattle.m2_judged.specs.Scopes.{State, is_free, with_known, unless_declared, 
 use Rattle.m2_made.specs.Made.{with_shape, with_made}
 use Rattle.m2_formed.specs.Formed.{Holds}
 use Rattle.m2_formed_scopes.specs.FormedScopes.{picked, is_awaiting, FormedOwn, FormedKnown, AreFormedNames, Leads}
-use Rattle.m2_formed_scopes.proofs.Names.{get_more, kept_entered, none_entered}
+use Rattle.m2_formed_scopes.proofs.Names.{get_more, kept_entered, none_entered, same_entered}
 
 -- a heading was met
 abbrev pub is_headed : {T : Type 0} → Known T → Bool
@@ -30,7 +30,7 @@ is_headed Begun = false
 is_headed (Headed m) = true
 is_headed (Declared o m) = false
 
-free_unheaded : {T : Type 0} (o : Option (Known T)) → is_free o ≡ true → picked is_headed o ≡ false
+pub free_unheaded : {T : Type 0} (o : Option (Known T)) → is_free o ≡ true → picked is_headed o ≡ false
 free_unheaded None e = refl
 free_unheaded (Some Later) e = refl
 free_unheaded (Some Ahead) e = refl
@@ -72,6 +72,7 @@ module _ (m : TypedModule) (opens : ℕ → Bool) where
     procedures = λ n t e. e;
     heads = λ name x e. e;
     awaits = λ name e. e;
+    awaited = λ name e. refl;
     formed = λ e p. p;
   }
 
@@ -86,6 +87,7 @@ module _ (m : TypedModule) (opens : ℕ → Bool) where
     procedures = λ n t e. q.procedures n t (p.procedures n t e);
     heads = λ name x e. q.heads name x (p.heads name x e);
     awaits = λ name e. q.awaits name (p.awaits name e);
+    awaited = λ name e. let k = q.awaited name e in k ∙ p.awaited name (ap (λ (o : Option (Known _)). picked is_awaiting o) (sym k) ∙ e);
     formed = λ e r. q.formed (p.home ∙ e) (p.formed e r);
   }
 
@@ -109,6 +111,7 @@ module _ (m : TypedModule) (opens : ℕ → Bool) where
     procedures = λ n t q. q;
     heads = λ other x q. kept_entered is_headed name k s.own other (Headed x) refl e q;
     awaits = λ other q. none_entered is_awaiting name k s.own other a q;
+    awaited = λ other q. same_entered is_awaiting name k s.own other a q;
     formed = λ h q. names_more name k s.own (p h) q;
   }
 
@@ -150,6 +153,7 @@ module _ (m : TypedModule) (opens : ℕ → Bool) where
     procedures = λ n t e. e;
     heads = λ name y e. e;
     awaits = λ name e. e;
+    awaited = λ name e. refl;
     formed = λ e p. p;
   }
 

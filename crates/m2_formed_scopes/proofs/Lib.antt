@@ -2,3 +2,4 @@ pub mod Names
 pub mod Growth
 pub mod TypeExprs
 pub mod Declarations
+pub mod Imports

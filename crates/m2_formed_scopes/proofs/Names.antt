@@ -76,3 +76,23 @@ module _ {V : Type 0} where
   none_entered pick name v (x ∷ es) other e p =
       subst (λ (o : Option V). picked pick o ≡ false) (sym (found_cond other (same_name name x.0) ((x.0, v) ∷ es) (x ∷ entered name v es)))
       (none_step pick (same_name name x.0) (same_name other x.0) x.1 v (found other es) (found other (entered name v es)) e p (λ a. none_entered pick name v es other e a))
+
+  -- what is picked was there before
+
+  same_at : (pick : V → Bool) (c : Bool) (v : V) → pick v ≡ false → picked pick (cond c (Some v) None) ≡ true → cond c (Some v) None ≡ None
+  same_at pick true v e p = absurd cc
+  same_at pick false v e p = refl
+
+  same_step : (pick : V → Bool) (b c : Bool) (old v : V) (there new : Option V) → pick v ≡ false → picked pick (cond b (cond c (Some v) there) (cond c (Some old) new)) ≡ true
+      → (picked pick new ≡ true → new ≡ there) → cond b (cond c (Some v) there) (cond c (Some old) new) ≡ cond c (Some old) there
+  same_step pick true true old v there new e p k = absurd cc
+  same_step pick true false old v there new e p k = refl
+  same_step pick false true old v there new e p k = refl
+  same_step pick false false old v there new e p k = k p
+
+  pub same_entered : (pick : V → Bool) (name : List ℕ) (v : V) (es : List (List ℕ × V)) (other : List ℕ) → pick v ≡ false → picked pick (found other (entered name v es)) ≡ true → found other (entered name v es) ≡ found other es
+  same_entered pick name v [] other e p = same_at pick (same_name other name) v e p
+  same_entered pick name v (x ∷ es) other e p =
+      found_cond other (same_name name x.0) ((x.0, v) ∷ es) (x ∷ entered name v es)
+      ∙ same_step pick (same_name name x.0) (same_name other x.0) x.1 v (found other es) (found other (entered name v es)) e
+      (subst (λ (o : Option V). picked pick o ≡ true) (found_cond other (same_name name x.0) ((x.0, v) ∷ es) (x ∷ entered name v es)) p) (λ a. same_entered pick name v es other e a)

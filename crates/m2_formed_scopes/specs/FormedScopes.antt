@@ -1,5 +1,6 @@
 -- Scopes whose names mean what is there, and declarations that lead from such a scope to such a scope.
-use Rattle.std.specs.Prelude.{◌≡◌, ℕ, Bool, false, List, [], ◌∷◌, Option, Some, None, Result, Ok, slice_get}
+use Rattle.std.specs.Prelude.{◌≡◌, ℕ, Bool, true, false, List, [], ◌∷◌, Option, Some, None, Result, Ok, slice_get}
+use Rattle.m2_tree.specs.declared.name.Ident.{Ident}
 use Rattle.m2_tree.specs.declared.decl.Decl.{Decl, Decl-F, out-Decl}
 use Rattle.m2_tree.specs.declared.decl.Decl.TheOpen as layer
 use Rattle.m2_typed.specs.declared.meaning.Meaning.{Meaning}
@@ -30,6 +31,16 @@ picked pick (Some x) = pick x
 -- a procedure of the module's definition whose heading has not come yet
 abbrev pub is_awaiting : {T : Type 0} → Known T → Bool
 is_awaiting k = is_awaited (standing_known k)
+
+module _ (opens : ℕ → Bool) where
+  -- a module that a name stands for is open
+  abbrev pub OpensNames : Option ℕ → Type 0
+  OpensNames None = Unit {0}
+  OpensNames (Some k) = opens k ≡ true
+
+  abbrev pub OpensImports : List (List ℕ × ℕ) → List Ident → Type 0
+  OpensImports modules [] = Unit {0}
+  OpensImports modules (x ∷ xs) = OpensNames (found x.name modules) × OpensImports modules xs
 
 module _ (m : TypedModule) (opens : ℕ → Bool) where
   -- the procedures that a block declares are the module's
@@ -68,6 +79,11 @@ module _ (m : TypedModule) (opens : ℕ → Bool) where
   AreFormedBlocks [] = Unit {0}
   AreFormedBlocks (b ∷ bs) = AreFormedNames b.names × AreFormedBlocks bs
 
+  -- what a module exports
+  abbrev pub ExportsFormed : List (List ℕ × Meaning) → Type 0
+  ExportsFormed [] = Unit {0}
+  ExportsFormed (e ∷ es) = FormedMeaning m opens 0 e.1 × ExportsFormed es
+
   -- ---- what a declaration keeps
 
   -- Types, procedures and headings stay, no procedure comes to be awaited, and formed names lead to formed names.
@@ -84,6 +100,8 @@ module _ (m : TypedModule) (opens : ℕ → Bool) where
         → found name s'.own ≡ Some (Headed x)
     pub awaits : (name : List ℕ) → picked is_awaiting (found name s.own) ≡ false
         → picked is_awaiting (found name s'.own) ≡ false
+    pub awaited : (name : List ℕ) → picked is_awaiting (found name s'.own) ≡ true
+        → found name s'.own ≡ found name s.own
     pub formed : s.types.home ≡ m.types.home → AreFormedNames s.own → AreFormedNames s'.own
 
   -- ---- declarations of a block

@@ -1,0 +1,4 @@
+pub mod Lists
+pub mod Tables
+pub mod Walks
+pub mod Imports
