@@ -41,7 +41,7 @@ use Rattle.m2_formed.specs.Formed.{Holds, fine, FormedValue, FormedDesignated}
 use Rattle.m2_formed.proofs.Basics.{then_holds, told_holds, where_holds, both_holds, any_holds, is_whole, Grows, scalar_kept}
 use Rattle.m2_formed.proofs.Operators.{of_value_formed, suited_formed}
 
-module _ (g : Gathers) (m : TypedModule) (w : ℕ) (types : Types) (grows : Grows types m.types) where
+module _ (g : Gathers) (m : TypedModule) (w : ℕ) (opens : ℕ → Bool) (types : Types) (grows : Grows types m.types) where
   -- ---- values
 
   loaded_as_formed : (t : TypeNo) (d : Place) (c : Class) → (is_whole c ≡ false → IsScalar m.types t) → IsPlace m w d → FormedValue m w (loaded_as t d c)
@@ -59,7 +59,7 @@ module _ (g : Gathers) (m : TypedModule) (w : ℕ) (types : Types) (grows : Grow
   pub given_formed : (t : TypeNo) (e : TypedExpr) → IsExpr m w e → FormedValue m w (given types t e)
   given_formed t e p = given_as_formed t e (class_at types t) p
 
-  pub taken_formed : (at : Pos) (d : Designated) → FormedDesignated m w d → Holds (FormedValue m w) (taken g types at d)
+  pub taken_formed : (at : Pos) (d : Designated) → FormedDesignated m opens w d → Holds (FormedValue m w) (taken g types at d)
   taken_formed at (designated.Value x) p = fine x p
   taken_formed at (designated.Variable t d) p = fine (loaded types t d) (loaded_as_formed t d (class_at types t) (scalar_kept types m.types grows t) p)
   taken_formed at (designated.Open t slot) p = fine value.Untaken tt
@@ -74,7 +74,7 @@ module _ (g : Gathers) (m : TypedModule) (w : ℕ) (types : Types) (grows : Grow
   abbrev For : Bool → Result Argument g.Told → Type 0
   For q r = Holds (λ x. IsArgument m w x q) r
 
-  variable_formed : (t : TypeNo) (at : Pos) (d : Designated) → FormedDesignated m w d → For false (variable_passed g t at d)
+  variable_formed : (t : TypeNo) (at : Pos) (d : Designated) → FormedDesignated m opens w d → For false (variable_passed g t at d)
   variable_formed t at (designated.Variable u d) p = where_holds g _ at 44 (fine (argument.Place d) (Actual d p))
   variable_formed t at (designated.Value x) p = told_holds g at 44
   variable_formed t at (designated.Open u slot) p = told_holds g at 44
@@ -84,7 +84,7 @@ module _ (g : Gathers) (m : TypedModule) (w : ℕ) (types : Types) (grows : Grow
   variable_formed t at (designated.Standard f) p = told_holds g at 44
   variable_formed t at (designated.Module k) p = told_holds g at 44
 
-  open_formed : (t : TypeNo) (at : Pos) (d : Designated) → FormedDesignated m w d → For true (open_passed g types t at d)
+  open_formed : (t : TypeNo) (at : Pos) (d : Designated) → FormedDesignated m opens w d → For true (open_passed g types t at d)
   open_formed t at (designated.Variable u d) p = where_holds g _ at 44 (fine (argument.Array u d) (ActualArray u d p))
   open_formed t at (designated.Open u slot) p = where_holds g _ at 44 (fine (argument.Open slot) (Open slot))
   open_formed t at (designated.Value x) p = told_holds g at 44
@@ -109,7 +109,7 @@ module _ (g : Gathers) (m : TypedModule) (w : ℕ) (types : Types) (grows : Grow
   text_formed t at (value.Whole u d) = told_holds g at 43
   text_formed t at value.Untaken = told_holds g at 43
 
-  open_value_formed : (t : TypeNo) (at : Pos) (d : Designated) → FormedDesignated m w d → For true (open_value g types t at d)
+  open_value_formed : (t : TypeNo) (at : Pos) (d : Designated) → FormedDesignated m opens w d → For true (open_value g types t at d)
   open_value_formed t at (designated.Variable u d) p = where_holds g _ at 43 (fine (argument.Array u d) (ActualArray u d p))
   open_value_formed t at (designated.Open u slot) p = where_holds g _ at 43 (fine (argument.Open slot) (Open slot))
   open_value_formed t at (designated.Value x) p = text_formed t at x
@@ -119,7 +119,7 @@ module _ (g : Gathers) (m : TypedModule) (w : ℕ) (types : Types) (grows : Grow
   open_value_formed t at (designated.Standard f) p = told_holds g at 53
   open_value_formed t at (designated.Module k) p = told_holds g at 40
 
-  whole_formed : (t : TypeNo) (at : Pos) (d : Designated) → FormedDesignated m w d → For false (whole_passed g t at d)
+  whole_formed : (t : TypeNo) (at : Pos) (d : Designated) → FormedDesignated m opens w d → For false (whole_passed g t at d)
   whole_formed t at (designated.Variable u d) p = where_holds g _ at 43 (fine (argument.Place d) (Actual d p))
   whole_formed t at (designated.Value x) p = told_holds g at 43
   whole_formed t at (designated.Open u slot) p = told_holds g at 43
@@ -129,23 +129,23 @@ module _ (g : Gathers) (m : TypedModule) (w : ℕ) (types : Types) (grows : Grow
   whole_formed t at (designated.Standard f) p = told_holds g at 53
   whole_formed t at (designated.Module k) p = told_holds g at 40
 
-  simple_formed : (t : TypeNo) (at : Pos) (d : Designated) → FormedDesignated m w d → For false (simple_passed g types t at d)
+  simple_formed : (t : TypeNo) (at : Pos) (d : Designated) → FormedDesignated m opens w d → For false (simple_passed g types t at d)
   simple_formed t at d p = then_holds (taken_formed at d p) (λ x h. then_holds (suited_formed m w g 43 types t at x h) (λ e k. fine (argument.Value t e) (ValueOf t e k)))
 
-  passed_formed : (t : TypeNo) (at : Pos) (d : Designated) (c : Class) → FormedDesignated m w d → For false (passed_as g types t at d c)
+  passed_formed : (t : TypeNo) (at : Pos) (d : Designated) (c : Class) → FormedDesignated m opens w d → For false (passed_as g types t at d c)
   passed_formed t at d (class.Scalar s) p = simple_formed t at d p
   passed_formed t at d class.Set p = simple_formed t at d p
   passed_formed t at d class.Procedure p = simple_formed t at d p
   passed_formed t at d class.Whole p = whole_formed t at d p
 
-  by_formal : (v q : Bool) (t : TypeNo) (at : Pos) (d : Designated) → FormedDesignated m w d
+  by_formal : (v q : Bool) (t : TypeNo) (at : Pos) (d : Designated) → FormedDesignated m opens w d
       → For q (cond v (cond q (open_passed g types t at d) (variable_passed g t at d)) (cond q (open_value g types t at d) (value_passed g types t at d)))
   by_formal true true t at d p = open_formed t at d p
   by_formal true false t at d p = variable_formed t at d p
   by_formal false true t at d p = open_value_formed t at d p
   by_formal false false t at d p = passed_formed t at d (class_at types t) p
 
-  pub actual_formed : (f : Formal) (at : Pos) (d : Designated) → FormedDesignated m w d → For f.is_open (actual g types f at d)
+  pub actual_formed : (f : Formal) (at : Pos) (d : Designated) → FormedDesignated m opens w d → For f.is_open (actual g types f at d)
   actual_formed f at d p = by_formal f.is_var f.is_open f.of at d p
 
   pub arguments_more : (xs : List Argument) (fs : List Formal) (x : Argument) (f : Formal) → AreArguments m w xs fs → IsArgument m w x f.is_open → AreArguments m w (xs ++ x ∷ []) (fs ++ f ∷ [])
@@ -170,7 +170,7 @@ module _ (g : Gathers) (m : TypedModule) (w : ℕ) (types : Types) (grows : Grow
   held_formed at t d class.Set k p = told_holds g at 40
   held_formed at t d class.Whole k p = told_holds g at 40
 
-  pub callee_formed : (at : Pos) (d : Designated) → FormedDesignated m w d → Holds FormedCalled (callee_of g types at d)
+  pub callee_formed : (at : Pos) (d : Designated) → FormedDesignated m opens w d → Holds FormedCalled (callee_of g types at d)
   callee_formed at (designated.Procedure f) p = fine (called.Routine f.heading (callee.Module f)) (p, refl)
   callee_formed at (designated.Nested f) p = fine (called.Routine f.heading (callee.Nested f)) (p, refl)
   callee_formed at (designated.Variable t d) p = held_formed at t d (class_at types t) (scalar_kept types m.types grows t) p

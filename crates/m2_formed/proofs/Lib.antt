@@ -1,4 +1,4 @@
-mod Basics
-mod Operators
-mod Calls
-mod Meanings
+pub mod Basics
+pub mod Operators
+pub mod Calls
+pub mod Meanings

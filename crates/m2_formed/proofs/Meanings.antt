@@ -59,20 +59,20 @@ use Rattle.m2_formed.proofs.Basics.{then_holds, told_holds, both_holds, any_hold
 use Rattle.m2_formed.proofs.Operators.{behind_formed, rooted_formed, signed_formed, negated_formed, combined_formed, field_formed, indexed_formed}
 use Rattle.m2_formed.proofs.Calls.{given_formed, taken_formed, actual_formed, arguments_more, FormedCallee, FormedCalled, callee_formed, call_formed, unary_formed, bound_formed, conversion_formed, high_formed}
 
-module _ (g : Gathers) (m : TypedModule) (w : ℕ) (s : Scope g.Told) (h : IsFormed g m w s) where
-  abbrev Value_ : Result Computed g.Told → Type 0
+module _ (g : Gathers) (m : TypedModule) (opens : ℕ → Bool) (w : ℕ) (s : Scope g.Told) (h : IsFormed g m opens w s) where
+  abbrev pub Value_ : Result Computed g.Told → Type 0
   Value_ r = Holds (FormedValue m w) r
 
-  abbrev Designated_ : Result Designated g.Told → Type 0
-  Designated_ r = Holds (FormedDesignated m w) r
+  abbrev pub Designated_ : Result Designated g.Told → Type 0
+  Designated_ r = Holds (FormedDesignated m opens w) r
 
-  abbrev FM : Meant g.Told → Type 0
+  abbrev pub FM : Meant g.Told → Type 0
   FM x = Designated_ (x.means s)
 
   abbrev FP : Picks g.Told → Type 0
   FP p = (d : Result Designated g.Told) → Designated_ d → Designated_ (p.picks s d)
 
-  abbrev AllM : List (Meant g.Told) → Type 0
+  abbrev pub AllM : List (Meant g.Told) → Type 0
   AllM [] = Unit {0}
   AllM (x ∷ xs) = FM x × AllM xs
 
@@ -84,8 +84,8 @@ module _ (g : Gathers) (m : TypedModule) (w : ℕ) (s : Scope g.Told) (h : IsFor
   AllP [] = Unit {0}
   AllP (x ∷ xs) = FP x × AllP xs
 
-  value_formed : (x : Meant g.Told) → FM x → Value_ (value_of g s x)
-  value_formed x p = then_holds p (λ d k. taken_formed g m w s.types h.types x.fixed.at d k)
+  pub value_formed : (x : Meant g.Told) → FM x → Value_ (value_of g s x)
+  value_formed x p = then_holds p (λ d k. taken_formed g m w opens s.types h.types x.fixed.at d k)
 
   constant_meant : (x : Part g.Told) → Designated_ (as_constant g s x)
   constant_meant x = then_holds (any_holds _) (λ v k. fine (designated.Value (value.Constant v)) tt)
@@ -95,13 +95,13 @@ module _ (g : Gathers) (m : TypedModule) (w : ℕ) (s : Scope g.Told) (h : IsFor
 
   -- ---- names
 
-  local_formed : (level : ℕ) (v : LocalVariable) (k : LocalKind) → FormedDesignated m w (local_by level v k)
+  local_formed : (level : ℕ) (v : LocalVariable) (k : LocalKind) → FormedDesignated m opens w (local_by level v k)
   local_formed level v kind.Variable = rooted_formed m w (root.Local (slot_of level v)) tt
   local_formed level v kind.Value = rooted_formed m w (root.Local (slot_of level v)) tt
   local_formed level v kind.Alias = rooted_formed m w (root.Alias (slot_of level v)) tt
   local_formed level v kind.Open = tt
 
-  by_meaning : (level : ℕ) (at : Pos) (x : Meaning) → FormedMeaning m w x → Designated_ (designated_by g level at x)
+  pub by_meaning : (level : ℕ) (at : Pos) (x : Meaning) → FormedMeaning m opens w x → Designated_ (designated_by g level at x)
   by_meaning level at (meaning.Constant v) p = fine (designated.Value (value.Constant v)) tt
   by_meaning level at (meaning.Type t n) p = fine (designated.Type t) tt
   by_meaning level at (meaning.Variable v) p = fine (designated.Variable v.of (rooted (root.Global v))) (rooted_formed m w (root.Global v) p)
@@ -111,20 +111,20 @@ module _ (g : Gathers) (m : TypedModule) (w : ℕ) (s : Scope g.Told) (h : IsFor
   by_meaning level at (meaning.LocalProcedure f) p = fine _ p
   by_meaning level at meaning.Ahead p = told_holds g at 30
   by_meaning level at (meaning.Standard f) p = fine (designated.Standard f) tt
-  by_meaning level at (meaning.Module k) p = fine (designated.Module k) tt
+  by_meaning level at (meaning.Module k) p = fine (designated.Module k) p
 
   named_formed : (name : Ident) → Designated_ (named g s name)
   named_formed name = then_holds (h.names name) (λ x p. by_meaning s.level name.pos x p)
 
-  field_of_formed : (at : Pos) (name : Ident) (d : Designated) → FormedDesignated m w d → Designated_ (field_of g s at name d)
-  field_of_formed at name (designated.Module k) p = then_holds (h.members k name) (λ x q. by_meaning s.level name.pos x q)
-  field_of_formed at name (designated.Value x) p = field_formed m w g s.types at name (designated.Value x) p
-  field_of_formed at name (designated.Variable t d) p = field_formed m w g s.types at name (designated.Variable t d) p
-  field_of_formed at name (designated.Open t slot) p = field_formed m w g s.types at name (designated.Open t slot) p
-  field_of_formed at name (designated.Type t) p = field_formed m w g s.types at name (designated.Type t) p
-  field_of_formed at name (designated.Procedure f) p = field_formed m w g s.types at name (designated.Procedure f) p
-  field_of_formed at name (designated.Nested f) p = field_formed m w g s.types at name (designated.Nested f) p
-  field_of_formed at name (designated.Standard f) p = field_formed m w g s.types at name (designated.Standard f) p
+  field_of_formed : (at : Pos) (name : Ident) (d : Designated) → FormedDesignated m opens w d → Designated_ (field_of g s at name d)
+  field_of_formed at name (designated.Module k) p = then_holds (h.members k name p) (λ x q. by_meaning s.level name.pos x q)
+  field_of_formed at name (designated.Value x) p = field_formed m w g opens s.types at name (designated.Value x) p
+  field_of_formed at name (designated.Variable t d) p = field_formed m w g opens s.types at name (designated.Variable t d) p
+  field_of_formed at name (designated.Open t slot) p = field_formed m w g opens s.types at name (designated.Open t slot) p
+  field_of_formed at name (designated.Type t) p = field_formed m w g opens s.types at name (designated.Type t) p
+  field_of_formed at name (designated.Procedure f) p = field_formed m w g opens s.types at name (designated.Procedure f) p
+  field_of_formed at name (designated.Nested f) p = field_formed m w g opens s.types at name (designated.Nested f) p
+  field_of_formed at name (designated.Standard f) p = field_formed m w g opens s.types at name (designated.Standard f) p
 
   -- ---- calls
 
@@ -134,21 +134,21 @@ module _ (g : Gathers) (m : TypedModule) (w : ℕ) (s : Scope g.Told) (h : IsFor
   args_formed [] (f ∷ fs) taken r e p all = absurd (omega (arith, e))
   args_formed (x ∷ args) [] taken r e p all = absurd (omega (arith, e))
   args_formed (x ∷ args) (f ∷ fs) taken r e p all =
-      let one : Holds (λ xs. AreArguments m w xs (taken ++ f ∷ [])) (with_argument g r (argument_by g s.types (Some f) x.fixed.at (x.means s))) = then_holds (both_holds g p (then_holds all.0 (λ d k. actual_formed g m w s.types h.types f x.fixed.at d k)))
-      (λ v k. fine (v.0 ++ v.1 ∷ []) (arguments_more g m w s.types h.types v.0 taken v.1 f k.0 k.1))
+      let one : Holds (λ xs. AreArguments m w xs (taken ++ f ∷ [])) (with_argument g r (argument_by g s.types (Some f) x.fixed.at (x.means s))) = then_holds (both_holds g p (then_holds all.0 (λ d k. actual_formed g m w opens s.types h.types f x.fixed.at d k)))
+      (λ v k. fine (v.0 ++ v.1 ∷ []) (arguments_more g m w opens s.types h.types v.0 taken v.1 f k.0 k.1))
       in
       subst (λ (es : List Formal). Holds (λ xs. AreArguments m w xs es) (fold (with_actual g s) (f ∷ fs, r) (x ∷ args)).1) (append_assoc taken (f ∷ []) fs) (args_formed args fs (taken ++ f ∷ []) _ (omega (arith, e)) one all.1)
 
   pub actuals_formed : (args : List (Meant g.Told)) (fs : List Formal) → length fs ≡ length args → AllM args → Holds (λ xs. AreArguments m w xs fs) (actuals g s fs args)
   actuals_formed args fs e all = args_formed args fs [] (Ok []) e (fine [] no_arguments) all
 
-  module _ (at : Pos) (t : TypeNo) (c : Callee) (args : List (Meant g.Told)) (there : FormedCallee g m w s.types h.types t c) (all : AllM args) where
+  module _ (at : Pos) (t : TypeNo) (c : Callee) (args : List (Meant g.Told)) (there : FormedCallee g m w opens s.types h.types t c) (all : AllM args) where
     given_call : (k : Signature) (r : TypeNo) → signature_at s.types t ≡ Some k → k.result ≡ Some r → length k.formals ≡ length args → Value_ (call_given g s.types r c (actuals g s k.formals args))
     given_call k r e q count =
         let heading = heading_kept s.types m.types h.types t k e in
         then_holds (actuals_formed args k.formals count all) (λ xs p.
-        fine (given s.types r (expr.Call r (call_by xs c))) (given_formed g m w s.types h.types r (expr.Call r (call_by xs c))
-        (FunctionCall r (call_by xs c) (call_formed g m w s.types h.types c t xs true there (heading.result ∙ ap (λ (o : Option TypeNo). is_there o) q) (subst (λ (fs : List Formal). AreArguments m w xs fs) (sym heading.formals) p)))))
+        fine (given s.types r (expr.Call r (call_by xs c))) (given_formed g m w opens s.types h.types r (expr.Call r (call_by xs c))
+        (FunctionCall r (call_by xs c) (call_formed g m w opens s.types h.types c t xs true there (heading.result ∙ ap (λ (o : Option TypeNo). is_there o) q) (subst (λ (fs : List Formal). AreArguments m w xs fs) (sym heading.formals) p)))))
 
     by_count : (k : Signature) (r : TypeNo) (q : Bool) → (length k.formals == length args) ≡ q → signature_at s.types t ≡ Some k → k.result ≡ Some r
         → Value_ ((told_where g {A = Unit {0}} (not q) at 42 (Ok (tt {0})) ▷ λ fine. Ok r) ▷ λ r. call_given g s.types r c (actuals g s k.formals args))
@@ -171,23 +171,23 @@ module _ (g : Gathers) (m : TypedModule) (w : ℕ) (s : Scope g.Told) (h : IsFor
 
   unary_all : (at : Pos) (f : Standard) (u : Unary) (args : List (Meant g.Told)) → AllM args → Value_ (unary g s at f u args)
   unary_all at f u [] all = told_holds g at 42
-  unary_all at f u (x ∷ []) all = then_holds (value_formed x all.0) (λ v p. unary_formed g m w s.types h.types f u x.fixed.at v p)
+  unary_all at f u (x ∷ []) all = then_holds (value_formed x all.0) (λ v p. unary_formed g m w opens s.types h.types f u x.fixed.at v p)
   unary_all at f u (x ∷ y ∷ xs) all = told_holds g at 42
 
   bound_all : (at : Pos) (f : Standard) (args : List (Meant g.Told)) → Value_ (bound g s at f args)
   bound_all at f [] = told_holds g at 42
-  bound_all at f (x ∷ []) = bound_formed g m w s.types h.types f _
+  bound_all at f (x ∷ []) = bound_formed g m w opens s.types h.types f _
   bound_all at f (x ∷ y ∷ xs) = told_holds g at 42
 
   conversion_all : (at : Pos) (args : List (Meant g.Told)) → AllM args → Value_ (conversion g s at args)
   conversion_all at [] all = told_holds g at 42
   conversion_all at (t ∷ []) all = told_holds g at 42
-  conversion_all at (t ∷ x ∷ []) all = conversion_formed g m w s.types h.types _ x.fixed.at (value_formed x all.1.0)
+  conversion_all at (t ∷ x ∷ []) all = conversion_formed g m w opens s.types h.types _ x.fixed.at (value_formed x all.1.0)
   conversion_all at (t ∷ x ∷ y ∷ xs) all = told_holds g at 42
 
   high_all : (at : Pos) (args : List (Meant g.Told)) → AllM args → Value_ (high g s at args)
   high_all at [] all = told_holds g at 42
-  high_all at (x ∷ []) all = then_holds all.0 (λ d p. high_formed g m w s.types h.types x.fixed.at d)
+  high_all at (x ∷ []) all = then_holds all.0 (λ d p. high_formed g m w opens s.types h.types x.fixed.at d)
   high_all at (x ∷ y ∷ xs) all = told_holds g at 42
 
   form_formed : (at : Pos) (f : Standard) (args : List (Meant g.Told)) (o : Form) → AllM args → Value_ (by_form g s at f args o)
@@ -197,12 +197,12 @@ module _ (g : Gathers) (m : TypedModule) (w : ℕ) (s : Scope g.Told) (h : IsFor
   form_formed at f args form.High all = high_all at args all
   form_formed at f args form.Proper all = told_holds g at 40
 
-  called_as_formed : (at : Pos) (args : List (Meant g.Told)) (x : Called) → FormedCalled g m w s.types h.types x → AllM args → Value_ (called_as g s at args x)
+  called_as_formed : (at : Pos) (args : List (Meant g.Told)) (x : Called) → FormedCalled g m w opens s.types h.types x → AllM args → Value_ (called_as g s at args x)
   called_as_formed at args (called.Routine t c) p all = routine_formed at t c args p all
   called_as_formed at args (called.Standard f) p all = form_formed at f args (form_of f) all
 
   called_formed : (at : Pos) {d : Result Designated g.Told} (args : List (Meant g.Told)) → Designated_ d → AllM args → Value_ (called_by g s at d args)
-  called_formed at args p all = then_holds (then_holds p (λ d k. callee_formed g m w s.types h.types at d k)) (λ x k. called_as_formed at args x k all)
+  called_formed at args p all = then_holds (then_holds p (λ d k. callee_formed g m w opens s.types h.types at d k)) (λ x k. called_as_formed at args x k all)
 
   -- ---- operators
 
@@ -308,7 +308,7 @@ module _ (g : Gathers) (m : TypedModule) (w : ℕ) (s : Scope g.Told) (h : IsFor
 
   selector_formed : (y : Selector-F SE SS SD SI) → FP (selector_layer g (opened_selector (bare_selector y)))
   selector_formed (layer.Field p name) = λ d q. then_holds q (λ x k. field_of_formed p name x k)
-  selector_formed (layer.Index p e) = λ d q. indexed_formed m w g s.types p (meant g e.0).fixed.at q (value_formed (meant g e.0) e.1)
+  selector_formed (layer.Index p e) = λ d q. indexed_formed m w g opens s.types p (meant g e.0).fixed.at q (value_formed (meant g e.0) e.1)
 
   designator_formed : (y : Designator-F SE SS SD SI) → FM (designator_layer g (opened_designator (bare_designator y)))
   designator_formed y = picks_formed (map (picks g) (map (λ (e : SS). e.0) y.selectors)) (named g s y.name) (named_formed y.name) (all_picks y.selectors)

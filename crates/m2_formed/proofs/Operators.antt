@@ -97,11 +97,11 @@ module _ (m : TypedModule) (w : ℕ) where
 
   -- ---- sides
 
-  abbrev FormedAmount : Amount → Type 0
+  abbrev pub FormedAmount : Amount → Type 0
   FormedAmount (Known a) = Unit {0}
   FormedAmount (Run b e) = IsExpr m w e
 
-  abbrev FormedSide : Option Side → Type 0
+  abbrev pub FormedSide : Option Side → Type 0
   FormedSide None = Unit {0}
   FormedSide (Some (side.Scalar a)) = FormedAmount a
   FormedSide (Some (side.Set e)) = IsExpr m w e
@@ -113,7 +113,7 @@ module _ (m : TypedModule) (w : ℕ) where
   constant_formed (Some (operand.Scalar a)) = tt
   constant_formed (Some (operand.Set bits)) = Constant bitset (pos bits)
 
-  side_formed : (x : Computed) → FormedValue m w x → FormedSide (side_of x)
+  pub side_formed : (x : Computed) → FormedValue m w x → FormedSide (side_of x)
   side_formed (value.Constant v) p = constant_formed (operand_of v)
   side_formed (value.Scalar t b e) p = p
   side_formed (value.Set e) p = p
@@ -285,42 +285,43 @@ module _ (m : TypedModule) (w : ℕ) where
 
     -- ---- components
 
-    abbrev Designated_ : Result Designated g.Told → Type 0
-    Designated_ r = Holds (FormedDesignated m w) r
+    module _ (opens : ℕ → Bool) where
+      abbrev Designated_ : Result Designated g.Told → Type 0
+      Designated_ r = Holds (FormedDesignated m opens w) r
 
-    pub field_formed : (types : Types) (at : Pos) (name : Ident) (d : Designated) → FormedDesignated m w d → Designated_ (field g types at name d)
-    field_formed types at name (designated.Variable t d) p = then_holds (any_holds (record_field g at name (fields_at types t))) (λ f h. fine (designated.Variable f.1 (behind d (part.Field t f.0))) (behind_formed d (part.Field t f.0) p (FieldOf t f.0)))
-    field_formed types at name (designated.Value x) p = told_holds g at 40
-    field_formed types at name (designated.Open t slot) p = told_holds g at 40
-    field_formed types at name (designated.Type t) p = told_holds g at 40
-    field_formed types at name (designated.Procedure f) p = told_holds g at 40
-    field_formed types at name (designated.Nested f) p = told_holds g at 40
-    field_formed types at name (designated.Standard f) p = told_holds g at 40
-    field_formed types at name (designated.Module k) p = told_holds g at 40
+      pub field_formed : (types : Types) (at : Pos) (name : Ident) (d : Designated) → FormedDesignated m opens w d → Designated_ (field g types at name d)
+      field_formed types at name (designated.Variable t d) p = then_holds (any_holds (record_field g at name (fields_at types t))) (λ f h. fine (designated.Variable f.1 (behind d (part.Field t f.0))) (behind_formed d (part.Field t f.0) p (FieldOf t f.0)))
+      field_formed types at name (designated.Value x) p = told_holds g at 40
+      field_formed types at name (designated.Open t slot) p = told_holds g at 40
+      field_formed types at name (designated.Type t) p = told_holds g at 40
+      field_formed types at name (designated.Procedure f) p = told_holds g at 40
+      field_formed types at name (designated.Nested f) p = told_holds g at 40
+      field_formed types at name (designated.Standard f) p = told_holds g at 40
+      field_formed types at name (designated.Module k) p = told_holds g at 40
 
-    abbrev FormedSubscripted : Subscripted → Type 0
-    FormedSubscripted (indexes.Array t i e d) = IsPlace m w d
-    FormedSubscripted (indexes.Open t slot) = Unit {0}
+      abbrev FormedSubscripted : Subscripted → Type 0
+      FormedSubscripted (indexes.Array t i e d) = IsPlace m w d
+      FormedSubscripted (indexes.Open t slot) = Unit {0}
 
-    array_formed : (at : Pos) (t : TypeNo) (d : Place) (o : Option (TypeNo × TypeNo)) → IsPlace m w d → Holds FormedSubscripted (array_indexed g at t d o)
-    array_formed at t d None p = told_holds g at 40
-    array_formed at t d (Some a) p = fine (indexes.Array t a.0 a.1 d) p
+      array_formed : (at : Pos) (t : TypeNo) (d : Place) (o : Option (TypeNo × TypeNo)) → IsPlace m w d → Holds FormedSubscripted (array_indexed g at t d o)
+      array_formed at t d None p = told_holds g at 40
+      array_formed at t d (Some a) p = fine (indexes.Array t a.0 a.1 d) p
 
-    indices_formed : (types : Types) (at : Pos) (d : Designated) → FormedDesignated m w d → Holds FormedSubscripted (indices g types at d)
-    indices_formed types at (designated.Variable t d) p = array_formed at t d (array_at types t) p
-    indices_formed types at (designated.Open t slot) p = fine (indexes.Open t slot) tt
-    indices_formed types at (designated.Value x) p = told_holds g at 40
-    indices_formed types at (designated.Type t) p = told_holds g at 40
-    indices_formed types at (designated.Procedure f) p = told_holds g at 40
-    indices_formed types at (designated.Nested f) p = told_holds g at 40
-    indices_formed types at (designated.Standard f) p = told_holds g at 40
-    indices_formed types at (designated.Module k) p = told_holds g at 40
+      indices_formed : (types : Types) (at : Pos) (d : Designated) → FormedDesignated m opens w d → Holds FormedSubscripted (indices g types at d)
+      indices_formed types at (designated.Variable t d) p = array_formed at t d (array_at types t) p
+      indices_formed types at (designated.Open t slot) p = fine (indexes.Open t slot) tt
+      indices_formed types at (designated.Value x) p = told_holds g at 40
+      indices_formed types at (designated.Type t) p = told_holds g at 40
+      indices_formed types at (designated.Procedure f) p = told_holds g at 40
+      indices_formed types at (designated.Nested f) p = told_holds g at 40
+      indices_formed types at (designated.Standard f) p = told_holds g at 40
+      indices_formed types at (designated.Module k) p = told_holds g at 40
 
-    picked_formed : (x : TypedExpr) (a : Subscripted) → IsExpr m w x → FormedSubscripted a → FormedDesignated m w (picked x a)
-    picked_formed x (indexes.Array t i e d) p q = behind_formed d (part.Element t x) q (Element t x p)
-    picked_formed x (indexes.Open t slot) p q = behind_formed (rooted (root.Open slot)) (part.OpenElement slot t x) (rooted_formed (root.Open slot) tt) (OpenElement slot t x p)
+      picked_formed : (x : TypedExpr) (a : Subscripted) → IsExpr m w x → FormedSubscripted a → FormedDesignated m opens w (picked x a)
+      picked_formed x (indexes.Array t i e d) p q = behind_formed d (part.Element t x) q (Element t x p)
+      picked_formed x (indexes.Open t slot) p q = behind_formed (rooted (root.Open slot)) (part.OpenElement slot t x) (rooted_formed (root.Open slot) tt) (OpenElement slot t x p)
 
-    pub indexed_formed : (types : Types) (at : Pos) {d : Result Designated g.Told} (at' : Pos) {x : Result Computed g.Told} → Designated_ d → Value_ x → Designated_ (indexed g types (d ▷ indices g types at) at' x)
-    indexed_formed types at at' p q =
-        then_holds (both_holds g (then_holds p (λ d h. indices_formed types at d h)) q)
-        (λ v h. then_holds (suited_formed 41 types (asked v.0) at' v.1 h.1) (λ e k. fine (picked e v.0) (picked_formed e v.0 k h.0)))
+      pub indexed_formed : (types : Types) (at : Pos) {d : Result Designated g.Told} (at' : Pos) {x : Result Computed g.Told} → Designated_ d → Value_ x → Designated_ (indexed g types (d ▷ indices g types at) at' x)
+      indexed_formed types at at' p q =
+          then_holds (both_holds g (then_holds p (λ d h. indices_formed types at d h)) q)
+          (λ v h. then_holds (suited_formed 41 types (asked v.0) at' v.1 h.1) (λ e k. fine (picked e v.0) (picked_formed e v.0 k h.0)))

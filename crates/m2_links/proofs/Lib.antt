@@ -1,3 +1,3 @@
-mod Stores
+pub mod Stores
 mod Links
-mod Placed
+pub mod Placed

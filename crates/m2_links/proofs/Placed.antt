@@ -112,13 +112,13 @@ count_routines m w j [] = refl
 count_routines m w j (r ∷ rs) = ap suc (count_routines m w (suc j) rs)
 
 -- helpers, the body and the procedures are there
-enough : (m : TypedModule) → 5 + slots m ≤ count m
+pub enough : (m : TypedModule) → 5 + slots m ≤ count m
 enough m =
     let own = functions_from (numbered m) m which.Module 0 m.procedures in let nested = functions_from (numbered m) m which.Local 0 m.locals in
     let a = length-append own nested in let b = count_routines m which.Module 0 m.procedures in
     omega (arith, a, b)
 
-number_at : (a n k : ℕ) → k < n → slice_get (numbers_from a n) k ≡ Some (a + k)
+pub number_at : (a n k : ℕ) → k < n → slice_get (numbers_from a n) k ≡ Some (a + k)
 number_at a zero k lt = absurd (omega (arith, lt))
 number_at a (suc n) zero lt = ap Some (omega arith)
 number_at a (suc n) (suc k) lt = number_at (suc a) n k (omega (arith, lt)) ∙ ap Some (omega arith)

@@ -1,0 +1,4 @@
+pub mod Bodies
+pub mod Grounds
+pub mod Tabled
+pub mod Programs

@@ -1,5 +1,0 @@
-use Rattle.std.proofs.Common.{length}
-use Rattle.plain_run.proofs.blanks.+kept_of.Given as goal
-
-abbrev pub decreases-kept_of : goal.decreases-kept_of
-decreases-kept_of l = length l.known.now

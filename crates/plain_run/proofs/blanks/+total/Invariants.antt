@@ -1,5 +1,0 @@
-use Rattle.std.proofs.Common.{length}
-use Rattle.plain_run.proofs.blanks.+total.Given as goal
-
-abbrev pub decreases-total : goal.decreases-total
-decreases-total l = length l.blanks.now

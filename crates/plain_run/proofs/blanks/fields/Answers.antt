@@ -1,7 +1,0 @@
-use Rattle.std.proofs.Common.{[], ◌∷◌, ◌++◌}
-use Rattle.plain_run.specs.Blanks.{field_blank}
-use Rattle.plain_run.proofs.Fields.{walked}
-use Rattle.plain_run.proofs.blanks.fields.Goals as goal
-
-pub loop-number-preserved : goal.loop-number-preserved
-loop-number-preserved c = walked (λ bs f. bs ++ field_blank (c.args.own.now ∷ c.args.before.now) f ∷ []) [] c.args.of.now c.loop-number.number c.loop-number.all _ _ c.loop-number.invariant c.get.ensures c.in_ok-all.ensures

@@ -1,6 +1,0 @@
-use Rattle.std.proofs.Common.{◌≡◌, map, take}
-use Rattle.plain_run.specs.Blanks.{held_in}
-use Rattle.plain_run.proofs.blanks.held_all.Given as goal
-
-abbrev pub invariant-loop-blank : goal.invariant-loop-blank
-invariant-loop-blank l = l.all ≡ map held_in (take l.blank-index l.blanks)

@@ -1,6 +1,0 @@
-use Rattle.std.proofs.Common.{◌≡◌, ◌++◌, map, take}
-use Rattle.plain_run.specs.Blanks.{blank_in}
-use Rattle.plain_run.proofs.blanks.with_variables.Given as goal
-
-abbrev pub invariant-loop-t : goal.invariant-loop-t
-invariant-loop-t l = l.all ≡ l.fn.before ++ map (blank_in l.known) (take l.t-index l.variables)

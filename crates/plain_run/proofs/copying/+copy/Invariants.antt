@@ -1,5 +1,0 @@
-use Rattle.std.proofs.Common.{◌≡◌, take}
-use Rattle.plain_run.proofs.copying.+copy.Given as goal
-
-abbrev pub invariant-copies-loop-part : goal.invariant-copies-loop-part
-invariant-copies-loop-part l = l.all ≡ take l.part-index l.parts

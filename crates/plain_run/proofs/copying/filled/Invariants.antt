@@ -1,6 +1,0 @@
-use Rattle.std.proofs.Common.{◌≡◌, ◌++◌}
-use Rattle.plain_run.specs.Contents.{repeated}
-use Rattle.plain_run.proofs.copying.filled.Given as goal
-
-abbrev pub invariant-loop : goal.invariant-loop
-invariant-loop l = l.all ≡ l.fn.parts ++ repeated l.counter l.one

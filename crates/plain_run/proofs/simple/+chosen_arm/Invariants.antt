@@ -1,5 +1,0 @@
-use Rattle.std.proofs.Common.{length}
-use Rattle.plain_run.proofs.simple.+chosen_arm.Given as goal
-
-abbrev pub decreases-chosen_arm : goal.decreases-chosen_arm
-decreases-chosen_arm l = length l.arms.now

@@ -1,5 +1,0 @@
-use Rattle.plain_run.proofs.Stores.{ok_text}
-use Rattle.plain_run.proofs.variables.characters.Goals as goal
-
-pub returns : goal.returns
-returns c = ok_text c.args.text.now c.in_ok-parts.parts c.spread.result c.closed.result c.in_ok-parts.ensures c.spread.ensures c.closed.ensures

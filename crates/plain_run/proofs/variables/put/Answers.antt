@@ -1,5 +1,0 @@
-use Rattle.plain_run.proofs.Stores.{ok_put}
-use Rattle.plain_run.proofs.variables.put.Goals as goal
-
-pub returns : goal.returns
-returns c = ok_put c.args.to.now c.args.new c.args.store c.replaced.result c.replaced.ensures

@@ -1,0 +1,25 @@
+-- The steps of FOR.
+use Rattle.std.proofs.Common.{◌≡◌, ℤ, Bool, true, false, refl, ap, sym, ◌∙◌}
+use Rattle.std.specs.Prelude.{◌+ℤ◌, if◌then◌else◌}
+use Rattle.m2_typed.specs.declared.types.TypeNo.{TypeNo}
+use Rattle.m2_typed.specs.declared.known_types.Types.{Types}
+use Rattle.m2_meaning.specs.Store.{Location}
+use Rattle.m2_meaning.specs.Answer.{State as Meant, Answer as Given}
+use Rattle.m2_meaning.specs.Answer.{Gave, then_give}
+use Rattle.m2_meaning.specs.Expressions.{as_type}
+use Rattle.m2_meaning.specs.Statements.{stored, has_passed}
+use Rattle.plain_steps.specs.Parts.{stepped}
+
+abbrev later : Types → TypeNo → Location → Meant → ℤ → Given Bool
+later types t l st w = then_give (as_type types t w st) (λ v st. Gave false (stored l v st))
+
+pub step_over : (types : Types) (t : TypeNo) (l : Location) (by last w : ℤ) (st : Meant) → w ≡ st.store l +ℤ by → has_passed by last w ≡ true → stepped types t l by last st ≡ Gave true st
+unfolding stepped
+step_over types t l by last w st e h = ap (λ (k : ℤ). if has_passed by last k then Gave true st else later types t l st k) (sym e) ∙ ap (λ (b : Bool). if b then Gave true st else later types t l st w) h
+
+pub step_on : (types : Types) (t : TypeNo) (l : Location) (by last w : ℤ) (st : Meant) (r : Given Bool) → w ≡ st.store l +ℤ by → has_passed by last w ≡ false → r ≡ then_give (as_type types t w st) (λ v st. Gave false (stored l v st)) → r ≡ stepped types t l by last st
+unfolding stepped
+step_on types t l by last w st r e h g =
+    g ∙ sym (ap (λ (k : ℤ). if has_passed by last k then Gave true st else later types t l st k) (sym e) ∙ ap (λ (b : Bool). if b then Gave true st else later types t l st w) h)
+
+pub ruleset steppings = (step_over, step_on)

@@ -1,0 +1,345 @@
+//! Statements, where what they take is there.
+
+ghost use Rattle.std.specs.Prelude.{◌≡◌, ◌+ℤ◌, ◌∷◌, [], ◌++◌, pos, false, Some, IfOk, OnOk};
+ghost use Rattle.std.specs.Option.{option_copied};
+ghost use Rattle.std.specs.List.{list_any};
+ghost use Rattle.m2_typed.specs.Types.{char};
+ghost use Rattle.m2_typed.specs.Known.{scalar_at};
+ghost use Rattle.m2_typed.specs.declared.statement.TypedArm.{out-TypedArm};
+ghost use Rattle.m2_meaning.specs.Store.{copied};
+ghost use Rattle.m2_meaning.specs.Answer.{Went, Came, Gave, then_give, with_answer, range_fault};
+ghost use Rattle.m2_meaning.specs.Expressions.{as_type, within};
+ghost use Rattle.m2_meaning.specs.Statements.{stored, changed, rechecked, base_of, with_element, has_passed, is_labelled};
+ghost use Rattle.plain_store.specs.Seen.{seen, told, ended, with_store, with_byte};
+ghost use Rattle.plain_values.specs.Surroundings.{surroundings};
+ghost use Rattle.plain_steps.specs.Parts.{first_arm, text_put, stepped};
+
+use m2_tree::Items;
+use m2_typed::{CHAR, Change, Label, Membership, Scalar, TypeNo, TypedArm, scalar_of};
+use plain_store::state::{Answer, Outcome, RunFault, State, copy_to, load, print, store, text_to};
+use plain_values::checks::{as_type, in_base, within};
+use plain_values::operators;
+use plain_values::operators::{difference, is_between, sum};
+use plain_values::program::Around;
+
+/// A location, and the value behind it.
+#[derive(Drop)]
+pub struct Target {
+    pub l: Items<usize>,
+    pub v: i64,
+}
+
+/// Where a copy goes, and where it comes from.
+#[derive(Drop)]
+pub struct Ends {
+    pub to: Items<usize>,
+    pub from: Items<usize>,
+}
+
+/// The control variable of a FOR, its start, and the limit.
+#[derive(Drop)]
+pub struct Turns {
+    pub l: Items<usize>,
+    pub v: i64,
+    pub last: i64,
+}
+
+/// Stores a value as one of a type.
+#[tactic(auto, using(plain_store::proofs::Threads::threads))]
+pub fn assign(
+    around: &Around<'_>,
+    t: TypeNo,
+    given: Answer<Target>,
+    st: &mut State,
+) -> Result<Outcome, RunFault>
+    ensures { let types = (surroundings around.now).types in
+        IfOk result (λ o. ended o st.new ≡ with_answer (told given st.old)
+        (λ x st. with_answer (as_type types t x.v st) (λ v st. Went (stored x.l v st)))) }
+{
+    match given {
+        Answer::Gave(x) => match as_type(around, t, x.v, st) {
+            Answer::Gave(v) => {
+                store(around.program.alloc, x.l.as_slice(), v, st)?;
+                Ok(Outcome::Went)
+            }
+            Answer::Stopped(stop) => Ok(Outcome::Stopped(stop)),
+        },
+        Answer::Stopped(stop) => Ok(Outcome::Stopped(stop)),
+    }
+}
+
+/// Copies an array or a record.
+#[tactic(auto, using(plain_store::proofs::Threads::threads))]
+pub fn copy(around: &Around<'_>, given: Answer<Ends>, st: &mut State) -> Result<Outcome, RunFault>
+    ensures { IfOk result (λ o. ended o st.new ≡ with_answer (told given st.old)
+        (λ x st. Went (with_store (copied x.to x.from st.store) st))) }
+{
+    match given {
+        Answer::Gave(x) => {
+            copy_to(around.program.alloc, x.to.as_slice(), x.from.as_slice(), st)?;
+            Ok(Outcome::Went)
+        }
+        Answer::Stopped(stop) => Ok(Outcome::Stopped(stop)),
+    }
+}
+
+/// Puts the characters of a string into an array.
+#[tactic(auto, using(plain_store::proofs::Threads::threads), unfolding(crate::specs::Parts::text_put))]
+pub fn copy_text(
+    around: &Around<'_>,
+    given: Answer<Items<usize>>,
+    text: &[u8],
+    st: &mut State,
+) -> Result<Outcome, RunFault>
+    ensures { IfOk result (λ o. ended o st.new ≡ with_answer (told given st.old)
+        (text_put text.now)) }
+{
+    match given {
+        Answer::Gave(l) => {
+            text_to(around.program.alloc, l.as_slice(), text, st)?;
+            Ok(Outcome::Went)
+        }
+        Answer::Stopped(stop) => Ok(Outcome::Stopped(stop)),
+    }
+}
+
+/// The end of a call as a statement.
+#[tactic(auto, using(plain_store::proofs::Threads::threads))]
+pub fn gone(given: Answer<i64>, st: &State) -> Outcome
+    ensures { ended result st.now ≡ with_answer (told given st.now) (λ v st. Went st) }
+{
+    match given {
+        Answer::Gave(_) => Outcome::Went,
+        Answer::Stopped(stop) => Outcome::Stopped(stop),
+    }
+}
+
+/// Prints a character.
+#[tactic(auto, using(plain_store::proofs::Threads::threads))]
+pub fn put(around: &Around<'_>, given: Answer<i64>, st: &mut State) -> Result<Outcome, RunFault>
+    ensures { let types = (surroundings around.now).types in
+        IfOk result (λ o. ended o st.new ≡ with_answer (told given st.old)
+        (λ v st. with_answer (as_type types char v st) (λ v st. Went (with_byte v st)))) }
+{
+    match given {
+        Answer::Gave(v) => match as_type(around, CHAR, v, st) {
+            Answer::Gave(v) => {
+                print(v, st)?;
+                Ok(Outcome::Went)
+            }
+            Answer::Stopped(stop) => Ok(Outcome::Stopped(stop)),
+        },
+        Answer::Stopped(stop) => Ok(Outcome::Stopped(stop)),
+    }
+}
+
+fn changed(how: Change, x: i64, by: i64) -> Result<i64, RunFault>
+    ensures { IfOk result (λ v. v ≡ changed how x by) }
+{
+    match how {
+        Change::Increase => sum(x, by),
+        Change::Decrease => difference(x, by),
+    }
+}
+
+fn base_of(t: TypeNo, scalar: Option<Scalar>) -> TypeNo
+    ensures { result ≡ base_of t scalar }
+{
+    match scalar {
+        None => t,
+        Some(s) => s.base,
+    }
+}
+
+/// A result as one of the base type, and then as one of the variable's.
+#[tactic(auto, using(plain_store::proofs::Threads::threads), unfolding(plain_values::specs::Surroundings::surroundings))]
+fn rechecked(around: &Around<'_>, t: TypeNo, v: i64, st: &State) -> Answer<i64>
+    ensures { told result st.now ≡ rechecked (surroundings around.now).types t v (seen st.now) }
+{
+    let base = base_of(t, scalar_of(&around.home.body.types, t));
+    match in_base(around, base, v, st) {
+        Answer::Gave(v) => as_type(around, t, v, st),
+        Answer::Stopped(stop) => Answer::Stopped(stop),
+    }
+}
+
+/// INC and DEC.
+#[tactic(auto, using(plain_store::proofs::Threads::threads))]
+pub fn change(
+    around: &Around<'_>,
+    how: Change,
+    t: TypeNo,
+    given: Answer<Target>,
+    st: &mut State,
+) -> Result<Outcome, RunFault>
+    ensures { let types = (surroundings around.now).types in
+        IfOk result (λ o. ended o st.new ≡ with_answer (told given st.old)
+        (λ x st. with_answer (rechecked types t (changed how (st.store x.l) x.v) st)
+        (λ v st. Went (stored x.l v st)))) }
+{
+    match given {
+        Answer::Gave(x) => {
+            let v = changed(how, load(x.l.as_slice(), st), x.v)?;
+            match rechecked(around, t, v, st) {
+                Answer::Gave(v) => {
+                    store(around.program.alloc, x.l.as_slice(), v, st)?;
+                    Ok(Outcome::Went)
+                }
+                Answer::Stopped(stop) => Ok(Outcome::Stopped(stop)),
+            }
+        }
+        Answer::Stopped(stop) => Ok(Outcome::Stopped(stop)),
+    }
+}
+
+/// INCL and EXCL.
+#[tactic(auto, using(plain_store::proofs::Threads::threads))]
+pub fn membership(
+    around: &Around<'_>,
+    how: Membership,
+    given: Answer<Target>,
+    st: &mut State,
+) -> Result<Outcome, RunFault>
+    ensures { IfOk result (λ o. ended o st.new ≡ with_answer (told given st.old)
+        (λ x st. with_answer (within (pos 0) (pos 31) range_fault x.v st)
+        (λ v st. Went (stored x.l (with_element how (st.store x.l) v) st)))) }
+{
+    match given {
+        Answer::Gave(x) => match within(0, 31, 1, x.v, st) {
+            Answer::Gave(v) => {
+                let set = operators::with_element(how, load(x.l.as_slice(), st), v)?;
+                store(around.program.alloc, x.l.as_slice(), set, st)?;
+                Ok(Outcome::Went)
+            }
+            Answer::Stopped(stop) => Ok(Outcome::Stopped(stop)),
+        },
+        Answer::Stopped(stop) => Ok(Outcome::Stopped(stop)),
+    }
+}
+
+/// RETURN with a value.
+#[tactic(auto, using(plain_store::proofs::Threads::threads))]
+pub fn give(around: &Around<'_>, t: TypeNo, given: Answer<i64>, st: &State) -> Outcome
+    ensures { let types = (surroundings around.now).types in
+        ended result st.now ≡ with_answer (told given st.now)
+        (λ v st. with_answer (as_type types t v st) (λ v st. Came v st)) }
+{
+    match given {
+        Answer::Gave(v) => match as_type(around, t, v, st) {
+            Answer::Gave(v) => Outcome::Came(v),
+            Answer::Stopped(stop) => Outcome::Stopped(stop),
+        },
+        Answer::Stopped(stop) => Outcome::Stopped(stop),
+    }
+}
+
+fn is_labelled(v: i64, labels: &[Label]) -> bool
+    ensures { result ≡ list_any (is_labelled v) labels.now }
+{
+    match labels {
+        [] => false,
+        [label, rest @ ..] => is_between(label.low, v, label.high) || is_labelled(v, rest),
+    }
+}
+
+/// The first arm with a label for a value.
+pub fn chosen_arm(v: i64, arms: &[TypedArm]) -> Option<&TypedArm>
+    ensures { option_copied result ≡ first_arm v arms.now }
+{
+    match arms {
+        [] => None,
+        [arm, rest @ ..] => {
+            if is_labelled(v, arm.labels.as_slice()) {
+                Some(arm)
+            } else {
+                chosen_arm(v, rest)
+            }
+        }
+    }
+}
+
+/// Whether a number has passed the limit of a FOR.
+pub fn has_passed(by: i64, limit: i64, v: i64) -> bool
+    ensures { result ≡ has_passed by limit v }
+{
+    if by < 0 { v < limit } else { limit < v }
+}
+
+/// Gives the control variable of a FOR its start, and answers whether that has passed the limit.
+pub fn begin_for(
+    around: &Around<'_>,
+    by: &i64,
+    of: &Turns,
+    st: &mut State,
+) -> Result<bool, RunFault>
+    ensures stored { OnOk result (seen st.new ≡ stored of.now.l of.now.v (seen st.old)) }
+    ensures passed { IfOk result (λ b. b
+        ≡ has_passed by.now of.now.last ((seen st.new).store of.now.l)) }
+{
+    store(around.program.alloc, of.l.as_slice(), of.v, st)?;
+    Ok(has_passed(*by, of.last, load(of.l.as_slice(), st)))
+}
+
+/// The control variable of a FOR, one step further.
+fn stepped_on(of: &Turns, by: &i64, st: &State) -> Result<i64, RunFault>
+    ensures { IfOk result (λ v. v ≡ (seen st.now).store of.now.l +ℤ by.now) }
+{
+    sum(load(of.l.as_slice(), st), *by)
+}
+
+/// Stores the control variable of a FOR.
+fn keep(around: &Around<'_>, of: &Turns, v: i64, st: &mut State) -> Result<(), RunFault>
+    ensures { OnOk result (seen st.new ≡ stored of.now.l v (seen st.old)) }
+{
+    store(around.program.alloc, of.l.as_slice(), v, st)
+}
+
+/// Stores the control variable of a FOR, which is not over then.
+#[tactic(auto, using(plain_store::proofs::Threads::threads))]
+fn kept(
+    around: &Around<'_>,
+    t: TypeNo,
+    of: &Turns,
+    next: &i64,
+    st: &mut State,
+) -> Result<Answer<bool>, RunFault>
+    ensures { let types = (surroundings around.now).types in
+        IfOk result (λ j. told j st.new ≡ then_give (as_type types t next.now (seen st.old))
+        (λ v st. Gave false (stored of.now.l v st))) }
+{
+    match as_type(around, t, *next, st) {
+        Answer::Gave(v) => {
+            keep(around, of, v, st)?;
+            Ok(Answer::Gave(false))
+        }
+        Answer::Stopped(stop) => Ok(Answer::Stopped(stop)),
+    }
+}
+
+/// Whether a number has passed the limit of these turns.
+fn is_over(of: &Turns, by: &i64, next: &i64) -> bool
+    ensures { result ≡ has_passed by.now of.now.last next.now }
+{
+    has_passed(*by, of.last, *next)
+}
+
+/// Steps the control variable of a FOR on, and answers whether the turns are over.
+#[tactic(auto, using(crate::proofs::Steppings::steppings))]
+pub fn next_turn(
+    around: &Around<'_>,
+    t: TypeNo,
+    by: &i64,
+    of: &Turns,
+    st: &mut State,
+) -> Result<Answer<bool>, RunFault>
+    ensures { let types = (surroundings around.now).types in
+        IfOk result (λ j. told j st.new
+        ≡ stepped types t of.now.l by.now of.now.last (seen st.old)) }
+{
+    let next = stepped_on(of, by, st)?;
+    if is_over(of, by, &next) {
+        return Ok(Answer::Gave(true));
+    }
+    let over = kept(around, t, of, &next, st)?;
+    Ok(over)
+}

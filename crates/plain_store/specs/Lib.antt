@@ -1,0 +1,4 @@
+pub mod Contents
+pub mod Characters
+pub mod Blanks
+pub mod Seen

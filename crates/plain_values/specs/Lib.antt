@@ -1,0 +1,2 @@
+pub mod Surroundings
+pub mod Operated
