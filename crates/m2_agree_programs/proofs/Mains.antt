@@ -39,7 +39,8 @@ use Rattle.m2_agree_procedures.proofs.Formals.{get_first}
 use Rattle.m2_agree_procedures.proofs.Begins.{Start, FrameDone, begin_goes}
 use Rattle.m2_agree_procedures.proofs.Routines.{kept_top, kept_none, kept_is, length_zeros}
 use Rattle.m2_agree_programs.specs.Knot.{core}
-use Rattle.m2_agree_programs.specs.Main.{body_row, coded_main, locals_main, main_scene, IsMain, BodyGives, BodyEnds, AreMains, IsProgram, shown, Behaves, ProgramsBehave}
+use Rattle.m2_agree_runs.specs.Bodies.{Ground, IsBack, BodyEnds}
+use Rattle.m2_agree_programs.specs.Main.{body_row, coded_main, locals_main, main_scene, IsMain, MainDoes}
 use Rattle.m2_agree_programs.proofs.Knots.{one_more}
 
 -- the frame of a body has no variables
@@ -167,16 +168,15 @@ module _ (k : Scene) (p : Modules) (ask : Asks) (m : TypedModule) (place text : 
     }
 
     abbrev Back : Effect → Outcome → Type 0
-    Back R o = BodyEnds base texts k.limit locals below (back 0 locals below R) o
+    Back R o = BodyEnds (record { base = base; texts = texts; limit = k.limit }) locals below (back 0 locals below R) o
 
     again : (s' : Source) (st : Target) → Stands K s' st → Holds base texts s'.store st.bytes
     again s' st h = call_ends base (body_row ∷ []) texts K.hidden s'.store st.bytes (λ i q j less. older_placed (length base) [] (λ q j. 0) texts i q j less) h.holds
 
-    came : (s' : Source) (st : Target) → Stands K s' st → (stack : List Value) (R : Effect) → R ≡ back_with 0 locals below st stack → BodyGives base texts k.limit locals below s' R
+    came : (s' : Source) (st : Target) → Stands K s' st → (stack : List Value) (R : Effect) → R ≡ back_with 0 locals below st stack → IsBack (record { base = base; texts = texts; limit = k.limit }) locals below s' R
     came s' st h stack R e = record {
       bytes = st.bytes;
-      holds = again s' st h;
-      long = h.long;
+      held = record { holds = again s' st h; long = h.long };
       run =
           e
           ∙ ap (λ (vs : List Value). back_with 0 locals below st vs) (sym (append-nil stack))
@@ -236,168 +236,12 @@ module _ (k : Scene) (p : Modules) (ask : Asks) (m : TypedModule) (place text : 
         (λ (over : (k.limit < size (row base) + size body_row) × (runs K (enter_code 1 (size body_row) ++ rest) st0 [] ≡ Ended 8 s.out)). absurd (let o = over.0 in omega (arith, o, room)))
         (begin_goes K set_here limit_here 1 body_row args s.out posi two base texts s.store body_fit (omega (arith, bytes_16)) st0 starts rest)
 
--- ---- all bodies
+-- ---- its function
 
-module _ (modules : List WModule) (fx : Fixed) (serves : (k f : ℕ) → Bool) (extra : (k f : ℕ) → ℕ) (limit : ℕ) (p : Modules) (pages : ℕ) (base : List Ty) (texts : Location → ℕ → ℕ) (n : ℕ)
-    (count : length base ≡ length p) (room : size (row base) + ((storage p pages - body_frame) + body_frame) ≡ limit) where
-  abbrev calls_n : Calling
-  calls_n = nested modules fx serves extra n (suc n)
-
-  abbrev left : ℕ
-  left = storage p pages - body_frame
-
-  -- how the run of all bodies ends
-  abbrev pub AllEnd : Effect → Outcome → Type 0
-  AllEnd r (Went s) = ⊥
-  AllEnd r (Left s) = ⊥
-  AllEnd r (Came v s) = ⊥
-  AllEnd r (Stopped j out) = (r ≡ Ended j out) ⊎ ((j ≡ 0) × (st : Target) × (stack : List Value) × (r ≡ FellThrough st stack) × (st.out ≡ out))
-  AllEnd r (Unfinished out) = r ≡ StillRunning out
-
-  one_body : (b : BodyAt) (m : TypedModule) (place text : ℕ) → IsMain (core modules fx serves extra n limit p base texts b.own place m n) p (calling p n n) m place text base texts left b.typed → serves b.own b.function ≡ false → extra b.own b.function ≡ 0
-      → (s : Source) (st : Target) → Holds base texts s.store st.bytes → length st.bytes ≡ limit → st.out ≡ s.out → (stack : List Value)
-      → BodyEnds base texts limit st.locals stack (back 0 st.locals stack (calls_n b.own b.function b.typed (I32 (size (row base)) ∷ []) st.bytes st.out)) (body_does p n (calling p n n) m.body (around_body p place m left) s)
-  one_body b m place text is ours bound s st holds long out stack =
-      subst (λ (r : Effect). BodyEnds base texts limit st.locals stack (back 0 st.locals stack r) (body_does p n (calling p n n) m.body (around_body p place m left) s))
-      (sym (ap (λ (o : List ℕ). calls_n b.own b.function b.typed (I32 (size (row base)) ∷ []) st.bytes o) out ∙ one_more modules fx serves extra n limit p base texts n b.own b.function b.typed (I32 (size (row base)) ∷ []) st.bytes s.out ours bound))
-      (body_goes (core modules fx serves extra n limit p base texts b.own place m n) p (calling p n n) m place text base texts left b.typed is count room s st.bytes holds long st.locals stack)
-
-  -- what comes behind a body
-  abbrev Next : (place : ℕ) → Modules → List BodyAt → (locals stack : List Value) → Type 0
-  Next place ms bs locals stack =
-      (s' : Source) (m' : List ℕ) → Holds base texts s'.store m' → length m' ≡ limit → AllEnd (bodies_do calls_n (size (row base)) bs (record { locals = locals; bytes = m'; out = s'.out }) stack) (bodies p n left place ms s')
-
-  all_go : (place : ℕ) (ms : Modules) (bs : List BodyAt) → AreMains modules fx serves extra limit p pages base texts place ms bs → (s : Source) (st : Target) → Holds base texts s.store st.bytes → length st.bytes ≡ limit → st.out ≡ s.out → (stack : List Value)
-      → AllEnd (bodies_do calls_n (size (row base)) bs st stack) (bodies p n left place ms s)
-  all_go place [] [] are s st holds long out stack = inr (refl, st, stack, refl, out)
-  all_go place [] (b ∷ bs) are s st holds long out stack = absurd are
-  all_go place (m ∷ ms) [] are s st holds long out stack = absurd are
-  all_go place (m ∷ ms) (b ∷ bs) are s st holds long out stack =
-      by (body_does p n (calling p n n) m.body (around_body p place m left) s) (back 0 st.locals stack (calls_n b.own b.function b.typed (I32 (size (row base)) ∷ []) st.bytes st.out))
-      (one_body b m place are.0.0 (are.0.1 n) are.1 are.2 s st holds long out stack)
-      (λ s' m' h l. all_go (suc place) ms bs are.3 s' (record { locals = st.locals; bytes = m'; out = s'.out }) h l refl stack)
-    where
-      on : Next (suc place) ms bs st.locals stack → (s' : Source) (r : Effect) → BodyGives base texts limit st.locals stack s' r → AllEnd (then_run r (bodies_do calls_n (size (row base)) bs)) (bodies p n left (suc place) ms s')
-      on next s' r g =
-          subst (λ (r : Effect). AllEnd (then_run r (bodies_do calls_n (size (row base)) bs)) (bodies p n left (suc place) ms s')) (sym g.run) (next s' g.bytes g.holds g.long)
-
-      by : (o : Outcome) (r : Effect) → BodyEnds base texts limit st.locals stack r o → Next (suc place) ms bs st.locals stack → AllEnd (then_run r (bodies_do calls_n (size (row base)) bs)) (then_body o (bodies p n left (suc place) ms))
-      by (Went s') r g next = on next s' r g
-      by (Left s') r g next = on next s' r g
-      by (Came v s') r g next = on next s' r g
-      by (Stopped j out') r g next = inl (ap (λ (e : Effect). then_run e (bodies_do calls_n (size (row base)) bs)) g)
-      by (Unfinished out') r g next = ap (λ (e : Effect). then_run e (bodies_do calls_n (size (row base)) bs)) g
-
--- ---- the machine's run
-
-module _ (modules : List WModule) (fx : Fixed) (serves : (k f : ℕ) → Bool) (extra : (k f : ℕ) → ℕ) (limit : ℕ) (p : Modules) (pages : ℕ) (base : List Ty) (texts : Location → ℕ → ℕ) (l f index type : ℕ) (bs : List BodyAt) (bytes : List ℕ)
-    (is : IsProgram modules fx serves extra limit p pages base texts l f index type bs bytes) where
-  abbrev top : ℕ
-  top = size (row base)
-
-  abbrev runner : Typed
-  runner = run_typed index top type bs
-
-  abbrev c0 : Config
-  c0 = Going (store_of fx bytes) (entered l runner []) []
-
-  abbrev made : ℕ → Effect
-  made n = nested modules fx serves extra n (suc (suc n)) l f runner [] bytes []
-
-  -- what the function `run` of link does is what the bodies do
-  made_is : (n : ℕ) → made n ≡ bodies_do (nested modules fx serves extra n (suc n)) top bs (record { locals = []; bytes = bytes; out = [] }) []
-  made_is n =
-      one_more modules fx serves extra n limit p base texts (suc n) l f runner [] bytes [] is.ours is.bound
-      ∙ bodies_called modules fx n (nested modules fx serves extra n (suc n)) l top type bs is.there (record { locals = []; bytes = bytes; out = [] }) []
-
-  ends_so : (n : ℕ) → AllEnd modules fx serves extra limit p pages base texts n is.count is.room (made n) (program_run p pages n)
-  unfolding program_run
-  ends_so n =
-      subst (λ (r : Effect). AllEnd modules fx serves extra limit p pages base texts n is.count is.room r (bodies p n (storage p pages - body_frame) 0 p (first_state p))) (sym (made_is n))
-      (all_go modules fx serves extra limit p pages base texts n is.count is.room 0 p bs is.mains (first_state p) (record { locals = []; bytes = bytes; out = [] }) is.holds is.long refl [])
-
-  leads : (n : ℕ) → RunLeads modules n 0 c0 (made n)
-  leads n = nested_runs modules fx serves extra n (suc n) l f (omega arith) is.ours runner bytes
-
-  abbrev EndSo : (n : ℕ) → Effect → Outcome → Type 0
-  EndSo n r o = AllEnd modules fx serves extra limit p pages base texts n is.count is.room r o
-
-  abbrev over_at : ℕ → List ℕ → Progress
-  over_at j out = (Over j, out)
-
-  abbrev trapped_at : List ℕ → Progress
-  trapped_at out = (Trapped, out)
-
-  enough : (stack : List Value) → nat_le 0 (length stack) ≡ true
-  enough stack = le-leb 0 (length stack) (omega arith)
-
-  abbrev if_enough : Bool → List ℕ → Progress
-  if_enough b out = (if b then Over 0 else Trapped, out)
-
-  fallen : (st : Target) (stack : List Value) (out : List ℕ) → st.out ≡ out → comes 0 (FellThrough st stack) ≡ Some (over_at 0 out)
-  fallen st stack out e = ap (λ (b : Bool). Some (if_enough b st.out)) (enough stack) ∙ ap (λ (o : List ℕ). Some (over_at 0 o)) e
-
-  some_progress : (a b : Progress) → Some a ≡ Some b → a ≡ b
-  some_progress a b e = cc e
-
-  over_same : (i j : ℕ) → Over i ≡ Over j → i ≡ j
-  over_same i j e = cc e
-
-  over_trapped : (i : ℕ) → Over i ≡ Trapped → ⊥
-  over_trapped i e = cc e
-
-  stopped_same : (i j : ℕ) (o out : List ℕ) → Some (over_at i o) ≡ Some (over_at j out) → Stopped i o ≡ Stopped j out
-  stopped_same i j o out e =
-      let q : over_at i o ≡ over_at j out = some_progress (over_at i o) (over_at j out) e in
-      ap (λ (i : ℕ). Stopped i o) (over_same i j (ap (λ (x : Progress). x.0) q)) ∙ ap (λ (o : List ℕ). Stopped j o) (ap (λ (x : Progress). x.1) q)
-
-  differ : (i : ℕ) (o out : List ℕ) → Some (over_at i o) ≡ Some (trapped_at out) → ⊥
-  differ i o out e = over_trapped i (ap (λ (x : Progress). x.0) (some_progress (over_at i o) (trapped_at out) e))
-
-  -- from the program's run to the machine's
-  over : (n j : ℕ) (out : List ℕ) (r : Effect) → EndSo n r (Stopped j out) → RunLeads modules n 0 c0 r → (m : ℕ) × (run modules m c0 ≡ (Over j, out))
-  over n j out r (inl e) h = let g = subst (λ (r : Effect). RunLeads modules n 0 c0 r) e h in (g.count, g.path)
-  over n j out r (inr e) h =
-      let g = subst (λ (r : Effect). RunLeads modules n 0 c0 r) e.3 h in
-      (g.count, g.path ∙ ap (λ (b : Bool). if_enough b e.1.out) (enough e.2) ∙ ap (λ (o : List ℕ). over_at 0 o) e.4 ∙ ap (λ (i : ℕ). over_at i out) (sym e.0))
-
-  -- and back
-  only : (n m j : ℕ) (out : List ℕ) (r : Effect) (o : Outcome) → EndSo n r o → comes 0 r ≡ Some (over_at j out) → o ≡ Stopped j out
-  only n m j out r (Stopped i o) (inl e) h = stopped_same i j o out (sym (ap (comes 0) e) ∙ h)
-  only n m j out r (Stopped i o) (inr e) h = ap (λ (i : ℕ). Stopped i o) e.0 ∙ stopped_same 0 j o out (sym (ap (comes 0) e.3 ∙ fallen e.1 e.2 _ e.4) ∙ h)
-  only n m j out r (Unfinished o) e h = absurd (none-some (over_at j out) (sym (ap (comes 0) e) ∙ h))
-  only n m j out r (Went s) e h = absurd e
-  only n m j out r (Left s) e h = absurd e
-  only n m j out r (Came v s) e h = absurd e
-
-  -- what is printed
-  shown_same : (n : ℕ) (r : Effect) (o : Outcome) → EndSo n r o → shown o ≡ shown_effect r
-  shown_same n r (Stopped i out) (inl e) = sym (ap shown_effect e)
-  shown_same n r (Stopped i out) (inr e) = sym (ap shown_effect e.3 ∙ e.4)
-  shown_same n r (Unfinished out) e = sym (ap shown_effect e)
-  shown_same n r (Went s) e = absurd e
-  shown_same n r (Left s) e = absurd e
-  shown_same n r (Came v s) e = absurd e
-
-  no_trap : (n : ℕ) (out : List ℕ) (r : Effect) (o : Outcome) → EndSo n r o → comes 0 r ≡ Some (trapped_at out) → ⊥
-  no_trap n out r (Stopped i o) (inl e) h = differ i o out (sym (ap (comes 0) e) ∙ h)
-  no_trap n out r (Stopped i o) (inr e) h = differ 0 o out (sym (ap (comes 0) e.3 ∙ fallen e.1 e.2 _ e.4) ∙ h)
-  no_trap n out r (Unfinished o) e h = none-some (trapped_at out) (sym (ap (comes 0) e) ∙ h)
-  no_trap n out r (Went s) e h = e
-  no_trap n out r (Left s) e h = e
-  no_trap n out r (Came v s) e h = e
-
-  going : (n : ℕ) (out : List ℕ) (r : Effect) → r ≡ StillRunning out → RunLeads modules n 0 c0 r → GoesOn modules n c0 [] out
-  going n out r e h = subst (λ (r : Effect). RunLeads modules n 0 c0 r) e h
-
-  pub behaves : Behaves p pages modules c0
-  behaves = record {
-    ends = λ n j out e. over n j out (made n) (subst (λ (o : Outcome). EndSo n (made n) o) e (ends_so n)) (leads n);
-    goes_on = λ n out e. going n out (made n) (subst (λ (o : Outcome). EndSo n (made n) o) e (ends_so n)) (leads n);
-    ends_only = λ m j out e. (m, only m m j out (made m) (program_run p pages m) (ends_so m) (nested_only modules fx serves extra (suc m) l f is.ours runner bytes m (omega arith) (Over j) out tt e));
-    prints_only = λ m. let q = nested_prints modules fx serves extra (suc m) l f is.ours runner bytes m (omega arith) in (m, q.0, shown_same m (made m) (program_run p pages m) (ends_so m) ∙ q.1);
-    never_traps = λ m out e. no_trap m out (made m) (program_run p pages m) (ends_so m) (nested_only modules fx serves extra (suc m) l f is.ours runner bytes m (omega arith) Trapped out tt e);
-  }
-
-pub programs_behave : ProgramsBehave
-programs_behave modules fx serves extra limit p pages base texts l f index type bs bytes is = behaves modules fx serves extra limit p pages base texts l f index type bs bytes is
+pub main_does : MainDoes
+main_does modules fx serves extra limit p pages base texts n own place text f m t count room ours bound is s bytes held locals below =
+    let left : ℕ = storage p pages - body_frame in
+    let g : Ground = record { base = base; texts = texts; limit = limit } in
+    subst (λ (r : Effect). BodyEnds g locals below (back 0 locals below r) (body_does p n (calling p n n) m.body (around_body p place m left) s))
+    (sym (one_more modules fx serves extra n limit p base texts n own f t (I32 (size (row base)) ∷ []) bytes s.out ours bound))
+    (body_goes (core modules fx serves extra n limit p base texts own place m n) p (calling p n n) m place text base texts left t is count room s bytes held.holds held.long locals below)
