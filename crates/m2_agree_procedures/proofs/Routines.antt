@@ -80,18 +80,18 @@ none_some x e = cc e
 kept_first : (frame free top : ℕ) → kept_in frame free top 0 ≡ Some (I32 frame)
 kept_first frame free top = refl
 
-kept_top : (frame free top : ℕ) → 0 < top → kept_in frame free top top ≡ Some (I32 free)
+pub kept_top : (frame free top : ℕ) → 0 < top → kept_in frame free top top ≡ Some (I32 free)
 kept_top frame free top posi =
     let ne : top ≡ 0 → ⊥ = λ e. omega (arith, e, posi) in
     ap (λ (b : Bool). if b then Some (I32 frame) else (if nat_eq top top then Some (I32 free) else None)) (ne_eqb top 0 ne) ∙ ap (λ (b : Bool). if b then Some (I32 free) else None) (eq-eqb top top refl)
 
-kept_none : (frame free top w : ℕ) → top < w → kept_in frame free top w ≡ None
+pub kept_none : (frame free top w : ℕ) → top < w → kept_in frame free top w ≡ None
 kept_none frame free top w more =
     let n0 : w ≡ 0 → ⊥ = λ e. omega (arith, e, more) in
     let n1 : w ≡ top → ⊥ = λ e. omega (arith, e, more) in
     ap (λ (b : Bool). if b then Some (I32 frame) else (if nat_eq w top then Some (I32 free) else None)) (ne_eqb w 0 n0) ∙ ap (λ (b : Bool). if b then Some (I32 free) else None) (ne_eqb w top n1)
 
-kept_is : (frame free top : ℕ) (locals : List Value) → slice_get locals 0 ≡ Some (I32 frame) → slice_get locals top ≡ Some (I32 free) → (w : ℕ) (v : Value) → kept_in frame free top w ≡ Some v → slice_get locals w ≡ Some v
+pub kept_is : (frame free top : ℕ) (locals : List Value) → slice_get locals 0 ≡ Some (I32 frame) → slice_get locals top ≡ Some (I32 free) → (w : ℕ) (v : Value) → kept_in frame free top w ≡ Some v → slice_get locals w ≡ Some v
 kept_is frame free top locals at_0 at_top w v e =
     ⊎_elim
     (λ (is : w ≡ 0).
@@ -185,7 +185,7 @@ whole_of : (t : Ty) → component t [] ≡ Some t
 unfolding component
 whole_of t = refl
 
-length_zeros : (n : ℕ) (v : Value) → length (replicate n v) ≡ n
+pub length_zeros : (n : ℕ) (v : Value) → length (replicate n v) ≡ n
 length_zeros zero v = refl
 length_zeros (suc n) v = ap suc (length_zeros n v)
 

@@ -21,7 +21,7 @@ module _ (modules : List WModule) (fx : Fixed) (serves : (k f : ℕ) → Bool) (
   unfolding nested
   none_left k f t args bytes out e = ap (λ (b : Bool). if b then helping modules fx extra n (suc (suc n)) k f t args bytes out else StillRunning out) e
 
-  one_more : (d k f : ℕ) (t : Typed) (args : List Value) (bytes out : List ℕ) → serves k f ≡ false → extra k f ≡ 0
+  pub one_more : (d k f : ℕ) (t : Typed) (args : List Value) (bytes out : List ℕ) → serves k f ≡ false → extra k f ≡ 0
       → nested modules fx serves extra n (suc d) k f t args bytes out ≡ effect modules fx n (nested modules fx serves extra n d) k t.function.body.code (record { locals = args ++ flat_map zeros t.function.body.locals; bytes = bytes; out = out }) []
   unfolding nested
   one_more d k f t args bytes out e bound =

@@ -1,1 +1,2 @@
 pub mod Knots
+pub mod Mains

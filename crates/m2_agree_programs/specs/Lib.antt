@@ -1,1 +1,2 @@
 pub mod Knot
+pub mod Main

@@ -1,0 +1,2 @@
+pub mod Pinned
+pub mod Meant
