@@ -31,11 +31,11 @@ use Rattle.m2_formed_bodies.proofs.Places.{is_within}
 use Rattle.m2_formed_bodies.proofs.Parts.{IsStep, constants_step, types_step, variables_step, procedure_step, AreSteps, no_steps, more_steps, numbered_first, numbered_rest, numbered_inner, HeadOf, HeadsIn, RoutineOf, RoutinesIn}
 use Rattle.m2_formed_bodies.proofs.Checks.{keeps_refl, keeps_then, procedure_own, procedure_keeps, procedure_told, nested_count, nested_routine, nested_adds, nested_formed}
 
-data Order (n k : ℕ) : Type 0 where
+pub data Order (n k : ℕ) : Type 0 where
   at_least : n ≤ k → Order n k
   less : k < n → Order n k
 
-nat_order : (n k : ℕ) → Order n k
+pub nat_order : (n k : ℕ) → Order n k
 nat_order zero k = at_least (omega arith)
 nat_order (suc n) zero = less (omega arith)
 nat_order (suc n) (suc k) = next (nat_order n k) where
@@ -46,19 +46,19 @@ nat_order (suc n) (suc k) = next (nat_order n k) where
 module _ (g : Gathers) (judges : Judges g.Told) (ends : List ℕ) (around : Option Which) where
   -- ---- one declaration
 
-  step_own : {x : Steps g.Told} {ks : List ℕ} → IsStep g judges ends x ks → (seen : ℕ) (w : Walk g.Told) → (checked_by x around seen w).scope.own ≡ w.scope.own
+  pub step_own : {x : Steps g.Told} {ks : List ℕ} → IsStep g judges ends x ks → (seen : ℕ) (w : Walk g.Told) → (checked_by x around seen w).scope.own ≡ w.scope.own
   step_own (constants_step cs) seen w = refl
   step_own (types_step ts) seen w = refl
   step_own (variables_step vs) seen w = refl
   step_own (procedure_step h block ks f) seen w = procedure_own g judges ends h block ks f around seen w
 
-  step_keeps : {x : Steps g.Told} {ks : List ℕ} → IsStep g judges ends x ks → (seen : ℕ) (w : Walk g.Told) → Keeps w.scope (checked_by x around seen w).scope
+  pub step_keeps : {x : Steps g.Told} {ks : List ℕ} → IsStep g judges ends x ks → (seen : ℕ) (w : Walk g.Told) → Keeps w.scope (checked_by x around seen w).scope
   step_keeps (constants_step cs) seen w = keeps_refl w.scope
   step_keeps (types_step ts) seen w = keeps_refl w.scope
   step_keeps (variables_step vs) seen w = keeps_refl w.scope
   step_keeps (procedure_step h block ks f) seen w = procedure_keeps g judges ends h block ks f around seen w
 
-  step_told : {x : Steps g.Told} {ks : List ℕ} → IsStep g judges ends x ks → (seen : ℕ) (w : Walk g.Told) → (checked_by x around seen w).so_far ≡ Ok tt → w.so_far ≡ Ok tt
+  pub step_told : {x : Steps g.Told} {ks : List ℕ} → IsStep g judges ends x ks → (seen : ℕ) (w : Walk g.Told) → (checked_by x around seen w).so_far ≡ Ok tt → w.so_far ≡ Ok tt
   step_told (constants_step cs) seen w e = e
   step_told (types_step ts) seen w e = e
   step_told (variables_step vs) seen w e = e
@@ -222,7 +222,7 @@ module _ (g : Gathers) (judges : Judges g.Told) (ends : List ℕ) (around : Opti
       -- ---- what is added is well formed
 
       module _ (m : TypedModule) (opens : ℕ → Bool) where
-        suits_first : (a b c : Walk g.Told) → Keeps b.scope c.scope → Adds b c → length b.bodies.locals ≤ length c.bodies.locals → Suits g m opens a c → Suits g m opens a b
+        pub suits_first : (a b c : Walk g.Told) → Keeps b.scope c.scope → Adds b c → length b.bodies.locals ≤ length c.bodies.locals → Suits g m opens a c → Suits g m opens a b
         suits_first a b c k p grows u = record {
           home = u.home;
           types = λ t x e. u.types t x (k.types t x e);

@@ -147,13 +147,13 @@ module _ (g : Gathers) (judges : Judges g.Told) (ends : List ℕ) (h : Heading) 
   abbrev pub ended : Walk g.Told
   ended = procedure_checked g judges ends h block around seen w
 
-  inside : Keeps entry.0.scope inner.0.scope
+  pub inside : Keeps entry.0.scope inner.0.scope
   inside = f.keeps (which_of entry.1.procedure) entry.1.returns entry.0
 
-  abbrev around_it : Block g.Told
+  abbrev pub around_it : Block g.Told
   around_it = record { names = w.scope.own; seen = seen }
 
-  taken : popped (split_last inner.0.scope.outer) ≡ (w.scope.outer, w.scope.own)
+  pub taken : popped (split_last inner.0.scope.outer) ≡ (w.scope.outer, w.scope.own)
   taken = ap (λ (bs : List (Block g.Told)). popped (split_last bs)) inside.outer ∙ ap (λ (o : Option (List (Block g.Told) × Block g.Told)). popped o) (split_more w.scope.outer around_it)
 
   pub procedure_own : ended.scope.own ≡ w.scope.own

@@ -101,7 +101,7 @@ module _ (g : Gathers) (judges : Judges g.Told) (ends : List ℕ) where
 
   -- ---- declarations
 
-  step_told : {x : Steps g.Told} {ks : List ℕ} → IsStep g judges ends x ks → (c : Course g.Told) → (declared_by c x).1 ≡ Ok tt → c.1 ≡ Ok tt
+  pub step_told : {x : Steps g.Told} {ks : List ℕ} → IsStep g judges ends x ks → (c : Course g.Told) → (declared_by c x).1 ≡ Ok tt → c.1 ≡ Ok tt
   step_told (constants_step cs) c e = decl_told g {A = Steps g.Told} {B = ChecksBlock g.Told} ends c (layer.Constants cs) e
   step_told (types_step ts) c e = decl_told g {A = Steps g.Told} {B = ChecksBlock g.Told} ends c (layer.Types ts) e
   step_told (variables_step vs) c e = decl_told g {A = Steps g.Told} {B = ChecksBlock g.Told} ends c (layer.Variables vs) e
@@ -113,7 +113,7 @@ module _ (g : Gathers) (judges : Judges g.Told) (ends : List ℕ) where
 
   -- what does not depend on the module
   module _ (m : TypedModule) (opens : ℕ → Bool) where
-    step_leads : {x : Steps g.Told} {ks : List ℕ} → IsStep g judges ends x ks → (c : Course g.Told) → (c.0.types.home ≡ m.types.home → ⊥) → Leads m opens c.0 (declared_by c x).0
+    pub step_leads : {x : Steps g.Told} {ks : List ℕ} → IsStep g judges ends x ks → (c : Course g.Told) → (c.0.types.home ≡ m.types.home → ⊥) → Leads m opens c.0 (declared_by c x).0
     step_leads (constants_step cs) c apart = decl_leads m opens g {A = Steps g.Told} {B = ChecksBlock g.Told} ends c (layer.Constants cs) tt
     step_leads (types_step ts) c apart = decl_leads m opens g {A = Steps g.Told} {B = ChecksBlock g.Told} ends c (layer.Types ts) tt
     step_leads (variables_step vs) c apart = decl_leads m opens g {A = Steps g.Told} {B = ChecksBlock g.Told} ends c (layer.Variables vs) tt
@@ -200,7 +200,7 @@ module _ (g : Gathers) (judges : Judges g.Told) (ends : List ℕ) where
 
     -- ---- names are formed, where the procedures are there
 
-    abbrev got : Meaning → Option (Known g.Told) → Meaning
+    abbrev pub got : Meaning → Option (Known g.Told) → Meaning
     got x None = x
     got x (Some Later) = x
     got x (Some Ahead) = x

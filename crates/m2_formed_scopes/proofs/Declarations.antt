@@ -156,7 +156,7 @@ module _ (m : TypedModule) (opens : ℕ → Bool) (g : Gathers) where
       (finished_leads m opens (with_variable_type s t) name (variable_meaning s.types.home (length s.variables) t)
       (unawaiting t (λ x. meaning.Variable (record { home = s.types.home; number = length s.variables; of = x })) (λ x. refl))
       (λ h. then_holds (any_holds t) (λ x k. fine (meaning.Variable (record { home = s.types.home; number = length s.variables; of = x }))
-      (ap (λ (b : Bool). b || list_any (λ i. i.number == s.types.home) m.imports) (own_home s.types.home (sym mine.home ∙ h)), tt))))
+      (ap (λ (b : Bool). b || list_any (λ i. i.number == s.types.home) m.imports) (own_home s.types.home (sym mine.home ∙ h)), sym mine.home ∙ h))))
 
   variables_all : (t : Result TypeNo g.Told) (names : List Ident) (s : Scope g.Told) → Goes s (fold (finished_variable t) s names)
   variables_all t [] s = leads_refl m opens s
@@ -381,7 +381,7 @@ module _ (g : Gathers) where
   nested_made s h n _ (fine x k) e q = nested_new (s.level == 0) e (with_shape s x) h n (next_type s) (new_result s x h.result k)
   nested_made s h n _ (broken x) e q = absurd cc
 
-  awaited_is : {T : Type 0} (o : Option (Known T)) (p : Procedure) → name_standing o ≡ Awaited p → picked is_awaiting o ≡ true
+  pub awaited_is : {T : Type 0} (o : Option (Known T)) (p : Procedure) → name_standing o ≡ Awaited p → picked is_awaiting o ≡ true
   awaited_is None p e = absurd cc
   awaited_is (Some k) p e = ap is_awaited e
 

@@ -43,18 +43,18 @@ module _ (opens : ℕ → Bool) where
   OpensImports modules (x ∷ xs) = OpensNames (found x.name modules) × OpensImports modules xs
 
 module _ (m : TypedModule) (opens : ℕ → Bool) where
-  -- the procedures that a block declares are the module's
+  -- the variables and procedures that a block declares are the module's, and it declares no modules
   abbrev pub IsHere : Meaning → Type 0
   IsHere (meaning.Procedure p) = p.home ≡ m.types.home
   IsHere (meaning.Constant v) = Unit {0}
   IsHere (meaning.Type t n) = Unit {0}
-  IsHere (meaning.Variable v) = Unit {0}
+  IsHere (meaning.Variable v) = v.home ≡ m.types.home
   IsHere (meaning.Local v) = Unit {0}
   IsHere (meaning.Field f) = Unit {0}
   IsHere (meaning.LocalProcedure p) = Unit {0}
   IsHere meaning.Ahead = Unit {0}
   IsHere (meaning.Standard f) = Unit {0}
-  IsHere (meaning.Module k) = Unit {0}
+  IsHere (meaning.Module k) = ⊥
 
   abbrev pub FormedOwn : Meaning → Type 0
   FormedOwn x = FormedMeaning m opens 0 x × IsHere x
