@@ -35,6 +35,7 @@ use Rattle.m2_typed.specs.declared.types.TypeNo.{TypeNo}
 use Rattle.m2_typed.specs.Types.{are_same, integer, cardinal, boolean, char, bitset}
 use Rattle.m2_typed.specs.Known.{scalar_at}
 use Rattle.m2_layout.specs.Types.{Ty, Scalar, Natural, Cell, Array, row, component}
+use Rattle.m2_layout.specs.Sizes.{offset}
 use Rattle.m2_layout.specs.Shapes.{tree, elements_of}
 use Rattle.m2_layout.specs.Texts.{passed}
 use Rattle.m2_meaning.specs.Store.{Location}
@@ -144,10 +145,10 @@ module _ (x : Context) (ask : Asks) where
       (subst (λ (v : Gives ℤ). MadeExpr ws a b t (code.expr_layer (expr_opened N y)) v) (sym (expr_means P ask e y h)) m)
 
   module _ (ws : List Ty) where
-    abbrev Expr : (a b : ℕ) → TypedExpr → TypeNo → Type 0
+    abbrev pub Expr : (a b : ℕ) → TypedExpr → TypeNo → Type 0
     Expr a b e t = MadeExpr ws a b t (expr_part N e) (value P ask e)
 
-    abbrev Placed : (a b : ℕ) → Place → Ty → Type 0
+    abbrev pub Placed : (a b : ℕ) → Place → Ty → Type 0
     Placed a b d t = MadePlace ws a b t (place_code N d) (locate P ask d)
 
     constant_made : (a : ℕ) (t : TypeNo) (n : ℤ) → IsValue x.home.types t n → Expr a a (expr.Constant t n) t
@@ -295,4 +296,174 @@ module _ (x : Context) (ask : Asks) where
       placed = m.placed;
       pins = m.pins;
       agrees = λ k fit. call_agrees k t m.placed (called P ask c) (here ws k fit (λ h. Calls k (Some (scalar_at h.types t)) m.placed (called P ask c)) (m.calls k fit));
+    })
+
+  -- ---- operators of chains
+
+  from_link : (ws : List Ty) (a b : ℕ) (t u : TypeNo) (e : Link) (y : Link-F Argument Call Component Link TypedExpr Place) → out-Link e ≡ y
+      → MadeLink ws a b t u (code.link_layer (link_opened N y)) (meaning.link_layer P ask (link_meant P ask y)) → MadeLink ws a b t u (link_part N e) (link_value P ask e)
+  from_link ws a b t u e y h m =
+      subst (λ (l : Linked). MadeLink ws a b t u l (link_value P ask e)) (sym (link_at N e y h))
+      (subst (λ (f : Continues). MadeLink ws a b t u (code.link_layer (link_opened N y)) f) (sym (link_means P ask e y h)) m)
+
+  -- the operators, with their texts placed
+  pub record MadeLinks (ws : List Ty) (a b : ℕ) (t u : TypeNo) (ls : List Linked) (fs : List Continues) : Type 0 where
+    pub of : chain_type t ls ≡ u
+    pub placed : List Linked
+    pub same : (t : TypeNo) → chain_type t placed ≡ chain_type t ls
+    pub pins : Pins a b (chain_code ls) (chain_code placed)
+    pub linked : (k : Scene) → Fits x ask ws k → AreLinked k t placed fs
+
+  module _ (ws : List Ty) where
+    abbrev LinkOf : (a b : ℕ) → TypeNo → Link → TypeNo → Type 0
+    LinkOf a b t l u = MadeLink ws a b t u (link_part N l) (link_value P ask l)
+
+    arithmetic_pins : (a b : ℕ) (o : Arithmetic) (w : TypeNo) (y y' : Coded) → Pins a b y y' → Pins a b (behind y (λ types. code.arithmetic_code types o w)) (behind y' (λ types. code.arithmetic_code types o w))
+    arithmetic_pins a b o w y y' h = pins_then h (pins_setting (λ s. pins_plain b (code.arithmetic_code s.home.types o w)))
+
+    arithmetic_made : (a b : ℕ) (o : Arithmetic) (t u w : TypeNo) (e : TypedExpr) → (m : Expr ws a b e u)
+        → ((k : Scene) → Fits x ask ws k → GoesOn k t w (code.link_layer (layer.Arithmetic o w (as_part (expr_part N e) m.placed))).code (meaning.link_layer P ask (layer.Arithmetic o w (value P ask e)))) → LinkOf a b t (link.Arithmetic o w e) w
+    arithmetic_made a b o t u w e m go = from_link ws a b t w (link.Arithmetic o w e) (layer.Arithmetic o w e) (link.outs-Arithmetic o w e) (record {
+      of = refl;
+      placed = behind m.placed (λ types. code.arithmetic_code types o w);
+      pins = arithmetic_pins a b o w (expr_part N e).code m.placed m.pins;
+      goes = go;
+    })
+
+    sum_made : (a b : ℕ) (t u w : TypeNo) (e : TypedExpr) → Expr ws a b e u → (scalar_at x.home.types w ≡ None → ⊥) → LinkOf a b t (link.Arithmetic op.Add w e) w
+    sum_made a b t u w e m some = arithmetic_made a b op.Add t u w e m (λ k fit. laws.sums k fit.set P ask t w (as_part (expr_part N e) m.placed) (value P ask e) (m.agrees k fit) (here ws k fit (λ m. scalar_at m.types w ≡ None → ⊥) some))
+
+    difference_made : (a b : ℕ) (t u w : TypeNo) (e : TypedExpr) → Expr ws a b e u → (scalar_at x.home.types w ≡ None → ⊥) → LinkOf a b t (link.Arithmetic op.Subtract w e) w
+    difference_made a b t u w e m some =
+        arithmetic_made a b op.Subtract t u w e m (λ k fit. laws.differences k fit.set P ask t w (as_part (expr_part N e) m.placed) (value P ask e) (m.agrees k fit) (here ws k fit (λ m. scalar_at m.types w ≡ None → ⊥) some))
+
+    product_made : (a b : ℕ) (t u w : TypeNo) (e : TypedExpr) → Expr ws a b e u → (scalar_at x.home.types w ≡ None → ⊥) → LinkOf a b t (link.Arithmetic op.Multiply w e) w
+    product_made a b t u w e m some =
+        arithmetic_made a b op.Multiply t u w e m (λ k fit. laws.products k fit.set P ask t w (as_part (expr_part N e) m.placed) (value P ask e) (m.agrees k fit) (here ws k fit (λ m. scalar_at m.types w ≡ None → ⊥) some))
+
+    quotient_made : (a b : ℕ) (t u w : TypeNo) (e : TypedExpr) → Expr ws a b e u → AreAmong x.home.types t w → IsValue x.home.types w (pos 0) → LinkOf a b t (link.Arithmetic op.Divide w e) w
+    quotient_made a b t u w e m h nought =
+        arithmetic_made a b op.Divide t u w e m
+        (λ k fit. laws.quotients k fit.set P ask t w (as_part (expr_part N e) m.placed) (value P ask e) (m.agrees k fit) (here ws k fit (λ m. AreAmong m.types t w) h) (here ws k fit (λ m. IsValue m.types w (pos 0)) nought))
+
+    remainder_made : (a b : ℕ) (t u w : TypeNo) (e : TypedExpr) → Expr ws a b e u → AreAmong x.home.types u w → IsValue x.home.types w (pos 0) → LinkOf a b t (link.Arithmetic op.Remainder w e) w
+    remainder_made a b t u w e m h nought =
+        arithmetic_made a b op.Remainder t u w e m
+        (λ k fit. laws.remainders k fit.set P ask t w (as_part (expr_part N e) m.placed) (value P ask e) (m.agrees k fit) (among m w h k fit) (here ws k fit (λ m. IsValue m.types w (pos 0)) nought))
+
+    and_made : (a b : ℕ) (t u : TypeNo) (e : TypedExpr) → Expr ws a b e u → AreAmong x.home.types t boolean → AreAmong x.home.types u boolean → LinkOf a b t (link.And e) boolean
+    and_made a b t u e m h g = from_link ws a b t boolean (link.And e) (layer.And e) (link.outs-And e) (record {
+      of = refl;
+      placed = code.and_code m.placed;
+      pins = pins_then (pins_plain a (wrapped ∷ [])) (pins_within 1 (λ c. code.chosen_number c (instr.I64Const 0 ∷ []) ∷ []) m.pins);
+      goes = λ k fit. goes_among k t boolean boolean (code.and_code m.placed) (meaning.link_layer P ask (layer.And (value P ask e))) (here ws k fit (λ m. AreAmong m.types t boolean) h)
+          (laws.conjunctions k fit.set P ask (computed boolean m.placed) (value P ask e) (agrees_as m boolean g k fit));
+    })
+
+    or_made : (a b : ℕ) (t u : TypeNo) (e : TypedExpr) → Expr ws a b e u → AreAmong x.home.types t boolean → AreAmong x.home.types u boolean → LinkOf a b t (link.Or e) boolean
+    or_made a b t u e m h g = from_link ws a b t boolean (link.Or e) (layer.Or e) (link.outs-Or e) (record {
+      of = refl;
+      placed = code.or_code m.placed;
+      pins = pins_then (pins_plain a (wrapped ∷ [])) (pins_within 1 (λ c. code.chosen_number (instr.I64Const 1 ∷ []) c ∷ []) m.pins);
+      goes = λ k fit. goes_among k t boolean boolean (code.or_code m.placed) (meaning.link_layer P ask (layer.Or (value P ask e))) (here ws k fit (λ m. AreAmong m.types t boolean) h)
+          (laws.disjunctions k fit.set P ask (computed boolean m.placed) (value P ask e) (agrees_as m boolean g k fit));
+    })
+
+    combine_made : (a b : ℕ) (t u : TypeNo) (o : SetOperator) (e : TypedExpr) → Expr ws a b e u → AreAmong x.home.types t bitset → AreAmong x.home.types u bitset → LinkOf a b t (link.Combine o e) bitset
+    combine_made a b t u o e m h g = from_link ws a b t bitset (link.Combine o e) (layer.Combine o e) (link.outs-Combine o e) (record {
+      of = refl;
+      placed = m.placed ⨾ plain (code.set_code o);
+      pins = pins_then m.pins (pins_plain b (code.set_code o));
+      goes = λ k fit. goes_among k t bitset bitset (m.placed ⨾ plain (code.set_code o)) (meaning.link_layer P ask (layer.Combine o (value P ask e))) (here ws k fit (λ m. AreAmong m.types t bitset) h)
+          (laws.combinations k fit.set P ask o (computed bitset m.placed) (value P ask e) (agrees_as m bitset g k fit));
+    })
+
+    no_links_made : (a : ℕ) (t : TypeNo) → MadeLinks ws a a t t [] []
+    no_links_made a t = record { of = refl; placed = []; same = λ t. refl; pins = pins_plain a []; linked = λ k fit. none_linked t }
+
+    more_links_made : (a b c : ℕ) (t u v : TypeNo) (l : Linked) (ls : List Linked) (f : Continues) (fs : List Continues) → MadeLink ws a b t u l f → MadeLinks ws b c u v ls fs → MadeLinks ws a c t v (l ∷ ls) (f ∷ fs)
+    more_links_made a b c t u v l ls f fs m ms = record {
+      of = ap (λ (t : TypeNo). chain_type t ls) m.of ∙ ms.of;
+      placed = record l { code = m.placed } ∷ ms.placed;
+      same = λ t. ms.same l.of;
+      pins = pins_then m.pins ms.pins;
+      linked = λ k fit. more_linked t (record l { code = m.placed }) ms.placed f fs (m.goes k fit) (subst (λ (w : TypeNo). AreLinked k w ms.placed fs) (sym m.of) (ms.linked k fit));
+    }
+
+    chain_made : (a b c : ℕ) (u t : TypeNo) (e : TypedExpr) (ls : List Link) → Expr ws a b e u → MadeLinks ws b c u t (map (link_part N) ls) (map (link_value P ask) ls) → Expr ws a c (expr.Chain e ls) t
+    chain_made a b c u t e ls m ms = from_expr ws a c t (expr.Chain e ls) (layer.Chain e ls) (expr.outs-Chain e ls) (record {
+      of = ap (λ (w : TypeNo). chain_type w (map (link_part N) ls)) m.of ∙ ms.of;
+      placed = m.placed ⨾ chain_code ms.placed;
+      pins = pins_then m.pins ms.pins;
+      agrees = λ k fit. subst (λ (w : TypeNo). Agrees k w (m.placed ⨾ chain_code ms.placed) (meaning.expr_layer P ask (layer.Chain (value P ask e) (map (link_value P ask) ls)))) (ms.same (expr_part N e).of)
+          (laws.chains k P ask (as_part (expr_part N e) m.placed) (value P ask e) ms.placed (map (link_value P ask) ls) (m.agrees k fit) (subst (λ (w : TypeNo). AreLinked k w ms.placed (map (link_value P ask) ls)) (sym m.of) (ms.linked k fit)));
+    })
+
+  -- ---- designators
+
+  module _ (ws : List Ty) where
+    root_locates : (r : Root) (t : Ty) → typed.IsRoot x ws r t → (k : Scene) → Fits x ask ws k → Locates k t (code.root_layer r) (λ a s. Gave (meaning.root_layer P ask r a) s)
+    root_locates _ _ (typed.GlobalRoot v t known at) k fit = laws.globals k fit.set P ask v t (fit.globals v t known at)
+    root_locates _ _ (typed.LocalRoot slot t there) k fit = kept_locates k fit.set x.kinds fit.frames slot t there
+    root_locates _ _ (typed.AliasRoot slot t there) k fit = alias_locates k fit.set x.kinds fit.frames slot t there
+    root_locates _ _ (typed.WithRoot j t there) k fit = let q = fit.withs j t there in laws.opened k P ask j q.0 t q.1
+
+    -- the code of a root has no texts
+    root_pins : (a : ℕ) (r : Root) → Pins a a (code.root_layer r) (code.root_layer r)
+    root_pins a (root.Global v) = pins_setting (λ s. pins_plain a (code.global_code s.home v))
+    root_pins a (root.Local slot) = pins_setting (λ s. pins_plain a (code.slot_code s slot []))
+    root_pins a (root.Alias slot) = pins_setting (λ s. pins_plain a (code.kept_address s slot []))
+    root_pins a (root.Open slot) = pins_setting (λ s. pins_plain a (code.open_address s slot))
+    root_pins a (root.With j) = pins_setting (λ s. pins_plain a (code.with_code (slice_get s.withs j)))
+
+    from_component : (a b : ℕ) (t u : Ty) (e : Component) (y : Component-F Argument Call Component Link TypedExpr Place) → out-Component e ≡ y
+        → MadeReach ws a b t u (code.component_layer (component_opened N y)) (meaning.component_layer P ask (component_meant P ask y)) → MadeReach ws a b t u (component_code N e) (component_value P ask e)
+    from_component a b t u e y h m =
+        subst (λ (c : Coded). MadeReach ws a b t u c (component_value P ask e)) (sym (component_at N e y h))
+        (subst (λ (r : Reached). MadeReach ws a b t u (code.component_layer (component_opened N y)) r) (sym (component_means P ask e y h)) m)
+
+    field_made : (a : ℕ) (t : TypeNo) (j : ℕ) (u : Ty) → component (tree x.home.types t) (j ∷ []) ≡ Some u → MadeReach ws a a (tree x.home.types t) u (component_code N (component'.Field t j)) (component_value P ask (component'.Field t j))
+    field_made a t j u there = from_component a a (tree x.home.types t) u (component'.Field t j) (layer.Field t j) (component'.outs-Field t j) (record {
+      placed = code.component_layer (layer.Field t j);
+      pins = pins_setting (λ s. pins_plain a (raised (offset (tree s.home.types t) (j ∷ []))));
+      reaches = λ k fit. subst (λ (m : TypedModule). Reaches k (tree m.types t) u (code.component_layer (layer.Field t j)) (meaning.component_layer P ask (layer.Field t j))) (sym fit.home)
+          (laws.fields k fit.set P ask t j u (here ws k fit (λ m. component (tree m.types t) (j ∷ []) ≡ Some u) there));
+    })
+
+    element_made : (a b : ℕ) (t w : TypeNo) (r : Range) (u : Ty) (i : TypedExpr) → index_of x.home.types t ≡ Some r → tree x.home.types t ≡ Array (elements_of (Some r)) u → Expr ws a b i w
+        → MadeReach ws a b (tree x.home.types t) u (component_code N (component'.Element t i)) (component_value P ask (component'.Element t i))
+    element_made a b t w r u i range array m = from_component a b (tree x.home.types t) u (component'.Element t i) (layer.Element t i) (component'.outs-Element t i) (record {
+      placed = behind m.placed (λ types. code.element_code types t);
+      pins = pins_then m.pins (pins_setting (λ s. pins_plain b (code.element_code s.home.types t)));
+      reaches = λ k fit. subst (λ (h : TypedModule). Reaches k (tree h.types t) u (behind m.placed (λ types. code.element_code types t)) (meaning.component_layer P ask (layer.Element t (value P ask i)))) (sym fit.home)
+          (laws.elements k fit.set P ask t r u (as_part (expr_part N i) m.placed) (value P ask i) (here ws k fit (λ h. index_of h.types t ≡ Some r) range) (here ws k fit (λ h. tree h.types t ≡ Array (elements_of (Some r)) u) array) (m.agrees k fit));
+    })
+
+    -- components of components
+    record MadeReaches (a b : ℕ) (t u : Ty) (cs : List Coded) (rs : List Reached) : Type 0 where
+      placed : List Coded
+      pins : Pins a b (all_coded cs) (all_coded placed)
+      reached : (k : Scene) → Fits x ask ws k → AreReached k t u placed rs
+
+    no_components_made : (a : ℕ) (t : Ty) → MadeReaches a a t t [] []
+    no_components_made a t = record { placed = []; pins = pins_plain a []; reached = λ k fit. none_reached t }
+
+    more_components_made : (a b c : ℕ) (t u v : Ty) (y : Coded) (ys : List Coded) (r : Reached) (rs : List Reached) → MadeReach ws a b t u y r → MadeReaches b c u v ys rs → MadeReaches a c t v (y ∷ ys) (r ∷ rs)
+    more_components_made a b c t u v y ys r rs m ms = record {
+      placed = m.placed ∷ ms.placed;
+      pins = pins_then m.pins ms.pins;
+      reached = λ k fit. more_reached t u v m.placed ms.placed r rs (m.reaches k fit) (ms.reached k fit);
+    }
+
+    from_place : (a b : ℕ) (d : Place) (u : Ty)
+        → MadePlace ws a b u (code.root_layer d.root ⨾ all_coded (map (component_code N) d.components)) (λ s st. meaning.one_by_one (map (component_value P ask) d.components) (meaning.root_layer P ask d.root s) s st) → Placed ws a b d u
+    from_place a b d u m =
+        subst (λ (c : Coded). MadePlace ws a b u c (locate P ask d)) (sym (place_at N d (out-Place d) refl))
+        (subst (λ (f : Gives Location). MadePlace ws a b u (code.root_layer d.root ⨾ all_coded (map (component_code N) d.components)) f) (sym (place_means P ask d (out-Place d) refl)) m)
+
+    designator_made : (a b : ℕ) (d : Place) (t u : Ty) → typed.IsRoot x ws d.root t → MadeReaches a b t u (map (component_code N) d.components) (map (component_value P ask) d.components) → Placed ws a b d u
+    designator_made a b d t u r m = from_place a b d u (record {
+      placed = code.root_layer d.root ⨾ all_coded m.placed;
+      pins = pins_then (root_pins a d.root) m.pins;
+      locates = λ k fit. laws.designators k P ask d.root t u m.placed (map (component_value P ask) d.components) (root_locates d.root t r k fit) (m.reached k fit);
     })
