@@ -1,2 +1,5 @@
 pub mod Pinned
 pub mod Meant
+pub mod Opened
+pub mod Fitted
+pub mod Exprs

@@ -45,6 +45,7 @@ pub record Fits (x : Context) (ask : Asks) (ws : List Ty) (k : Scene) : Type 0 w
   pub frames : HasFrames k x.kinds
   pub top : HasTop k x.base x.texts
   pub withs : (j : ℕ) (t : Ty) → slice_get ws j ≡ Some t → (l : Location) × IsWith k j l t
+  pub count : (length k.setting.withs ≡ length ws) × (length k.around.withs ≡ length ws)
   pub globals : (v : Variable) (t : Ty) → IsKnown x.home v.home → component (row x.base) (module_place x.p v.home ∷ v.number ∷ []) ≡ Some t → IsGlobal k v (module_place x.p v.home ∷ v.number ∷ []) t
   pub slots : (f : Procedure) → IsKnown x.home f.home → HasSlot k x.p f
   pub texts : (at : ℕ) (text : List ℕ) → HasText x at text → IsText k at text

@@ -1,5 +1,5 @@
 -- Typed trees whose parts have the types that their constructs ask for, and whose texts are where the module has them.
-use Rattle.std.specs.Prelude.{◌≡◌, ℕ, suc, ◌+◌, ◌-ℤ◌, ◌<◌, ◌≤◌, ◌≤ℤ◌, ◌^◌, ◌==◌, ℤ, pos, negsuc, Bool, true, false, ◌||◌, List, [], ◌∷◌, ◌++◌, length, get_or, drop, Option, Some, None, slice_get}
+use Rattle.std.specs.Prelude.{◌≡◌, ℕ, suc, ◌+◌, ◌-ℤ◌, ◌<◌, ◌≤◌, ◌≤ℤ◌, ◌^◌, ◌⊎◌, ◌==◌, ℤ, pos, negsuc, Bool, true, false, ◌||◌, List, [], ◌∷◌, ◌++◌, length, get_or, drop, Option, Some, None, slice_get}
 use Rattle.std.specs.List.{list_any}
 use Rattle.m2_typed.specs.declared.computed.Argument.{Argument}
 use Rattle.m2_typed.specs.declared.computed.Argument.TheVariants as argument
@@ -60,10 +60,10 @@ pub record HasText (x : Context) (at : ℕ) (text : List ℕ) : Type 0 where
   pub same : (j : ℕ) → j < length text → get_or x.characters (at + j) 0 ≡ get_or text j 0
   pub small : (j : ℕ) → get_or text j 0 < 256
 
--- where no check is made, each value of one type is one of the other; so it is where there is no range
-pub record IsTaken (types : Types) (t : TypeNo) (constant : Bool) (of : TypeNo) : Type 0 where
-  pub free : is_free types t constant of ≡ true → AreAmong types of t
-  pub unranged : scalar_at types t ≡ None → AreAmong types of t
+-- where no check is made, each value of one type is one of the other, or the expression is a constant of it
+pub record IsTaken (m : TypedModule) (t : TypeNo) (e : TypedExpr) (of : TypeNo) : Type 0 where
+  pub free : is_free m.types t (expr_part (numbered m) e).constant of ≡ true → AreAmong m.types of t ⊎ ((w : TypeNo) × (n : ℤ) × (e ≡ expr.Constant w n) × IsValue m.types t n)
+  pub unranged : scalar_at m.types t ≡ None → AreAmong m.types of t
 
 module _ (x : Context) where
   abbrev pub types : Types
@@ -139,7 +139,7 @@ module _ (x : Context) where
       more_arguments : (a b c : ℕ) (g : Argument) (gs : List Argument) (f : Form) (fs : Forms) → IsArgument ws a b g f → AreArguments ws b c gs fs → AreArguments ws a c (g ∷ gs) (f ∷ fs)
 
     pub data IsArgument (ws : List Ty) : (from to : ℕ) → Argument → Form → Type 0 where
-      Value : (a b : ℕ) (t u : TypeNo) (c : Scalar) (e : TypedExpr) → IsExpr ws a b e u → IsCell types t c → IsTaken types t (expr_part (numbered x.home) e).constant u → IsArgument ws a b (argument.Value t e) (ByNumber c)
+      Value : (a b : ℕ) (t u : TypeNo) (c : Scalar) (e : TypedExpr) → IsExpr ws a b e u → IsCell types t c → IsTaken x.home t e u → IsArgument ws a b (argument.Value t e) (ByNumber c)
       ActualName : (a b : ℕ) (d : Place) (t : Ty) → IsPlace ws a b d t → IsArgument ws a b (argument.Place d) (ByName t)
       ActualCopy : (a b : ℕ) (d : Place) (t : Ty) → IsPlace ws a b d t → IsArgument ws a b (argument.Place d) (ByCopy t)
       ActualArray : (a b : ℕ) (t : TypeNo) (r : Range) (u : Ty) (is_var : Bool) (d : Place) → index_of types t ≡ Some r → (r.high -ℤ r.low) ≤ℤ pos 4294967295 → tree types t ≡ Array (elements_of (Some r)) u
