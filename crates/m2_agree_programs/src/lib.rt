@@ -1,5 +1,13 @@
-//! Why the modules of a program do what the program does. There is no code here but what names the laws.
+//! Why the function of a module's body does what its statements do, with calls to every depth. There is no code here but what
+//! names the law.
+//!
+//! - `specs/Knot` says what is known of all functions of a program.
+//! - `specs/Main` has the law on bodies.
 #![tactic(auto)]
 
-/// Nothing yet.
-pub fn program_laws() {}
+ghost use Rattle.m2_agree_programs.specs.Main.{MainDoes};
+
+/// The function of a module's body does what its statements do.
+pub fn body_laws()
+    ensures { MainDoes }
+{}

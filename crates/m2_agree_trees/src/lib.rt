@@ -1,5 +1,5 @@
 //! Why the code of whole trees does what the definition of a run says. There is no code here but what names the laws.
 #![tactic(auto)]
 
-/// Nothing yet.
+/// The laws stand in `proofs/`: `expr_made`, `place_made` and `call_made`.
 pub fn tree_laws() {}
