@@ -1,13 +1,15 @@
 -- Graphs, as the build goes on with them.
-use Rattle.std.proofs.Common.{◌≡◌, ℕ, ◌≤◌, ◌<◌, ◌+◌, ◌*◌, List, [], ◌∷◌, ◌++◌, length, map, Option, refl, ap, sym, subst, ◌∙◌, arith}
+use Rattle.std.proofs.Common.{◌≡◌, ℕ, ◌≤◌, ◌<◌, ◌+◌, ◌*◌, true, List, [], ◌∷◌, ◌++◌, length, map, Option, refl, ap, sym, subst, ◌∙◌, arith}
 use Rattle.std.specs.Prelude.{All, slice_get}
+use Rattle.std.specs.List.{list_any}
+use Rattle.std.specs.Str.{bytes_eq}
 use Rattle.std.specs.Option.{option_and_then}
 use Rattle.std.specs.Borrow.{Bor}
 use Rattle.m2_tree.specs.declared.decl.Module.{Module}
 use Rattle.wasm_binary.specs.Binary.{module_spelling, Spells}
 use Rattle.m2_graph.specs.Graph.{IsGraph}
 use Rattle.m2_graph.specs.Jobs.{ArePlaces, place_of, number_of}
-use Rattle.m2_graph_laws.specs.Started.{AreStarted}
+use Rattle.m2_graph_laws.specs.Started.{AreStarted, at_places}
 use Rattle.m2_graph_laws.proofs.Started.{are_started}
 use Rattle.std.proofs.lemmas.List.{length-map}
 use Rattle.m2_tree.specs.declared.refusal.Refusal.{Refusal}
@@ -28,6 +30,9 @@ use Rattle.m2_jobs.specs.Lent.{lent, modules_lent}
 use Rattle.m2c.specs.Modules.{result_of, module_in, modules_at}
 use Rattle.m2c.specs.Build.{Told, AreTold, told_at, built_of, named_bytes, modules, refusal_in, refused_from, refused_by, started, data_and_stack, program_file, HaveGraph, IsTooLarge, IsProgram}
 use Rattle.m2_jobs.specs.Spelled.{AreSpelled}
+use Rattle.m2_links.specs.Linked.{imported_names}
+use Rattle.m2_links.proofs.Placed.{modules_link}
+use Rattle.m2c.proofs.Linked.{all_modules}
 use Rattle.m2c.proofs.Programs.{AreFit, AreBuilt, all_built, distinct_all, count_all}
 
 -- the bytes of modules that have spellings spell them
@@ -155,6 +160,16 @@ module _ (files : List SourceFile) (fs : List (List ℕ × Module)) (numbers : L
           body_bytes = built_whole;
           spelled = subst (λ (bs : List (List ℕ)). headline.AreSpelled bs (map typed_module p)) (sym codes) (all_spelled p whole.fit);
         };
+        links = (
+          _,
+          modules_link p pages (record {
+            distinct = distinct_all fs numbers jobs have.each as_many none spelled starts are;
+            imports = subst (λ (ns : List (List ℕ)). All (λ m. All (λ n. list_any (λ other. bytes_eq other n) ns ≡ true) (imported_names m)) p) (sym whole.names)
+                (all_modules fs numbers jobs starts have.is_graph (at_places (modules fs) starts) starts p whole.typed are.closed);
+            memory = least;
+            room = (let e = subst (λ (n : ℕ). n ≤ 65536 * pages) data_is fits in omega (arith, e));
+          }),
+        );
         keeps = λ h. subst (λ (l : List ℕ). Keeps p pages l (map (λ m. m.1) built)) (sym link_whole)
             (subst (λ (ms : List (List ℕ)). Keeps p pages (module_spelling (typed_link p pages)) ms) (sym codes) (scheme_keeps p pages h (has_names named) least most));
       }

@@ -4,6 +4,7 @@ pub mod Two
 pub mod EachOnce
 pub mod Unrefused
 pub mod Programs
+pub mod Linked
 pub mod Graphs
 pub mod Borrowed
 pub mod Same
