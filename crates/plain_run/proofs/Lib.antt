@@ -1,0 +1,4 @@
+pub mod Variants
+pub mod Stepped
+pub mod Called
+pub mod Wholes

@@ -1,0 +1,39 @@
+-- The run of a program.
+use Rattle.std.specs.Prelude.{◌≡◌, ℕ, suc, List, [], length}
+use Rattle.m2_meaning.specs.Answer.{Outcome as Course}
+use Rattle.m2_meaning.specs.Answer.{State as Meant}
+use Rattle.m2_meaning.specs.Around.{Modules}
+use Rattle.m2_meaning.specs.Runs.{bodies, data_size}
+use Rattle.plain_values.specs.Surroundings.{modules_of}
+use Rattle.m2_meaning.specs.Answer.{Stopped, Unfinished}
+use Rattle.plain_store.specs.declared.state.Stop.{Stop}
+use Rattle.plain_store.specs.declared.state.Stop.TheVariants as stop
+use Rattle.plain_store.specs.declared.prepared.Prepared.{Prepared}
+use Rattle.plain_values.specs.declared.program.Program.{Program}
+use Rattle.plain_values.specs.declared.program.Around.{Around}
+use Rattle.plain_run.specs.declared.whole.Report.{Report}
+
+-- a fault or the end, or the bound, with what has been printed
+abbrev pub told_end : Stop → List ℕ → Course
+told_end (stop.Ended k) out = Stopped k out
+told_end stop.Running out = Unfinished out
+
+abbrev pub reported : Report → Course
+reported x = told_end x.end x.out
+
+-- what stands around the body of a module
+pub record IsBodyAround (program : Program) (home : Prepared) (place left : ℕ) (a : Around) : Type 0 where
+  pub of : a.program.now ≡ program
+  pub nests : a.depth ≡ program.bound
+  pub at : a.place ≡ place
+  pub body : a.home ≡ home
+  pub frames : a.frames ≡ []
+  pub withs : a.withs ≡ []
+  pub next : a.next ≡ suc (length program.modules.now)
+  pub free : a.left ≡ left
+
+unfoldable pub data_of : Modules → ℕ
+data_of ms = data_size ms
+
+unfoldable pub bodies_in : Program → (left place : ℕ) → Modules → Meant → Course
+bodies_in program left place ms st = bodies (modules_of program) program.bound left place ms st
