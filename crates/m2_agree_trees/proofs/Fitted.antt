@@ -1,23 +1,20 @@
 -- Scenes in which more is kept, or inside of a WITH, fit as well.
-use Rattle.std.proofs.Common.{◌≡◌, ℕ, zero, suc, ◌+◌, ◌<◌, Bool, true, false, List, [], ◌∷◌, ◌++◌, length, Option, Some, None, if◌then◌else◌, refl, sym, ap, subst, ◌∙◌, ⊎_elim, length-append, arith}
+use Rattle.std.proofs.Common.{◌≡◌, ℕ, zero, suc, ◌+◌, ◌<◌, Bool, List, [], ◌∷◌, ◌++◌, length, Option, Some, None, if◌then◌else◌, refl, sym, ap, subst, ◌∙◌, ⊎_elim, length-append, arith}
 use Rattle.std.specs.Prelude.{nat_eq, slice_get}
 use Rattle.std.proofs.lemmas.Bool.{cases_eq, eq-eqb, ne_eqb}
 use Rattle.wasm_tree.specs.declared.instr.Instr.{Instr}
 use Rattle.wasm_tree.specs.declared.store.Value.{Value}
 use Rattle.wasm_tree.specs.declared.store.Value.TheVariants.{I32}
 use Rattle.m2_typed.specs.declared.types.TypeNo.{TypeNo}
-use Rattle.m2_typed.specs.declared.meaning.Variable.{Variable}
 use Rattle.m2_layout.specs.Types.{Ty, row, component}
 use Rattle.m2_layout.specs.Sizes.{size}
 use Rattle.m2_meaning.specs.Store.{Location}
 use Rattle.m2_meaning.specs.Around.{Callee}
 use Rattle.m2_meaning.specs.Expressions.{Asks}
 use Rattle.m2_scheme.specs.Coded.{top_local}
-use Rattle.m2_agree.specs.Scene.{Scene, IsSet, IsGlobal, IsWith, place, keeping, opening}
+use Rattle.m2_agree.specs.Scene.{Scene, IsWith, place, keeping, opening}
 use Rattle.m2_agree.proofs.Locals.{helpers_beside}
-use Rattle.m2_agree_calls.specs.Laws.{HasSlot, IsText}
-use Rattle.m2_agree_calls.specs.Frames.{IsOwnFrame, HasFrames}
-use Rattle.m2_agree_calls.specs.Passing.{HasTop}
+use Rattle.m2_agree_calls.specs.Frames.{IsOwnFrame}
 use Rattle.m2_agree_trees.specs.Typed.{Context}
 use Rattle.m2_agree_trees.specs.Fitting.{IsCalled, Fits}
 
