@@ -408,7 +408,7 @@ module _ (x : Context) (ask : Asks) where
 
   module _ (ws : List Ty) where
     root_locates : (r : Root) (t : Ty) → typed.IsRoot x ws r t → (k : Scene) → Fits x ask ws k → Locates k t (code.root_layer r) (λ a s. Gave (meaning.root_layer P ask r a) s)
-    root_locates _ _ (typed.GlobalRoot v t known at) k fit = laws.globals k fit.set P ask v t (fit.globals v t known at)
+    root_locates _ _ (typed.GlobalRoot v t is) k fit = laws.globals k fit.set P ask v t (fit.globals v t is)
     root_locates _ _ (typed.LocalRoot slot t there) k fit = kept_locates k fit.set x.kinds fit.frames slot t there
     root_locates _ _ (typed.AliasRoot slot t there) k fit = alias_locates k fit.set x.kinds fit.frames slot t there
     root_locates _ _ (typed.WithRoot j t there) k fit = let q = fit.withs j t there in laws.opened k P ask j q.0 t q.1

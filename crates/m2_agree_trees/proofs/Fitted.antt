@@ -50,7 +50,7 @@ module _ (x : Context) (ask : Asks) (ws : List Ty) (k : Scene) (n : ℕ) (v : Va
     top = record { kept = still_kept k.kept n v new (top_local k.setting) (I32 _) h.top.kept; next = h.top.next; left = h.top.left; based = h.top.based };
     withs = λ j t e. let q = h.withs j t e in (q.0, record { local = q.1.local; there = q.1.there; kept = still_kept k.kept n v new q.1.local (I32 _) q.1.kept; is = q.1.is; type = q.1.type; some = q.1.some });
     count = h.count;
-    globals = λ u t known e. let q = h.globals u t known e in record { base = q.base; there = q.there; type = q.type; at = q.at; some = q.some };
+    globals = λ u t is. let q = h.globals u t is in record { base = q.base; there = q.there; type = q.type; at = q.at; some = q.some };
     slots = λ f known. let q = h.slots f known in record { slot = q.slot; there = q.there; is = q.is; small = q.small };
     texts = λ at text has. let q = h.texts at text has in record { base = q.base; there = q.there; room = q.room; bytes = q.bytes; type = q.type; is = q.is; fits = q.fits; same = q.same; small = q.small };
     modules = λ f known. let q = h.modules f known in (q.0, q.1, q.2, called_kept q.0 _ _ _ _ q.3);
@@ -161,7 +161,7 @@ module _ (x : Context) (ask : Asks) (ws : List Ty) (k : Scene) (w : ℕ) (l : Lo
     top = record { kept = still_kept k.kept w address new (top_local k.setting) (I32 (size (row k.world))) h.top.kept; next = h.top.next; left = h.top.left; based = h.top.based };
     withs = λ j u e. subst (λ (n : ℕ). Found n u) (plus_none j) (found_in ws 0 j u (λ j u e. subst (λ (n : ℕ). Found n u) (sym (plus_none j)) (found_old j u e)) (subst (λ (n : ℕ). Found n t) (sym (plus_none (length ws))) found_last) e);
     count = (length-append k.setting.withs (w ∷ []) ∙ ap (λ (n : ℕ). n + 1) h.count.0 ∙ sym (length-append ws (t ∷ [])), length-append k.around.withs (l ∷ []) ∙ ap (λ (n : ℕ). n + 1) h.count.1 ∙ sym (length-append ws (t ∷ [])));
-    globals = λ u t' known e. let q = h.globals u t' known e in record { base = q.base; there = q.there; type = q.type; at = q.at; some = q.some };
+    globals = λ u t' is. let q = h.globals u t' is in record { base = q.base; there = q.there; type = q.type; at = q.at; some = q.some };
     slots = λ f known. let q = h.slots f known in record { slot = q.slot; there = q.there; is = q.is; small = q.small };
     texts = λ at text has. let q = h.texts at text has in record { base = q.base; there = q.there; room = q.room; bytes = q.bytes; type = q.type; is = q.is; fits = q.fits; same = q.same; small = q.small };
     modules = λ f known. let q = h.modules f known in (q.0, q.1, q.2, called_opened q.0 _ _ _ _ q.3);

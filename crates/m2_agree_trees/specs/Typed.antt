@@ -36,7 +36,7 @@ use Rattle.m2_layout.specs.Texts.{passed}
 use Rattle.m2_meaning.specs.Store.{Location}
 use Rattle.m2_meaning.specs.Around.{Modules, module_place}
 use Rattle.m2_scheme.specs.Cells.{base_of, is_free}
-use Rattle.m2_scheme.specs.Exprs.{is_own, index_of, expr_part}
+use Rattle.m2_scheme.specs.Exprs.{is_own, variables_row, index_of, expr_part}
 use Rattle.m2_scheme.specs.Functions.{routine_at, around_in}
 use Rattle.m2_scheme.specs.Modules.{numbered}
 use Rattle.m2_agree.specs.Scene.{IsValue, AreAmong, AreNatural, IsCell}
@@ -56,6 +56,12 @@ pub record Context : Type 0 where
 -- the module itself, and those that it imports
 abbrev pub IsKnown : TypedModule → (home : ℕ) → Type 0
 IsKnown m home = (is_own m home || list_any (λ i. i.number == home) m.imports) ≡ true
+
+-- a variable of a module, which has this type there and for the module that names it
+pub record IsVariable (x : Context) (v : Variable) (t : Ty) : Type 0 where
+  pub known : IsKnown x.home v.home
+  pub type : component (variables_row x.home v.home) (v.number ∷ []) ≡ Some t
+  pub there : component (row x.base) (module_place x.p v.home ∷ v.number ∷ []) ≡ Some t
 
 -- a procedure of a module, whose heading has the same forms and result there
 pub record IsNamed (x : Context) (f : Procedure) : Type 0 where
@@ -103,7 +109,7 @@ module _ (x : Context) where
 
   -- a variable, a formal, or the record of a WITH
   pub data IsRoot (ws : List Ty) : Root → Ty → Type 0 where
-    GlobalRoot : (v : Variable) (t : Ty) → IsKnown x.home v.home → component (row x.base) (module_place x.p v.home ∷ v.number ∷ []) ≡ Some t → IsRoot ws (root.Global v) t
+    GlobalRoot : (v : Variable) (t : Ty) → IsVariable x v t → IsRoot ws (root.Global v) t
     LocalRoot : (slot : Slot) (t : Ty) → kind_at x.kinds slot ≡ Some (Kept t) → IsRoot ws (root.Local slot) t
     AliasRoot : (slot : Slot) (t : Ty) → kind_at x.kinds slot ≡ Some (Alias t) → IsRoot ws (root.Alias slot) t
     WithRoot : (j : ℕ) (t : Ty) → slice_get ws j ≡ Some t → IsRoot ws (root.With j) t
