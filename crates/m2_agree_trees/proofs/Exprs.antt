@@ -1,5 +1,5 @@
 -- Expressions, designators and calls of typed trees: their code does what the definition says.
-use Rattle.std.proofs.Common.{◌≡◌, ◌⊎◌, ⊎_elim, ℕ, zero, suc, ◌+◌, ◌-◌, ◌<◌, ◌^◌, ℤ, pos, Bool, true, false, List, [], ◌∷◌, ◌++◌, map, length, Option, Some, None, if◌then◌else◌, refl, sym, ap, subst, ◌∙◌, append_assoc, arith}
+use Rattle.std.proofs.Common.{◌≡◌, ⊎_elim, ℕ, zero, suc, ◌+◌, ◌-◌, ◌<◌, ◌^◌, ℤ, pos, Bool, true, false, List, [], ◌∷◌, ◌++◌, map, length, Option, Some, None, if◌then◌else◌, refl, sym, ap, subst, ◌∙◌, append_assoc, arith}
 use Rattle.std.specs.Prelude.{drop, slice_get, ◌≤ℤ◌, ◌-ℤ◌, ◌≤◌}
 use Rattle.wasm_tree.specs.declared.instr.Instr.{Instr}
 use Rattle.wasm_tree.specs.declared.instr.Instr.TheVariants as instr
@@ -23,7 +23,7 @@ use Rattle.m2_typed.specs.declared.computed.Inclusion.TheVariants as inclusion
 use Rattle.m2_typed.specs.declared.computed.Link.{Link, Link-F, out-Link}
 use Rattle.m2_typed.specs.declared.computed.Link.TheVariants as link
 use Rattle.m2_typed.specs.declared.computed.LocalProcedure.{LocalProcedure}
-use Rattle.m2_typed.specs.declared.computed.Place.{Place, Place-F, out-Place}
+use Rattle.m2_typed.specs.declared.computed.Place.{Place, out-Place}
 use Rattle.m2_typed.specs.declared.computed.Root.{Root}
 use Rattle.m2_typed.specs.declared.computed.Root.TheVariants as root
 use Rattle.m2_typed.specs.declared.computed.SetOperator.{SetOperator}
@@ -31,7 +31,6 @@ use Rattle.m2_typed.specs.declared.computed.Slot.{Slot}
 use Rattle.m2_typed.specs.declared.computed.TypedExpr.{TypedExpr, TypedExpr-F, out-TypedExpr}
 use Rattle.m2_typed.specs.declared.computed.TypedExpr.TheVariants as expr
 use Rattle.m2_typed.specs.declared.meaning.Procedure.{Procedure}
-use Rattle.m2_typed.specs.declared.meaning.Variable.{Variable}
 use Rattle.m2_typed.specs.declared.shape.Scalar.{Scalar as Range}
 use Rattle.m2_typed.specs.declared.typed_module.TypedModule.{TypedModule}
 use Rattle.m2_typed.specs.declared.types.TypeNo.{TypeNo}
@@ -43,17 +42,17 @@ use Rattle.m2_layout.specs.Sizes.{size, offset}
 use Rattle.m2_layout.specs.Shapes.{tree, elements_of}
 use Rattle.m2_layout.specs.Texts.{passed}
 use Rattle.m2_meaning.specs.Store.{Location}
-use Rattle.m2_meaning.specs.Answer.{State as Source, Answer, Gave, then_give}
-use Rattle.m2_meaning.specs.Around.{Modules, Callee, Frames, Passed, Number, Array as Whole, module_place, nested_in, named, high_of}
+use Rattle.m2_meaning.specs.Answer.{State as Source, Gave, then_give}
+use Rattle.m2_meaning.specs.Around.{Modules, Callee, Frames, Passed, Number, Array as Whole, nested_in, named, high_of}
 use Rattle.m2_meaning.specs.Expressions as meaning
 use Rattle.m2_meaning.specs.Expressions.{Asks, Gives, Reaches as Reached, Continues, value, locate, called}
-use Rattle.m2_scheme.specs.Coded.{Coded, Counts, top_local, plain, ◌⨾◌, nothing, all_coded, within, with_setting, with_number, number, operation, extended, wrapped, relation, checked, raised}
+use Rattle.m2_scheme.specs.Coded.{Coded, top_local, plain, ◌⨾◌, all_coded, with_setting, with_number, number, operation, extended, wrapped, relation, checked, raised}
 use Rattle.m2_scheme.specs.Cells as cells
 use Rattle.m2_scheme.specs.Cells.{base_of, in_type, check_taken, is_free}
 use Rattle.m2_scheme.specs.Exprs as code
 use Rattle.m2_scheme.specs.Exprs.{Part, Linked, Numbered, behind, computed, linked, chain_type, chain_code, expr_part, place_code, call_code, index_of}
 use Rattle.m2_scheme.specs.Modules.{numbered}
-use Rattle.m2_agree.specs.Scene.{Scene, calls as scene_calls, place as scene_place, IsSet, IsValue, AreAmong, AreNatural, IsCell, runs, inside, keeping, Into, GivesNumber, Agrees, GoesOn, Reaches, Locates}
+use Rattle.m2_agree.specs.Scene.{Scene, calls as scene_calls, place as scene_place, IsValue, AreAmong, AreNatural, IsCell, runs, inside, keeping, Into, GivesNumber, Agrees, GoesOn, Reaches, Locates}
 use Rattle.m2_agree.specs.Laws.{AreLinked, no_links as none_linked, more_links as more_linked, AreReached, no_components as none_reached, more_components as more_reached}
 use Rattle.m2_agree.proofs.Laws as laws
 use Rattle.m2_agree.proofs.Unary.{among_agrees}
@@ -68,7 +67,7 @@ use Rattle.m2_agree_calls.proofs.Called.{all_operands as called_operands, call_a
 use Rattle.m2_agree_trees.proofs.Opened.{argument_code, component_code, link_part, expr_opened, expr_at, link_opened, link_at, component_opened, component_at, place_at, call_opened, call_at, argument_opened, argument_at}
 use Rattle.m2_agree_trees.specs.Placed.{Pins}
 use Rattle.m2_agree_trees.specs.Typed as typed
-use Rattle.m2_agree_trees.specs.Typed.{Context, IsKnown, IsTaken}
+use Rattle.m2_agree_trees.specs.Typed.{Context, IsNamed, IsInner, IsTaken}
 use Rattle.m2_agree_trees.specs.Fitting.{all_operands, Fits}
 use Rattle.m2_agree_trees.proofs.Pinned.{pins_plain, pins_then, pins_setting, pins_number, pins_within, pins_text}
 use Rattle.m2_agree_trees.proofs.Meant.{argument_value, component_value, link_value, expr_meant, expr_means, link_meant, link_means, component_meant, component_means, place_means, call_meant, call_means, argument_meant, argument_means}
@@ -173,7 +172,7 @@ module _ (x : Context) (ask : Asks) where
       agrees = λ k fit. laws.loads k fit.set P ask t c m.placed (locate P ask d) (here ws k fit (λ m. IsCell m.types t c) cell) (m.locates k fit);
     })
 
-    procedure_made : (a : ℕ) (f : Procedure) → IsKnown x.home f.home → scalar_at x.home.types f.heading ≡ None → Expr a a (expr.Procedure f) f.heading
+    procedure_made : (a : ℕ) (f : Procedure) → IsNamed x f → scalar_at x.home.types f.heading ≡ None → Expr a a (expr.Procedure f) f.heading
     procedure_made a f known none = from_expr ws a a f.heading (expr.Procedure f) (layer.Procedure f) (expr.outs-Procedure f) (record {
       of = refl;
       placed = with_setting (λ s. plain (code.procedure_code s.home f));
@@ -409,7 +408,7 @@ module _ (x : Context) (ask : Asks) where
 
   module _ (ws : List Ty) where
     root_locates : (r : Root) (t : Ty) → typed.IsRoot x ws r t → (k : Scene) → Fits x ask ws k → Locates k t (code.root_layer r) (λ a s. Gave (meaning.root_layer P ask r a) s)
-    root_locates _ _ (typed.GlobalRoot v t known at) k fit = laws.globals k fit.set P ask v t (fit.globals v t known at)
+    root_locates _ _ (typed.GlobalRoot v t is) k fit = laws.globals k fit.set P ask v t (fit.globals v t is)
     root_locates _ _ (typed.LocalRoot slot t there) k fit = kept_locates k fit.set x.kinds fit.frames slot t there
     root_locates _ _ (typed.AliasRoot slot t there) k fit = alias_locates k fit.set x.kinds fit.frames slot t there
     root_locates _ _ (typed.WithRoot j t there) k fit = let q = fit.withs j t there in laws.opened k P ask j q.0 t q.1
@@ -634,6 +633,7 @@ module _ (x : Context) (ask : Asks) where
   pins_left : (a b : ℕ) (w y z q : Coded) → Pins a b w (y ⨾ (z ⨾ q)) → Pins a b w ((y ⨾ z) ⨾ q)
   pins_left a b w y z q h = record {
     is = λ s c. h.is s c ∙ ap (λ (l : List Instr). (l, record (((y ⨾ z) ⨾ q) s c).1 { texts = b })) (sym (append_assoc (y s c).0 (z s (y s c).1).0 (q s (z s (y s c).1).1).0));
+    grows = h.grows;
   }
 
   module _ (ws : List Ty) where
@@ -646,7 +646,7 @@ module _ (x : Context) (ask : Asks) where
     abbrev ArgumentsOf : (a b : ℕ) → List Argument → Forms → Type 0
     ArgumentsOf a b args fs = MadeArguments ws a b fs (map (argument_code N) args) (map (argument_value P ask) args)
 
-    module_made : (a b : ℕ) (f : Procedure) (args : List Argument) → IsKnown x.home f.home → ArgumentsOf a b args (forms_of x.home.types f.heading) → MadeCall ws a b (result_of x.home.types f.heading) (call_code N (call.Module f args)) (called P ask (call.Module f args))
+    module_made : (a b : ℕ) (f : Procedure) (args : List Argument) → IsNamed x f → ArgumentsOf a b args (forms_of x.home.types f.heading) → MadeCall ws a b (result_of x.home.types f.heading) (call_code N (call.Module f args)) (called P ask (call.Module f args))
     module_made a b f args known m = from_call a b (result_of x.home.types f.heading) (call.Module f args) (layer.Module f args) (call.outs-Module f args) (record {
       placed = code.top_code ⨾ (all_coded m.placed ⨾ with_setting (λ s. plain (code.module_call N s.home f)));
       pins = pins_then (pins_setting (λ s. pins_plain a (instr.LocalGet (top_local s) ∷ []))) (pins_then m.pins (pins_setting (λ s. pins_plain b (code.module_call N s.home f))));
@@ -665,17 +665,17 @@ module _ (x : Context) (ask : Asks) where
           code.top_code (λ e c. refl));
     })
 
-    nested_made : (a b : ℕ) (f : LocalProcedure) (args : List Argument) → f.up < length x.kinds → ArgumentsOf a b args (forms_of x.home.types f.heading) → MadeCall ws a b (result_of x.home.types f.heading) (call_code N (call.Nested f args)) (called P ask (call.Nested f args))
-    nested_made a b f args less m = from_call a b (result_of x.home.types f.heading) (call.Nested f args) (layer.Nested f args) (call.outs-Nested f args) (record {
+    nested_made : (a b : ℕ) (f : LocalProcedure) (args : List Argument) → IsInner x f → ArgumentsOf a b args (forms_of x.home.types f.heading) → MadeCall ws a b (result_of x.home.types f.heading) (call_code N (call.Nested f args)) (called P ask (call.Nested f args))
+    nested_made a b f args inner m = from_call a b (result_of x.home.types f.heading) (call.Nested f args) (layer.Nested f args) (call.outs-Nested f args) (record {
       placed = (code.top_code ⨾ plain (code.link_code N f.up)) ⨾ (all_coded m.placed ⨾ with_setting (λ s. plain (code.nested_call N s.home f)));
       pins = pins_left a b (code.call_layer N (layer.Nested f (map (argument_code N) args))) code.top_code (plain (code.link_code N f.up)) (all_coded m.placed ⨾ with_setting (λ s. plain (code.nested_call N s.home f))) (pins_then (pins_setting (λ s. pins_plain a (instr.LocalGet (top_local s) ∷ []))) (pins_then (pins_plain a (code.link_code N f.up)) (pins_then m.pins (pins_setting (λ s. pins_plain b (code.nested_call N s.home f))))));
       calls = λ k fit.
-          let q = fit.nested f less in
+          let q = fit.nested f inner in
           let g = q.3 in
           let gs : List (Gives Passed) = map (argument_value P ask) args in
           let forms : Forms = forms_of x.home.types f.heading in
           let roots : List ℕ = fit.frames.roots in
-          let first = chain_first k.world k.hidden f.up x.kinds k.around.frames roots fit.frames.chain less in
+          let first = chain_first k.world k.hidden f.up x.kinds k.around.frames roots fit.frames.chain inner.less in
           let chain : IsChain k.world k.hidden (drop f.up x.kinds) q.0.frames (drop f.up roots) = subst (λ (nss : Frames). IsChain k.world k.hidden (drop f.up x.kinds) nss (drop f.up roots)) (sym q.2) (chain_drop k.world k.hidden f.up x.kinds k.around.frames roots fit.frames.chain) in
           let one : length (links k.world (drop f.up roots)) ≡ 1 = ap (λ (rs : List ℕ). length (links k.world rs)) first.3 in
           let count = g.count in let same = same_operands forms in

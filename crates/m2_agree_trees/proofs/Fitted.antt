@@ -1,23 +1,20 @@
 -- Scenes in which more is kept, or inside of a WITH, fit as well.
-use Rattle.std.proofs.Common.{◌≡◌, ℕ, zero, suc, ◌+◌, ◌<◌, Bool, true, false, List, [], ◌∷◌, ◌++◌, length, Option, Some, None, if◌then◌else◌, refl, sym, ap, subst, ◌∙◌, ⊎_elim, length-append, arith}
+use Rattle.std.proofs.Common.{◌≡◌, ℕ, zero, suc, ◌+◌, ◌<◌, Bool, List, [], ◌∷◌, ◌++◌, length, Option, Some, None, if◌then◌else◌, refl, sym, ap, subst, ◌∙◌, ⊎_elim, length-append, arith}
 use Rattle.std.specs.Prelude.{nat_eq, slice_get}
 use Rattle.std.proofs.lemmas.Bool.{cases_eq, eq-eqb, ne_eqb}
 use Rattle.wasm_tree.specs.declared.instr.Instr.{Instr}
 use Rattle.wasm_tree.specs.declared.store.Value.{Value}
 use Rattle.wasm_tree.specs.declared.store.Value.TheVariants.{I32}
 use Rattle.m2_typed.specs.declared.types.TypeNo.{TypeNo}
-use Rattle.m2_typed.specs.declared.meaning.Variable.{Variable}
 use Rattle.m2_layout.specs.Types.{Ty, row, component}
 use Rattle.m2_layout.specs.Sizes.{size}
 use Rattle.m2_meaning.specs.Store.{Location}
 use Rattle.m2_meaning.specs.Around.{Callee}
 use Rattle.m2_meaning.specs.Expressions.{Asks}
 use Rattle.m2_scheme.specs.Coded.{top_local}
-use Rattle.m2_agree.specs.Scene.{Scene, IsSet, IsGlobal, IsWith, place, keeping, opening}
+use Rattle.m2_agree.specs.Scene.{Scene, IsWith, place, keeping, opening}
 use Rattle.m2_agree.proofs.Locals.{helpers_beside}
-use Rattle.m2_agree_calls.specs.Laws.{HasSlot, IsText}
-use Rattle.m2_agree_calls.specs.Frames.{IsOwnFrame, HasFrames}
-use Rattle.m2_agree_calls.specs.Passing.{HasTop}
+use Rattle.m2_agree_calls.specs.Frames.{IsOwnFrame}
 use Rattle.m2_agree_trees.specs.Typed.{Context}
 use Rattle.m2_agree_trees.specs.Fitting.{IsCalled, Fits}
 
@@ -53,7 +50,7 @@ module _ (x : Context) (ask : Asks) (ws : List Ty) (k : Scene) (n : ℕ) (v : Va
     top = record { kept = still_kept k.kept n v new (top_local k.setting) (I32 _) h.top.kept; next = h.top.next; left = h.top.left; based = h.top.based };
     withs = λ j t e. let q = h.withs j t e in (q.0, record { local = q.1.local; there = q.1.there; kept = still_kept k.kept n v new q.1.local (I32 _) q.1.kept; is = q.1.is; type = q.1.type; some = q.1.some });
     count = h.count;
-    globals = λ u t known e. let q = h.globals u t known e in record { base = q.base; there = q.there; type = q.type; at = q.at; some = q.some };
+    globals = λ u t is. let q = h.globals u t is in record { base = q.base; there = q.there; type = q.type; at = q.at; some = q.some };
     slots = λ f known. let q = h.slots f known in record { slot = q.slot; there = q.there; is = q.is; small = q.small };
     texts = λ at text has. let q = h.texts at text has in record { base = q.base; there = q.there; room = q.room; bytes = q.bytes; type = q.type; is = q.is; fits = q.fits; same = q.same; small = q.small };
     modules = λ f known. let q = h.modules f known in (q.0, q.1, q.2, called_kept q.0 _ _ _ _ q.3);
@@ -164,7 +161,7 @@ module _ (x : Context) (ask : Asks) (ws : List Ty) (k : Scene) (w : ℕ) (l : Lo
     top = record { kept = still_kept k.kept w address new (top_local k.setting) (I32 (size (row k.world))) h.top.kept; next = h.top.next; left = h.top.left; based = h.top.based };
     withs = λ j u e. subst (λ (n : ℕ). Found n u) (plus_none j) (found_in ws 0 j u (λ j u e. subst (λ (n : ℕ). Found n u) (sym (plus_none j)) (found_old j u e)) (subst (λ (n : ℕ). Found n t) (sym (plus_none (length ws))) found_last) e);
     count = (length-append k.setting.withs (w ∷ []) ∙ ap (λ (n : ℕ). n + 1) h.count.0 ∙ sym (length-append ws (t ∷ [])), length-append k.around.withs (l ∷ []) ∙ ap (λ (n : ℕ). n + 1) h.count.1 ∙ sym (length-append ws (t ∷ [])));
-    globals = λ u t' known e. let q = h.globals u t' known e in record { base = q.base; there = q.there; type = q.type; at = q.at; some = q.some };
+    globals = λ u t' is. let q = h.globals u t' is in record { base = q.base; there = q.there; type = q.type; at = q.at; some = q.some };
     slots = λ f known. let q = h.slots f known in record { slot = q.slot; there = q.there; is = q.is; small = q.small };
     texts = λ at text has. let q = h.texts at text has in record { base = q.base; there = q.there; room = q.room; bytes = q.bytes; type = q.type; is = q.is; fits = q.fits; same = q.same; small = q.small };
     modules = λ f known. let q = h.modules f known in (q.0, q.1, q.2, called_opened q.0 _ _ _ _ q.3);

@@ -3,3 +3,4 @@ pub mod Meant
 pub mod Opened
 pub mod Fitted
 pub mod Exprs
+pub mod Laws

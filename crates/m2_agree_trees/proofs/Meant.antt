@@ -1,5 +1,5 @@
 -- One layer of a tree at a time: what it means.
-use Rattle.std.proofs.Common.{◌≡◌, ℕ, ℤ, ap, ◌∙◌}
+use Rattle.std.proofs.Common.{◌≡◌, ℤ, ap, ◌∙◌}
 use Rattle.m2_typed.specs.declared.computed.Argument.{Argument, Argument-F, out-Argument, map-Argument, fold_out-Argument, fold-Argument}
 use Rattle.m2_typed.specs.declared.computed.Call.{Call, Call-F, out-Call, map-Call, fold_out-Call}
 use Rattle.m2_typed.specs.declared.computed.Component.{Component, Component-F, out-Component, map-Component, fold_out-Component, fold-Component}

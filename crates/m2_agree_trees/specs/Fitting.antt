@@ -1,12 +1,12 @@
 -- Scenes in which a tree's code runs.
-use Rattle.std.specs.Prelude.{◌≡◌, ℕ, suc, ◌+◌, ◌<◌, List, [], ◌∷◌, length, drop, Option, Some, slice_get}
+use Rattle.std.specs.Prelude.{◌≡◌, ℕ, suc, ◌+◌, List, [], ◌∷◌, length, drop, Some, slice_get}
 use Rattle.wasm_tree.specs.declared.instr.Instr.{Instr}
 use Rattle.wasm_tree.specs.Machine.{Typed}
 use Rattle.m2_typed.specs.declared.computed.LocalProcedure.{LocalProcedure}
 use Rattle.m2_typed.specs.declared.meaning.Procedure.{Procedure}
 use Rattle.m2_typed.specs.declared.meaning.Variable.{Variable}
 use Rattle.m2_typed.specs.declared.types.TypeNo.{TypeNo}
-use Rattle.m2_layout.specs.Types.{Ty, row, component}
+use Rattle.m2_layout.specs.Types.{Ty}
 use Rattle.m2_meaning.specs.Store.{Location}
 use Rattle.m2_meaning.specs.Around.{Callee, module_place, module_callee, nested_in}
 use Rattle.m2_meaning.specs.Expressions.{Asks}
@@ -16,7 +16,7 @@ use Rattle.m2_agree.specs.Scene.{Scene, IsSet, IsGlobal, IsWith, calls}
 use Rattle.m2_agree_calls.specs.Laws.{HasSlot, IsText}
 use Rattle.m2_agree_calls.specs.Frames.{Kinds, HasFrames}
 use Rattle.m2_agree_calls.specs.Passing.{Form, ByNumber, ByCopy, ByName, ByArray, Forms, forms_of, result_of, HasTop, DoesAsked, IsCallOf}
-use Rattle.m2_agree_trees.specs.Typed.{Context, IsKnown, HasText}
+use Rattle.m2_agree_trees.specs.Typed.{Context, IsVariable, IsNamed, IsInner, HasText}
 
 abbrev pub operands_of : Form → ℕ
 operands_of (ByNumber c) = 1
@@ -46,9 +46,9 @@ pub record Fits (x : Context) (ask : Asks) (ws : List Ty) (k : Scene) : Type 0 w
   pub top : HasTop k x.base x.texts
   pub withs : (j : ℕ) (t : Ty) → slice_get ws j ≡ Some t → (l : Location) × IsWith k j l t
   pub count : (length k.setting.withs ≡ length ws) × (length k.around.withs ≡ length ws)
-  pub globals : (v : Variable) (t : Ty) → IsKnown x.home v.home → component (row x.base) (module_place x.p v.home ∷ v.number ∷ []) ≡ Some t → IsGlobal k v (module_place x.p v.home ∷ v.number ∷ []) t
-  pub slots : (f : Procedure) → IsKnown x.home f.home → HasSlot k x.p f
+  pub globals : (v : Variable) (t : Ty) → IsVariable x v t → IsGlobal k v (module_place x.p v.home ∷ v.number ∷ []) t
+  pub slots : (f : Procedure) → IsNamed x f → HasSlot k x.p f
   pub texts : (at : ℕ) (text : List ℕ) → HasText x at text → IsText k at text
-  pub modules : (f : Procedure) → IsKnown x.home f.home → (c : Callee) × (module_callee x.p (module_place x.p f.home) f.number ≡ Some c) × (c.frames ≡ []) × IsCalled x ask k c [] f.heading (module_call (numbered x.home) k.setting.home f) 0
-  pub nested : (f : LocalProcedure) → f.up < length x.kinds
+  pub modules : (f : Procedure) → IsNamed x f → (c : Callee) × (module_callee x.p (module_place x.p f.home) f.number ≡ Some c) × (c.frames ≡ []) × IsCalled x ask k c [] f.heading (module_call (numbered x.home) k.setting.home f) 0
+  pub nested : (f : LocalProcedure) → IsInner x f
       → (c : Callee) × (nested_in x.place (slice_get x.p x.place) (drop f.up k.around.frames) f.number ≡ Some c) × (c.frames ≡ drop f.up k.around.frames) × IsCalled x ask k c (drop f.up x.kinds) f.heading (nested_call (numbered x.home) k.setting.home f) 1

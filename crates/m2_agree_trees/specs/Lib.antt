@@ -1,3 +1,4 @@
 pub mod Placed
 pub mod Typed
 pub mod Fitting
+pub mod Laws

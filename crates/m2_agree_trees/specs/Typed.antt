@@ -1,5 +1,5 @@
 -- Typed trees whose parts have the types that their constructs ask for, and whose texts are where the module has them.
-use Rattle.std.specs.Prelude.{◌≡◌, ℕ, suc, ◌+◌, ◌-ℤ◌, ◌<◌, ◌≤◌, ◌≤ℤ◌, ◌^◌, ◌⊎◌, ◌==◌, ℤ, pos, negsuc, Bool, true, false, ◌||◌, List, [], ◌∷◌, ◌++◌, length, get_or, drop, Option, Some, None, slice_get}
+use Rattle.std.specs.Prelude.{◌≡◌, ℕ, zero, suc, ◌+◌, ◌-ℤ◌, ◌<◌, ◌≤◌, ◌≤ℤ◌, ◌^◌, ◌⊎◌, ◌==◌, ℤ, pos, Bool, true, false, ◌||◌, List, [], ◌∷◌, ◌++◌, length, get_or, drop, Option, Some, None, slice_get}
 use Rattle.std.specs.List.{list_any}
 use Rattle.m2_typed.specs.declared.computed.Argument.{Argument}
 use Rattle.m2_typed.specs.declared.computed.Argument.TheVariants as argument
@@ -23,21 +23,24 @@ use Rattle.m2_typed.specs.declared.computed.TypedExpr.TheVariants as expr
 use Rattle.m2_typed.specs.declared.meaning.Procedure.{Procedure}
 use Rattle.m2_typed.specs.declared.meaning.Variable.{Variable}
 use Rattle.m2_typed.specs.declared.shape.Scalar.{Scalar as Range}
+use Rattle.m2_typed.specs.declared.typed_module.Routine.{Routine}
+use Rattle.m2_typed.specs.declared.typed_module.Which.{Which}
 use Rattle.m2_typed.specs.declared.typed_module.TypedModule.{TypedModule}
 use Rattle.m2_typed.specs.declared.types.TypeNo.{TypeNo}
 use Rattle.m2_typed.specs.declared.known_types.Types.{Types}
 use Rattle.m2_typed.specs.Types.{are_same, integer, cardinal, boolean, char, bitset}
 use Rattle.m2_typed.specs.Known.{scalar_at}
-use Rattle.m2_layout.specs.Types.{Ty, Scalar, Natural, Cell, Array, row, component, IsPlain}
+use Rattle.m2_layout.specs.Types.{Ty, Scalar, Natural, Cell, Array, row, component}
 use Rattle.m2_layout.specs.Shapes.{tree, elements_of}
 use Rattle.m2_layout.specs.Texts.{passed}
 use Rattle.m2_meaning.specs.Store.{Location}
-use Rattle.m2_meaning.specs.Around.{Modules, module_place, module_callee}
+use Rattle.m2_meaning.specs.Around.{Modules, module_place}
 use Rattle.m2_scheme.specs.Cells.{base_of, is_free}
-use Rattle.m2_scheme.specs.Exprs.{is_own, index_of, expr_part}
+use Rattle.m2_scheme.specs.Exprs.{is_own, variables_row, index_of, expr_part}
+use Rattle.m2_scheme.specs.Functions.{routine_at, around_in}
 use Rattle.m2_scheme.specs.Modules.{numbered}
 use Rattle.m2_agree.specs.Scene.{IsValue, AreAmong, AreNatural, IsCell}
-use Rattle.m2_agree_calls.specs.Frames.{Kinds, Kept, Alias, Open, kind_at}
+use Rattle.m2_agree_calls.specs.Frames.{Kinds, Kept, Alias, Open, kind_at, kinds_of}
 use Rattle.m2_agree_calls.specs.Passing.{Form, ByNumber, ByCopy, ByName, ByArray, Forms, Result, forms_of, result_of}
 
 -- where a tree stands
@@ -53,6 +56,41 @@ pub record Context : Type 0 where
 -- the module itself, and those that it imports
 abbrev pub IsKnown : TypedModule → (home : ℕ) → Type 0
 IsKnown m home = (is_own m home || list_any (λ i. i.number == home) m.imports) ≡ true
+
+-- a variable of a module, which has this type there and for the module that names it
+pub record IsVariable (x : Context) (v : Variable) (t : Ty) : Type 0 where
+  pub known : IsKnown x.home v.home
+  pub type : component (variables_row x.home v.home) (v.number ∷ []) ≡ Some t
+  pub there : component (row x.base) (module_place x.p v.home ∷ v.number ∷ []) ≡ Some t
+
+-- a procedure of a module, whose heading has the same forms and result there
+pub record IsNamed (x : Context) (f : Procedure) : Type 0 where
+  pub known : IsKnown x.home f.home
+  pub home : TypedModule
+  pub there : slice_get x.p (module_place x.p f.home) ≡ Some home
+  pub routine : Routine
+  pub is : slice_get home.procedures f.number ≡ Some routine
+  pub forms : forms_of home.types routine.heading ≡ forms_of x.home.types f.heading
+  pub result : result_of home.types routine.heading ≡ result_of x.home.types f.heading
+
+-- the frames of the procedures around one, as `frames_around` has them
+abbrev pub own_kinds : TypedModule → Option Routine → List Kinds
+own_kinds m None = []
+own_kinds m (Some r) = kinds_of m.types r ∷ []
+
+abbrev pub kinds_around : TypedModule → (level : ℕ) → Option Which → List Kinds
+kinds_around m zero w = []
+kinds_around m (suc k) w = own_kinds m (routine_at m w) ++ kinds_around m k (around_in (routine_at m w))
+
+-- a procedure of one of the procedures around
+pub record IsInner (x : Context) (f : LocalProcedure) : Type 0 where
+  pub less : f.up < length x.kinds
+  pub there : slice_get x.p x.place ≡ Some x.home
+  pub routine : Routine
+  pub is : slice_get x.home.locals f.number ≡ Some routine
+  pub kinds : kinds_around x.home routine.level routine.around ≡ drop f.up x.kinds
+  pub forms : forms_of x.home.types routine.heading ≡ forms_of x.home.types f.heading
+  pub result : result_of x.home.types routine.heading ≡ result_of x.home.types f.heading
 
 -- a text stands there among the characters of the module
 pub record HasText (x : Context) (at : ℕ) (text : List ℕ) : Type 0 where
@@ -71,7 +109,7 @@ module _ (x : Context) where
 
   -- a variable, a formal, or the record of a WITH
   pub data IsRoot (ws : List Ty) : Root → Ty → Type 0 where
-    GlobalRoot : (v : Variable) (t : Ty) → IsKnown x.home v.home → component (row x.base) (module_place x.p v.home ∷ v.number ∷ []) ≡ Some t → IsRoot ws (root.Global v) t
+    GlobalRoot : (v : Variable) (t : Ty) → IsVariable x v t → IsRoot ws (root.Global v) t
     LocalRoot : (slot : Slot) (t : Ty) → kind_at x.kinds slot ≡ Some (Kept t) → IsRoot ws (root.Local slot) t
     AliasRoot : (slot : Slot) (t : Ty) → kind_at x.kinds slot ≡ Some (Alias t) → IsRoot ws (root.Alias slot) t
     WithRoot : (j : ℕ) (t : Ty) → slice_get ws j ≡ Some t → IsRoot ws (root.With j) t
@@ -81,7 +119,7 @@ module _ (x : Context) where
     pub data IsExpr (ws : List Ty) : (from to : ℕ) → TypedExpr → TypeNo → Type 0 where
       Constant : (a : ℕ) (t : TypeNo) (n : ℤ) → IsValue types t n → IsExpr ws a a (expr.Constant t n) t
       Load : (a b : ℕ) (t : TypeNo) (c : Scalar) (d : Place) → IsCell types t c → IsPlace ws a b d (Cell c) → IsExpr ws a b (expr.Load t d) t
-      ProcedureValue : (a : ℕ) (f : Procedure) → IsKnown x.home f.home → scalar_at types f.heading ≡ None → IsExpr ws a a (expr.Procedure f) f.heading
+      ProcedureValue : (a : ℕ) (f : Procedure) → IsNamed x f → scalar_at types f.heading ≡ None → IsExpr ws a a (expr.Procedure f) f.heading
       Plus : (a b : ℕ) (t u : TypeNo) (e : TypedExpr) → IsExpr ws a b e u → AreAmong types u t → IsExpr ws a b (expr.Plus t e) t
       Negate : (a b : ℕ) (u : TypeNo) (e : TypedExpr) → IsExpr ws a b e u → IsExpr ws a b (expr.Negate e) integer
       Chain : (a b c : ℕ) (u t : TypeNo) (e : TypedExpr) (ls : List Link) → IsExpr ws a b e u → AreLinks ws b c u ls t → IsExpr ws a c (expr.Chain e ls) t
@@ -131,8 +169,8 @@ module _ (x : Context) where
 
     -- a call, and the range of its result
     pub data IsCall (ws : List Ty) : (from to : ℕ) → Call → Result → Type 0 where
-      OfModule : (a b : ℕ) (f : Procedure) (args : List Argument) → IsKnown x.home f.home → AreArguments ws a b args (forms_of types f.heading) → IsCall ws a b (call.Module f args) (result_of types f.heading)
-      OfProcedure : (a b : ℕ) (f : LocalProcedure) (args : List Argument) → f.up < length x.kinds → AreArguments ws a b args (forms_of types f.heading) → IsCall ws a b (call.Nested f args) (result_of types f.heading)
+      OfModule : (a b : ℕ) (f : Procedure) (args : List Argument) → IsNamed x f → AreArguments ws a b args (forms_of types f.heading) → IsCall ws a b (call.Module f args) (result_of types f.heading)
+      OfProcedure : (a b : ℕ) (f : LocalProcedure) (args : List Argument) → IsInner x f → AreArguments ws a b args (forms_of types f.heading) → IsCall ws a b (call.Nested f args) (result_of types f.heading)
 
     pub data AreArguments (ws : List Ty) : (from to : ℕ) → List Argument → Forms → Type 0 where
       no_arguments : (a : ℕ) → AreArguments ws a a [] []

@@ -1,5 +1,19 @@
-//! Why the code of whole trees does what the definition of a run says. There is no code here but what names the laws.
+//! Why the code of whole trees of expressions, designators and calls does what the definition of a run says. There is no
+//! code here but what names the laws.
+//!
+//! - `specs/Typed` says which trees have the types that their constructs ask for, `specs/Fitting` in which scenes their
+//!   code runs, and `specs/Placed` what it is to have the texts where the module has them.
+//! - `specs/Laws` has the laws.
 #![tactic(auto)]
 
-/// The laws stand in `proofs/`: `expr_made`, `place_made` and `call_made`.
-pub fn tree_laws() {}
+ghost use Rattle.m2_agree_trees.specs.Laws.{CallsOf, Exprs, Places};
+
+/// The code of typed trees, at every depth.
+pub fn tree_laws()
+    // An expression's code leaves its value, which is one of its type.
+    ensures exprs { Exprs }
+    // A designator's code leaves the address of its location.
+    ensures places { Places }
+    // A call's code runs the procedure with its arguments, and leaves its result.
+    ensures calls { CallsOf }
+{}

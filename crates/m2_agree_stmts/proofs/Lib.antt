@@ -1,0 +1,5 @@
+pub mod Meant
+pub mod Staying
+pub mod Boxed
+pub mod Stmts
+pub mod Laws
