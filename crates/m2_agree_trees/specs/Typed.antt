@@ -38,6 +38,7 @@ use Rattle.m2_meaning.specs.Around.{Modules, module_place}
 use Rattle.m2_scheme.specs.Cells.{base_of, is_free}
 use Rattle.m2_scheme.specs.Exprs.{is_own, variables_row, index_of, expr_part}
 use Rattle.m2_scheme.specs.Functions.{routine_at, around_in}
+use Rattle.m2_scheme.specs.Signatures.{is_among, needed, of_heading}
 use Rattle.m2_scheme.specs.Modules.{numbered}
 use Rattle.m2_agree.specs.Scene.{IsValue, AreAmong, AreNatural, IsCell}
 use Rattle.m2_agree_calls.specs.Frames.{Kinds, Kept, Alias, Open, kind_at, kinds_of}
@@ -72,6 +73,11 @@ pub record IsNamed (x : Context) (f : Procedure) : Type 0 where
   pub is : slice_get home.procedures f.number ≡ Some routine
   pub forms : forms_of home.types routine.heading ≡ forms_of x.home.types f.heading
   pub result : result_of home.types routine.heading ≡ result_of x.home.types f.heading
+
+-- a procedure that is called: the module of the call has the type of its function, where it is called through the table
+pub record IsCallable (x : Context) (f : Procedure) : Type 0 where
+  pub named : IsNamed x f
+  pub signature : is_own x.home f.home ≡ false → is_among (needed x.home) (of_heading x.home.types f.heading) ≡ true
 
 -- the frames of the procedures around one, as `frames_around` has them
 abbrev pub own_kinds : TypedModule → Option Routine → List Kinds
@@ -169,7 +175,7 @@ module _ (x : Context) where
 
     -- a call, and the range of its result
     pub data IsCall (ws : List Ty) : (from to : ℕ) → Call → Result → Type 0 where
-      OfModule : (a b : ℕ) (f : Procedure) (args : List Argument) → IsNamed x f → AreArguments ws a b args (forms_of types f.heading) → IsCall ws a b (call.Module f args) (result_of types f.heading)
+      OfModule : (a b : ℕ) (f : Procedure) (args : List Argument) → IsCallable x f → AreArguments ws a b args (forms_of types f.heading) → IsCall ws a b (call.Module f args) (result_of types f.heading)
       OfProcedure : (a b : ℕ) (f : LocalProcedure) (args : List Argument) → IsInner x f → AreArguments ws a b args (forms_of types f.heading) → IsCall ws a b (call.Nested f args) (result_of types f.heading)
 
     pub data AreArguments (ws : List Ty) : (from to : ℕ) → List Argument → Forms → Type 0 where

@@ -230,6 +230,27 @@ module _ (m : TypedModule) (wf : IsWellFormed m) where
             (λ ls. prologue_leads b h (λ i le lt. param_at n a k i le lt) copied ls m.types r (nat_lt 1 r.level) refl refl (frame m.types r)) (λ ls. end_leads b h ls gives),
       )
 
+  -- its code keeps so many addresses in locals
+  pub routine_addresses : (text : ℕ) (r : Routine) → Within (needed m) (of_routine m r) → IsBody m r
+      → (coded (numbered m) m (frame m.types r ∷ frames_around m r.level r.around) (suc (numbers_of m.types r)) text r.body).1.addresses ≡ addresses_in r.body
+  routine_addresses text r known wb =
+      let n : ℕ = numbers_of m.types r in
+      let gives : Bool = has_result m.types r.heading in
+      let frames : List Ty = frame m.types r ∷ frames_around m r.level r.around in
+      let b : Body = made m n gives frames (addresses_in r.body) (coded (numbered m) m frames (suc n) text r.body).1.numbers in
+      let h : Holds b = made_holds m wf n gives frames (addresses_in r.body) (coded (numbered m) m frames (suc n) text r.body).1.numbers in
+      let count : (coded (numbered m) m frames (suc n) text r.body).1.addresses ≡ 0 + addresses_in r.body = (stmts_valid b h 0 false r.body wb.body (body_known m r known)).addresses 0 [] (from_text text) in
+      omega (arith, count)
+
+  pub module_addresses : (text : ℕ) → (coded (numbered m) m (frame_of [] ∷ []) 1 text m.body).1.addresses ≡ addresses_in m.body
+  module_addresses text =
+      let frames : List Ty = frame_of [] ∷ [] in
+      let k : ℕ = (coded (numbered m) m frames 1 text m.body).1.numbers in
+      let b : Body = made m 0 false frames (addresses_in m.body) k in
+      let h : Holds b = made_holds m wf 0 false frames (addresses_in m.body) k in
+      let count : (coded (numbered m) m frames 1 text m.body).1.addresses ≡ 0 + addresses_in m.body = (stmts_valid b h 0 false m.body wf.body (module_known m)).addresses 0 [] (from_text text) in
+      omega (arith, count)
+
   pub module_valid : IsFunction (own m) (module_function (numbered m) m)
   module_valid =
       let frames : List Ty = frame_of [] ∷ [] in

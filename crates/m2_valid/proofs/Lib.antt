@@ -8,9 +8,9 @@ mod Values
 mod Cases
 mod Steps
 mod Statements
-mod Numbers
-mod Own
-mod Functions
+pub mod Numbers
+pub mod Own
+pub mod Functions
 mod Names
 mod LinkModule
 mod Modules

@@ -73,13 +73,13 @@ joined_is f (x ∷ xs) = ap (λ (ss : Signatures). f x ++ ss) (joined_is f xs)
 
 -- ---- numbers of arguments
 
-own_count : (m : TypedModule) (r : Routine) (q : Bool) → nat_lt 1 r.level ≡ q → r.level ≡ 1 → numbers_of m.types r ≡ all_arguments (formals_of m.types r.heading)
+pub own_count : (m : TypedModule) (r : Routine) (q : Bool) → nat_lt 1 r.level ≡ q → r.level ≡ 1 → numbers_of m.types r ≡ all_arguments (formals_of m.types r.heading)
 own_count m r q e level =
     let none : nat_lt 1 r.level ≡ false = le-ltb 1 r.level (omega (arith, level)) in
     let count : link_arguments r ≡ 0 = ap (λ (p : Bool). if p then 1 else 0) none in
     omega (arith, count)
 
-nested_count : (m : TypedModule) (r : Routine) → 1 < r.level → numbers_of m.types r ≡ suc (all_arguments (formals_of m.types r.heading))
+pub nested_count : (m : TypedModule) (r : Routine) → 1 < r.level → numbers_of m.types r ≡ suc (all_arguments (formals_of m.types r.heading))
 nested_count m r level =
     let some : nat_lt 1 r.level ≡ true = lt-ltb 1 r.level level in
     let count : link_arguments r ≡ 1 = ap (λ (p : Bool). if p then 1 else 0) some in

@@ -1,0 +1,4 @@
+pub mod Places
+pub mod Knows
+pub mod Procedures
+pub mod Laws
