@@ -67,7 +67,7 @@ use Rattle.m2_agree_calls.proofs.Called.{all_operands as called_operands, call_a
 use Rattle.m2_agree_trees.proofs.Opened.{argument_code, component_code, link_part, expr_opened, expr_at, link_opened, link_at, component_opened, component_at, place_at, call_opened, call_at, argument_opened, argument_at}
 use Rattle.m2_agree_trees.specs.Placed.{Pins}
 use Rattle.m2_agree_trees.specs.Typed as typed
-use Rattle.m2_agree_trees.specs.Typed.{Context, IsNamed, IsInner, IsTaken}
+use Rattle.m2_agree_trees.specs.Typed.{Context, IsNamed, IsCallable, IsInner, IsTaken}
 use Rattle.m2_agree_trees.specs.Fitting.{all_operands, Fits}
 use Rattle.m2_agree_trees.proofs.Pinned.{pins_plain, pins_then, pins_setting, pins_number, pins_within, pins_text}
 use Rattle.m2_agree_trees.proofs.Meant.{argument_value, component_value, link_value, expr_meant, expr_means, link_meant, link_means, component_meant, component_means, place_means, call_meant, call_means, argument_meant, argument_means}
@@ -646,7 +646,7 @@ module _ (x : Context) (ask : Asks) where
     abbrev ArgumentsOf : (a b : ℕ) → List Argument → Forms → Type 0
     ArgumentsOf a b args fs = MadeArguments ws a b fs (map (argument_code N) args) (map (argument_value P ask) args)
 
-    module_made : (a b : ℕ) (f : Procedure) (args : List Argument) → IsNamed x f → ArgumentsOf a b args (forms_of x.home.types f.heading) → MadeCall ws a b (result_of x.home.types f.heading) (call_code N (call.Module f args)) (called P ask (call.Module f args))
+    module_made : (a b : ℕ) (f : Procedure) (args : List Argument) → IsCallable x f → ArgumentsOf a b args (forms_of x.home.types f.heading) → MadeCall ws a b (result_of x.home.types f.heading) (call_code N (call.Module f args)) (called P ask (call.Module f args))
     module_made a b f args known m = from_call a b (result_of x.home.types f.heading) (call.Module f args) (layer.Module f args) (call.outs-Module f args) (record {
       placed = code.top_code ⨾ (all_coded m.placed ⨾ with_setting (λ s. plain (code.module_call N s.home f)));
       pins = pins_then (pins_setting (λ s. pins_plain a (instr.LocalGet (top_local s) ∷ []))) (pins_then m.pins (pins_setting (λ s. pins_plain b (code.module_call N s.home f))));

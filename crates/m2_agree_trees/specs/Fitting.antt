@@ -16,7 +16,7 @@ use Rattle.m2_agree.specs.Scene.{Scene, IsSet, IsGlobal, IsWith, calls}
 use Rattle.m2_agree_calls.specs.Laws.{HasSlot, IsText}
 use Rattle.m2_agree_calls.specs.Frames.{Kinds, HasFrames}
 use Rattle.m2_agree_calls.specs.Passing.{Form, ByNumber, ByCopy, ByName, ByArray, Forms, forms_of, result_of, HasTop, DoesAsked, IsCallOf}
-use Rattle.m2_agree_trees.specs.Typed.{Context, IsVariable, IsNamed, IsInner, HasText}
+use Rattle.m2_agree_trees.specs.Typed.{Context, IsVariable, IsNamed, IsCallable, IsInner, HasText}
 
 abbrev pub operands_of : Form → ℕ
 operands_of (ByNumber c) = 1
@@ -49,6 +49,6 @@ pub record Fits (x : Context) (ask : Asks) (ws : List Ty) (k : Scene) : Type 0 w
   pub globals : (v : Variable) (t : Ty) → IsVariable x v t → IsGlobal k v (module_place x.p v.home ∷ v.number ∷ []) t
   pub slots : (f : Procedure) → IsNamed x f → HasSlot k x.p f
   pub texts : (at : ℕ) (text : List ℕ) → HasText x at text → IsText k at text
-  pub modules : (f : Procedure) → IsNamed x f → (c : Callee) × (module_callee x.p (module_place x.p f.home) f.number ≡ Some c) × (c.frames ≡ []) × IsCalled x ask k c [] f.heading (module_call (numbered x.home) k.setting.home f) 0
+  pub modules : (f : Procedure) → IsCallable x f → (c : Callee) × (module_callee x.p (module_place x.p f.home) f.number ≡ Some c) × (c.frames ≡ []) × IsCalled x ask k c [] f.heading (module_call (numbered x.home) k.setting.home f) 0
   pub nested : (f : LocalProcedure) → IsInner x f
       → (c : Callee) × (nested_in x.place (slice_get x.p x.place) (drop f.up k.around.frames) f.number ≡ Some c) × (c.frames ≡ drop f.up k.around.frames) × IsCalled x ask k c (drop f.up x.kinds) f.heading (nested_call (numbered x.home) k.setting.home f) 1
