@@ -19,7 +19,7 @@ use Rattle.m2_scheme.specs.Modules.{functions, numbered, typed_module}
 use Rattle.m2_links.specs.Linked.{Program, all, count}
 use Rattle.m2_valid.proofs.Own.{Within, typed_in, of_own, of_nested, routine_known, routine_signature}
 use Rattle.m2_agree_procedures.specs.Laws.{IsFunction, coded_body}
-use Rattle.m2_agree_linked.specs.Procedures.{typed_routine}
+use Rattle.m2_agree_bodies.specs.Linked.{routine_typed}
 use Rattle.m2_agree_linked.proofs.Helped.{function_in, function_there}
 
 abbrev typed_by : Function → FuncType → Typed
@@ -64,7 +64,7 @@ module _ (m : TypedModule) where
   abbrev nested : List Function
   nested = functions_from (numbered m) m which.Local 0 m.locals
 
-  known_function : (w : Which) (r : Routine) (f : ℕ) → Within (needed m) (of_routine m r) → slice_get (functions m) f ≡ Some (routine_function (numbered m) m w r) → function_in f (Some (typed_module m)) ≡ Some (typed_routine m w r)
+  known_function : (w : Which) (r : Routine) (f : ℕ) → Within (needed m) (of_routine m r) → slice_get (functions m) f ≡ Some (routine_function (numbered m) m w r) → function_in f (Some (typed_module m)) ≡ Some (routine_typed m w r)
   known_function w r f h e =
       ap (λ (o : Option Function). option_and_then (λ (x : Function). option_and_then (λ (t : FuncType). Some (typed_by x t)) (slice_get (typed_module m).types x.type_index)) o) e
       ∙ ap (λ (o : Option FuncType). option_and_then (λ (t : FuncType). Some (typed_by (routine_function (numbered m) m w r) t)) o) (typed_in m (routine_signature m r) (routine_known m r h))
@@ -91,7 +91,7 @@ module _ (m : TypedModule) where
 
   -- it is the scheme's
   pub is_function : (w : Which) (r : Routine) → (coded_body (numbered m) m r (frames_around m r.level r.around) (characters (texts_before m w m.order))).1.addresses ≡ addresses_in r.body
-      → IsFunction (numbered m) m r (frames_around m r.level r.around) (characters (texts_before m w m.order)) (typed_routine m w r)
+      → IsFunction (numbered m) m r (frames_around m r.level r.around) (characters (texts_before m w m.order)) (routine_typed m w r)
   is_function w r h = record {
     params = ap suc (many_length (numbers_of m.types r));
     results = results_length (has_result m.types r.heading);
@@ -101,9 +101,9 @@ module _ (m : TypedModule) where
   }
 
 module _ (p : Program) (pages : ℕ) (before rest : Program) (m : TypedModule) (is : p ≡ before ++ m ∷ rest) where
-  pub procedure_there : (j : ℕ) (r : Routine) → slice_get m.procedures j ≡ Some r → own_function (all p pages) (suc (length before)) (6 + j) ≡ Some (typed_routine m (which.Module j) r)
+  pub procedure_there : (j : ℕ) (r : Routine) → slice_get m.procedures j ≡ Some r → own_function (all p pages) (suc (length before)) (6 + j) ≡ Some (routine_typed m (which.Module j) r)
   procedure_there j r h = function_there p pages before rest m is (6 + j) ∙ known_function m (which.Module j) r (6 + j) (of_own m j r h) (own_there m j r h)
 
-  pub local_there : (j : ℕ) (r : Routine) → slice_get m.locals j ≡ Some r → own_function (all p pages) (suc (length before)) (6 + (length m.procedures + j)) ≡ Some (typed_routine m (which.Local j) r)
+  pub local_there : (j : ℕ) (r : Routine) → slice_get m.locals j ≡ Some r → own_function (all p pages) (suc (length before)) (6 + (length m.procedures + j)) ≡ Some (routine_typed m (which.Local j) r)
   local_there j r h =
       function_there p pages before rest m is (6 + (length m.procedures + j)) ∙ known_function m (which.Local j) r (6 + (length m.procedures + j)) (of_nested m j r h) (nested_there m j r h)

@@ -10,7 +10,7 @@ use Rattle.wasm_tree.specs.declared.store.Value.{Value}
 use Rattle.wasm_tree.specs.declared.store.Value.TheVariants.{I32}
 use Rattle.wasm_tree.specs.Validity.{AreDistinct}
 use Rattle.wasm_tree.specs.Machine.{global_at}
-use Rattle.wasm_effect.specs.Effect.{Fixed, store_of}
+use Rattle.wasm_effect.specs.Effect.{store_of}
 use Rattle.m2_typed.specs.declared.meaning.Variable.{Variable}
 use Rattle.m2_typed.specs.declared.typed_module.Imported.{Imported}
 use Rattle.m2_typed.specs.declared.typed_module.TypedModule.{TypedModule}
@@ -25,11 +25,9 @@ use Rattle.m2_links.specs.Linked.{Program, names, imported_names, variables, val
 use Rattle.m2_links.proofs.Stores.{slot_is, text_is}
 use Rattle.m2_links.proofs.Placed.{own_place}
 use Rattle.m2_valid.proofs.Numbers.{position_at, mapped_at}
-use Rattle.m2_agree.specs.Scene.{Scene, IsGlobal, place as placed_at}
-use Rattle.m2_cells.proofs.Worlds.{component_old, offset_old}
-use Rattle.m2_agree_runs.specs.Programs.{module_type, ground, fixed}
+use Rattle.m2_agree_runs.specs.Programs.{module_type, fixed}
 use Rattle.m2_agree_runs.proofs.Grounds.{top_is}
-use Rattle.m2_agree_linked.specs.Knows.{known_variables, imported_variables, IsKnown, IsVariable, Knows, IsCoherent, RunsIn}
+use Rattle.m2_agree_linked.specs.Knows.{known_variables, imported_variables, IsKnown, Knows, IsCoherent}
 use Rattle.m2_agree_linked.proofs.Places.{global_in, base_is}
 
 -- ---- lists
@@ -163,12 +161,12 @@ module _ (p : Program) (pages place : ℕ) (distinct : AreDistinct (names p)) (m
 
   -- ---- variables
 
-  base_own : (bytes : List ℕ) (home : ℕ) → is_own m home ≡ true → global_at (store_of (fixed p pages) bytes) (suc place) (base_global m home) ≡ Some (I32 (bytes_in here.before))
+  pub base_own : (bytes : List ℕ) (home : ℕ) → is_own m home ≡ true → global_at (store_of (fixed p pages) bytes) (suc place) (base_global m home) ≡ Some (I32 (bytes_in here.before))
   base_own bytes home e =
       ap (λ (b : Bool). global_at (store_of (fixed p pages) bytes) (suc place) (if b then 1 else 4 + 2 * import_place m home)) e
       ∙ global_at_place bytes 1 (base_at p m.name) (I32 (bytes_in here.before)) refl (base_value p pages distinct here.before here.rest m here.is)
 
-  base_imported : (bytes : List ℕ) (home : ℕ) → is_own m home ≡ false → (i : Import m home) → global_at (store_of (fixed p pages) bytes) (suc place) (base_global m home) ≡ Some (I32 (bytes_in (its_place home i).before))
+  pub base_imported : (bytes : List ℕ) (home : ℕ) → is_own m home ≡ false → (i : Import m home) → global_at (store_of (fixed p pages) bytes) (suc place) (base_global m home) ≡ Some (I32 (bytes_in (its_place home i).before))
   base_imported bytes home e i =
       ap (λ (b : Bool). global_at (store_of (fixed p pages) bytes) (suc place) (if b then 1 else 4 + 2 * import_place m home)) e
       ∙ global_at_place bytes (4 + 2 * import_place m home) (base_at p (known home i).home.name) (I32 (bytes_in (its_place home i).before))
@@ -180,7 +178,7 @@ module _ (p : Program) (pages place : ℕ) (distinct : AreDistinct (names p)) (m
   length_mapped f [] = refl
   length_mapped f (x ∷ xs) = ap suc (length_mapped f xs)
 
-  own_offset : (v : Variable) → is_own m v.home ≡ true → v.number < length (known_variables m v.home)
+  pub own_offset : (v : Variable) → is_own m v.home ≡ true → v.number < length (known_variables m v.home)
       → bytes_in here.before + offset (variables_row m v.home) (v.number ∷ []) ≡ offset (row (map module_type p)) (module_place p v.home ∷ v.number ∷ [])
   own_offset v e h =
       let less : v.number < length m.variables = subst (λ (b : Bool). v.number < length (if b then m.variables else imported_variables (slice_get m.imports (import_place m v.home)))) e h in
@@ -189,7 +187,7 @@ module _ (p : Program) (pages place : ℕ) (distinct : AreDistinct (names p)) (m
       ∙ sym (variable_at p pages distinct here.before here.rest m here.is v.number less)
       ∙ ap (λ (j : ℕ). offset (row (map module_type p)) (j ∷ v.number ∷ [])) (sym at)
 
-  imported_offset : (v : Variable) → is_own m v.home ≡ false → (i : Import m v.home) → v.number < length (known_variables m v.home)
+  pub imported_offset : (v : Variable) → is_own m v.home ≡ false → (i : Import m v.home) → v.number < length (known_variables m v.home)
       → bytes_in (its_place v.home i).before + offset (variables_row m v.home) (v.number ∷ []) ≡ offset (row (map module_type p)) (module_place p v.home ∷ v.number ∷ [])
   imported_offset v e i h =
       let s = its_place v.home i in
@@ -207,31 +205,3 @@ module _ (p : Program) (pages place : ℕ) (distinct : AreDistinct (names p)) (m
       (sym (offset_front (map (tree m.types) i.import.variables) k.more v.number (omega (arith, less, two))) ∙ ap (λ (ts : List Ty). offset (row ts) (v.number ∷ [])) (sym k.variables))
       ∙ sym (variable_at p pages distinct s.before s.rest k.home s.is v.number (omega (arith, less, long, same, one, two)))
       ∙ ap (λ (j : ℕ). offset (row (map module_type p)) (j ∷ v.number ∷ [])) s.long
-
-  module _ (k : Scene) (runs : RunsIn p pages place m k) where
-    pub global_from : (bytes : List ℕ) (g : ℕ) (v : Value) → global_at (store_of (fixed p pages) bytes) (suc place) g ≡ Some v → global_at (store_of k.fixed bytes) k.own g ≡ Some v
-    global_from bytes g v e = ap (λ (fx : Fixed). global_at (store_of fx bytes) k.own g) runs.stays ∙ ap (λ (n : ℕ). global_at (store_of (fixed p pages) bytes) n g) runs.own ∙ e
-
-    pub old : (i : ℕ) (q : List ℕ) (t : Ty) → component (row (ground p pages).base) (i ∷ q) ≡ Some t → component (row k.world) (i ∷ q) ≡ Some t
-    old i q t h = ap (λ (ts : List Ty). component (row ts) (i ∷ q)) runs.based.is ∙ component_old (ground p pages).base runs.based.more i q t h
-
-    pub old_place : (i : ℕ) (q : List ℕ) (t : Ty) → component (row (ground p pages).base) (i ∷ q) ≡ Some t → offset (row (ground p pages).base) (i ∷ q) ≡ placed_at k (i ∷ q)
-    old_place i q t h = sym (ap (λ (ts : List Ty). offset (row ts) (i ∷ q)) runs.based.is ∙ offset_old (ground p pages).base runs.based.more i q t h)
-
-    -- where a variable stands
-    pub variable_is : (v : Variable) (t : Ty) → IsVariable m v → component (row (ground p pages).base) (module_place p v.home ∷ v.number ∷ []) ≡ Some t → IsGlobal k v (module_place p v.home ∷ v.number ∷ []) t
-    variable_is v t is h = by (is_own m v.home) refl
-      where
-        made : (base : ℕ) → ((bytes : List ℕ) → global_at (store_of (fixed p pages) bytes) (suc place) (base_global m v.home) ≡ Some (I32 base))
-            → base + offset (variables_row m v.home) (v.number ∷ []) ≡ offset (row (map module_type p)) (module_place p v.home ∷ v.number ∷ []) → IsGlobal k v (module_place p v.home ∷ v.number ∷ []) t
-        made base there at = record {
-          base = base;
-          there = λ bytes. global_from bytes (base_global k.setting.home v.home) (I32 base) (ap (λ (n : TypedModule). global_at (store_of (fixed p pages) bytes) (suc place) (base_global n v.home)) runs.home ∙ there bytes);
-          type = old (module_place p v.home) (v.number ∷ []) t h;
-          at = ap (λ (n : TypedModule). base + offset (variables_row n v.home) (v.number ∷ [])) runs.home ∙ at ∙ old_place (module_place p v.home) (v.number ∷ []) t h;
-          some = omega arith;
-        }
-
-        by : (b : Bool) → is_own m v.home ≡ b → IsGlobal k v (module_place p v.home ∷ v.number ∷ []) t
-        by true e = made (bytes_in here.before) (λ bytes. base_own bytes v.home e) (own_offset v e is.there)
-        by false e = let i = import_of m v.home e is.known in made (bytes_in (its_place v.home i).before) (λ bytes. base_imported bytes v.home e i) (imported_offset v e i is.there)

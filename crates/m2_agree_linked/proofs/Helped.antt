@@ -19,7 +19,7 @@ use Rattle.m2_agree.specs.Scene.{Scene, HasHelpers}
 use Rattle.m2_agree_procedures.specs.Stage.{HasLimit}
 use Rattle.m2_agree_programs.specs.Knot.{core}
 use Rattle.m2_agree_runs.specs.Programs.{fixed}
-use Rattle.m2_agree_linked.specs.Places.{serves, extra}
+use Rattle.m2_agree_bodies.specs.Programs.{serving, more_turns}
 use Rattle.m2_agree_linked.proofs.Places.{own, module_there, callee_there, put_there, stop_there, memory_there, limit_there}
 
 -- a function of a module, with its type
@@ -27,10 +27,10 @@ abbrev pub function_in : (f : ℕ) → Option WModule → Option Typed
 function_in f o =
     option_and_then (λ (tree : WModule). option_and_then (λ (function : Function). option_and_then (λ t. Some (record { type = t; function = function })) (slice_get tree.types function.type_index)) (slice_get tree.functions f)) o
 
-serves_five : (k f : ℕ) → f < 5 → serves (suc k) f ≡ true
+serves_five : (k f : ℕ) → f < 5 → serving (suc k) f ≡ true
 serves_five k f h = lt-ltb f 5 h
 
-extra_five : (k f : ℕ) → f < 5 → extra (suc k) f ≡ 2 ^ 32
+extra_five : (k f : ℕ) → f < 5 → more_turns (suc k) f ≡ 2 ^ 32
 extra_five k f h = ap (λ (b : Bool). if b then 2 ^ 32 else 0) (serves_five k f h)
 
 module _ (p : Program) (pages : ℕ) (before rest : Program) (m : TypedModule) (is : p ≡ before ++ m ∷ rest) where
@@ -49,14 +49,14 @@ module _ (p : Program) (pages : ℕ) (before rest : Program) (m : TypedModule) (
 
   module _ (base : List Ty) (texts : Location → ℕ → ℕ) (place n d : ℕ) where
     abbrev pub here : Scene
-    here = core (all p pages) (fixed p pages) serves extra n (65536 * pages) p base texts me place m d
+    here = core (all p pages) (fixed p pages) serving more_turns n (65536 * pages) p base texts me place m d
 
-    serve : (e : ℕ) (f : ℕ) → f < 5 → (t : Typed) (args : List Value) (bytes out : List ℕ) → nested (all p pages) (fixed p pages) serves extra n e me f t args bytes out ≡ calling (all p pages) (fixed p pages) extra n (suc (suc n)) me f t args bytes out
+    serve : (e : ℕ) (f : ℕ) → f < 5 → (t : Typed) (args : List Value) (bytes out : List ℕ) → nested (all p pages) (fixed p pages) serving more_turns n e me f t args bytes out ≡ calling (all p pages) (fixed p pages) more_turns n (suc (suc n)) me f t args bytes out
     unfolding nested
-    serve zero f h t args bytes out = ap (λ (b : Bool). if b then calling (all p pages) (fixed p pages) extra n (suc (suc n)) me f t args bytes out else StillRunning out) (serves_five (length before) f h)
+    serve zero f h t args bytes out = ap (λ (b : Bool). if b then calling (all p pages) (fixed p pages) more_turns n (suc (suc n)) me f t args bytes out else StillRunning out) (serves_five (length before) f h)
     serve (suc e) f h t args bytes out =
         let start : Target = record { locals = (entered me t args).locals; bytes = bytes; out = out } in
-        ap (λ (b : Bool). if b then calling (all p pages) (fixed p pages) extra n (suc (suc n)) me f t args bytes out else effect (all p pages) (fixed p pages) (n + extra me f) (nested (all p pages) (fixed p pages) serves extra n e) me t.function.body.code start [])
+        ap (λ (b : Bool). if b then calling (all p pages) (fixed p pages) more_turns n (suc (suc n)) me f t args bytes out else effect (all p pages) (fixed p pages) (n + more_turns me f) (nested (all p pages) (fixed p pages) serving more_turns n e) me t.function.body.code start [])
         (serves_five (length before) f h)
 
     pub has_helpers : HasHelpers here

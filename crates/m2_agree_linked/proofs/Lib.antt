@@ -4,5 +4,6 @@ pub mod Globals
 pub mod Slots
 pub mod Functions
 pub mod Tables
-pub mod Fitted
+pub mod Linked
 pub mod Parts
+pub mod Programs

@@ -1,5 +1,5 @@
--- The procedures of a linked program are parts of it: their functions are there, and are the scheme's.
-use Rattle.std.proofs.Common.{◌≡◌, ℕ, zero, suc, ◌+◌, ◌*◌, ◌<◌, ◌≤◌, ◌^◌, Bool, true, false, ◌++◌, length, Option, Some, None, if◌then◌else◌, sym, ap, subst, ◌∙◌, arith}
+-- The procedures and bodies of a linked program are typed, where their trees are.
+use Rattle.std.proofs.Common.{◌≡◌, ℕ, zero, suc, ◌+◌, ◌*◌, ◌<◌, ◌≤◌, ◌^◌, Bool, true, false, List, [], ◌++◌, length, Option, Some, None, if◌then◌else◌, refl, sym, ap, subst, ◌∙◌, arith}
 use Rattle.std.specs.Prelude.{slice_get, nat_lt}
 use Rattle.std.proofs.lemmas.Bool.{lt-ltb, le-ltb}
 use Rattle.wasm_tree.specs.Validity.{AreDistinct}
@@ -7,26 +7,46 @@ use Rattle.m2_typed.specs.declared.typed_module.Routine.{Routine}
 use Rattle.m2_typed.specs.declared.typed_module.Which.{Which}
 use Rattle.m2_typed.specs.declared.typed_module.Which.TheVariants as which
 use Rattle.m2_typed.specs.declared.typed_module.TypedModule.{TypedModule}
-use Rattle.m2_layout.specs.Texts.{characters, texts_before}
-use Rattle.m2_meaning.specs.Calls.{calling}
-use Rattle.m2_scheme.specs.Functions.{routine_of, frames_around}
+use Rattle.m2_layout.specs.Types.{Ty}
+use Rattle.m2_layout.specs.Texts.{characters, routines_texts}
+use Rattle.m2_scheme.specs.Functions.{routine_of, routine_at, around_in, own_frame, frames_around}
 use Rattle.m2_scheme.specs.Modules.{numbered}
 use Rattle.m2_valid.proofs.Own.{of_own, of_nested, at_place}
-use Rattle.m2_valid.proofs.Functions.{routine_addresses}
+use Rattle.m2_valid.proofs.Functions.{routine_addresses, module_addresses}
+use Rattle.m2_scheme.specs.Addresses.{addresses_in}
 use Rattle.m2_valid.specs.WellFormed.{IsBody}
 use Rattle.m2_links.specs.Linked.{Program, names, all}
 use Rattle.m2_agree.specs.Scene.{HasHelpers}
 use Rattle.m2_agree_procedures.specs.Stage.{HasLimit}
-use Rattle.m2_agree_procedures.specs.Laws.{IsFunction, DoesBody, is_inner}
-use Rattle.m2_agree_programs.specs.Knot.{core, AllDo, IsPart}
+use Rattle.m2_agree_procedures.specs.Laws.{coded_body, is_inner}
+use Rattle.m2_agree_programs.specs.Knot.{core}
 use Rattle.m2_agree_runs.specs.Programs.{ground, fixed}
 use Rattle.m2_agree_trees.specs.Typed.{own_kinds, kinds_around}
-use Rattle.m2_agree_linked.specs.Places.{serves, extra}
-use Rattle.m2_agree_linked.specs.Procedures.{function_number, typed_routine, Index, part, IsFitting, IsInside, IsModule, common}
+use Rattle.m2_agree_bodies.specs.Programs.{serving, more_turns}
+use Rattle.m2_agree_bodies.specs.Linked.{Spot, function_of, text_of}
+use Rattle.m2_agree_bodies.specs.Laws.{IsTypedRoutine, IsTypedMain}
+use Rattle.m2_agree_linked.specs.Modules.{IsFitting, IsInside, AreModules, AreTypedModules}
 use Rattle.m2_agree_linked.proofs.Helped.{has_helpers, has_limit}
 use Rattle.m2_agree_linked.proofs.Globals.{Split, here}
-use Rattle.m2_agree_linked.proofs.Functions.{is_function}
-use Rattle.m2_agree_linked.proofs.Fitted.{frames_are, outermost_kinds}
+use Rattle.m2_agree_calls.specs.Frames.{Kinds, AreFrames}
+use Rattle.m2_agree_procedures.proofs.Formed.{frame_is}
+
+-- ---- frames of procedures
+
+own_frames : (m : TypedModule) (o : Option Routine) (kss : List Kinds) (ts : List Ty) → AreFrames kss ts → AreFrames (own_kinds m o ++ kss) (own_frame m o ++ ts)
+own_frames m None kss ts h = h
+own_frames m (Some r) kss ts h = (frame_is m.types r, h)
+
+frames_are : (m : TypedModule) (level : ℕ) (w : Option Which) → AreFrames (kinds_around m level w) (frames_around m level w)
+frames_are m zero w = tt
+frames_are m (suc k) w = own_frames m (routine_at m w) (kinds_around m k (around_in (routine_at m w))) (frames_around m k (around_in (routine_at m w))) (frames_are m k (around_in (routine_at m w)))
+
+no_kinds : (m : TypedModule) (level : ℕ) → kinds_around m level None ≡ []
+no_kinds m zero = refl
+no_kinds m (suc k) = no_kinds m k
+
+outermost_kinds : (m : TypedModule) (r : Routine) → r.around ≡ None → kinds_around m r.level r.around ≡ []
+outermost_kinds m r e = ap (kinds_around m r.level) e ∙ no_kinds m r.level
 
 -- ---- levels
 
@@ -46,65 +66,77 @@ inner_linked m r level is = lt-ltb 1 r.level level ∙ sym (ap (λ (o : Option W
 
 -- ---- procedures
 
-module _ (p : Program) (pages : ℕ) (most : pages ≤ 1024) (distinct : AreDistinct (names p)) (modules : (place : ℕ) (m : TypedModule) → slice_get p place ≡ Some m → IsModule p place m) (n : ℕ) where
+module _ (p : Program) (pages : ℕ) (most : pages ≤ 1024) (distinct : AreDistinct (names p)) (modules : AreModules p) (n : ℕ) where
   module _ (place : ℕ) (m : TypedModule) (there : slice_get p place ≡ Some m) where
     abbrev h : Split p place m
     h = here p pages place distinct m (modules place m there).coherent
 
-    pub helpers_here : (d : ℕ) → HasHelpers (common p pages n d place m)
+    pub helpers_here : (d : ℕ) → HasHelpers (core (all p pages) (fixed p pages) serving more_turns n (65536 * pages) p (ground p pages).base (ground p pages).texts (suc place) place m d)
     helpers_here d =
-        subst (λ (j : ℕ). HasHelpers (core (all p pages) (fixed p pages) serves extra n (65536 * pages) p (ground p pages).base (ground p pages).texts (suc j) place m d)) h.long
+        subst (λ (j : ℕ). HasHelpers (core (all p pages) (fixed p pages) serving more_turns n (65536 * pages) p (ground p pages).base (ground p pages).texts (suc j) place m d)) h.long
         (has_helpers p pages h.before h.rest m h.is (ground p pages).base (ground p pages).texts place n d)
 
-    pub limit_here : (d : ℕ) → HasLimit (common p pages n d place m)
+    pub limit_here : (d : ℕ) → HasLimit (core (all p pages) (fixed p pages) serving more_turns n (65536 * pages) p (ground p pages).base (ground p pages).texts (suc place) place m d)
     limit_here d =
-        subst (λ (j : ℕ). HasLimit (core (all p pages) (fixed p pages) serves extra n (65536 * pages) p (ground p pages).base (ground p pages).texts (suc j) place m d)) h.long
+        subst (λ (j : ℕ). HasLimit (core (all p pages) (fixed p pages) serving more_turns n (65536 * pages) p (ground p pages).base (ground p pages).texts (suc j) place m d)) h.long
         (has_limit p pages h.before h.rest m h.is (ground p pages).base (ground p pages).texts place n d most)
 
   -- what is known of a procedure of either list
-  pub record Known (m : TypedModule) (w : Which) (r : Routine) : Type 0 where
-    pub fitting : IsFitting m r
-    pub linked : nat_lt 1 r.level ≡ is_inner (kinds_around m r.level r.around)
-    pub function : IsFunction (numbered m) m r (frames_around m r.level r.around) (characters (texts_before m w m.order)) (typed_routine m w r)
+  record Known (m : TypedModule) (w : Which) (r : Routine) : Type 0 where
+    fitting : IsFitting m r
+    linked : nat_lt 1 r.level ≡ is_inner (kinds_around m r.level r.around)
+    addresses : (coded_body (numbered m) m r (frames_around m r.level r.around) (text_of m w)).1.addresses ≡ addresses_in r.body
 
   known : (place : ℕ) (m : TypedModule) (there : slice_get p place ≡ Some m) (w : Which) (r : Routine) → routine_of m w ≡ Some r → Known m w r
   known place m there (which.Module j) r e =
       let is = modules place m there in record {
         fitting = at_place (IsFitting m) m.procedures j r e is.fitting;
         linked = own_linked m r (at_place (λ r. r.level ≡ 1) m.procedures j r e is.well.levels) (at_place (λ r. r.around ≡ None) m.procedures j r e is.outermost);
-        function = is_function m (which.Module j) r (routine_addresses m is.well (characters (texts_before m (which.Module j) m.order)) r (of_own m j r e) (at_place (IsBody m) m.procedures j r e is.well.procedures));
+        addresses = routine_addresses m is.well (text_of m (which.Module j)) r (of_own m j r e) (at_place (IsBody m) m.procedures j r e is.well.procedures);
       }
   known place m there (which.Local j) r e =
       let is = modules place m there in record {
         fitting = at_place (IsFitting m) m.locals j r e is.fitting_locals;
         linked = inner_linked m r (at_place (λ r. 1 < r.level) m.locals j r e is.well.nested) (at_place (IsInside m) m.locals j r e is.inside);
-        function = is_function m (which.Local j) r (routine_addresses m is.well (characters (texts_before m (which.Local j) m.order)) r (of_nested m j r e) (at_place (IsBody m) m.locals j r e is.well.locals));
+        addresses = routine_addresses m is.well (text_of m (which.Local j)) r (of_nested m j r e) (at_place (IsBody m) m.locals j r e is.well.locals);
       }
 
-  no_helper : (m : TypedModule) (w : Which) → nat_lt (function_number m w) 5 ≡ false
+  no_helper : (m : TypedModule) (w : Which) → nat_lt (function_of m w) 5 ≡ false
   no_helper m (which.Module j) = le-ltb (6 + j) 5 (omega arith)
   no_helper m (which.Local j) = le-ltb (6 + (length m.procedures + j)) 5 (omega arith)
 
-  -- each is a part, where its body does what the definition says
-  pub is_part : (i : Index p)
-      → ((d : ℕ) → AllDo (all p pages) (fixed p pages) serves extra n (65536 * pages) p (ground p pages).base (ground p pages).texts (Index p) (part p) d
-      → DoesBody (common p pages n d i.place i.home) p (calling p n d) (numbered i.home) i.home i.place i.routine (part p i).outer (part p i).text (part p i).kinds (ground p pages).base (ground p pages).texts)
-      → IsPart (all p pages) (fixed p pages) serves extra n (65536 * pages) p (ground p pages).base (ground p pages).texts (Index p) (part p) i
-  is_part i body =
-      let k = known i.place i.home i.there i.which i.routine i.found in
-      let is = modules i.place i.home i.there in record {
-        procedure = λ d. record {
-          helpers = helpers_here i.place i.home i.there d;
-          limit = limit_here i.place i.home i.there d;
+  module _ (typed : AreTypedModules p pages) where
+    pub typed_routine : (o : Spot p) → IsTypedRoutine (all p pages) (fixed p pages) serving more_turns n (65536 * pages) p (ground p pages).base (ground p pages).texts o
+    typed_routine o =
+        let k = known o.place o.home o.there o.at o.routine o.is in
+        let is = modules o.place o.home o.there in
+        let t = (typed o.place o.home o.there).procedures o.at o.routine o.is in record {
+          procedure = λ d. record {
+            helpers = helpers_here o.place o.home o.there d;
+            limit = limit_here o.place o.home o.there d;
+            small = is.small;
+            forms = k.fitting.forms;
+            fit = k.fitting.fit;
+            least = k.fitting.least;
+            linked = k.linked;
+            frames = frames_are o.home o.routine.level o.routine.around;
+          };
+          addresses = k.addresses;
+          ours = no_helper o.home o.at;
+          bound = ap (λ (b : Bool). if b then 2 ^ 32 else 0) (no_helper o.home o.at);
+          to = t.0;
+          typed = t.1;
+        }
+
+    pub typed_main : (place : ℕ) (m : TypedModule) → slice_get p place ≡ Some m → IsTypedMain (all p pages) (fixed p pages) serving more_turns n (65536 * pages) p (ground p pages).base (ground p pages).texts place m
+    typed_main place m there =
+        let is = modules place m there in
+        let t = (typed place m there).body in record {
+          there = there;
+          helpers = helpers_here place m there n;
+          limited = limit_here place m there n;
           small = is.small;
-          forms = k.fitting.forms;
-          fit = k.fitting.fit;
-          least = k.fitting.least;
-          linked = k.linked;
-          frames = frames_are i.home i.routine.level i.routine.around;
-        };
-        function = k.function;
-        ours = no_helper i.home i.which;
-        bound = ap (λ (b : Bool). if b then 2 ^ 32 else 0) (no_helper i.home i.which);
-        body = body;
-      }
+          addresses = module_addresses m is.well (characters (routines_texts m));
+          to = t.0;
+          typed = t.1;
+        }

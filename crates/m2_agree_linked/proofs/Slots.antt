@@ -1,32 +1,27 @@
 -- The texts of a module, and the slots of procedures.
-use Rattle.std.proofs.Common.{◌≡◌, ℕ, suc, ◌+◌, ◌-◌, ◌*◌, ◌<◌, ◌≤◌, ◌^◌, pos, Bool, true, false, List, [], ◌∷◌, ◌++◌, length, map, Some, if◌then◌else◌, refl, sym, ap, subst, ◌∙◌, append_assoc, replicate, arith}
+use Rattle.std.proofs.Common.{◌≡◌, ℕ, suc, ◌+◌, ◌-◌, ◌*◌, ◌<◌, ◌≤◌, Bool, true, false, List, [], ◌∷◌, ◌++◌, length, map, Some, if◌then◌else◌, refl, sym, ap, ◌∙◌, append_assoc, replicate, arith}
 use Rattle.std.specs.Prelude.{slice_get, get_or}
-use Rattle.std.proofs.lemmas.Bool.{eqb-true}
 use Rattle.std.proofs.lemmas.List.{length-append, length-replicate, get_or_append_left, get_or-append-add}
 use Rattle.std.proofs.lemmas.Option.{slice_get_within}
-use Rattle.wasm_tree.specs.declared.store.Value.{Value}
 use Rattle.wasm_tree.specs.declared.store.Value.TheVariants.{I32}
 use Rattle.wasm_tree.specs.Validity.{AreDistinct}
 use Rattle.wasm_tree.specs.Machine.{global_at}
 use Rattle.wasm_effect.specs.Bytes.{byte}
 use Rattle.wasm_effect.specs.Effect.{store_of}
-use Rattle.m2_typed.specs.declared.meaning.Procedure.{Procedure}
 use Rattle.m2_typed.specs.declared.typed_module.TypedModule.{TypedModule}
 use Rattle.m2_layout.specs.Types.{Ty, Hidden, row, component}
 use Rattle.m2_layout.specs.Sizes.{size, offset}
 use Rattle.m2_layout.specs.Shapes.{tree}
 use Rattle.m2_layout.specs.Texts.{characters, module_texts}
 use Rattle.m2_meaning.specs.Around.{module_place, entries_before}
-use Rattle.m2_scheme.specs.Exprs.{is_own, import_place, slots_global, text_global}
+use Rattle.m2_scheme.specs.Exprs.{is_own, import_place, slots_global}
 use Rattle.m2_scheme.specs.Modules.{slots}
 use Rattle.m2_links.specs.Linked.{Program, names, imported_names, variables, text, image, base_at, text_at, tab_at, imported_places, slots_in, bytes_in}
 use Rattle.m2_links.proofs.Stores.{text_length}
-use Rattle.m2_agree.specs.Scene.{Scene}
-use Rattle.m2_agree_calls.specs.Laws.{HasSlot, IsText}
 use Rattle.m2_agree_runs.specs.Programs.{module_type, first_bytes, ground, fixed}
 use Rattle.m2_agree_runs.proofs.Grounds.{top_is}
-use Rattle.m2_agree_linked.specs.Knows.{IsCoherent, RunsIn, IsStanding, HasCharacters}
-use Rattle.m2_agree_linked.proofs.Globals.{Split, Import, import_of, imported_tab, text_value, tab_value, component_module, offset_module, here, global_at_place, known, name_there, its_place, global_from, old, old_place}
+use Rattle.m2_agree_linked.specs.Knows.{IsCoherent}
+use Rattle.m2_agree_linked.proofs.Globals.{Split, Import, imported_tab, tab_value, component_module, offset_module, here, global_at_place, known, name_there, its_place}
 
 -- ---- the characters of texts
 
@@ -60,6 +55,10 @@ entries_are : (before rest : Program) (m : TypedModule) → entries_before (leng
 entries_are [] rest m = refl
 entries_are (x ∷ before) rest m = ap (λ (n : ℕ). suc (length x.procedures) + n) (entries_are before rest m)
 
+-- so many stand before a module's
+pub entry_value : (p : Program) (j : ℕ) (m : TypedModule) (s : Split p j m) → slots_in s.before ≡ entries_before j p
+entry_value p j m s = sym (entries_are s.before s.rest m) ∙ ap (entries_before (length s.before)) (sym s.is) ∙ ap (λ (i : ℕ). entries_before i p) s.long
+
 pub slots_within : (before rest : Program) (m : TypedModule) → slots_in before + slots m ≤ slots_in (before ++ m ∷ rest)
 slots_within [] rest m = omega arith
 slots_within (x ∷ before) rest m = let e = slots_within before rest m in omega (arith, e)
@@ -74,7 +73,7 @@ unfolding component
 room_type [] n = refl
 room_type (t ∷ ts) n = room_type ts n
 
-same_module : (a b : TypedModule) → Some a ≡ Some b → a ≡ b
+pub same_module : (a b : TypedModule) → Some a ≡ Some b → a ≡ b
 same_module a b e = cc e
 
 module _ (p : Program) (pages place : ℕ) (distinct : AreDistinct (names p)) (m : TypedModule) (coherent : IsCoherent p place m) where
@@ -87,14 +86,14 @@ module _ (p : Program) (pages place : ℕ) (distinct : AreDistinct (names p)) (m
   abbrev room : List ℕ
   room = place ∷ last ∷ []
 
-  room_there : component (row (ground p pages).base) room ≡ Some (Hidden (characters (module_texts m)))
+  pub room_there : component (row (ground p pages).base) room ≡ Some (Hidden (characters (module_texts m)))
   room_there =
       ap (λ (q : Program). component (row (map module_type q)) room) h.is
       ∙ ap (λ (j : ℕ). component (row (map module_type (h.before ++ m ∷ h.rest))) (j ∷ last ∷ [])) (sym h.long)
       ∙ component_module h.before h.rest m (last ∷ [])
       ∙ room_type (map (tree m.types) m.variables) (characters (module_texts m))
 
-  room_at : offset (row (ground p pages).base) room ≡ bytes_in h.before + variables m
+  pub room_at : offset (row (ground p pages).base) room ≡ bytes_in h.before + variables m
   room_at =
       ap (λ (q : Program). offset (row (map module_type q)) room) h.is
       ∙ ap (λ (j : ℕ). offset (row (map module_type (h.before ++ m ∷ h.rest))) (j ∷ last ∷ [])) (sym h.long)
@@ -102,7 +101,7 @@ module _ (p : Program) (pages place : ℕ) (distinct : AreDistinct (names p)) (m
       ∙ ap (λ (n : ℕ). n + offset (module_type m) (last ∷ [])) (top_is h.before)
       ∙ ap (λ (n : ℕ). bytes_in h.before + n) (room_offset (map (tree m.types) m.variables) (characters (module_texts m)))
 
-  room_byte : (n : ℕ) → n < length (text m) → (ground p pages).texts room n ≡ get_or (text m) n 0
+  pub room_byte : (n : ℕ) → n < length (text m) → (ground p pages).texts room n ≡ get_or (text m) n 0
   room_byte n less =
       ap (λ (o : ℕ). byte (o + n) (first_bytes p pages)) room_at
       ∙ byte_is (first_bytes p pages) (bytes_in h.before + variables m + n)
@@ -137,66 +136,3 @@ module _ (p : Program) (pages place : ℕ) (distinct : AreDistinct (names p)) (m
       let same : k.home ≡ other = same_module k.home other (sym k.there ∙ ap (λ (n : ℕ). slice_get p (module_place p n)) i.number ∙ found) in
       tab_imported bytes home e i
       ∙ ap (λ (n : ℕ). Some (I32 (1 + n))) (sym (entries_are s.before s.rest k.home) ∙ ap (entries_before (length s.before)) (sym s.is) ∙ ap (λ (j : ℕ). entries_before j p) (s.long ∙ sym t.long) ∙ ap (entries_before (length t.before)) t.is ∙ entries_are t.before t.rest other)
-
-  module _ (k : Scene) (runs : RunsIn p pages place m k) where
-    abbrev from : (bytes : List ℕ) (g : ℕ) (v : Value) → global_at (store_of (fixed p pages) bytes) (suc place) g ≡ Some v → global_at (store_of k.fixed bytes) k.own g ≡ Some v
-    from = global_from p pages place distinct m coherent k runs
-
-    -- where a text of the module is
-    pub text_is : (at : ℕ) (chars : List ℕ) → HasCharacters m at chars → IsText k at chars
-    text_is at chars has = record {
-      base = bytes_in h.before + variables m;
-      there = λ bytes. from bytes text_global (I32 (bytes_in h.before + variables m)) (global_at_place p pages place distinct m coherent bytes 2 (text_at p m.name) (I32 (bytes_in h.before + variables m)) refl (text_value p pages distinct h.before h.rest m h.is));
-      room = room;
-      bytes = characters (module_texts m);
-      type = old p pages place distinct m coherent k runs place (last ∷ []) (Hidden (characters (module_texts m))) room_there;
-      is = sym (old_place p pages place distinct m coherent k runs place (last ∷ []) (Hidden (characters (module_texts m))) room_there) ∙ room_at;
-      fits = let long = text_length (module_texts m) in let fits = has.fits in omega (arith, long, fits);
-      same = λ j less.
-          let fits = has.fits in
-          runs.based.same place (last ∷ []) (at + j) (length_less j) ∙ room_byte (at + j) (omega (arith, fits, less)) ∙ has.same j less;
-      small = has.small;
-    }
-      where
-        mapped : (q : Program) → length (map module_type q) ≡ length q
-        mapped [] = refl
-        mapped (x ∷ q) = ap suc (mapped q)
-
-        length_less : (j : ℕ) → place < length (ground p pages).base
-        length_less j = let e = mapped p in let w = within in omega (arith, e, w)
-
-    -- ---- slots
-
-    slot_made : (f : Procedure) (home : TypedModule) (s : Split p (module_place p f.home) home) → f.number < length home.procedures → slots_in p < 2 ^ 31
-        → ((bytes : List ℕ) → global_at (store_of (fixed p pages) bytes) (suc place) (slots_global m f.home) ≡ Some (I32 (1 + slots_in s.before))) → HasSlot k p f
-    slot_made f home s less few there =
-        let all : slots_in p ≡ slots_in (s.before ++ home ∷ s.rest) = ap slots_in s.is in
-        let part = slots_within s.before s.rest home in
-        let before : entries_before (module_place p f.home) p ≡ slots_in s.before =
-        ap (entries_before (module_place p f.home)) s.is ∙ ap (λ (j : ℕ). entries_before j (s.before ++ home ∷ s.rest)) (sym s.long) ∙ entries_are s.before s.rest home
-        in
-        record {
-          slot = 1 + slots_in s.before;
-          there = λ bytes. from bytes (slots_global k.setting.home f.home) (I32 (1 + slots_in s.before)) (ap (λ (n : TypedModule). global_at (store_of (fixed p pages) bytes) (suc place) (slots_global n f.home)) runs.home ∙ there bytes);
-          is = ap (λ (n : ℕ). pos n) (omega (arith, before));
-          small = omega (arith, all, part, less, few);
-        }
-
-    own_home : (f : Procedure) → is_own m f.home ≡ true → module_place p f.home ≡ place
-    own_home f e = ap (module_place p) (eqb-true f.home m.types.home e) ∙ coherent.own
-
-    -- where the slot of a procedure is
-    pub slot_is : (f : Procedure) → IsStanding p m f → slots_in p < 2 ^ 31 → HasSlot k p f
-    slot_is f is few = by (is_own m f.home) refl
-      where
-        by : (b : Bool) → is_own m f.home ≡ b → HasSlot k p f
-        by true e =
-            let same : is.home ≡ m = same_module is.home m (sym is.there ∙ ap (slice_get p) (own_home f e) ∙ coherent.there) in
-            slot_made f m (record { before = h.before; rest = h.rest; is = h.is; long = h.long ∙ sym (own_home f e) }) (subst (λ (n : TypedModule). f.number < length n.procedures) same (slice_get_within is.home.procedures f.number is.routine is.found)) few
-            (λ bytes. tab_own bytes f.home e)
-        by false e =
-            let i = import_of m f.home e is.known in
-            let s = its_place p pages place distinct m coherent f.home i in
-            let k = known p pages place distinct m coherent f.home i in
-            let same : is.home ≡ k.home = same_module is.home k.home (sym is.there ∙ ap (λ (n : ℕ). slice_get p (module_place p n)) (sym i.number) ∙ k.there) in
-            slot_made f k.home s (subst (λ (n : TypedModule). f.number < length n.procedures) same (slice_get_within is.home.procedures f.number is.routine is.found)) few (λ bytes. tab_imported bytes f.home e i)

@@ -1,4 +1,3 @@
-pub mod Places
 pub mod Knows
-pub mod Procedures
+pub mod Modules
 pub mod Laws

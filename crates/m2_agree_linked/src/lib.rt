@@ -1,16 +1,16 @@
-//! Why the code of a linked program finds what it looks for: helpers, variables, texts, slots of the table, and the functions
-//! of procedures. There is no code here but what names the laws.
+//! Why the code of a linked program finds what it looks for, and why the modules of a program do what it does where they are
+//! as the checker leaves them. There is no code here but what names the laws.
 //!
-//! - `specs/Knows` says what a module knows of the others, and where its code runs.
-//! - `specs/Procedures` has the procedures of a program, what is known of them, and the scenes in which bodies run.
+//! - `specs/Knows` says what a module knows of the others.
+//! - `specs/Modules` says what is known of the modules of a program, and of the trees of their bodies.
 //! - `specs/Laws` has the laws.
 #![tactic(auto)]
 
-ghost use Rattle.m2_agree_linked.specs.Laws.{PartsStand, ScenesFit};
+ghost use Rattle.m2_agree_linked.specs.Laws.{ModulesLinked, TypedBehave};
 
-/// In a linked program the scene of a body is one in which typed trees run.
+/// Linking gives each module what the code of typed bodies looks for: variables, texts, slots of the table, functions.
 pub fn linked_laws()
-    ensures scenes { ScenesFit }
-    // A procedure is a part of the program: its function is there, and is the scheme's.
-    ensures parts { PartsStand }
+    ensures modules { ModulesLinked }
+    // The modules link, and do what the program does.
+    ensures programs { TypedBehave }
 {}

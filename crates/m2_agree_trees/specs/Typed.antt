@@ -38,8 +38,8 @@ use Rattle.m2_meaning.specs.Around.{Modules, module_place}
 use Rattle.m2_scheme.specs.Cells.{base_of, is_free}
 use Rattle.m2_scheme.specs.Exprs.{is_own, variables_row, index_of, expr_part}
 use Rattle.m2_scheme.specs.Functions.{routine_at, around_in}
-use Rattle.m2_scheme.specs.Signatures.{is_among, needed, of_heading}
 use Rattle.m2_scheme.specs.Modules.{numbered}
+use Rattle.m2_scheme.specs.Signatures.{needed, of_heading, is_among}
 use Rattle.m2_agree.specs.Scene.{IsValue, AreAmong, AreNatural, IsCell}
 use Rattle.m2_agree_calls.specs.Frames.{Kinds, Kept, Alias, Open, kind_at, kinds_of}
 use Rattle.m2_agree_calls.specs.Passing.{Form, ByNumber, ByCopy, ByName, ByArray, Forms, Result, forms_of, result_of}
@@ -64,21 +64,6 @@ pub record IsVariable (x : Context) (v : Variable) (t : Ty) : Type 0 where
   pub type : component (variables_row x.home v.home) (v.number ∷ []) ≡ Some t
   pub there : component (row x.base) (module_place x.p v.home ∷ v.number ∷ []) ≡ Some t
 
--- a procedure of a module, whose heading has the same forms and result there
-pub record IsNamed (x : Context) (f : Procedure) : Type 0 where
-  pub known : IsKnown x.home f.home
-  pub home : TypedModule
-  pub there : slice_get x.p (module_place x.p f.home) ≡ Some home
-  pub routine : Routine
-  pub is : slice_get home.procedures f.number ≡ Some routine
-  pub forms : forms_of home.types routine.heading ≡ forms_of x.home.types f.heading
-  pub result : result_of home.types routine.heading ≡ result_of x.home.types f.heading
-
--- a procedure that is called: the module of the call has the type of its function, where it is called through the table
-pub record IsCallable (x : Context) (f : Procedure) : Type 0 where
-  pub named : IsNamed x f
-  pub signature : is_own x.home f.home ≡ false → is_among (needed x.home) (of_heading x.home.types f.heading) ≡ true
-
 -- the frames of the procedures around one, as `frames_around` has them
 abbrev pub own_kinds : TypedModule → Option Routine → List Kinds
 own_kinds m None = []
@@ -87,6 +72,22 @@ own_kinds m (Some r) = kinds_of m.types r ∷ []
 abbrev pub kinds_around : TypedModule → (level : ℕ) → Option Which → List Kinds
 kinds_around m zero w = []
 kinds_around m (suc k) w = own_kinds m (routine_at m w) ++ kinds_around m k (around_in (routine_at m w))
+
+-- a procedure of a module, whose heading has the same forms and result there
+pub record IsNamed (x : Context) (f : Procedure) : Type 0 where
+  pub known : IsKnown x.home f.home
+  pub home : TypedModule
+  pub there : slice_get x.p (module_place x.p f.home) ≡ Some home
+  pub routine : Routine
+  pub is : slice_get home.procedures f.number ≡ Some routine
+  pub outermost : kinds_around home routine.level routine.around ≡ []
+  pub forms : forms_of home.types routine.heading ≡ forms_of x.home.types f.heading
+  pub result : result_of home.types routine.heading ≡ result_of x.home.types f.heading
+
+-- one that the module calls: through the table where it is another module's, and then the module has the type of its function
+pub record IsCallable (x : Context) (f : Procedure) : Type 0 where
+  pub named : IsNamed x f
+  pub signed : is_own x.home f.home ≡ false → is_among (needed x.home) (of_heading x.home.types f.heading) ≡ true
 
 -- a procedure of one of the procedures around
 pub record IsInner (x : Context) (f : LocalProcedure) : Type 0 where

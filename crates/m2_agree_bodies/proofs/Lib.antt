@@ -1,0 +1,4 @@
+pub mod Counted
+pub mod Fitted
+pub mod Bodies
+pub mod Programs
