@@ -25,7 +25,9 @@ use Rattle.m2_agree_trees.specs.Typed.{own_kinds, kinds_around}
 use Rattle.m2_agree_bodies.specs.Programs.{serving, more_turns}
 use Rattle.m2_agree_bodies.specs.Linked.{Spot, function_of, text_of}
 use Rattle.m2_agree_bodies.specs.Laws.{IsTypedRoutine, IsTypedMain}
-use Rattle.m2_agree_linked.specs.Modules.{IsFitting, IsInside, AreModules, AreTypedModules}
+use Rattle.m2_agree_types.proofs.Cells.{are_small}
+use Rattle.m2_agree_types.proofs.Fits.{forms_plain, frame_fits}
+use Rattle.m2_agree_linked.specs.Modules.{HasRoom, IsInside, AreModules, AreTypedModules}
 use Rattle.m2_agree_linked.proofs.Helped.{has_helpers, has_limit}
 use Rattle.m2_agree_linked.proofs.Globals.{Split, here}
 use Rattle.m2_agree_calls.specs.Frames.{Kinds, AreFrames}
@@ -83,20 +85,20 @@ module _ (p : Program) (pages : ℕ) (most : pages ≤ 1024) (distinct : AreDist
 
   -- what is known of a procedure of either list
   record Known (m : TypedModule) (w : Which) (r : Routine) : Type 0 where
-    fitting : IsFitting m r
+    room : HasRoom m r
     linked : nat_lt 1 r.level ≡ is_inner (kinds_around m r.level r.around)
     addresses : (coded_body (numbered m) m r (frames_around m r.level r.around) (text_of m w)).1.addresses ≡ addresses_in r.body
 
   known : (place : ℕ) (m : TypedModule) (there : slice_get p place ≡ Some m) (w : Which) (r : Routine) → routine_of m w ≡ Some r → Known m w r
   known place m there (which.Module j) r e =
       let is = modules place m there in record {
-        fitting = at_place (IsFitting m) m.procedures j r e is.fitting;
+        room = at_place (HasRoom m) m.procedures j r e is.room;
         linked = own_linked m r (at_place (λ r. r.level ≡ 1) m.procedures j r e is.well.levels) (at_place (λ r. r.around ≡ None) m.procedures j r e is.outermost);
         addresses = routine_addresses m is.well (text_of m (which.Module j)) r (of_own m j r e) (at_place (IsBody m) m.procedures j r e is.well.procedures);
       }
   known place m there (which.Local j) r e =
       let is = modules place m there in record {
-        fitting = at_place (IsFitting m) m.locals j r e is.fitting_locals;
+        room = at_place (HasRoom m) m.locals j r e is.room_locals;
         linked = inner_linked m r (at_place (λ r. 1 < r.level) m.locals j r e is.well.nested) (at_place (IsInside m) m.locals j r e is.inside);
         addresses = routine_addresses m is.well (text_of m (which.Local j)) r (of_nested m j r e) (at_place (IsBody m) m.locals j r e is.well.locals);
       }
@@ -114,10 +116,10 @@ module _ (p : Program) (pages : ℕ) (most : pages ≤ 1024) (distinct : AreDist
           procedure = λ d. record {
             helpers = helpers_here o.place o.home o.there d;
             limit = limit_here o.place o.home o.there d;
-            small = is.small;
-            forms = k.fitting.forms;
-            fit = k.fitting.fit;
-            least = k.fitting.least;
+            small = are_small o.home.types is.ranged;
+            forms = forms_plain o.home.types is.ranged o.routine.heading;
+            fit = frame_fits o.home.types is.ranged o.routine;
+            least = k.room;
             linked = k.linked;
             frames = frames_are o.home o.routine.level o.routine.around;
           };
@@ -135,7 +137,7 @@ module _ (p : Program) (pages : ℕ) (most : pages ≤ 1024) (distinct : AreDist
           there = there;
           helpers = helpers_here place m there n;
           limited = limit_here place m there n;
-          small = is.small;
+          small = are_small m.types is.ranged;
           addresses = module_addresses m is.well (characters (routines_texts m));
           to = t.0;
           typed = t.1;

@@ -1,5 +1,5 @@
 -- What is proved of programs whose modules are typed: once they are linked, they do what the program does.
-use Rattle.std.specs.Prelude.{◌≡◌, ℕ, ◌+◌, ◌*◌, ◌<◌, ◌≤◌, ◌^◌, Some, Ok, All, slice_get}
+use Rattle.std.specs.Prelude.{◌≡◌, ℕ, ◌+◌, ◌*◌, ◌<◌, ◌≤◌, ◌^◌, Some, Ok, slice_get}
 use Rattle.wasm_tree.specs.Machine.{Config}
 use Rattle.wasm_tree.specs.Linking.{link}
 use Rattle.wasm_tree.specs.Validity.{AreDistinct}
@@ -7,7 +7,7 @@ use Rattle.m2_typed.specs.declared.typed_module.TypedModule.{TypedModule}
 use Rattle.m2_meaning.specs.Runs.{run}
 use Rattle.m2_links.specs.Linked.{Program, names, all, slots_in, bytes_in, IsLinkable}
 use Rattle.m2_agree_runs.specs.Behaves.{Behaves}
-use Rattle.m2_agree_runs.specs.Programs.{IsSound, ground, fixed}
+use Rattle.m2_agree_runs.specs.Programs.{ground, fixed}
 use Rattle.m2_agree_bodies.specs.Linked.{IsLinked}
 use Rattle.m2_agree_linked.specs.Knows.{IsCoherent}
 use Rattle.m2_agree_linked.specs.Modules.{AreModules, AreTypedModules}
@@ -21,5 +21,5 @@ ModulesLinked =
 -- there is room for the data and the least stack, and the modules are as the checker leaves them
 abbrev pub TypedBehave : Type 0
 TypedBehave =
-    (p : Program) (pages : ℕ) → IsLinkable p pages → bytes_in p + 4096 ≤ 65536 * pages → pages ≤ 1024 → 1 + slots_in p < 2 ^ 32 → All IsSound p → AreModules p → AreTypedModules p pages
+    (p : Program) (pages : ℕ) → IsLinkable p pages → bytes_in p + 4096 ≤ 65536 * pages → pages ≤ 1024 → 1 + slots_in p < 2 ^ 32 → AreModules p → AreTypedModules p pages
     → (c : Config) × (link (all p pages) ≡ Ok c) × Behaves (all p pages) c (run p pages)

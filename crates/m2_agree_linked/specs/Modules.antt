@@ -3,27 +3,19 @@ use Rattle.std.specs.Prelude.{◌≡◌, ℕ, ◌<◌, ◌^◌, false, [], ◌�
 use Rattle.m2_typed.specs.declared.typed_module.Routine.{Routine}
 use Rattle.m2_typed.specs.declared.typed_module.Which.{Which}
 use Rattle.m2_typed.specs.declared.typed_module.TypedModule.{TypedModule}
-use Rattle.m2_layout.specs.Types.{IsFit}
 use Rattle.m2_layout.specs.Sizes.{size}
 use Rattle.m2_layout.specs.Frames.{frame}
 use Rattle.m2_layout.specs.Texts.{characters, routines_texts}
 use Rattle.m2_scheme.specs.Functions.{routine_of}
 use Rattle.m2_valid.specs.WellFormed.{IsWellFormed}
-use Rattle.m2_links.specs.Linked.{Program}
-use Rattle.m2_agree.specs.Scene.{AreSmall}
+use Rattle.m2_links.specs.Linked.{Program, text}
 use Rattle.m2_agree_calls.specs.Frames.{kinds_of}
-use Rattle.m2_agree_calls.specs.Passing.{forms_of, result_of}
-use Rattle.m2_agree_procedures.specs.Stage.{AreForms}
+use Rattle.m2_agree_calls.specs.Passing.{result_of}
 use Rattle.m2_agree_runs.specs.Programs.{ground}
 use Rattle.m2_agree_stmts.specs.Typed.{AreStmts}
 use Rattle.m2_agree_bodies.specs.Linked.{around_of, text_of, context}
+use Rattle.m2_agree_types.specs.Ranges.{AreRanged}
 use Rattle.m2_agree_linked.specs.Knows.{IsCoherent}
-
--- its formals have kinds that are passed, and its frame has a size
-pub record IsFitting (m : TypedModule) (r : Routine) : Type 0 where
-  pub forms : AreForms (forms_of m.types r.heading)
-  pub fit : IsFit (frame m.types r)
-  pub least : size (frame m.types r) < 2 ^ 31
 
 -- it stands in a procedure
 pub record IsInside (m : TypedModule) (r : Routine) : Type 0 where
@@ -32,14 +24,19 @@ pub record IsInside (m : TypedModule) (r : Routine) : Type 0 where
   pub around : r.around ≡ Some which
   pub there : routine_of m which ≡ Some routine
 
+-- a frame has less than two gigabytes
+abbrev pub HasRoom : TypedModule → Routine → Type 0
+HasRoom m r = size (frame m.types r) < 2 ^ 31
+
 pub record IsModule (p : Program) (place : ℕ) (m : TypedModule) : Type 0 where
   pub coherent : IsCoherent p place m
   pub well : IsWellFormed m
-  pub small : AreSmall m.types
-  pub fitting : All (IsFitting m) m.procedures
-  pub fitting_locals : All (IsFitting m) m.locals
+  pub ranged : AreRanged m.types
+  pub room : All (HasRoom m) m.procedures
+  pub room_locals : All (HasRoom m) m.locals
   pub outermost : All (λ r. r.around ≡ None) m.procedures
   pub inside : All (IsInside m) m.locals
+  pub texts : All (λ b. b < 256) (text m)
 
 abbrev pub AreModules : Program → Type 0
 AreModules p = (place : ℕ) (m : TypedModule) → slice_get p place ≡ Some m → IsModule p place m

@@ -1,0 +1,25 @@
+use Rattle.m2_agree_types.proofs.Plain.{tree_plain}
+use Rattle.m2_agree_types.proofs.Cells.{are_small, cell_is, word_is, word_tree_is}
+use Rattle.m2_agree_types.proofs.Fits.{forms_plain, frame_fits, module_fits}
+use Rattle.m2_agree_types.proofs.type_laws.Goals as goal
+
+pub returns-clause-plain : goal.returns-clause-plain
+returns-clause-plain c = tree_plain
+
+pub returns-clause-small : goal.returns-clause-small
+returns-clause-small c = are_small
+
+pub returns-clause-cells : goal.returns-clause-cells
+returns-clause-cells c = cell_is
+
+pub returns-clause-words : goal.returns-clause-words
+returns-clause-words c = λ types t e r. word_is types t (word_tree_is types t e r) e
+
+pub returns-clause-formals : goal.returns-clause-formals
+returns-clause-formals c = forms_plain
+
+pub returns-clause-frames : goal.returns-clause-frames
+returns-clause-frames c = frame_fits
+
+pub returns-clause-modules : goal.returns-clause-modules
+returns-clause-modules c = module_fits
