@@ -31,8 +31,8 @@ use Rattle.m2_formed_scopes.proofs.Growth.{names_more}
 use Rattle.m2_formed_scopes.proofs.Declarations.{same_home}
 use Rattle.m2_formed_scopes.proofs.Imports.{OpenTables}
 use Rattle.m2_formed_imports.proofs.Lists.{or_right, each_entered, found_each}
-use Rattle.m2_formed_tables.specs.FormedTables.{IsExport, AreExports}
-use Rattle.m2_formed_modules.specs.FormedModules.{is_console, IsTable, AreTables, IsNumbered, AreNumberedBy}
+use Rattle.m2_formed_tables.specs.FormedTables.{IsExport, AreExports, IsNumbered, AreNumberedBy}
+use Rattle.m2_formed_modules.specs.FormedModules.{is_console, IsTable, AreTables}
 use Rattle.m2_formed_modules.proofs.Opens.{open_table, open_in}
 
 -- ---- procedures that are awaited

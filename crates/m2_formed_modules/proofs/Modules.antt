@@ -53,8 +53,8 @@ use Rattle.m2_formed_bodies.proofs.Parts.{AreSteps, nothing_at, no_home, nothing
 use Rattle.m2_formed_bodies.proofs.Checks.{holds_at}
 use Rattle.m2_formed_bodies.proofs.Blocks.{from, all_own, all_keep, checked_told}
 use Rattle.m2_formed_bodies.proofs.Induction.{judged_formed, body_formed}
-use Rattle.m2_formed_tables.specs.FormedTables.{AreExports}
-use Rattle.m2_formed_modules.specs.FormedModules.{AreTables, AreNumberedBy, AreForOwn, AreFor}
+use Rattle.m2_formed_tables.specs.FormedTables.{AreExports, AreNumberedBy}
+use Rattle.m2_formed_modules.specs.FormedModules.{AreTables, AreForOwn, AreFor}
 use Rattle.m2_formed_modules.proofs.Heads.{AwaitsOwn, awaits_kept, ModuleHeadsIn, heads_in, heads_formed}
 use Rattle.m2_formed_modules.proofs.Procedures.{Headings, AreOutermost, AreBodies, NumbersIn, Stands, Goes, all_go, FormedTo, all_formed_to}
 use Rattle.m2_formed_modules.proofs.Opens.{open_in, opens_all}

@@ -1,20 +1,17 @@
 -- What the checker makes of modules is well formed.
-use Rattle.std.specs.Prelude.{◌≡◌, ℕ, ◌==◌, Bool, false, List, Option, Some, None, codes, slice_get}
+use Rattle.std.specs.Prelude.{◌≡◌, ℕ, ◌==◌, Bool, false, List, Option, Some, None, codes}
 use Rattle.std.specs.List.{AllByRecursion}
 use Rattle.m2_tree.specs.declared.decl.Contents.{Contents}
 use Rattle.m2_tree.specs.declared.decl.Contents.TheVariants as contents
 use Rattle.m2_tree.specs.declared.decl.Module.{Module}
-use Rattle.m2_typed.specs.declared.meaning.Meaning.{Meaning}
-use Rattle.m2_typed.specs.declared.meaning.Meaning.TheVariants as meaning
 use Rattle.m2_typed.specs.declared.table.Table.{Table}
-use Rattle.m2_typed.specs.declared.types.TypeNo.{TypeNo}
 use Rattle.m2_typed.specs.Names.{same_name}
 use Rattle.m2_judged.specs.Judged.{Gathers}
 use Rattle.m2_modules.specs.Own.{exported_headings}
 use Rattle.m2_check.specs.Checks.{checked}
 use Rattle.m2_valid.specs.WellFormed.{IsWellFormed}
 use Rattle.m2_formed.specs.Formed.{Holds}
-use Rattle.m2_formed_tables.specs.FormedTables.{AreExports}
+use Rattle.m2_formed_tables.specs.FormedTables.{AreExports, AreNumberedBy}
 
 -- ---- tables
 
@@ -29,22 +26,6 @@ pub record IsTable (home : ℕ) (t : Table) : Type 0 where
 
 abbrev pub AreTables : (home : ℕ) → List Table → Type 0
 AreTables home ts = AllByRecursion (IsTable home) ts
-
--- a procedure that is exported has its place among the procedures that are exported
-abbrev pub IsNumbered : List TypeNo → Meaning → Type 0
-IsNumbered hs (meaning.Procedure p) = slice_get hs p.number ≡ Some p.heading
-IsNumbered hs (meaning.Constant v) = Unit {0}
-IsNumbered hs (meaning.Type t k) = Unit {0}
-IsNumbered hs (meaning.Variable v) = Unit {0}
-IsNumbered hs (meaning.Local v) = Unit {0}
-IsNumbered hs (meaning.Field f) = Unit {0}
-IsNumbered hs (meaning.LocalProcedure p) = Unit {0}
-IsNumbered hs meaning.Ahead = Unit {0}
-IsNumbered hs (meaning.Standard f) = Unit {0}
-IsNumbered hs (meaning.Module k) = Unit {0}
-
-abbrev pub AreNumberedBy : List TypeNo → List (List ℕ × Meaning) → Type 0
-AreNumberedBy hs es = AllByRecursion (λ e. IsNumbered hs e.1) es
 
 -- of the module's own definition
 pub record IsOwn (t : Table) : Type 0 where
