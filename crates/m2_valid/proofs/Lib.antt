@@ -12,5 +12,5 @@ mod Numbers
 mod Own
 mod Functions
 mod Names
-mod LinkModule
-mod Modules
+pub mod LinkModule
+pub mod Modules
