@@ -12,5 +12,5 @@ pub mod Numbers
 pub mod Own
 pub mod Functions
 mod Names
-mod LinkModule
-mod Modules
+pub mod LinkModule
+pub mod Modules

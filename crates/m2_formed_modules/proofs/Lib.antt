@@ -1,0 +1,6 @@
+pub mod Heads
+pub mod Procedures
+pub mod Opens
+pub mod Steps
+pub mod Begins
+pub mod Modules
