@@ -30,8 +30,8 @@ const RUNNING: u8 = 4;
 /// The end by HALT.
 const HALTED: u32 = 9;
 
-/// How deep evaluations nest at the most: a native stack of 8 MiB holds them.
-const MAX_NESTING: usize = 4000;
+/// How deep evaluations nest at the most. Each takes up to 760 bytes of native stack, as far as was measured, so 8 MiB hold them.
+const MAX_NESTING: usize = 8000;
 
 /// Lets every worker in.
 #[derive(Drop)]
