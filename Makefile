@@ -1,11 +1,15 @@
 # The toolchain's command `rt` proves, builds and tests; see README.md.
 
-.PHONY: build example programs test
+.PHONY: build plain example programs compare test
 
 # Proves and builds the programs: build/m2c and build/m2run.
 build:
 	tools/build_program m2c_cli m2c
 	tools/build_program m2run_cli m2run
+
+# Proves and builds build/plain_run, which runs programs by their definition.
+plain:
+	tools/build_program plain_run_cli plain_run
 
 # Compiles examples/hello and examples/hanoi and runs them, and runs hello again on node's own engine where node is there.
 example: build
@@ -20,6 +24,10 @@ example: build
 # Tries the two programs on command lines, files and streams, good and bad, and on the outside examples of modules.
 programs: build
 	tools/try_programs
+
+# Compares what programs do by their definition with what is stated of them, and with what their modules do.
+compare: build plain
+	tools/compare_programs
 
 # The gate: each edit still fits its file; then every proof from nothing, the tests, the programs and the edits of
 # must-fail/, which the prover must refuse.

@@ -7,4 +7,5 @@
 mod runs;
 mod whole;
 
+pub use plain_store::state::{RunFault, Stop};
 pub use whole::{Report, run};

@@ -1,0 +1,140 @@
+//! The plain interpreter as a program: `plain_run [--memory PAGES] [--bound N] FILE...`.
+//!
+//! It runs a program by the definition of what programs do, and prints its bytes. The status is 0 where the program ended by
+//! itself or by HALT, 1 where it ended otherwise (told on standard error) or was refused (a refusal a line on standard
+//! output), 2 for the command line, 3 where a file, memory or standard output failed, and 4 where it still runs at the bound.
+#![tactic(auto)]
+
+mod typed;
+mod words;
+
+use crate::typed::typed_program;
+use crate::words::{Asked, Words, read_command_line};
+use anyhow::{Context, Result};
+use m2c::{Gate, Options, Outcome, SourceFile, build};
+use plain_run::{Report, Stop, run as run_program};
+use std::fmt::Display;
+use std::fs;
+use std::process::ExitCode;
+use std::rt::{Env, Files};
+use std::thread::Threads;
+
+const ENDED: u8 = 0;
+
+const OTHERWISE: u8 = 1;
+
+const FAILED: u8 = 3;
+
+const RUNNING: u8 = 4;
+
+/// The end by HALT.
+const HALTED: u32 = 9;
+
+/// How deep evaluations nest at the most. Each takes up to 760 bytes of native stack, as far as was measured, so 8 MiB hold them.
+const MAX_NESTING: usize = 8000;
+
+/// Lets every worker in.
+#[derive(Drop)]
+struct Open;
+
+impl Gate for Open {
+    fn enter(&self, _job: usize) -> bool {
+        true
+    }
+}
+
+fn read_all<R: Files + AllocGlobal>(rt: &R, names: &[String]) -> Result<Vec<SourceFile>> {
+    let mut files = Vec::new(rt.alloc());
+    for name in names {
+        let bytes = fs::read(rt, name).context(format_args!("cannot read {name}"))?;
+        let name = name.clone()?;
+        files.push(SourceFile { name, bytes })?;
+    }
+    Ok(files)
+}
+
+fn print_all<T: Display>(rt: &impl Print, refusals: &[T]) -> Result<()> {
+    for refusal in refusals {
+        println!(rt; "{refusal}").context("cannot write to standard output")?;
+    }
+    Ok(())
+}
+
+/// How m2run calls a fault.
+fn end_word(number: u32) -> &'static str {
+    match number {
+        1 => "range",
+        2 => "overflow",
+        3 => "index",
+        4 => "divisor",
+        5 => "case",
+        6 => "no return",
+        7 => "empty procedure",
+        8 => "storage",
+        _ => "unknown",
+    }
+}
+
+/// Prints what a run printed, tells of a fault, and answers the status.
+fn tell<R: Print + Eprint>(rt: &R, report: &Report) -> Result<u8> {
+    rt.write_all(report.out.as_slice())
+        .context("cannot write to standard output")?;
+    match report.end {
+        Stop::Running => Ok(RUNNING),
+        Stop::Ended(0) | Stop::Ended(HALTED) => Ok(ENDED),
+        Stop::Ended(number) => {
+            let word = end_word(number);
+            let _ = eprintln!(rt; "fault {number}: {word}");
+            Ok(OTHERWISE)
+        }
+    }
+}
+
+/// Runs files that break no rule.
+fn run_files<R: Print + Eprint + AllocGlobal>(
+    rt: &R,
+    asked: &Asked,
+    files: &[SourceFile],
+) -> Result<u8> {
+    let alloc = rt.alloc();
+    let program = typed_program(alloc, files)?;
+    let pages = asked.pages as usize;
+    let report = run_program(alloc, &program, pages, asked.bound, MAX_NESTING)?;
+    tell(rt, &report)
+}
+
+/// Tells what m2c tells of files that break a rule, and runs all others.
+fn judge<R: Files + Print + Eprint + AllocGlobal + Threads + Sync>(
+    rt: &R,
+    asked: &Asked,
+) -> Result<u8> {
+    let files = read_all(rt, &asked.files)?;
+    let options = Options {
+        workers: 1,
+        pages: asked.pages,
+    };
+    match build(rt, rt.alloc(), &files, options, &Open)? {
+        Outcome::Refused(refusals) => {
+            print_all(rt, &refusals)?;
+            Ok(OTHERWISE)
+        }
+        Outcome::Built { .. } => run_files(rt, asked, &files),
+    }
+}
+
+fn run<R: Files + Env + Print + Eprint + AllocGlobal + Threads + Sync>(rt: &R) -> Result<u8> {
+    match read_command_line(rt)? {
+        Words::Told(status) => Ok(status),
+        Words::Asked(asked) => judge(rt, &asked),
+    }
+}
+
+fn main(rt: HostRuntime) -> ExitCode {
+    match run(&rt) {
+        Ok(status) => ExitCode::from(status),
+        Err(error) => {
+            let _ = eprintln!(rt; "plain_run: {error}");
+            ExitCode::from(FAILED)
+        }
+    }
+}

@@ -1,0 +1,154 @@
+//! The typed modules of a program, in start order.
+
+use anyhow::{Result, bail};
+use m2_check::check;
+use m2_graph::{Graph, GraphError};
+use m2_read::{Read, SourceFile, read_text};
+use m2_tree::{Contents, Items, Module};
+use m2_typed::{Shared, Table, TypedModule};
+use m2_types::compile_definition;
+use std::alloc::Global;
+use std::sync::Arc;
+
+/// What a job of the graph gives.
+#[derive(Drop)]
+enum Done {
+    Defined(Shared<Table>),
+    Checked,
+}
+
+fn read_all(alloc: Global, files: &[SourceFile]) -> Result<Vec<Arc<Module>>> {
+    let mut trees = Vec::new(alloc);
+    for file in files {
+        match read_text(alloc, &file.bytes)? {
+            Read::Parsed(tree) => trees.push(tree)?,
+            Read::Refused(_, _) => bail!("{} is refused", file.name),
+        }
+    }
+    Ok(trees)
+}
+
+fn named_trees<'a>(
+    alloc: Global,
+    files: &'a [SourceFile],
+    trees: &'a [Arc<Module>],
+) -> Result<Vec<(&'a str, &'a Module)>> {
+    let mut all = Vec::new(alloc);
+    for (file, tree) in files.iter().zip(trees) {
+        all.push((file.name.as_str(), &**tree))?;
+    }
+    Ok(all)
+}
+
+/// The tables of the definitions among these jobs.
+fn tables_of(alloc: Global, done: &[Done], jobs: &[usize]) -> Result<Items<Shared<Table>>> {
+    let mut tables = Items::new(alloc);
+    for job in jobs {
+        if let Some(Done::Defined(table)) = done.get(*job) {
+            tables.push(table.share()?)?;
+        }
+    }
+    Ok(tables)
+}
+
+fn defined(
+    alloc: Global,
+    number: u32,
+    tree: &Module,
+    tables: Items<Shared<Table>>,
+) -> Result<Done> {
+    match compile_definition(alloc, number, tree, tables)? {
+        Ok(table) => Ok(Done::Defined(Shared::new(alloc, table)?)),
+        Err(_) => bail!("a definition is refused"),
+    }
+}
+
+fn is_own(tree: &Module, table: &Table) -> bool {
+    table.name.as_bytes() == tree.name.name.as_bytes()
+}
+
+/// The tables behind that of a body's own definition.
+fn behind(alloc: Global, tables: &[Shared<Table>]) -> Result<Items<Shared<Table>>> {
+    let mut all = Items::new(alloc);
+    for table in tables {
+        all.push(table.share()?)?;
+    }
+    Ok(all)
+}
+
+fn typed_body(
+    alloc: Global,
+    number: u32,
+    tree: &Module,
+    tables: &[Shared<Table>],
+) -> Result<TypedModule> {
+    let judged = match tables {
+        [first, rest @ ..] if is_own(tree, first.get()) => {
+            check(alloc, number, tree, Some(first.get()), behind(alloc, rest)?)?
+        }
+        all => check(alloc, number, tree, None, behind(alloc, all)?)?,
+    };
+    match judged {
+        Ok(typed) => Ok(typed),
+        Err(_) => bail!("a body is refused"),
+    }
+}
+
+/// The typed bodies, each with the place of its file.
+#[derive(Drop)]
+struct Bodies {
+    alloc: Global,
+    done: Vec<Done>,
+    typed: Vec<(usize, TypedModule)>,
+}
+
+impl Bodies {
+    /// One more job: the module of a file, with what it needs.
+    fn add(&mut self, file: usize, tree: &Module, needs: &[usize]) -> Result<()> {
+        let number = u32::try_from(self.done.len())?;
+        let tables = tables_of(self.alloc, &self.done, needs)?;
+        if let Contents::Definition(_) = &tree.contents {
+            self.done.push(defined(self.alloc, number, tree, tables)?)?;
+            return Ok(());
+        }
+        let typed = typed_body(self.alloc, number, tree, tables.as_slice())?;
+        self.typed.push((file, typed))?;
+        self.done.push(Done::Checked)?;
+        Ok(())
+    }
+
+    /// Takes the body of a file.
+    fn take(&mut self, file: usize) -> Option<TypedModule> {
+        let place = self.typed.iter().position(|body| body.0 == file)?;
+        let (_, typed) = self.typed.swap_remove(place);
+        Some(typed)
+    }
+}
+
+/// The typed bodies of a program that breaks no rule, in start order.
+pub fn typed_program(alloc: Global, files: &[SourceFile]) -> Result<Vec<TypedModule>> {
+    let trees = read_all(alloc, files)?;
+    let named = named_trees(alloc, files, &trees)?;
+    let graph = match Graph::of(alloc, &named) {
+        Ok(graph) => graph,
+        Err(GraphError::Refused(_)) => bail!("imports are refused"),
+        Err(GraphError::NoMemory) => bail!("out of memory"),
+    };
+    let mut bodies = Bodies {
+        alloc,
+        done: Vec::new(alloc),
+        typed: Vec::new(alloc),
+    };
+    for (file, needs) in graph.files().iter().zip(graph.jobs()) {
+        if let Some(tree) = trees.get(*file) {
+            bodies.add(*file, tree, needs)?;
+        }
+    }
+    let mut program = Vec::new(alloc);
+    for file in graph.start_order() {
+        if let Some(typed) = bodies.take(*file) {
+            program.push(typed)?;
+        }
+    }
+    Ok(program)
+}
