@@ -5,6 +5,7 @@ use Rattle.std.specs.List.{list_all, AllByRecursion, AllZip}
 use Rattle.std.proofs.lemmas.Bool.{cases_lt, eqb-true}
 use Rattle.std.proofs.lemmas.Option.{same_Some, slice_get_within}
 use Rattle.graph_walk.specs.Links.{has, unless}
+use Rattle.wasm_tree.specs.Validity.{IsValid}
 use Rattle.m2_tree.specs.declared.pos.Pos.{Pos}
 use Rattle.m2_tree.specs.declared.decl.Contents.{Contents}
 use Rattle.m2_tree.specs.declared.decl.Contents.TheVariants as contents
@@ -26,8 +27,11 @@ use Rattle.m2_judged.specs.Judged.{least}
 use Rattle.m2_layout.specs.Layouts.{too_large}
 use Rattle.m2_types.specs.Compiled as types
 use Rattle.m2_modules.specs.Own.{exported_headings}
+use Rattle.m2_scheme.specs.Modules.{typed_module}
 use Rattle.m2_valid.specs.WellFormed.{IsWellFormed}
+use Rattle.m2_valid.proofs.Modules.{typed_module_valid}
 use Rattle.m2_formed.specs.Formed.{Holds}
+use Rattle.m2_formed.proofs.Basics.{holds_weaker}
 use Rattle.m2_formed_scopes.proofs.Declarations.{same_home}
 use Rattle.m2_formed_imports.specs.FormedImports.{NamesImports}
 use Rattle.m2_formed_imports.proofs.Imports.{tables_named}
@@ -283,3 +287,6 @@ module _ (fs : List (List ℕ × Module)) (files : List ℕ) (jobs : List (List 
       let k = picked_stand job (prerequisites_of jobs job) row in
       let ts : List Table = tables_of (needed_of (trees_of fs) files jobs job) in
       modules_formed least job m (own_table m ts) (tables_behind (own_table m ts) ts) (body_for job (prerequisites_of jobs job) m ts k.0 k.1 m.contents)
+
+  pub programs_valid : (m : Module) (job : ℕ) → Holds (λ t. IsValid (typed_module t)) (typed_body m job (tables_of (needed_of (trees_of fs) files jobs job)))
+  programs_valid m job = holds_weaker (λ t w. typed_module_valid t w) (programs_formed m job)

@@ -33,6 +33,7 @@ use Rattle.m2_jobs.specs.Spelled.{AreSpelled}
 use Rattle.m2_links.specs.Linked.{imported_names}
 use Rattle.m2_links.proofs.Placed.{modules_link}
 use Rattle.m2c.proofs.Linked.{all_modules}
+use Rattle.m2c.proofs.Valid.{all_valid}
 use Rattle.m2c.proofs.Programs.{AreFit, AreBuilt, all_built, distinct_all, count_all}
 
 -- the bytes of modules that have spellings spell them
@@ -170,6 +171,7 @@ module _ (files : List SourceFile) (fs : List (List ℕ × Module)) (numbers : L
             room = (let e = subst (λ (n : ℕ). n ≤ 65536 * pages) data_is fits in omega (arith, e));
           }),
         );
+        valid = all_valid fs numbers jobs starts have.is_graph starts p whole.typed;
         keeps = λ h. subst (λ (l : List ℕ). Keeps p pages l (map (λ m. m.1) built)) (sym link_whole)
             (subst (λ (ms : List (List ℕ)). Keeps p pages (module_spelling (typed_link p pages)) ms) (sym codes) (scheme_keeps p pages h (has_names named) least most));
       }

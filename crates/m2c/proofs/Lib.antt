@@ -5,6 +5,7 @@ pub mod EachOnce
 pub mod Unrefused
 pub mod Programs
 pub mod Linked
+pub mod Valid
 pub mod Graphs
 pub mod Borrowed
 pub mod Same

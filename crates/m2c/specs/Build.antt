@@ -1,5 +1,5 @@
 -- What the build of files answers.
-use Rattle.std.specs.Prelude.{◌≡◌, ◌≢◌, ◌⊎◌, ℕ, ◌+◌, ◌*◌, ◌<◌, ◌≤◌, Bool, true, false, if◌then◌else◌, List, [], ◌∷◌, ◌++◌, map, Option, Some, None, Ok, String}
+use Rattle.std.specs.Prelude.{◌≡◌, ◌≢◌, ◌⊎◌, ℕ, ◌+◌, ◌*◌, ◌<◌, ◌≤◌, Bool, true, false, if◌then◌else◌, List, [], ◌∷◌, ◌++◌, map, Option, Some, None, Ok, String, All}
 use Rattle.std.specs.String.{string_bytes}
 use Rattle.std.specs.Arc.{arc_value}
 use Rattle.std.specs.Global.{Global, Vec}
@@ -8,6 +8,7 @@ use Rattle.m2_tree.specs.declared.decl.Contents.{Contents}
 use Rattle.m2_tree.specs.declared.decl.Contents.TheVariants as contents
 use Rattle.m2_tree.specs.declared.decl.Module.{Module}
 use Rattle.wasm_binary.specs.Binary.{module_spelling, Spells}
+use Rattle.wasm_tree.specs.Validity.{IsValid}
 use Rattle.wasm_tree.specs.Machine.{Config}
 use Rattle.wasm_tree.specs.Linking.{link as linked}
 use Rattle.m2_graph.specs.declared.error.GraphError.TheVariants as graph_error
@@ -187,7 +188,8 @@ pub record IsTooLarge (files : List SourceFile) (pages : ℕ) (refusals : List R
   pub too_large : 65536 * pages < data_and_stack program
   pub told : AreTold (told_at (program_file trees) 1 1 61 ∷ []) refusals
 
--- no module breaks a rule. Those that are reached are compiled and link, and do what the program does, where that is proved
+-- No module breaks a rule. Those that are reached are compiled to valid modules and link, and do what the program does,
+-- where that is proved.
 pub record IsProgram (files : List SourceFile) (pages : ℕ) (link : List ℕ) (built : List (List ℕ × List ℕ)) : Type 0 where
   pub trees : List (List ℕ × Module)
   pub numbers : List ℕ
@@ -200,6 +202,7 @@ pub record IsProgram (files : List SourceFile) (pages : ℕ) (link : List ℕ) (
   pub fits : data_and_stack program ≤ 65536 * pages
   pub code : IsCode program pages link built
   pub links : (c : Config) × (linked (typed_link program pages ∷ map typed_module program) ≡ Ok c)
+  pub valid : All (λ m. IsValid (typed_module m)) program
   pub keeps : AreProved program → Keeps program pages link (map (λ m. m.1) built)
 
 -- The outcome of a build of these files. Rules of tokens and of the grammar come first, then those of imports, then those
