@@ -5,26 +5,25 @@ use Rattle.std.proofs.lemmas.List.{append-nil, length-append}
 use Rattle.wasm_tree.specs.declared.instr.Instr.{Instr}
 use Rattle.wasm_tree.specs.declared.instr.Instr.TheVariants as instr
 use Rattle.wasm_tree.specs.declared.store.Value.{Value}
-use Rattle.wasm_tree.specs.declared.store.Value.TheVariants.{I32, I64}
+use Rattle.wasm_tree.specs.declared.store.Value.TheVariants.{I32}
 use Rattle.wasm_tree.specs.declared.store.Callee.TheVariants.{Own}
 use Rattle.wasm_tree.specs.Machine.{Typed, callee_at, callee_in, global_at, own_function, type_at, agree}
-use Rattle.wasm_effect.specs.Effect.{State as Target, store_of, Effect, FellThrough, then_run, back}
-use Rattle.wasm_effect.proofs.Steps.{split_end_at, get_runs, global_runs, indirect_runs, own_runs, own_does}
+use Rattle.wasm_effect.specs.Effect.{State as Target, store_of, Effect, then_run, back}
+use Rattle.wasm_effect.proofs.Steps.{split_end_at, global_runs, indirect_runs, own_runs, own_does}
 use Rattle.m2_typed.specs.declared.types.TypeNo.{TypeNo}
 use Rattle.m2_typed.specs.Known.{scalar_at}
 use Rattle.m2_layout.specs.Types.{Ty, row}
 use Rattle.m2_layout.specs.Sizes.{size}
 use Rattle.m2_meaning.specs.Store.{Location}
-use Rattle.m2_meaning.specs.Answer.{State as Source, Answer, Gave, Ended, Running, then_give, Outcome, Went, Stopped, Unfinished, with_answer}
+use Rattle.m2_meaning.specs.Answer.{State as Source, Answer, Gave, Ended, Running, then_give, Went, with_answer}
 use Rattle.m2_meaning.specs.Around.{Modules, Callee, Passed, Number, Variable, Array as Whole, Text}
 use Rattle.m2_meaning.specs.Expressions.{Asks, Gives, all_given}
-use Rattle.m2_scheme.specs.Coded.{Coded, Counts, plain, ◌⨾◌, all_coded, with_setting, raised, top_local}
-use Rattle.m2_scheme.specs.Exprs.{top_code}
+use Rattle.m2_scheme.specs.Coded.{Coded, Counts, ◌⨾◌, all_coded, raised}
 use Rattle.m2_agree.specs.Scene.{Scene, IsSet, calls, runs, Stands, Into, GivesNumber, Grows, IsFree, HasLocals, inside, Agrees, Ends, Executes}
 use Rattle.m2_agree.proofs.Parts.{into_then, grows_more, grows_same, has_before, free_after, IsPlain}
 use Rattle.m2_agree.proofs.Places.{raised_runs}
 use Rattle.m2_agree_calls.specs.Frames.{Kinds, IsChain}
-use Rattle.m2_agree_calls.specs.Passing.{Form, ByNumber, ByCopy, ByName, ByArray, Forms, Result, result_values, IsPassed, ArePassed, none_passed, more_passed, GivesPassed, Passes, PassAll, pass_none, pass_more, GivesAll, IsBased, CallGives, links, DoesAsked, GivesResult, Calls, HasTop, IsCallOf}
+use Rattle.m2_agree_calls.specs.Passing.{Form, ByNumber, ByCopy, ByName, ByArray, Forms, Result, IsPassed, ArePassed, none_passed, more_passed, GivesPassed, PassAll, pass_none, pass_more, GivesAll, CallGives, links, DoesAsked, GivesResult, Calls, HasTop, IsCallOf, IsCallHere}
 
 -- ---- all arguments
 
@@ -103,7 +102,7 @@ module _ (world : List Ty) (x : Location → ℕ → ℕ) where
 -- ---- the function is called
 
 module _ (k : Scene) (base : List Ty) (texts : Location → ℕ → ℕ) (top : HasTop k base texts) (p : Modules) (ask : Asks) (c : Callee) (kss : List Kinds) (roots : List ℕ) (chain : IsChain k.world k.hidden kss c.frames roots)
-    (forms : Forms) (result : Result) (j f : ℕ) (t : Typed) (does : DoesAsked base texts k.limit (calls k) ask c kss forms result j f t) (code : List Instr) (is_call : IsCallOf k code j f t)
+    (forms : Forms) (result : Result) (j f : ℕ) (t : Typed) (does : DoesAsked base texts k.limit (calls k) ask c kss forms result j f t) (code : List Instr) (is_call : IsCallHere k code j f t)
     (count : length t.type.params ≡ suc (length (links k.world roots) + all_operands forms)) where
   -- what is passed before the arguments
   abbrev pub front : List Value
@@ -130,7 +129,7 @@ module _ (k : Scene) (base : List Ty) (texts : Location → ℕ → ℕ) (top : 
       let did : List ℕ → Effect = λ out. back (length t.type.results) st.locals stack (calls k j f t args st.bytes out) in
       let got : Into (CallGives k.world k.hidden k.limit result st.locals stack) (did s.out) (answer (length k.world)) =
       does k.world k.hidden top.based roots chain s st.bytes h.holds h.long vs values are k.around.left top.left st.locals stack in
-      subst (λ (r : Effect). Into (GivesResult k result (runs k rest) stack) r (answer k.around.next)) (sym (ap (runs k (code ++ rest) st) shape ∙ is_call st rest stack args many))
+      subst (λ (r : Effect). Into (GivesResult k result (runs k rest) stack) r (answer k.around.next)) (sym (ap (runs k (code ++ rest) st) shape ∙ is_call s st h rest stack args many))
       (back_gives s st h rest stack (did st.out) (answer k.around.next)
       (subst (λ (n : ℕ). Into (CallGives k.world k.hidden k.limit result st.locals stack) (did st.out) (answer n)) (sym top.next)
       (subst (λ (out : List ℕ). Into (CallGives k.world k.hidden k.limit result st.locals stack) (did out) (answer (length k.world))) (sym h.out) got)))

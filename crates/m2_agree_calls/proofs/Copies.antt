@@ -7,14 +7,13 @@ use Rattle.wasm_tree.specs.declared.kinds.ValueType.TheVariants as kind
 use Rattle.wasm_tree.specs.declared.instr.Instr.{Instr}
 use Rattle.wasm_tree.specs.declared.instr.Instr.TheVariants as instr
 use Rattle.wasm_tree.specs.declared.store.Value.{Value}
-use Rattle.wasm_tree.specs.declared.store.Value.TheVariants.{I32, I64}
+use Rattle.wasm_tree.specs.declared.store.Value.TheVariants.{I32}
 use Rattle.wasm_effect.specs.Bytes.{byte, copied_bytes, cleared_bytes, IsOnly}
 use Rattle.wasm_effect.proofs.Bytes.{copied_length, copied_small, copied_only, copied_moved, cleared_length, cleared_small, cleared_only, cleared_zero}
 use Rattle.wasm_effect.specs.Effect.{State as Target, Effect, then_run}
 use Rattle.wasm_effect.proofs.Steps.{split_end_at, i32_runs, get_runs, tee_runs, global_runs}
-use Rattle.m2_typed.specs.declared.types.TypeNo.{TypeNo}
-use Rattle.m2_layout.specs.Types.{Ty, Scalar, Natural, Cell, Hidden, Array, row, component, IsPlain, IsScalar, IsOf}
-use Rattle.m2_layout.specs.Sizes.{size, offset, width}
+use Rattle.m2_layout.specs.Types.{Ty, Scalar, Natural, Cell, Hidden, Array, row, component, IsPlain, IsScalar}
+use Rattle.m2_layout.specs.Sizes.{size, offset}
 use Rattle.m2_layout.specs.Shapes.{tree}
 use Rattle.m2_meaning.specs.Store.{Location, Store, behind, copied, placed}
 use Rattle.m2_meaning.specs.Answer.{State as Source, Outcome, Went, with_answer}
@@ -30,10 +29,10 @@ use Rattle.m2_scheme.specs.Coded.{Coded, Counts, plain, ◌⨾◌, with_setting,
 use Rattle.m2_scheme.specs.Helpers.{copy_code, fill_code, helper}
 use Rattle.m2_scheme.specs.Exprs.{text_code}
 use Rattle.m2_scheme.specs.Steps.{text_copied}
-use Rattle.m2_agree.specs.Scene.{Scene, IsSet, calls, runs, place, Stands, keeping, Into, GivesPlace, Grows, IsFree, HasLocals, inside, Locates, Ends, GoesTo, Executes}
+use Rattle.m2_agree.specs.Scene.{Scene, IsSet, calls, runs, place, Stands, keeping, Grows, IsFree, HasLocals, inside, Locates, Ends, GoesTo, Executes}
 use Rattle.m2_agree.proofs.Parts.{grows_more, has_before, free_after}
 use Rattle.m2_agree.proofs.Served.{served_runs}
-use Rattle.m2_agree.proofs.Places.{place_small, raised_runs}
+use Rattle.m2_agree.proofs.Places.{raised_runs}
 use Rattle.m2_agree.proofs.Kept.{ends_from}
 use Rattle.m2_agree.proofs.Locals.{get_set, set_keeps, forgets}
 use Rattle.m2_agree_calls.specs.Laws.{IsText, Copies, Strings}

@@ -3,3 +3,4 @@ pub mod Copies
 pub mod Slots
 pub mod Passes
 pub mod Called
+pub mod Held

@@ -1,42 +1,39 @@
 -- Arguments leave their operands, and calls take them.
-use Rattle.std.proofs.Common.{◌≡◌, ℕ, suc, ◌+◌, ◌-◌, ◌^◌, ◌<◌, ◌≤◌, ℤ, pos, Bool, false, List, [], ◌∷◌, ◌++◌, length, Option, Some, None, refl, sym, ap, subst, ◌∙◌, append_assoc, arith}
-use Rattle.std.specs.Prelude.{unsigned_abs, ◌-ℤ◌, ◌≤ℤ◌}
+use Rattle.std.proofs.Common.{◌≡◌, ℕ, suc, ◌+◌, ◌-◌, ◌^◌, ◌<◌, ◌≤◌, ℤ, pos, Bool, false, List, [], ◌∷◌, ◌++◌, length, Option, Some, refl, sym, ap, subst, ◌∙◌, append_assoc, arith}
+use Rattle.std.specs.Prelude.{◌-ℤ◌, ◌≤ℤ◌}
 use Rattle.std.proofs.lemmas.Int.{ints}
-use Rattle.std.proofs.lemmas.List.{append-nil, length-append}
 use Rattle.wasm_tree.specs.declared.instr.Instr.{Instr}
 use Rattle.wasm_tree.specs.declared.instr.Instr.TheVariants as instr
 use Rattle.wasm_tree.specs.declared.store.Value.{Value}
 use Rattle.wasm_tree.specs.declared.store.Value.TheVariants.{I32, I64}
-use Rattle.wasm_tree.specs.Machine.{Typed}
-use Rattle.wasm_effect.specs.Effect.{State as Target, Effect, FellThrough, then_run, back}
-use Rattle.wasm_effect.proofs.Steps.{get_runs, i64_runs, global_runs}
+use Rattle.wasm_effect.specs.Effect.{State as Target, Effect}
+use Rattle.wasm_effect.proofs.Steps.{i64_runs, global_runs}
 use Rattle.m2_typed.specs.declared.computed.Slot.{Slot}
 use Rattle.m2_typed.specs.declared.types.TypeNo.{TypeNo}
 use Rattle.m2_typed.specs.declared.shape.Scalar.{Scalar as Range}
 use Rattle.m2_typed.specs.declared.known_types.Types.{Types}
-use Rattle.m2_typed.specs.Known.{made_at, scalar_at}
+use Rattle.m2_typed.specs.Known.{made_at}
 use Rattle.m2_layout.specs.Types.{Ty, Scalar, Natural, Cell, Hidden, Array, row, component}
 use Rattle.m2_layout.specs.Sizes.{offset, size}
 use Rattle.m2_layout.specs.Shapes.{tree, elements_of}
 use Rattle.m2_layout.specs.Texts.{passed}
 use Rattle.m2_meaning.specs.Store.{Location}
-use Rattle.m2_meaning.specs.Answer.{State as Source, Answer, Gave, Ended, Running, then_give, Outcome, Went, Stopped, Unfinished, with_answer}
-use Rattle.m2_meaning.specs.Around.{Around, Callee, Passed, Number, Variable, Array as Whole, Text, named, location_of, high_of}
-use Rattle.m2_meaning.specs.Expressions as meaning
-use Rattle.m2_meaning.specs.Expressions.{Asks, Gives, all_given}
+use Rattle.m2_meaning.specs.Answer.{State as Source, Answer, Gave, Ended, Running, then_give}
+use Rattle.m2_meaning.specs.Around.{Passed, Number, Variable, Array as Whole, Text, named, location_of, high_of}
+use Rattle.m2_meaning.specs.Expressions.{Gives}
 use Rattle.m2_cells.proofs.Worlds.{lies}
-use Rattle.m2_scheme.specs.Coded.{Coded, Counts, plain, ◌⨾◌, all_coded, with_setting, raised, extended, top_local}
+use Rattle.m2_scheme.specs.Coded.{Coded, Counts, plain, ◌⨾◌, with_setting, raised, extended}
 use Rattle.m2_scheme.specs.Exprs as code
 use Rattle.m2_scheme.specs.Exprs.{open_address, high_code, text_code, top_code}
-use Rattle.m2_agree.specs.Scene.{Scene, IsSet, IsSmall, IsCell, IsValue, calls, runs, place, word, Stands, Into, GivesNumber, GivesPlace, Grows, IsFree, HasLocals, inside, Agrees, Locates, Ends, Executes}
-use Rattle.m2_agree.proofs.Parts.{into_then, grows_more, grows_same, has_before, free_after, IsPlain}
+use Rattle.m2_agree.specs.Scene.{Scene, IsSet, IsSmall, IsCell, calls, runs, place, word, Stands, Into, GivesNumber, GivesPlace, Grows, HasLocals, inside, Agrees, Locates}
+use Rattle.m2_agree.proofs.Parts.{into_then, grows_same, IsPlain}
 use Rattle.m2_agree.proofs.Relations.{extended_runs}
-use Rattle.m2_agree.proofs.Places.{place_small, raised_runs}
-use Rattle.m2_agree.proofs.Components.{same_index, made_small}
+use Rattle.m2_agree.proofs.Places.{raised_runs}
+use Rattle.m2_agree.proofs.Components.{made_small}
 use Rattle.m2_agree_calls.specs.Laws.{IsText}
-use Rattle.m2_agree_calls.specs.Frames.{Kinds, Open, kind_at, IsChain, HasFrames}
-use Rattle.m2_agree_calls.specs.Passing.{Form, ByNumber, ByCopy, ByName, ByArray, Forms, Result, IsResult, result_values, IsPlaced, IsPassed, ArePassed, none_passed, more_passed, GivesPassed, Passes, PassAll, pass_none, pass_more, GivesAll, IsBased, CallGives, links, DoesAsked, GivesResult, Calls, HasTop, IsCallOf}
-use Rattle.m2_agree_calls.proofs.Slots.{here, array_here, open_locates, high_runs, high_small, place_fits}
+use Rattle.m2_agree_calls.specs.Frames.{Kinds, Open, kind_at, HasFrames}
+use Rattle.m2_agree_calls.specs.Passing.{Form, ByNumber, ByCopy, ByName, ByArray, IsPassed, GivesPassed, Passes}
+use Rattle.m2_agree_calls.proofs.Slots.{array_here, open_locates, high_runs}
 
 pub give_assoc : {A B C : Type 0} (a : Answer A) (f : A → Source → Answer B) (g : B → Source → Answer C) → then_give (then_give a f) g ≡ then_give a (λ x s. then_give (f x s) g)
 give_assoc (Gave x s) f g = refl

@@ -1,39 +1,38 @@
 -- Formals and variables of a procedure, and of those around it.
-use Rattle.std.proofs.Common.{◌≡◌, ℕ, zero, suc, ◌+◌, ◌%◌, ◌^◌, ◌<◌, ◌≤◌, ℤ, pos, List, [], ◌∷◌, ◌++◌, map, length, Option, Some, None, refl, sym, ap, subst, ◌∙◌, append_assoc, arith}
-use Rattle.std.specs.Prelude.{slice_get, unsigned_abs, ◌-ℤ◌}
+use Rattle.std.proofs.Common.{◌≡◌, ℕ, zero, suc, ◌+◌, ◌%◌, ◌^◌, ◌<◌, ℤ, pos, List, [], ◌∷◌, ◌++◌, map, length, Option, Some, None, refl, sym, ap, subst, ◌∙◌, append_assoc, arith}
+use Rattle.std.specs.Prelude.{slice_get}
 use Rattle.std.proofs.lemmas.Int.{ints}
 use Rattle.wasm_tree.specs.declared.instr.Instr.{Instr}
 use Rattle.wasm_tree.specs.declared.instr.Instr.TheVariants as instr
 use Rattle.wasm_tree.specs.declared.instr.Load.TheVariants as load
 use Rattle.wasm_tree.specs.declared.store.Value.{Value}
 use Rattle.wasm_tree.specs.declared.store.Value.TheVariants.{I32, I64}
-use Rattle.wasm_tree.specs.Numbers.{loaded as loads}
 use Rattle.wasm_effect.specs.Effect.{State as Target, Effect}
 use Rattle.wasm_effect.proofs.Steps.{get_runs, i64_runs, load_runs}
 use Rattle.m2_typed.specs.declared.computed.Slot.{Slot}
 use Rattle.m2_typed.specs.declared.types.TypeNo.{TypeNo}
 use Rattle.m2_typed.specs.declared.shape.Scalar.{Scalar as Range}
 use Rattle.m2_typed.specs.Types.{cardinal}
-use Rattle.m2_layout.specs.Types.{Ty, Natural, Hidden, Array, row, frame_of, component}
+use Rattle.m2_layout.specs.Types.{Ty, Hidden, Array, row, component}
 use Rattle.m2_layout.specs.Sizes.{Four, size, offset}
 use Rattle.m2_layout.specs.Shapes.{tree, elements_of}
 use Rattle.m2_meaning.specs.Store.{Location}
-use Rattle.m2_meaning.specs.Answer.{State as Source, Answer, Gave, Ended, then_give, index_fault}
+use Rattle.m2_meaning.specs.Answer.{State as Source, Answer, Gave, then_give}
 use Rattle.m2_meaning.specs.Around.{Named, At, Elements, Frames, named, or_empty, location_of, high_of}
 use Rattle.m2_meaning.specs.Expressions.{Gives, element}
 use Rattle.m2_cells.specs.Cells.{stored_in}
 use Rattle.m2_cells.specs.Relation.{Keeps}
 use Rattle.m2_cells.proofs.Places.{component_append, offset_append}
 use Rattle.m2_cells.proofs.Frames.{alias_parts, link_parts}
-use Rattle.m2_scheme.specs.Coded.{Coded, Counts, Setting, plain, ◌⨾◌, with_setting, wrapped, raised, checked, check}
+use Rattle.m2_scheme.specs.Coded.{Coded, plain, ◌⨾◌, with_setting, wrapped, raised, check}
 use Rattle.m2_scheme.specs.Cells.{load_scalar, word as word_cell}
 use Rattle.m2_scheme.specs.Exprs.{outwards, frame_code, frame_at, slot_path, slot_code, kept_address, open_address, high_code, open_element_code, scaled}
-use Rattle.m2_agree.specs.Scene.{Scene, IsSet, IsSmall, IsValue, calls, runs, place, word, Stands, Into, GivesNumber, GivesPlace, Grows, IsFree, HasLocals, inside, Agrees, Locates, Reaches}
-use Rattle.m2_agree.proofs.Parts.{into_then, grows_same, plain_agrees}
+use Rattle.m2_agree.specs.Scene.{Scene, IsSet, IsSmall, calls, runs, place, word, Stands, Into, GivesNumber, GivesPlace, inside, Agrees, Locates, Reaches}
+use Rattle.m2_agree.proofs.Parts.{into_then, grows_same}
 use Rattle.m2_agree.proofs.Relations.{wrapped_runs}
 use Rattle.m2_agree.proofs.Places.{place_small, raised_runs}
 use Rattle.m2_agree.proofs.Components.{located, element_gives}
-use Rattle.m2_agree_calls.specs.Frames.{Kind, Kept, Alias, Open, Kinds, kind_tree, frame_kinds, or_none, kind_at, IsNamed, AreNamed, IsLink, IsChain, chain_end, chain_more, AreFrames, IsOwnFrame, HasFrames}
+use Rattle.m2_agree_calls.specs.Frames.{Kind, Kept, Alias, Open, Kinds, kind_tree, frame_kinds, or_none, kind_at, IsNamed, AreNamed, IsChain, chain_end, chain_more, AreFrames, IsOwnFrame, HasFrames}
 
 none_some : {A : Type 0} (x : A) → None ≡ Some x → ⊥
 none_some x e = cc e

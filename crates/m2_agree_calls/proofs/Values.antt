@@ -1,13 +1,9 @@
 -- Values that are taken for others, procedures as values, and results.
-use Rattle.std.proofs.Common.{◌≡◌, ℕ, ◌+◌, ◌%◌, ◌^◌, ℤ, pos, ◌≤ℤ◌, Bool, true, false, List, [], ◌∷◌, ◌++◌, Option, Some, None, if◌then◌else◌, refl, sym, ap, subst, ◌∙◌, arith}
-use Rattle.std.specs.Prelude.{unsigned_abs}
+use Rattle.std.proofs.Common.{◌≡◌, ℕ, ◌+◌, ◌%◌, ◌^◌, ℤ, pos, ◌≤ℤ◌, Bool, true, false, [], ◌∷◌, ◌++◌, Option, Some, None, if◌then◌else◌, refl, sym, ap, subst, ◌∙◌, arith}
 use Rattle.std.proofs.lemmas.Int.{ints}
-use Rattle.wasm_tree.specs.declared.instr.Instr.{Instr}
 use Rattle.wasm_tree.specs.declared.instr.Instr.TheVariants as instr
 use Rattle.wasm_tree.specs.declared.instr.Operation.TheVariants.{Add}
-use Rattle.wasm_tree.specs.declared.store.Value.{Value}
 use Rattle.wasm_tree.specs.declared.store.Value.TheVariants.{I32, I64}
-use Rattle.wasm_effect.specs.Effect.{State as Target, Effect}
 use Rattle.wasm_effect.proofs.Steps.{i64_runs, global_runs, return_runs}
 use Rattle.m2_typed.specs.declared.types.TypeNo.{TypeNo}
 use Rattle.m2_typed.specs.declared.shape.Scalar.{Scalar as Range}
@@ -20,8 +16,8 @@ use Rattle.m2_meaning.specs.Expressions.{Gives, as_type, within_range}
 use Rattle.m2_scheme.specs.Coded.{Coded, with_setting, plain, ◌⨾◌, operation, extended}
 use Rattle.m2_scheme.specs.Cells.{is_free, in_type, in_range, check_taken}
 use Rattle.m2_scheme.specs.Exprs.{Part, slot_number, slots_global, procedure_code}
-use Rattle.m2_agree.specs.Scene.{Scene, IsSet, calls, runs, IsIn, IsValue, AreAmong, word, Stands, Into, GivesNumber, inside, Agrees, Executes}
-use Rattle.m2_agree.proofs.Parts.{IsPlain, Goes, then_agrees, plain_goes, plain_agrees}
+use Rattle.m2_agree.specs.Scene.{Scene, IsSet, calls, runs, IsIn, IsValue, AreAmong, word, Into, GivesNumber, inside, Agrees}
+use Rattle.m2_agree.proofs.Parts.{Goes, then_agrees, plain_goes, plain_agrees}
 use Rattle.m2_agree.proofs.Operators.{operation_runs}
 use Rattle.m2_agree.proofs.Relations.{extended_runs}
 use Rattle.m2_agree.proofs.Unary.{val_goes}

@@ -1,9 +1,7 @@
 -- What is proved of values that are taken for others, of whole copies, of strings and of results.
-use Rattle.std.specs.Prelude.{◌≡◌, ℕ, suc, ◌+◌, ◌-◌, ◌<◌, ◌≤◌, ◌^◌, ℤ, pos, Bool, true, false, List, [], ◌∷◌, ◌++◌, length, get_or, Some, None}
-use Rattle.wasm_tree.specs.declared.instr.Instr.{Instr}
+use Rattle.std.specs.Prelude.{◌≡◌, ℕ, suc, ◌+◌, ◌-◌, ◌<◌, ◌≤◌, ◌^◌, ℤ, pos, Bool, true, List, [], ◌∷◌, length, get_or, Some, None}
 use Rattle.wasm_tree.specs.declared.instr.Instr.TheVariants as instr
-use Rattle.wasm_tree.specs.declared.store.Value.{Value}
-use Rattle.wasm_tree.specs.declared.store.Value.TheVariants.{I32, I64}
+use Rattle.wasm_tree.specs.declared.store.Value.TheVariants.{I32}
 use Rattle.wasm_tree.specs.Machine.{global_at}
 use Rattle.wasm_effect.specs.Effect.{store_of}
 use Rattle.m2_typed.specs.declared.meaning.Procedure.{Procedure}
@@ -14,7 +12,7 @@ use Rattle.m2_typed.specs.declared.computed.Slot.{Slot}
 use Rattle.m2_typed.specs.Types.{cardinal}
 use Rattle.m2_typed.specs.Known.{scalar_at}
 use Rattle.m2_layout.specs.Types.{Ty, Natural, Cell, Hidden, Array, row, component, IsPlain}
-use Rattle.m2_layout.specs.Sizes.{size, offset}
+use Rattle.m2_layout.specs.Sizes.{size}
 use Rattle.m2_layout.specs.Shapes.{tree}
 use Rattle.m2_meaning.specs.Store.{Location, copied, placed}
 use Rattle.m2_meaning.specs.Answer.{Gave, Went, Came, then_give, with_answer}

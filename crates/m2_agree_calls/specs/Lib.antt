@@ -1,3 +1,4 @@
 pub mod Laws
 pub mod Frames
 pub mod Passing
+pub mod Held

@@ -1,5 +1,5 @@
 -- What calls pass and give, and when a function does what is asked of a procedure.
-use Rattle.std.specs.Prelude.{◌≡◌, ℕ, suc, ◌+◌, ◌-◌, ◌<◌, ◌≤◌, ◌^◌, ℤ, Bool, true, false, List, [], ◌∷◌, ◌++◌, map, length, get_or, Option, Some, None, if◌then◌else◌}
+use Rattle.std.specs.Prelude.{◌≡◌, ℕ, suc, ◌+◌, ◌-◌, ◌<◌, ◌≤◌, ◌^◌, ℤ, Bool, false, List, [], ◌∷◌, ◌++◌, map, length, get_or, Option, Some, None, if◌then◌else◌}
 use Rattle.std.specs.Option.{option_map}
 use Rattle.wasm_tree.specs.declared.instr.Instr.{Instr}
 use Rattle.wasm_tree.specs.declared.store.Value.{Value}
@@ -14,13 +14,13 @@ use Rattle.m2_typed.specs.declared.shape.Shape.TheVariants as shape
 use Rattle.m2_typed.specs.declared.types.TypeNo.{TypeNo}
 use Rattle.m2_typed.specs.declared.known_types.Types.{Types}
 use Rattle.m2_typed.specs.Known.{made_at, scalar_at}
-use Rattle.m2_layout.specs.Types.{Ty, Scalar, Natural, Cell, Hidden, Array, Nothing, Field, row, component, IsScalar, IsOf, IsPlain}
+use Rattle.m2_layout.specs.Types.{Ty, Scalar, Natural, Cell, Hidden, Array, Nothing, Field, row, component, IsOf}
 use Rattle.m2_layout.specs.Sizes.{size, offset}
 use Rattle.m2_layout.specs.Shapes.{tree}
 use Rattle.m2_layout.specs.Frames.{formals_of}
 use Rattle.m2_layout.specs.Texts.{passed}
 use Rattle.m2_meaning.specs.Store.{Location}
-use Rattle.m2_meaning.specs.Answer.{State as Source, Answer}
+use Rattle.m2_meaning.specs.Answer.{State as Source}
 use Rattle.m2_meaning.specs.Around.{Callee, Passed, Number, Variable, Array as Whole, Text}
 use Rattle.m2_meaning.specs.Expressions.{Asks, Gives}
 use Rattle.m2_cells.specs.Relation.{Holds}
@@ -203,4 +203,10 @@ pub record HasTop (k : Scene) (base : List Ty) (texts : Location → ℕ → ℕ
 abbrev pub IsCallOf : Scene → List Instr → (j f : ℕ) → Typed → Type 0
 IsCallOf k code j f t =
     (st : Target) (rest : List Instr) (stack args : List Value) → length args ≡ length t.type.params
+    → runs k (code ++ rest) st (stack ++ args) ≡ then_run (back (length t.type.results) st.locals stack (calls k j f t args st.bytes st.out)) (runs k rest)
+
+-- in each state that stands
+abbrev pub IsCallHere : Scene → List Instr → (j f : ℕ) → Typed → Type 0
+IsCallHere k code j f t =
+    (s : Source) (st : Target) → Stands k s st → (rest : List Instr) (stack args : List Value) → length args ≡ length t.type.params
     → runs k (code ++ rest) st (stack ++ args) ≡ then_run (back (length t.type.results) st.locals stack (calls k j f t args st.bytes st.out)) (runs k rest)

@@ -3,6 +3,7 @@
 //! the laws.
 #![tactic(auto)]
 
+ghost use Rattle.m2_agree_calls.specs.Held.{HeldCalls};
 ghost use Rattle.m2_agree_calls.specs.Laws.{Aliases, Copies, Gives, Highs, Locals, OpenArrays, OpenElements, ProcedureValues, Strings, Taken};
 
 /// Values, copies and results.
@@ -29,4 +30,10 @@ pub fn slot_laws()
     ensures open_arrays { OpenArrays }
     ensures open_elements { OpenElements }
     ensures highs { Highs }
+{}
+
+/// Calls of procedure variables, where what they hold is known.
+pub fn held_laws()
+    // A number of a procedure is kept while its arguments are evaluated, and 0 is fault 7.
+    ensures { HeldCalls }
 {}

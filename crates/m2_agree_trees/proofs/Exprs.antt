@@ -659,7 +659,7 @@ module _ (x : Context) (ask : Asks) where
           let count = g.count in let same = same_operands forms in
           calls_alike k (result_of x.home.types f.heading) (code.top_code ⨾ (all_coded m.placed ⨾ with_setting (λ s. plain (code.module_call N s.home f)))) (λ s st. meaning.asked P ask (Some q.0) gs s st) (meaning.call_layer P ask (layer.Module f gs))
           (λ st. ap (λ (o : Option Callee). meaning.asked P ask o gs k.around st) (sym q.1))
-          (front_calls k x.base x.texts fit.top P ask q.0 [] [] chain forms (result_of x.home.types f.heading) g.own g.function g.typed g.does (code.module_call N k.setting.home f) g.is_call (omega (arith, count, same))
+          (front_calls k x.base x.texts fit.top P ask q.0 [] [] chain forms (result_of x.home.types f.heading) g.own g.function g.typed g.does (code.module_call N k.setting.home f) (λ s st h. g.is_call st) (omega (arith, count, same))
           m.placed gs (m.passed_all k fit) (with_setting (λ s. plain (code.module_call N s.home f))) (λ e c. refl)
           (instr.LocalGet (top_local k.setting) ∷ []) (λ s st h rest stack. get_runs k.modules k.fixed k.turns (scene_calls k) k.own rest st (top_local k.setting) (I32 (size (row k.world))) stack (h.kept (top_local k.setting) (I32 (size (row k.world))) fit.top.kept))
           code.top_code (λ e c. refl));
@@ -684,7 +684,7 @@ module _ (x : Context) (ask : Asks) where
           let list : List Instr = instr.LocalGet (top_local k.setting) ∷ code.link_code N f.up in
           calls_alike k (result_of x.home.types f.heading) ((code.top_code ⨾ plain (code.link_code N f.up)) ⨾ (all_coded m.placed ⨾ with_setting (λ s. plain (code.nested_call N s.home f)))) (λ s st. meaning.asked P ask (Some q.0) gs s st) (meaning.call_layer P ask (layer.Nested f gs))
           (λ st. ap (λ (o : Option Callee). meaning.asked P ask o gs k.around st) (sym (ap (λ (n : ℕ). nested_in n (slice_get P n) (drop f.up k.around.frames) f.number) fit.place ∙ q.1)))
-          (front_calls k x.base x.texts fit.top P ask q.0 (drop f.up x.kinds) (drop f.up roots) chain forms (result_of x.home.types f.heading) g.own g.function g.typed g.does (code.nested_call N k.setting.home f) g.is_call (omega (arith, count, same, one))
+          (front_calls k x.base x.texts fit.top P ask q.0 (drop f.up x.kinds) (drop f.up roots) chain forms (result_of x.home.types f.heading) g.own g.function g.typed g.does (code.nested_call N k.setting.home f) (λ s st h. g.is_call st) (omega (arith, count, same, one))
           m.placed gs (m.passed_all k fit) (with_setting (λ s. plain (code.nested_call N s.home f))) (λ e c. refl)
           list
           (λ s st h rest stack.
