@@ -1,11 +1,12 @@
 -- The modules that the jobs of a graph make are well formed, and valid.
-use Rattle.std.specs.Prelude.{ℕ, List, map}
+use Rattle.std.specs.Prelude.{◌≡◌, ℕ, ◌≤◌, true, List, map}
 use Rattle.m2_tree.specs.declared.decl.Module.{Module}
-use Rattle.wasm_tree.specs.Validity.{IsValid}
+use Rattle.wasm_tree.specs.Validity.{IsValid, AreDistinct}
+use Rattle.wasm_binary.specs.Binary.{module_fits}
 use Rattle.m2_graph.specs.Files.{numbered}
 use Rattle.m2_graph.specs.Graph.{IsGraph}
 use Rattle.m2_typed.specs.declared.typed_module.TypedModule.{TypedModule}
-use Rattle.m2_scheme.specs.Modules.{typed_module}
+use Rattle.m2_scheme.specs.Modules.{typed_module, typed_link}
 use Rattle.m2_valid.specs.WellFormed.{IsWellFormed}
 use Rattle.m2_formed.specs.Formed.{Holds}
 use Rattle.m2_compile.specs.Compiling.{tables_of, typed_body}
@@ -27,3 +28,9 @@ ProgramsAreFormed = JobsMake IsWellFormed
 
 abbrev pub ProgramsAreValid : Type 0
 ProgramsAreValid = JobsMake (λ t. IsValid (typed_module t))
+
+-- and so is link, where it has a spelling and no two modules of the program have one name
+abbrev pub LinksAreValid : Type 0
+LinksAreValid = (ms : List TypedModule) (pages : ℕ) → pages ≤ 65536
+    → module_fits (typed_link ms pages) ≡ true → AreDistinct (map (λ m. m.name) ms)
+    → IsValid (typed_link ms pages)

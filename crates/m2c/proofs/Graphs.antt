@@ -12,6 +12,8 @@ use Rattle.m2_graph.specs.Jobs.{ArePlaces, place_of, number_of}
 use Rattle.m2_graph_laws.specs.Started.{AreStarted, at_places}
 use Rattle.m2_graph_laws.proofs.Started.{are_started}
 use Rattle.std.proofs.lemmas.List.{length-map}
+use Rattle.std.proofs.lemmas.List.Elements.{All-cons}
+use Rattle.wasm_tree.specs.Validity.{IsValid}
 use Rattle.m2_tree.specs.declared.refusal.Refusal.{Refusal}
 use Rattle.m2_typed.specs.declared.typed_module.TypedModule.{TypedModule}
 use Rattle.m2_meaning.specs.Around.{Modules}
@@ -32,6 +34,7 @@ use Rattle.m2c.specs.Build.{Told, AreTold, told_at, built_of, named_bytes, modul
 use Rattle.m2_jobs.specs.Spelled.{AreSpelled}
 use Rattle.m2_links.specs.Linked.{imported_names}
 use Rattle.m2_links.proofs.Placed.{modules_link}
+use Rattle.m2_formed_programs.proofs.Links.{link_valid}
 use Rattle.m2c.proofs.Linked.{all_modules}
 use Rattle.m2c.proofs.Valid.{all_valid}
 use Rattle.m2c.proofs.Programs.{AreFit, AreBuilt, all_built, distinct_all, count_all}
@@ -171,7 +174,9 @@ module _ (files : List SourceFile) (fs : List (List ℕ × Module)) (numbers : L
             room = (let e = subst (λ (n : ℕ). n ≤ 65536 * pages) data_is fits in omega (arith, e));
           }),
         );
-        valid = all_valid fs numbers jobs starts have.is_graph starts p whole.typed;
+        valid = All-cons IsValid (typed_link p pages) (map typed_module p)
+            (link_valid p pages (omega (arith, most)) link_spelled.fits (distinct_all fs numbers jobs have.each as_many none spelled starts are))
+            (all_valid fs numbers jobs starts have.is_graph starts p whole.typed);
         keeps = λ h. subst (λ (l : List ℕ). Keeps p pages l (map (λ m. m.1) built)) (sym link_whole)
             (subst (λ (ms : List (List ℕ)). Keeps p pages (module_spelling (typed_link p pages)) ms) (sym codes) (scheme_keeps p pages h (has_names named) least most));
       }

@@ -1,5 +1,5 @@
 -- The modules of a program are valid.
-use Rattle.std.proofs.Common.{◌≡◌, ℕ, List, [], ◌∷◌, Option, Some, Result, Ok, Err, subst}
+use Rattle.std.proofs.Common.{◌≡◌, ℕ, List, [], ◌∷◌, Option, Some, Result, Ok, Err, map, subst}
 use Rattle.std.specs.Prelude.{All}
 use Rattle.std.proofs.lemmas.List.Elements.{All-nil, All-cons}
 use Rattle.wasm_tree.specs.Validity.{IsValid}
@@ -25,8 +25,8 @@ module _ (fs : List (List ℕ × Module)) (numbers : List ℕ) (jobs : List (Lis
   one_valid : (s : ℕ) (t : TypedModule) → IsTyped (modules fs) numbers jobs s t → Valid t
   one_valid s t typed = held Valid _ t (programs_valid fs numbers jobs starts graph typed.tree typed.job) typed.typed
 
-  pub all_valid : (ss : List ℕ) (p : Modules) → AreTyped (modules fs) numbers jobs ss p → All Valid p
-  all_valid [] [] typed = All-nil Valid
+  pub all_valid : (ss : List ℕ) (p : Modules) → AreTyped (modules fs) numbers jobs ss p → All IsValid (map typed_module p)
+  all_valid [] [] typed = All-nil IsValid
   all_valid [] (t ∷ ts) typed = absurd typed
   all_valid (s ∷ ss) [] typed = absurd typed
-  all_valid (s ∷ ss) (t ∷ ts) typed = All-cons Valid t ts (one_valid s t typed.0) (all_valid ss ts typed.1)
+  all_valid (s ∷ ss) (t ∷ ts) typed = All-cons IsValid (typed_module t) (map typed_module ts) (one_valid s t typed.0) (all_valid ss ts typed.1)

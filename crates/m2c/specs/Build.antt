@@ -202,7 +202,7 @@ pub record IsProgram (files : List SourceFile) (pages : ℕ) (link : List ℕ) (
   pub fits : data_and_stack program ≤ 65536 * pages
   pub code : IsCode program pages link built
   pub links : (c : Config) × (linked (typed_link program pages ∷ map typed_module program) ≡ Ok c)
-  pub valid : All (λ m. IsValid (typed_module m)) program
+  pub valid : All IsValid (typed_link program pages ∷ map typed_module program)
   pub keeps : AreProved program → Keeps program pages link (map (λ m. m.1) built)
 
 -- The outcome of a build of these files. Rules of tokens and of the grammar come first, then those of imports, then those

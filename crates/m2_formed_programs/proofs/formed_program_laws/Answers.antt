@@ -1,4 +1,5 @@
 use Rattle.m2_formed_programs.proofs.Programs.{programs_formed, programs_valid}
+use Rattle.m2_formed_programs.proofs.Links.{link_valid}
 use Rattle.m2_formed_programs.proofs.formed_program_laws.Goals as goal
 
 pub returns-clause-formed : goal.returns-clause-formed
@@ -6,3 +7,6 @@ returns-clause-formed c = programs_formed
 
 pub returns-clause-valid : goal.returns-clause-valid
 returns-clause-valid c = programs_valid
+
+pub returns-clause-links : goal.returns-clause-links
+returns-clause-links c = link_valid
