@@ -92,7 +92,7 @@ impl From<AllocError> for BuildFault {
 ///   all modules that are reached, and 4096 bytes, need more than so many pages.
 ///
 /// A program of which nothing is told is compiled to the module link and, in start order, the modules that are reached
-/// from the program module. That they do what the program does is proved for the programs of
+/// from the program module. They are valid, and link. That they do what the program does is proved for the programs of
 /// `m2_headline/specs/Proved`.
 ///
 /// The work goes in two rounds of jobs over so many threads: a job for each file, in the order in which they are given,
