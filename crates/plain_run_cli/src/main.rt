@@ -19,12 +19,16 @@ use std::process::ExitCode;
 use std::rt::{Env, Files};
 use std::thread::Threads;
 
+/// The status of an end by itself or by HALT.
 const ENDED: u8 = 0;
 
+/// The status of a fault, and of refused files.
 const OTHERWISE: u8 = 1;
 
+/// The status where a file, memory or standard output failed.
 const FAILED: u8 = 3;
 
+/// The status of a program that still runs at the bound.
 const RUNNING: u8 = 4;
 
 /// The end by HALT.
@@ -43,6 +47,7 @@ impl Gate for Open {
     }
 }
 
+/// The bytes of files, with their names as given.
 fn read_all<R: Files + AllocGlobal>(rt: &R, names: &[String]) -> Result<Vec<SourceFile>> {
     let mut files = Vec::new(rt.alloc());
     for name in names {
@@ -53,6 +58,7 @@ fn read_all<R: Files + AllocGlobal>(rt: &R, names: &[String]) -> Result<Vec<Sour
     Ok(files)
 }
 
+/// Prints refusals, each on a line.
 fn print_all<T: Display>(rt: &impl Print, refusals: &[T]) -> Result<()> {
     for refusal in refusals {
         println!(rt; "{refusal}").context("cannot write to standard output")?;
@@ -122,6 +128,7 @@ fn judge<R: Files + Print + Eprint + AllocGlobal + Threads + Sync>(
     }
 }
 
+/// Does what the words ask for, and answers the status.
 fn run<R: Files + Env + Print + Eprint + AllocGlobal + Threads + Sync>(rt: &R) -> Result<u8> {
     match read_command_line(rt)? {
         Words::Told(status) => Ok(status),

@@ -1,4 +1,5 @@
-//! The typed modules of a program, in start order.
+//! The typed modules of a program, in start order. `build` of m2c hands out the modules' code alone, so files in which it found
+//! no broken rule are read and checked here once more, each module by the functions by which m2c's jobs do it.
 
 use anyhow::{Result, bail};
 use m2_check::check;
@@ -17,6 +18,7 @@ enum Done {
     Checked,
 }
 
+/// The trees of files that have one each.
 fn read_all(alloc: Global, files: &[SourceFile]) -> Result<Vec<Arc<Module>>> {
     let mut trees = Vec::new(alloc);
     for file in files {
@@ -28,6 +30,7 @@ fn read_all(alloc: Global, files: &[SourceFile]) -> Result<Vec<Arc<Module>>> {
     Ok(trees)
 }
 
+/// The trees with the files' names.
 fn named_trees<'a>(
     alloc: Global,
     files: &'a [SourceFile],
@@ -51,6 +54,7 @@ fn tables_of(alloc: Global, done: &[Done], jobs: &[usize]) -> Result<Items<Share
     Ok(tables)
 }
 
+/// The table of a definition, by the number of its job.
 fn defined(
     alloc: Global,
     number: u32,
@@ -63,6 +67,7 @@ fn defined(
     }
 }
 
+/// Whether this is the table of a body's own definition.
 fn is_own(tree: &Module, table: &Table) -> bool {
     table.name.as_bytes() == tree.name.name.as_bytes()
 }
@@ -76,6 +81,7 @@ fn behind(alloc: Global, tables: &[Shared<Table>]) -> Result<Items<Shared<Table>
     Ok(all)
 }
 
+/// A body, by the number of its job. The first table is that of its own definition, where it has one.
 fn typed_body(
     alloc: Global,
     number: u32,

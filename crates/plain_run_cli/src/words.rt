@@ -13,6 +13,7 @@ use std::rt::Env;
 /// The status of a command line that asks for nothing that can be done.
 const COMMAND_LINE: u8 = 2;
 
+/// What --version tells.
 const VERSION: &str = "0.1.0";
 
 /// The greatest bound on turns and calls.
@@ -25,6 +26,7 @@ pub struct Asked {
     pub pages: u32,
     /// The most turns of each loop, and how deep calls nest.
     pub bound: usize,
+    /// The names of the files.
     pub files: Vec<String>,
 }
 
@@ -50,6 +52,7 @@ fn number_of(rt: &impl Eprint, matches: &ArgMatches, option: &str, most: u64) ->
     number
 }
 
+/// The words that are known.
 fn command<'a>(alloc: Global) -> Result<Command<'a>> {
     let memory = Arg::new(alloc, "memory")
         .long("memory")
