@@ -1,5 +1,6 @@
 //! Builds programs that others wrote (`data/programs.txt`), holds each byte of their modules against theirs, executes them,
-//! and holds what they print and how they end against what is to be printed.
+//! and holds what they print and how they end against what is to be printed. Behind them stand programs that
+//! `tools/random_programs` made, with what the definition of a run prints of them.
 #![tactic(auto)]
 
 mod memory;

@@ -31,7 +31,7 @@ pub struct Expected {
 pub struct Program {
     pub name: String,
     pub files: Vec<SourceFile>,
-    /// All its modules, `link.wasm` too.
+    /// All its modules, `link.wasm` too; none where their bytes are not stated.
     pub modules: Vec<Expected>,
     /// The bytes that it prints.
     pub printed: Vec<u8>,
@@ -74,6 +74,9 @@ fn compared_all(
     link: &[u8],
     modules: &[(String, Vec<u8>)],
 ) -> Result<Option<String>> {
+    if program.modules.is_empty() {
+        return Ok(None);
+    }
     if let Some(wrong) = compared(alloc, &program.modules, "link", link)? {
         return Ok(Some(wrong));
     }
