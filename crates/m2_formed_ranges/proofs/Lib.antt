@@ -1,0 +1,4 @@
+pub mod Types
+pub mod Subranges
+pub mod Made
+pub mod Declarations
