@@ -1,5 +1,5 @@
 -- Variables of scalar types have one cell, whose numbers are the type's; frames and formals of such types fit.
-use Rattle.std.proofs.Common.{◌≡◌, ℕ, zero, suc, ◌+◌, ◌≤ℤ◌, ◌==◌, ℤ, pos, negsuc, Bool, true, false, List, [], ◌∷◌, ◌++◌, length, Option, Some, None, if◌then◌else◌, refl, sym, ap, subst, ◌∙◌, arith}
+use Rattle.std.proofs.Common.{◌≡◌, ℕ, zero, suc, ◌+◌, ◌≤ℤ◌, ℤ, pos, negsuc, Bool, true, false, List, [], ◌∷◌, ◌++◌, length, Option, Some, None, if◌then◌else◌, refl, sym, ap, subst, ◌∙◌, arith}
 use Rattle.std.proofs.lemmas.Int.{ints}
 use Rattle.std.proofs.lemmas.Bool.{eqb-true}
 use Rattle.std.proofs.lemmas.List.{length-append}
@@ -19,7 +19,7 @@ use Rattle.m2_typed.specs.Known.{scalar_at, scalar_from, scalar_made, scalar_sha
 use Rattle.m2_layout.specs.Types.{Ty, Natural, Integer, Between, Cell, least, greatest}
 use Rattle.m2_layout.specs.Shapes.{Trees, word, scalar_kind, or_nothing, in_module, scalar_tree, tree_from, shape_tree, with_made, module_trees, with_module, other_trees, known_trees, tree}
 use Rattle.m2_agree.specs.Scene.{AreSmall, IsIn, IsCell}
-use Rattle.m2_ranges.specs.Ranges.{IsRange, IsRanged, type_of, AreRangedFrom, OthersRanged, AreRanged}
+use Rattle.m2_ranges.specs.Ranges.{IsRange, type_of, AreRanged}
 use Rattle.m2_ranges.proofs.Known.{range_at}
 use Rattle.m2_agree_types.proofs.Plain.{scalar_is}
 

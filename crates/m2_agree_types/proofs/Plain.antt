@@ -1,7 +1,6 @@
 -- The trees of such types are plain.
-use Rattle.std.proofs.Common.{◌≡◌, ℕ, zero, suc, ◌≤ℤ◌, ◌<◌, ◌==◌, ℤ, pos, negsuc, Bool, true, false, List, [], ◌∷◌, ◌++◌, map, length, Option, Some, None, if◌then◌else◌, refl, sym, subst, arith}
+use Rattle.std.proofs.Common.{◌≡◌, ℕ, zero, suc, ◌≤ℤ◌, ℤ, pos, negsuc, Bool, true, false, List, [], ◌∷◌, ◌++◌, map, length, Option, Some, None, if◌then◌else◌, refl, sym, subst, arith}
 use Rattle.std.proofs.lemmas.Int.{ints}
-use Rattle.std.proofs.lemmas.Bool.{eqb-true}
 use Rattle.std.proofs.lemmas.List.{length-append}
 use Rattle.std.specs.Prelude.{slice_get, nat_eq, unsigned_abs, cond}
 use Rattle.std.specs.List.{fold}
@@ -14,8 +13,8 @@ use Rattle.m2_typed.specs.declared.shape.Shape.{Shape}
 use Rattle.m2_typed.specs.declared.shape.Shape.TheVariants as shape
 use Rattle.m2_typed.specs.declared.shape.Made.{Made}
 use Rattle.m2_typed.specs.declared.known_types.Types.{Types}
-use Rattle.m2_typed.specs.Types.{are_same, is_integer, integer, cardinal, boolean, char}
-use Rattle.m2_typed.specs.Known.{predeclared_scalar, range}
+use Rattle.m2_typed.specs.Types.{are_same, is_integer}
+use Rattle.m2_typed.specs.Known.{predeclared_scalar}
 use Rattle.m2_layout.specs.Types.{Ty, Natural, Integer, Between, row, IsScalar, IsPlain}
 use Rattle.m2_layout.specs.Shapes.{Trees, scalar_kind, or_nothing, in_module, scalar_tree, tree_from, tree_in, shape_tree, with_made, module_trees, with_module, other_trees, known_trees, tree}
 use Rattle.m2_ranges.specs.Ranges.{IsRange, IsRanged, type_of, AreRangedFrom, OthersRanged, AreRanged}

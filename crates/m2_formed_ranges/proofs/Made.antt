@@ -161,11 +161,13 @@ module _ (g : Gathers) where
       let t : TypeNo = next_type s in
       let x : Made = enumeration_scalar t names in
       let some : 0 < length names = has_some names e in
-      let there : scalar_at (with_shape s x).types t ≡ Some (constants t (length names)) = next_is s x in
-      (scope_more s x h (enumeration_range s (length names) some most) (record {
-        low = record { range = constants t (length names); at = there; own = refl; low = omega (arith, ints); high = omega (arith, ints, some) };
-        high = record { range = constants t (length names); at = there; own = refl; low = omega (arith, ints, some); high = omega (arith, ints) };
-      }), there)
+      let there : scalar_at (with_shape s x).types t ≡ Some (constants t (length names)) = next_is s x in (
+        scope_more s x h (enumeration_range s (length names) some most) (record {
+          low = record { range = constants t (length names); at = there; own = refl; low = omega (arith, ints); high = omega (arith, ints, some) };
+          high = record { range = constants t (length names); at = there; own = refl; low = omega (arith, ints, some); high = omega (arith, ints) };
+        }),
+        there,
+      )
 
   enumeration_ranged : (s : Scope g.Told) (names : List Ident) → ScopeRanged s → has_names names ≡ true → StateRanged (enumeration g s names)
   enumeration_ranged s names h e =

@@ -245,7 +245,3 @@ DefsAreRanged g = (st : State (Unit {0}) g.Told) → StateRanged st → (d : Def
 abbrev pub DeclsAreRanged : Gathers → Type 0
 DeclsAreRanged g = (ends : List ℕ) (c : Course g.Told) → StateRanged (c.0, c.1) → (d : Decl) → fits_decl d ≡ true
     → StateRanged (let n = with_decl g ends c d in (n.0, n.1))
-
--- where constant expressions mean such numbers, all of them do
-abbrev pub DeclarationsKeepRanges : Gathers → Type 0
-DeclarationsKeepRanges g = ConstantsAreRanged g → TypesAreRanged g × (DefsAreRanged g × DeclsAreRanged g)
