@@ -14,7 +14,7 @@ use Rattle.m2_agree_calls.specs.Passing.{result_of}
 use Rattle.m2_agree_runs.specs.Programs.{ground}
 use Rattle.m2_agree_stmts.specs.Typed.{AreStmts}
 use Rattle.m2_agree_bodies.specs.Linked.{around_of, text_of, context}
-use Rattle.m2_agree_types.specs.Ranges.{AreRanged}
+use Rattle.m2_ranges.specs.Ranges.{AreRanged}
 use Rattle.m2_agree_linked.specs.Knows.{IsCoherent}
 
 -- it stands in a procedure

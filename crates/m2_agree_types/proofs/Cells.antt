@@ -1,5 +1,5 @@
 -- Variables of scalar types have one cell, whose numbers are the type's; frames and formals of such types fit.
-use Rattle.std.proofs.Common.{◌≡◌, ℕ, zero, suc, ◌+◌, ◌≤ℤ◌, ◌==◌, ℤ, pos, negsuc, Bool, true, false, List, [], ◌∷◌, ◌++◌, length, Option, Some, None, if◌then◌else◌, refl, sym, ap, subst, ◌∙◌, arith}
+use Rattle.std.proofs.Common.{◌≡◌, ℕ, zero, suc, ◌+◌, ◌≤ℤ◌, ℤ, pos, negsuc, Bool, true, false, List, [], ◌∷◌, ◌++◌, length, Option, Some, None, if◌then◌else◌, refl, sym, ap, subst, ◌∙◌, arith}
 use Rattle.std.proofs.lemmas.Int.{ints}
 use Rattle.std.proofs.lemmas.Bool.{eqb-true}
 use Rattle.std.proofs.lemmas.List.{length-append}
@@ -19,53 +19,11 @@ use Rattle.m2_typed.specs.Known.{scalar_at, scalar_from, scalar_made, scalar_sha
 use Rattle.m2_layout.specs.Types.{Ty, Natural, Integer, Between, Cell, least, greatest}
 use Rattle.m2_layout.specs.Shapes.{Trees, word, scalar_kind, or_nothing, in_module, scalar_tree, tree_from, shape_tree, with_made, module_trees, with_module, other_trees, known_trees, tree}
 use Rattle.m2_agree.specs.Scene.{AreSmall, IsIn, IsCell}
-use Rattle.m2_agree_types.specs.Ranges.{IsRange, IsRanged, type_of, AreRangedFrom, OthersRanged, AreRanged}
-use Rattle.m2_agree_types.proofs.Plain.{scalar_is, predeclared_is}
+use Rattle.m2_ranges.specs.Ranges.{IsRange, type_of, AreRanged}
+use Rattle.m2_ranges.proofs.Known.{range_at}
+use Rattle.m2_agree_types.proofs.Plain.{scalar_is}
 
 -- ---- the range of a type
-
-ranged_from : (home k : ℕ) (ms : List Made) (n : ℕ) (m : Made) → AreRangedFrom home k ms → slice_get ms n ≡ Some m → IsRanged (type_of home (k + n)) m.shape
-ranged_from home k [] n m h e = absurd cc
-ranged_from home k (x ∷ ms) zero m h e = let same : x ≡ m = cc in subst (λ (i : ℕ). IsRanged (type_of home i) m.shape) (omega arith) (subst (λ (y : Made). IsRanged (type_of home k) y.shape) same h.0)
-ranged_from home k (x ∷ ms) (suc n) m h e = subst (λ (i : ℕ). IsRanged (type_of home i) m.shape) (omega arith) (ranged_from home (suc k) ms n m h.1 e)
-
-ranged_in : (home : ℕ) (es : List (ℕ × List Made)) (n : ℕ) (m : Made) → OthersRanged es → in_list n (lookup (nat_eq home) es) ≡ Some m → IsRanged (type_of home n) m.shape
-ranged_in home [] n m h e = absurd cc
-ranged_in home (x ∷ es) n m h e = by (nat_eq home x.0) refl (λ g. ranged_in home es n m h.1 g) e
-  where
-    by : (b : Bool) → nat_eq home x.0 ≡ b → (in_list n (lookup (nat_eq home) es) ≡ Some m → IsRanged (type_of home n) m.shape) → in_list n (cond b (Some x.1) (lookup (nat_eq home) es)) ≡ Some m → IsRanged (type_of home n) m.shape
-    by true f onward g =
-        let same = eqb-true home x.0 f in
-        subst (λ (i : ℕ). IsRanged (type_of home i) m.shape) (omega arith) (subst (λ (k : ℕ). IsRanged (type_of k (0 + n)) m.shape) (sym same) (ranged_from x.0 0 x.1 n m h.0 g))
-    by false f onward g = onward g
-
-ranged_made : (types : Types) → AreRanged types → (home n : ℕ) (m : Made) → made_in types home n ≡ Some m → IsRanged (type_of home n) m.shape
-ranged_made types is home n m e = by (home == types.home) refl e
-  where
-    by : (b : Bool) → (home == types.home) ≡ b → cond b (slice_get types.own n) (in_list n (lookup (nat_eq home) types.others)) ≡ Some m → IsRanged (type_of home n) m.shape
-    by true f g =
-        let same = eqb-true home types.home f in
-        subst (λ (i : ℕ). IsRanged (type_of home i) m.shape) (omega arith) (subst (λ (k : ℕ). IsRanged (type_of k (0 + n)) m.shape) (sym same) (ranged_from types.home 0 types.own n m is.own g))
-    by false f g = ranged_in home types.others n m is.others g
-
-shape_range : (t : TypeNo) (s : Shape) (r : Range) → IsRanged t s → scalar_shape s ≡ Some r → IsRange t r
-shape_range t (shape.Scalar s) r h e = let same : s ≡ r = cc in subst (λ (x : Range). IsRange t x) same h
-shape_range t shape.Set r h e = absurd cc
-shape_range t (shape.Array i x) r h e = absurd cc
-shape_range t (shape.Record fs) r h e = absurd cc
-shape_range t (shape.Procedure p) r h e = absurd cc
-shape_range t (shape.Open x) r h e = absurd cc
-
-made_range : (t : TypeNo) (o : Option Made) (r : Range) → ((m : Made) → o ≡ Some m → IsRanged t m.shape) → scalar_made o ≡ Some r → IsRange t r
-made_range t None r h e = absurd cc
-made_range t (Some m) r h e = shape_range t m.shape r (h m refl) e
-
-pub range_at : (types : Types) → AreRanged types → (t : TypeNo) (r : Range) → scalar_at types t ≡ Some r → IsRange t r
-range_at types is t r e = by t.home refl e
-  where
-    by : (home : Home) → t.home ≡ home → scalar_from types home t.number ≡ Some r → IsRange t r
-    by Predeclared f g = subst (λ (k : Home). IsRange (record { home = k; number = t.number }) r) (sym f) (predeclared_is t.number r g)
-    by (Module home) f g = made_range t (made_in types home t.number) r (λ m k. subst (λ (j : Home). IsRanged (record { home = j; number = t.number }) m.shape) (sym f) (ranged_made types is home t.number m k)) g
 
 pub are_small : (types : Types) → AreRanged types → AreSmall types
 are_small types is t r e = let s = range_at types is t r e in record { low = s.low; high = s.high; some = s.some }

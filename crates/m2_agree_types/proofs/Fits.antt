@@ -11,7 +11,7 @@ use Rattle.m2_layout.specs.Shapes.{tree}
 use Rattle.m2_layout.specs.Frames.{formals_of, formal_tree, frame, module_row}
 use Rattle.m2_agree_calls.specs.Passing.{ByName, ByArray, value_form, form_of, forms_of}
 use Rattle.m2_agree_procedures.specs.Stage.{IsForm, AreForms}
-use Rattle.m2_agree_types.specs.Ranges.{AreRanged}
+use Rattle.m2_ranges.specs.Ranges.{AreRanged}
 use Rattle.m2_agree_types.proofs.Plain.{tree_plain}
 
 -- ---- formals

@@ -1,7 +1,6 @@
 -- The trees of such types are plain.
-use Rattle.std.proofs.Common.{◌≡◌, ℕ, zero, suc, ◌≤ℤ◌, ◌<◌, ◌==◌, ℤ, pos, negsuc, Bool, true, false, List, [], ◌∷◌, ◌++◌, map, length, Option, Some, None, if◌then◌else◌, refl, sym, subst, arith}
+use Rattle.std.proofs.Common.{◌≡◌, ℕ, zero, suc, ◌≤ℤ◌, ℤ, pos, negsuc, Bool, true, false, List, [], ◌∷◌, ◌++◌, map, length, Option, Some, None, if◌then◌else◌, refl, sym, subst, arith}
 use Rattle.std.proofs.lemmas.Int.{ints}
-use Rattle.std.proofs.lemmas.Bool.{eqb-true}
 use Rattle.std.proofs.lemmas.List.{length-append}
 use Rattle.std.specs.Prelude.{slice_get, nat_eq, unsigned_abs, cond}
 use Rattle.std.specs.List.{fold}
@@ -14,11 +13,12 @@ use Rattle.m2_typed.specs.declared.shape.Shape.{Shape}
 use Rattle.m2_typed.specs.declared.shape.Shape.TheVariants as shape
 use Rattle.m2_typed.specs.declared.shape.Made.{Made}
 use Rattle.m2_typed.specs.declared.known_types.Types.{Types}
-use Rattle.m2_typed.specs.Types.{are_same, is_integer, integer, cardinal, boolean, char}
-use Rattle.m2_typed.specs.Known.{predeclared_scalar, range}
+use Rattle.m2_typed.specs.Types.{are_same, is_integer}
+use Rattle.m2_typed.specs.Known.{predeclared_scalar}
 use Rattle.m2_layout.specs.Types.{Ty, Natural, Integer, Between, row, IsScalar, IsPlain}
 use Rattle.m2_layout.specs.Shapes.{Trees, scalar_kind, or_nothing, in_module, scalar_tree, tree_from, tree_in, shape_tree, with_made, module_trees, with_module, other_trees, known_trees, tree}
-use Rattle.m2_agree_types.specs.Ranges.{IsRange, IsRanged, type_of, AreRangedFrom, OthersRanged, AreRanged}
+use Rattle.m2_ranges.specs.Ranges.{IsRange, IsRanged, type_of, AreRangedFrom, OthersRanged, AreRanged}
+use Rattle.m2_ranges.proofs.Known.{predeclared_is}
 
 -- ---- scalars
 
@@ -41,56 +41,6 @@ scalar_is t s is = by (are_same t s.base) refl (is_integer t) refl
     by true e false f =
         let low = is.base e f in natural_scalar s.high (subst (λ (v : ℤ). v ≤ℤ s.high) low is.some) is.high
     by false e c f = record { low = is.low; high = is.high; some = is.some; narrow = is.narrow }
-
--- ---- predeclared types
-
--- there are four of them
-none_there : (n : ℕ) (s : Range) → 3 < n → predeclared_scalar n ≡ Some s → ⊥
-none_there n s less e = by (n == 0) refl (n == 1) refl (n == 2) refl (n == 3) refl e
-  where
-    by : (a : Bool) → (n == 0) ≡ a → (b : Bool) → (n == 1) ≡ b → (c : Bool) → (n == 2) ≡ c → (d : Bool) → (n == 3) ≡ d
-        → cond a (Some (range integer (negsuc 2147483647) (pos 2147483647))) (cond b (Some (range cardinal (pos 0) (pos 4294967295))) (cond c (Some (range boolean (pos 0) (pos 1))) (cond d (Some (range char (pos 0) (pos 255))) None))) ≡ Some s → ⊥
-    by true h b i c j d k e = let m = eqb-true n 0 h in omega (arith, m, less)
-    by false h true i c j d k e = let m = eqb-true n 1 i in omega (arith, m, less)
-    by false h false i true j d k e = let m = eqb-true n 2 j in omega (arith, m, less)
-    by false h false i false j true k e = let m = eqb-true n 3 k in omega (arith, m, less)
-    by false h false i false j false k e = cc e
-
--- the predeclared scalars have ranges of the language
-pub predeclared_is : (n : ℕ) (s : Range) → predeclared_scalar n ≡ Some s → IsRange (record { home = Predeclared; number = n }) s
-predeclared_is zero s e = let same : range integer (negsuc 2147483647) (pos 2147483647) ≡ s = cc in subst (λ (r : Range). IsRange (record { home = Predeclared; number = 0 }) r) same (record {
-  low = omega (arith, ints);
-  high = omega (arith, ints);
-  some = omega (arith, ints);
-  narrow = omega (arith, ints);
-  integer = λ a b. (refl, refl);
-  base = λ a b. absurd cc;
-})
-predeclared_is (suc zero) s e = let same : range cardinal (pos 0) (pos 4294967295) ≡ s = cc in subst (λ (r : Range). IsRange (record { home = Predeclared; number = 1 }) r) same (record {
-  low = omega (arith, ints);
-  high = omega (arith, ints);
-  some = omega (arith, ints);
-  narrow = omega (arith, ints);
-  integer = λ a b. absurd cc;
-  base = λ a b. refl;
-})
-predeclared_is (suc (suc zero)) s e = let same : range boolean (pos 0) (pos 1) ≡ s = cc in subst (λ (r : Range). IsRange (record { home = Predeclared; number = 2 }) r) same (record {
-  low = omega (arith, ints);
-  high = omega (arith, ints);
-  some = omega (arith, ints);
-  narrow = omega (arith, ints);
-  integer = λ a b. absurd cc;
-  base = λ a b. refl;
-})
-predeclared_is (suc (suc (suc zero))) s e = let same : range char (pos 0) (pos 255) ≡ s = cc in subst (λ (r : Range). IsRange (record { home = Predeclared; number = 3 }) r) same (record {
-  low = omega (arith, ints);
-  high = omega (arith, ints);
-  some = omega (arith, ints);
-  narrow = omega (arith, ints);
-  integer = λ a b. absurd cc;
-  base = λ a b. refl;
-})
-predeclared_is (suc (suc (suc (suc n)))) s e = absurd (none_there (suc (suc (suc (suc n)))) s (omega arith) e)
 
 -- ---- trees
 

@@ -12,7 +12,7 @@ use Rattle.m2_layout.specs.Frames.{frame, module_row}
 use Rattle.m2_agree.specs.Scene.{AreSmall, IsCell}
 use Rattle.m2_agree_calls.specs.Passing.{forms_of}
 use Rattle.m2_agree_procedures.specs.Stage.{AreForms}
-use Rattle.m2_agree_types.specs.Ranges.{AreRanged}
+use Rattle.m2_ranges.specs.Ranges.{AreRanged}
 
 -- variables have no hidden room, and their cells are scalars of the language
 abbrev pub TreesArePlain : Type 0

@@ -1,7 +1,7 @@
 //! What storage and values have where the ranges of all types are ranges of the language. There is no code here but what names
 //! the laws.
 //!
-//! - `specs/Ranges` says what such ranges are.
+//! - `specs/Ranges` of `m2_ranges` says what such ranges are.
 //! - `specs/Laws` has the laws.
 #![tactic(auto)]
 

@@ -1,5 +1,5 @@
 -- Types whose ranges are ranges of the language.
-use Rattle.std.specs.Prelude.{◌≡◌, ℕ, suc, ◌-ℤ◌, ◌≤ℤ◌, pos, negsuc, true, false, List, [], ◌∷◌}
+use Rattle.std.specs.Prelude.{◌≡◌, ℕ, suc, ◌-ℤ◌, ◌≤ℤ◌, pos, negsuc, true, false, List, [], ◌∷◌, Some}
 use Rattle.m2_typed.specs.declared.types.Home.TheVariants.{Module}
 use Rattle.m2_typed.specs.declared.types.TypeNo.{TypeNo}
 use Rattle.m2_typed.specs.declared.shape.Scalar.{Scalar as Range}
@@ -7,6 +7,7 @@ use Rattle.m2_typed.specs.declared.shape.Shape.{Shape}
 use Rattle.m2_typed.specs.declared.shape.Shape.TheVariants as shape
 use Rattle.m2_typed.specs.declared.shape.Made.{Made}
 use Rattle.m2_typed.specs.declared.known_types.Types.{Types}
+use Rattle.m2_typed.specs.Known.{scalar_at}
 use Rattle.m2_typed.specs.Types.{are_same, is_integer}
 
 -- the numbers of a scalar type: a base type other than INTEGER begins with 0
@@ -42,3 +43,7 @@ OthersRanged (e ∷ es) = AreRangedFrom e.0 0 e.1 × OthersRanged es
 pub record AreRanged (types : Types) : Type 0 where
   pub own : AreRangedFrom types.home 0 types.own
   pub others : OthersRanged types.others
+
+-- the range of a type that is known
+abbrev pub RangesAreKnown : Type 0
+RangesAreKnown = (types : Types) → AreRanged types → (t : TypeNo) (r : Range) → scalar_at types t ≡ Some r → IsRange t r

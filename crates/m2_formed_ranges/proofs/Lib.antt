@@ -1,0 +1,6 @@
+pub mod Types
+pub mod Subranges
+pub mod Values
+pub mod Constants
+pub mod Made
+pub mod Declarations
