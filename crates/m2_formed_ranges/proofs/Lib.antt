@@ -5,3 +5,4 @@ pub mod Constants
 pub mod Made
 pub mod Declarations
 pub mod Blocks
+pub mod Tables

@@ -43,12 +43,14 @@ use Rattle.m2_constants.specs.Parts.{part, constant}
 use Rattle.m2_made.specs.Made.{type_of}
 use Rattle.m2_types.specs.Declare.{with_def}
 use Rattle.m2_types.specs.Compiled.{declared_in}
+use Rattle.m2_types.specs.Export.{exports}
+use Rattle.m2_types.specs.Predeclared.{others_of, first_scope}
 use Rattle.m2_judged.specs.Scopes.{State}
 use Rattle.m2_blocks.specs.Declarations.{Course, with_decl, declared_block, declared_module}
 use Rattle.m2_blocks.specs.declared.inner.Outside.{Outside}
 use Rattle.m2_blocks.specs.Inner.{entered_procedure, left_procedure}
 use Rattle.m2_formed.specs.Formed.{Holds}
-use Rattle.m2_ranges.specs.Ranges.{AreRanged}
+use Rattle.m2_ranges.specs.Ranges.{OthersRanged, AreRanged}
 
 -- ---- trees: numbers and characters are as the scanner gives them, and an enumeration has a constant
 
@@ -271,3 +273,17 @@ EnteredAreRanged g = (s : Scope g.Told) (seen : ℕ) (h : Heading) → ScopeRang
 -- and the way back
 abbrev pub LeftAreRanged : Gathers → Type 0
 LeftAreRanged g = (o : Outside) (s : Scope g.Told) → ScopeRanged s → ScopeRanged (left_procedure o s)
+
+-- ---- where a module begins, and what it exports
+
+abbrev pub first_types : ℕ → List Table → Types
+first_types home tables = record { home = home; own = []; others = others_of tables }
+
+-- a module begins in such a scope, if the types that its tables reach have such ranges, and their constants are such numbers
+abbrev pub FirstAreRanged : Gathers → Type 0
+FirstAreRanged g = (home : ℕ) (tables : List Table) → OthersRanged (others_of tables) → OthersBased (first_types home tables) (others_of tables) → TablesRanged (first_types home tables) tables
+    → ScopeRanged (first_scope {T = g.Told} home tables)
+
+-- the constants that it exports are such numbers
+abbrev pub ExportsAreRanged : Gathers → Type 0
+ExportsAreRanged g = (s : Scope g.Told) → ScopeRanged s → ExportsRanged s.types (exports s.own)

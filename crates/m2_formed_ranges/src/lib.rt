@@ -5,7 +5,8 @@
 //!   `proofs/Declarations` the declarations of definitions and of blocks.
 //! - `proofs/Values` has a lemma for each operator and standard function on constants, and `proofs/Constants` those of
 //!   constant expressions, with the induction.
-//! - `proofs/Blocks` has imports, whole blocks, and the way into procedures and back.
+//! - `proofs/Blocks` has imports, whole blocks, and the way into procedures and back, and `proofs/Tables` where a module
+//!   begins, and what it exports.
 #![tactic(auto)]
 
 ghost use Rattle.m2_judged.specs.Judged.{least, every};
@@ -16,6 +17,8 @@ ghost use Rattle.m2_formed_ranges.specs.FormedRanges.{
   DefinitionsAreRanged,
   DefsAreRanged,
   EnteredAreRanged,
+  ExportsAreRanged,
+  FirstAreRanged,
   LeftAreRanged,
   ModulesAreRanged,
   TypesAreRanged,
@@ -55,4 +58,9 @@ pub fn block_range_laws()
     // and so is the one behind the procedure.
     ensures least_left { LeftAreRanged least }
     ensures every_left { LeftAreRanged every }
+    // A module begins in such a scope, if its tables allow it, and exports such constants.
+    ensures least_first { FirstAreRanged least }
+    ensures every_first { FirstAreRanged every }
+    ensures least_exports { ExportsAreRanged least }
+    ensures every_exports { ExportsAreRanged every }
 {}

@@ -1,5 +1,6 @@
 use Rattle.m2_judged.specs.Judged.{least, every}
 use Rattle.m2_formed_ranges.proofs.Blocks.{block_ranged, module_ranged, definition_ranged, left_ranged, entered_ranged}
+use Rattle.m2_formed_ranges.proofs.Tables.{first_ranged, exports_ranged}
 use Rattle.m2_formed_ranges.proofs.block_range_laws.Goals as goal
 
 pub returns-clause-least_definitions : goal.returns-clause-least_definitions
@@ -31,3 +32,15 @@ returns-clause-least_left c = λ o s h. left_ranged o s h
 
 pub returns-clause-every_left : goal.returns-clause-every_left
 returns-clause-every_left c = λ o s h. left_ranged o s h
+
+pub returns-clause-least_first : goal.returns-clause-least_first
+returns-clause-least_first c = λ home tables p q r. first_ranged home tables p q r
+
+pub returns-clause-every_first : goal.returns-clause-every_first
+returns-clause-every_first c = λ home tables p q r. first_ranged home tables p q r
+
+pub returns-clause-least_exports : goal.returns-clause-least_exports
+returns-clause-least_exports c = λ s h. exports_ranged s h
+
+pub returns-clause-every_exports : goal.returns-clause-every_exports
+returns-clause-every_exports c = λ s h. exports_ranged s h
