@@ -36,7 +36,7 @@ use Rattle.m2_formed_ranges.proofs.Types.{both_left, both_right}
 use Rattle.m2_formed_ranges.proofs.Made.{beside_then, const_holds, known_ranged, unless_ranged, finished_ranged, made_ranged, heading_ranged, type_of_ranged}
 
 -- a meaning that is no constant
-meant_holds : {A T : Type 0} {P : Meaning → Type 0} (f : A → Meaning) → ((x : A) → P (f x)) → (r : Result A T) → Holds P (r ▷ λ x. Ok (f x))
+pub meant_holds : {A T : Type 0} {P : Meaning → Type 0} (f : A → Meaning) → ((x : A) → P (f x)) → (r : Result A T) → Holds P (r ▷ λ x. Ok (f x))
 meant_holds f k (Ok x) = fine (f x) (k x)
 meant_holds f k (Err e) = broken e
 

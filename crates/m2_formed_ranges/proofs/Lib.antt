@@ -4,3 +4,5 @@ pub mod Values
 pub mod Constants
 pub mod Made
 pub mod Declarations
+pub mod Blocks
+pub mod Tables

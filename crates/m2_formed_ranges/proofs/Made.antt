@@ -63,7 +63,7 @@ names_by : {T : Type 0} (types : Types) (b : Bool) (k : Known T) (e : List ℕ �
 names_by types true k e es more p all q = (p, all.1)
 names_by types false k e es more p all q = (all.0, q)
 
-names_more : {T : Type 0} (types : Types) (name : List ℕ) (k : Known T) (es : List (List ℕ × Known T)) → KnownRanged types k → NamesRanged types es → NamesRanged types (entered name k es)
+pub names_more : {T : Type 0} (types : Types) (name : List ℕ) (k : Known T) (es : List (List ℕ × Known T)) → KnownRanged types k → NamesRanged types es → NamesRanged types (entered name k es)
 names_more types name k [] p all = (p, tt)
 names_more types name k (e ∷ es) p all = names_by types (same_name name e.0) k e es (entered name k es) p all (names_more types name k es p all.1)
 

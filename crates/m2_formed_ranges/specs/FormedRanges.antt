@@ -15,6 +15,8 @@ use Rattle.m2_tree.specs.declared.decl.Field.{Field-F}
 use Rattle.m2_tree.specs.declared.decl.Constant.{Constant}
 use Rattle.m2_tree.specs.declared.decl.TypeDecl.{TypeDecl}
 use Rattle.m2_tree.specs.declared.decl.Variables.{Variables}
+use Rattle.m2_tree.specs.declared.decl.Heading.{Heading}
+use Rattle.m2_tree.specs.declared.decl.Module.{Module}
 use Rattle.m2_tree.specs.declared.decl.Def.{Def}
 use Rattle.m2_tree.specs.declared.decl.Def.TheVariants as def
 use Rattle.m2_tree.specs.declared.decl.Decl.{Decl, Decl-F, out-Decl}
@@ -40,10 +42,15 @@ use Rattle.m2_values.specs.Operands.{letter}
 use Rattle.m2_constants.specs.Parts.{part, constant}
 use Rattle.m2_made.specs.Made.{type_of}
 use Rattle.m2_types.specs.Declare.{with_def}
+use Rattle.m2_types.specs.Compiled.{declared_in}
+use Rattle.m2_types.specs.Export.{exports}
+use Rattle.m2_types.specs.Predeclared.{others_of, first_scope}
 use Rattle.m2_judged.specs.Scopes.{State}
-use Rattle.m2_blocks.specs.Declarations.{Course, with_decl}
+use Rattle.m2_blocks.specs.Declarations.{Course, with_decl, declared_block, declared_module}
+use Rattle.m2_blocks.specs.declared.inner.Outside.{Outside}
+use Rattle.m2_blocks.specs.Inner.{entered_procedure, left_procedure}
 use Rattle.m2_formed.specs.Formed.{Holds}
-use Rattle.m2_ranges.specs.Ranges.{AreRanged}
+use Rattle.m2_ranges.specs.Ranges.{OthersRanged, AreRanged}
 
 -- ---- trees: numbers and characters are as the scanner gives them, and an enumeration has a constant
 
@@ -56,10 +63,6 @@ both_fit x = x.1
 
 abbrev pub itself : Bool → Bool
 itself b = b
-
-abbrev pub fits_if : Option Bool → Bool
-fits_if None = true
-fits_if (Some b) = b
 
 abbrev pub fit_if : Option (List Bool) → Bool
 fit_if None = true
@@ -245,3 +248,42 @@ DefsAreRanged g = (st : State (Unit {0}) g.Told) → StateRanged st → (d : Def
 abbrev pub DeclsAreRanged : Gathers → Type 0
 DeclsAreRanged g = (ends : List ℕ) (c : Course g.Told) → StateRanged (c.0, c.1) → (d : Decl) → fits_decl d ≡ true
     → StateRanged (let n = with_decl g ends c d in (n.0, n.1))
+
+-- ---- whole blocks
+
+-- the imports and the declarations of a definition
+abbrev pub DefinitionsAreRanged : Gathers → Type 0
+DefinitionsAreRanged g = (m : Module) (modules : List (List ℕ × ℕ)) (s : Scope g.Told) → ScopeRanged s → (ds : List Def) → list_all fits_def ds ≡ true
+    → StateRanged (declared_in g m modules s ds)
+
+-- the declarations of a block,
+abbrev pub BlocksAreRanged : Gathers → Type 0
+BlocksAreRanged g = (ends : List ℕ) (st : State (Unit {0}) g.Told) (first : ℕ) → StateRanged st → (ds : List Decl) → list_all fits_decl ds ≡ true
+    → StateRanged (let d = declared_block g ends st first ds in (d.0, d.1))
+
+-- and those of a module, behind its imports
+abbrev pub ModulesAreRanged : Gathers → Type 0
+ModulesAreRanged g = (modules : List (List ℕ × ℕ)) (ends : List ℕ) (s : Scope g.Told) (m : Module) → ScopeRanged s → (ds : List Decl) → list_all fits_decl ds ≡ true
+    → StateRanged (let d = declared_module g modules ends s m ds in (d.0, d.1))
+
+-- the way into a procedure,
+abbrev pub EnteredAreRanged : Gathers → Type 0
+EnteredAreRanged g = (s : Scope g.Told) (seen : ℕ) (h : Heading) → ScopeRanged s → ScopeRanged (entered_procedure g s seen h).0
+
+-- and the way back
+abbrev pub LeftAreRanged : Gathers → Type 0
+LeftAreRanged g = (o : Outside) (s : Scope g.Told) → ScopeRanged s → ScopeRanged (left_procedure o s)
+
+-- ---- where a module begins, and what it exports
+
+abbrev pub first_types : ℕ → List Table → Types
+first_types home tables = record { home = home; own = []; others = others_of tables }
+
+-- a module begins in such a scope, if the types that its tables reach have such ranges, and their constants are such numbers
+abbrev pub FirstAreRanged : Gathers → Type 0
+FirstAreRanged g = (home : ℕ) (tables : List Table) → OthersRanged (others_of tables) → OthersBased (first_types home tables) (others_of tables) → TablesRanged (first_types home tables) tables
+    → ScopeRanged (first_scope {T = g.Told} home tables)
+
+-- the constants that it exports are such numbers
+abbrev pub ExportsAreRanged : Gathers → Type 0
+ExportsAreRanged g = (s : Scope g.Told) → ScopeRanged s → ExportsRanged s.types (exports s.own)

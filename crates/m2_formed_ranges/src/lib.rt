@@ -5,13 +5,22 @@
 //!   `proofs/Declarations` the declarations of definitions and of blocks.
 //! - `proofs/Values` has a lemma for each operator and standard function on constants, and `proofs/Constants` those of
 //!   constant expressions, with the induction.
+//! - `proofs/Blocks` has imports, whole blocks, and the way into procedures and back, and `proofs/Tables` where a module
+//!   begins, and what it exports.
 #![tactic(auto)]
 
 ghost use Rattle.m2_judged.specs.Judged.{least, every};
 ghost use Rattle.m2_formed_ranges.specs.FormedRanges.{
+  BlocksAreRanged,
   ConstantsAreRanged,
   DeclsAreRanged,
+  DefinitionsAreRanged,
   DefsAreRanged,
+  EnteredAreRanged,
+  ExportsAreRanged,
+  FirstAreRanged,
+  LeftAreRanged,
+  ModulesAreRanged,
   TypesAreRanged,
 };
 
@@ -31,4 +40,27 @@ pub fn formed_range_laws()
     // and those of blocks.
     ensures least_decls { DeclsAreRanged least }
     ensures every_decls { DeclsAreRanged every }
+{}
+
+/// The same of whole definitions, blocks and modules, and of the way into procedures and back.
+pub fn block_range_laws()
+    // The imports and the declarations of a definition lead to such a scope,
+    ensures least_definitions { DefinitionsAreRanged least }
+    ensures every_definitions { DefinitionsAreRanged every }
+    // and so do those of a block and of a module.
+    ensures least_blocks { BlocksAreRanged least }
+    ensures every_blocks { BlocksAreRanged every }
+    ensures least_modules { ModulesAreRanged least }
+    ensures every_modules { ModulesAreRanged every }
+    // The scope in which a procedure's block begins is such a scope,
+    ensures least_entered { EnteredAreRanged least }
+    ensures every_entered { EnteredAreRanged every }
+    // and so is the one behind the procedure.
+    ensures least_left { LeftAreRanged least }
+    ensures every_left { LeftAreRanged every }
+    // A module begins in such a scope, if its tables allow it, and exports such constants.
+    ensures least_first { FirstAreRanged least }
+    ensures every_first { FirstAreRanged every }
+    ensures least_exports { ExportsAreRanged least }
+    ensures every_exports { ExportsAreRanged every }
 {}
