@@ -1,11 +1,17 @@
 -- The scope in which a module begins, and what a definition exports.
-use Rattle.std.proofs.Common.{ℕ, pos, Bool, true, false, cond, List, [], ◌∷◌, Result, Ok, refl, arith}
+use Rattle.std.proofs.Common.{ℕ, pos, Bool, true, false, cond, List, [], ◌∷◌, ◌++◌, Result, Ok, refl, subst, arith}
 use Rattle.std.proofs.lemmas.Int.{ints}
-use Rattle.std.specs.Prelude.{codes}
+use Rattle.std.proofs.lemmas.Bool.{eqb-true}
+use Rattle.std.specs.Prelude.{codes, nat_eq, ◌≡◌, if◌then◌else◌}
+use Rattle.std.specs.Map.{lookup}
+use Rattle.std.specs.Option.{is_some}
+use Rattle.indexmap.specs.IndexMap.{insert_entry}
 use Rattle.std.specs.List.{fold}
 use Rattle.m2_typed.specs.declared.meaning.Standard.TheVariants.{Abs, Cap, Chr, High, Max, Min, Odd, Ord, Val, Inc, Dec, Incl, Excl, Halt}
 use Rattle.m2_typed.specs.declared.meaning.Meaning.{Meaning}
 use Rattle.m2_typed.specs.declared.meaning.Meaning.TheVariants as meaning
+use Rattle.m2_typed.specs.declared.shape.Made.{Made}
+use Rattle.m2_typed.specs.declared.table.ModuleTypes.{ModuleTypes}
 use Rattle.m2_typed.specs.declared.table.Table.{Table}
 use Rattle.m2_typed.specs.declared.known_types.Types.{Types}
 use Rattle.m2_typed.specs.Types.{integer, cardinal, boolean, char, bitset}
@@ -16,11 +22,11 @@ use Rattle.m2_judged.specs.declared.known.Origin.TheVariants as origin
 use Rattle.m2_judged.specs.declared.known.Known.{Known}
 use Rattle.m2_judged.specs.declared.known.Known.TheVariants.{Later, Ahead, Begun, Headed, Declared}
 use Rattle.m2_judged.specs.declared.scope.Scope.{Scope}
-use Rattle.m2_types.specs.Predeclared.{predeclared_as, with_types, truth, with_truth, with_functions, with_bounds, with_procedures, predeclared, others_of, first_scope}
-use Rattle.m2_types.specs.Export.{with_meaning, with_declared, with_known, with_export, exports}
+use Rattle.m2_types.specs.Predeclared.{predeclared_as, with_types, truth, with_truth, with_functions, with_bounds, with_procedures, predeclared, with_reached, with_table, others_of, first_scope}
+use Rattle.m2_types.specs.Export.{with_meaning, with_declared, with_known, with_export, exports, with_types as reached_with, own_types, reached_of}
 use Rattle.m2_formed.specs.Formed.{Holds, fine, broken}
-use Rattle.m2_ranges.specs.Ranges.{OthersRanged}
-use Rattle.m2_formed_ranges.specs.FormedRanges.{IsNumber, OthersBased, MeaningRanged, KnownRanged, NamesRanged, ExportsRanged, TablesRanged, ScopeRanged, first_types}
+use Rattle.m2_ranges.specs.Ranges.{AreRangedFrom, OthersRanged, AreRanged}
+use Rattle.m2_formed_ranges.specs.FormedRanges.{IsNumber, OthersBased, MeaningRanged, KnownRanged, NamesRanged, ExportsRanged, TablesRanged, ScopeRanged, first_types, ReachedRanged, TablesReach}
 use Rattle.m2_formed_ranges.proofs.Made.{names_more}
 
 -- ---- predeclared names
@@ -97,3 +103,47 @@ module _ (types : Types) where
 
 pub exports_ranged : {T : Type 0} (s : Scope T) → ScopeRanged s → ExportsRanged s.types (exports s.own)
 exports_ranged s h = all_exported s.types s.own [] h.names tt
+
+-- ---- the types that tables reach
+
+reached_more : (ms : List ModuleTypes) (m : ModuleTypes) → ReachedRanged ms → AreRangedFrom m.number 0 m.made → ReachedRanged (ms ++ m ∷ [])
+reached_more [] m p q = (q, tt)
+reached_more (x ∷ ms) m p q = (p.0, reached_more ms m p.1 q)
+
+reached_both : (ms ns : List ModuleTypes) → ReachedRanged ms → ReachedRanged ns → ReachedRanged (ms ++ ns)
+reached_both [] ns p q = q
+reached_both (x ∷ ms) ns p q = (p.0, reached_both ms ns p.1 q)
+
+others_reached : (es : List (ℕ × List Made)) (so : List ModuleTypes) → OthersRanged es → ReachedRanged so → ReachedRanged (fold reached_with so es)
+others_reached [] so p q = q
+others_reached (e ∷ es) so p q = others_reached es (reached_with so e) p.1 (reached_more so (record { number = e.0; made = e.1 }) q p.0)
+
+own_reached : (home : ℕ) (ms : List Made) → AreRangedFrom home 0 ms → ReachedRanged (own_types home ms)
+own_reached home [] p = tt
+own_reached home (m ∷ ms) p = (p, tt)
+
+pub reached_ranged : (types : Types) → AreRanged types → ReachedRanged (reached_of types)
+reached_ranged types h = reached_both (fold reached_with [] types.others) (own_types types.home types.own) (others_reached types.others [] h.others tt) (own_reached types.home types.own h.own)
+
+entry_by : (b : Bool) (e : ℕ × List Made) (es rest : List (ℕ × List Made)) (n : ℕ) (made : List Made) → nat_eq n e.0 ≡ b → OthersRanged (e ∷ es) → AreRangedFrom n 0 made → OthersRanged rest → OthersRanged (if b then (e.0, made) ∷ es else e ∷ rest)
+entry_by true e es rest n made q h p r = (subst (λ (k : ℕ). AreRangedFrom k 0 made) (eqb-true n e.0 q) p, h.1)
+entry_by false e es rest n made q h p r = (h.0, r)
+
+entry_more : (es : List (ℕ × List Made)) (n : ℕ) (made : List Made) → OthersRanged es → AreRangedFrom n 0 made → OthersRanged (insert_entry nat_eq es n made)
+entry_more [] n made h p = (p, tt)
+entry_more (e ∷ es) n made h p = entry_by (nat_eq n e.0) e es (insert_entry nat_eq es n made) n made refl h p (entry_more es n made h.1 p)
+
+reach_by : (b : Bool) (so more : List (ℕ × List Made)) → OthersRanged so → OthersRanged more → OthersRanged (cond b so more)
+reach_by true so more p q = p
+reach_by false so more p q = q
+
+table_reach : (ms : List ModuleTypes) (so : List (ℕ × List Made)) → ReachedRanged ms → OthersRanged so → OthersRanged (fold with_reached so ms)
+table_reach [] so p h = h
+table_reach (m ∷ ms) so p h = table_reach ms (with_reached so m) p.1 (reach_by (is_some (lookup (nat_eq m.number) so)) so (insert_entry nat_eq so m.number m.made) h (entry_more so m.number m.made h p.0))
+
+tables_reach : (ts : List Table) (so : List (ℕ × List Made)) → TablesReach ts → OthersRanged so → OthersRanged (fold with_table so ts)
+tables_reach [] so p h = h
+tables_reach (t ∷ ts) so p h = tables_reach ts (with_table so t) p.1 (table_reach t.reached so p.0 h)
+
+pub others_of_ranged : (ts : List Table) → TablesReach ts → OthersRanged (others_of ts)
+others_of_ranged ts p = tables_reach ts [] p tt

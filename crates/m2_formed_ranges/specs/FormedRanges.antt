@@ -30,6 +30,7 @@ use Rattle.m2_typed.specs.declared.meaning.Value.{Value}
 use Rattle.m2_typed.specs.declared.meaning.Value.TheVariants as value
 use Rattle.m2_typed.specs.declared.meaning.Meaning.{Meaning}
 use Rattle.m2_typed.specs.declared.meaning.Meaning.TheVariants as meaning
+use Rattle.m2_typed.specs.declared.table.ModuleTypes.{ModuleTypes}
 use Rattle.m2_typed.specs.declared.table.Table.{Table}
 use Rattle.m2_typed.specs.declared.known_types.Types.{Types}
 use Rattle.m2_typed.specs.Known.{scalar_at}
@@ -43,14 +44,14 @@ use Rattle.m2_constants.specs.Parts.{part, constant}
 use Rattle.m2_made.specs.Made.{type_of}
 use Rattle.m2_types.specs.Declare.{with_def}
 use Rattle.m2_types.specs.Compiled.{declared_in}
-use Rattle.m2_types.specs.Export.{exports}
+use Rattle.m2_types.specs.Export.{exports, reached_of}
 use Rattle.m2_types.specs.Predeclared.{others_of, first_scope}
 use Rattle.m2_judged.specs.Scopes.{State}
 use Rattle.m2_blocks.specs.Declarations.{Course, with_decl, declared_block, declared_module}
 use Rattle.m2_blocks.specs.declared.inner.Outside.{Outside}
 use Rattle.m2_blocks.specs.Inner.{entered_procedure, left_procedure}
 use Rattle.m2_formed.specs.Formed.{Holds}
-use Rattle.m2_ranges.specs.Ranges.{OthersRanged, AreRanged}
+use Rattle.m2_ranges.specs.Ranges.{AreRangedFrom, OthersRanged, AreRanged}
 
 -- ---- trees: numbers and characters are as the scanner gives them, and an enumeration has a constant
 
@@ -287,3 +288,15 @@ FirstAreRanged g = (home : ℕ) (tables : List Table) → OthersRanged (others_o
 -- the constants that it exports are such numbers
 abbrev pub ExportsAreRanged : Gathers → Type 0
 ExportsAreRanged g = (s : Scope g.Told) → ScopeRanged s → ExportsRanged s.types (exports s.own)
+
+abbrev pub ReachedRanged : List ModuleTypes → Type 0
+ReachedRanged [] = Unit {0}
+ReachedRanged (m ∷ ms) = AreRangedFrom m.number 0 m.made × ReachedRanged ms
+
+abbrev pub TablesReach : List Table → Type 0
+TablesReach [] = Unit {0}
+TablesReach (t ∷ ts) = ReachedRanged t.reached × TablesReach ts
+
+-- the types that a table reaches have such ranges, and so have those that a module knows of its tables
+abbrev pub ReachedAreRanged : Type 0
+ReachedAreRanged = ((types : Types) → AreRanged types → ReachedRanged (reached_of types)) × ((ts : List Table) → TablesReach ts → OthersRanged (others_of ts))

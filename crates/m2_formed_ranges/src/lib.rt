@@ -21,6 +21,7 @@ ghost use Rattle.m2_formed_ranges.specs.FormedRanges.{
   FirstAreRanged,
   LeftAreRanged,
   ModulesAreRanged,
+  ReachedAreRanged,
   TypesAreRanged,
 };
 
@@ -63,4 +64,6 @@ pub fn block_range_laws()
     ensures every_first { FirstAreRanged every }
     ensures least_exports { ExportsAreRanged least }
     ensures every_exports { ExportsAreRanged every }
+    // The ranges of types go through the tables of definitions.
+    ensures reached { ReachedAreRanged }
 {}

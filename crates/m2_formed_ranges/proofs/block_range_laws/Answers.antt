@@ -1,6 +1,6 @@
 use Rattle.m2_judged.specs.Judged.{least, every}
 use Rattle.m2_formed_ranges.proofs.Blocks.{block_ranged, module_ranged, definition_ranged, left_ranged, entered_ranged}
-use Rattle.m2_formed_ranges.proofs.Tables.{first_ranged, exports_ranged}
+use Rattle.m2_formed_ranges.proofs.Tables.{first_ranged, exports_ranged, reached_ranged, others_of_ranged}
 use Rattle.m2_formed_ranges.proofs.block_range_laws.Goals as goal
 
 pub returns-clause-least_definitions : goal.returns-clause-least_definitions
@@ -44,3 +44,6 @@ returns-clause-least_exports c = λ s h. exports_ranged s h
 
 pub returns-clause-every_exports : goal.returns-clause-every_exports
 returns-clause-every_exports c = λ s h. exports_ranged s h
+
+pub returns-clause-reached : goal.returns-clause-reached
+returns-clause-reached c = (reached_ranged, others_of_ranged)
