@@ -1,7 +1,6 @@
--- What a module of a program knows of the others is as they have it, and where its code runs.
-use Rattle.std.specs.Prelude.{◌≡◌, ℕ, ◌<◌, ◌==◌, true, ◌||◌, List, [], ◌++◌, map, length, All, Option, Some, None, slice_get, if◌then◌else◌}
+-- What a module of a program knows of the others is as they have it.
+use Rattle.std.specs.Prelude.{◌≡◌, ℕ, ◌==◌, true, ◌||◌, List, [], ◌++◌, map, All, Option, Some, None, slice_get, if◌then◌else◌}
 use Rattle.std.specs.List.{list_any}
-use Rattle.m2_typed.specs.declared.meaning.Variable.{Variable}
 use Rattle.m2_typed.specs.declared.typed_module.Imported.{Imported}
 use Rattle.m2_typed.specs.declared.typed_module.TypedModule.{TypedModule}
 use Rattle.m2_typed.specs.declared.types.TypeNo.{TypeNo}
@@ -24,10 +23,6 @@ known_variables m home = if is_own m home then m.variables else imported_variabl
 -- the module itself, and those that it imports
 abbrev pub IsKnown : TypedModule → (home : ℕ) → Type 0
 IsKnown m home = (is_own m home || list_any (λ i. i.number == home) m.imports) ≡ true
-
-pub record IsVariable (m : TypedModule) (v : Variable) : Type 0 where
-  pub known : IsKnown m v.home
-  pub there : v.number < length (known_variables m v.home)
 
 -- ---- modules
 
