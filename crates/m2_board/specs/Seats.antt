@@ -8,6 +8,9 @@ use Rattle.m2_board.specs.Lists.{times, together}
 use Rattle.m2_board.specs.Graph.{IsJobGraph}
 use Rattle.m2_board.specs.Rule.{IsSourced}
 
+abbrev pub max_workers : ℕ
+max_workers = 64
+
 -- which board it is, the jobs that the seat had, those that it found taken, and the edges that it counted
 pub record SeatState : Type 0 where
   pub board : TableId

@@ -5,7 +5,7 @@ ghost use Rattle.m2_board.specs.Lists.{times, listed};
 ghost use Rattle.m2_board.specs.Graph.{targets_of};
 ghost use Rattle.m2_board.specs.Laws.{NoJobTwice, TakenIsHad, ToldOnce};
 ghost use Rattle.m2_board.specs.Rule.{counted, blank, record_of, IsConsistent, IsFresh, IsSourced};
-ghost use Rattle.m2_board.specs.Seats.{SeatState, IsAllSeats, new_seat, all_had, all_met, all_counts, unset, without};
+ghost use Rattle.m2_board.specs.Seats.{SeatState, IsAllSeats, max_workers, new_seat, all_had, all_met, all_counts, unset, without};
 ghost use Rattle.m2_board.specs.Steps.{count_of, with_count, Counts};
 
 use crate::graph::JobGraph;
@@ -15,6 +15,9 @@ use atomic_table::{Closed, Seat, Shared, Table};
 use std::alloc::{AllocError, Global};
 use std::marker::{Brand, Model};
 use std::snapshot::Snapshot;
+
+/// How many workers may have seats.
+pub const MAX_WORKERS: usize = 64;
 
 /// What the workers share. Contracts see which board it is, its graph and how many seats it gave out.
 #[derive(Drop)]
@@ -89,12 +92,13 @@ impl Board {
         graph: &JobGraph,
         workers: usize,
     ) -> Result<(Board, Vec<BoardSeat>), PoolRefusal>
-        ensures workers { (result ≡ Err PoolRefusal.Workers) ↔ ¬ ((1 ≤ workers) × (workers ≤ 64)) }
+        ensures workers { (result ≡ Err PoolRefusal.Workers)
+            ↔ ¬ ((1 ≤ workers) × (workers ≤ max_workers)) }
         ensures graph { result ≢ Err PoolRefusal.Prerequisite }
         ensures board { IfOk result (λ r. (r.0.graph ≡ graph.now) × (r.0.workers ≡ workers)) }
         ensures seats { IfOk result (λ r. r.1.items ≡ replicate workers (new_seat r.0.id)) }
     {
-        if workers == 0 || workers > 64 {
+        if workers == 0 || workers > MAX_WORKERS {
             return Err(PoolRefusal::Workers);
         }
         Ok(open_for(alloc, graph, workers)?)

@@ -10,6 +10,6 @@ mod graph;
 mod refusal;
 mod rule;
 
-pub use board::{Board, BoardSeat, Tally};
+pub use board::{Board, BoardSeat, MAX_WORKERS, Tally};
 pub use graph::JobGraph;
 pub use refusal::PoolRefusal;

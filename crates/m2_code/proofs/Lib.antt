@@ -1,10 +1,3 @@
-pub mod Plain
-pub mod Emitted
-pub mod Closed
-pub mod Offsets
-pub mod Scalars
-pub mod Slots
 pub mod Outwards
 pub mod Sides
 pub mod Variants
-pub mod Imports

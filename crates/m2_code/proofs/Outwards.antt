@@ -4,7 +4,7 @@ use Rattle.wasm_tree.specs.declared.instr.Instr.TheVariants.{Load}
 use Rattle.wasm_tree.specs.declared.instr.Load.TheVariants as load
 use Rattle.m2_scheme.specs.Coded.{wrapped}
 use Rattle.m2_scheme.specs.Exprs.{outwards}
-use Rattle.m2_code.specs.Drafts.{Drafted, one, put}
+use Rattle.m2_draft.specs.Drafts.{Drafted, one, put}
 
 outwards_suc : (k : ℕ) (d : Drafted) → put (outwards (suc k)) d ≡ one wrapped (one (Load load.I64) (put (outwards k) d))
 outwards_suc zero d = refl

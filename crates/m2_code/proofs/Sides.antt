@@ -8,9 +8,9 @@ use Rattle.wasm_tree.specs.declared.code.Op.TheVariants as op
 use Rattle.wasm_tree.specs.Code.{flat}
 use Rattle.wasm_tree.specs.declared.kinds.ValueType.TheVariants.{I64}
 use Rattle.m2_code.specs.Operators.{negative, negative_or_same, lifted, lifted_or_same}
-use Rattle.m2_code.specs.Drafts.{Drafted, with_ops, one, put, opened, place_of, closed_if_else}
-use Rattle.m2_code.proofs.Emitted.{put_is}
-use Rattle.m2_code.proofs.Closed.{sides_flat, set_two}
+use Rattle.m2_draft.specs.Drafts.{Drafted, with_ops, one, put, opened, place_of, closed_if_else}
+use Rattle.m2_draft.proofs.Emitted.{put_is}
+use Rattle.m2_draft.proofs.Closed.{sides_flat, set_two}
 
 flat_sides : (t : Option ValueType) (is os : List Instr) (d : Drafted) → one (If t is (Some os)) d ≡ closed_if_else (place_of d) (place_of (with_ops (flat is) (opened d))) t (with_ops (flat os) (with_ops (flat is) (opened d)))
 unfolding one opened closed_if_else

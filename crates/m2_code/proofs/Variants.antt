@@ -34,13 +34,13 @@ use Rattle.m2_scheme.specs.Coded.{Coded, Setting, plain, ◌⨾◌, all_coded, w
 use Rattle.m2_scheme.specs.Cells.{loaded, in_type, check_taken}
 use Rattle.m2_scheme.specs.Exprs.{Part, Linked, Numbered, argument_layer, call_layer, component_layer, link_layer, expr_layer, place_layer, root_layer, chain_type, chain_code, chosen_number, loaded_from, relation_of, arithmetic_code, set_code, complement, empty_code, ord_check, absolute_code, capital_code, procedure_code, high_code, element_code, open_element_code, module_call, indirect, value_call, top_code, behind, in_code, and_code, or_code, expr_part, place_code, call_code, text_code}
 use Rattle.m2_scheme.specs.Modules.{numbered}
-use Rattle.m2_code.specs.Drafts.{Drafted, one, put, emitted, opened, place_of, closed_if_else, next_number, next_text}
-use Rattle.m2_code.specs.Slots.{field_code, root_code}
+use Rattle.m2_draft.specs.Drafts.{Drafted, one, put, emitted, opened, place_of, closed_if_else, next_number, next_text}
+use Rattle.m2_draft.specs.Slots.{field_code, root_code}
 use Rattle.m2_code.specs.Operators.{around_behind, within_behind, negated_behind, odd_code, char_check, ending_and, begun_or, kept_element, element_bit, with_absolute, with_capital}
 use Rattle.m2_code.specs.Called.{nested_called, link_passed, kept_procedure, called_value, array_behind, open_code, with_passed}
 use Rattle.m2_code.specs.Values.{argument_code, component_code, link_part, inside_one, with_value, with_place, with_call, with_taken, with_argument, with_component, with_link, value_type, value_constant, linked_type}
-use Rattle.m2_code.proofs.Emitted.{emitted_plain, emitted_seq, emitted_nothing, emitted_number, emitted_text, then_plain, plain_then, setting_plain, then_setting, emitted_behind, emitted_two}
-use Rattle.m2_code.proofs.Closed.{both_sides, boxed_sides}
+use Rattle.m2_draft.proofs.Emitted.{emitted_plain, emitted_seq, emitted_nothing, emitted_number, emitted_text, then_plain, plain_then, setting_plain, then_setting, emitted_behind, emitted_two}
+use Rattle.m2_draft.proofs.Closed.{both_sides, boxed_sides}
 
 -- ---- one layer
 

@@ -13,7 +13,7 @@ use Rattle.m2_layout.specs.Texts.{passed}
 use Rattle.m2_scheme.specs.Coded.{Setting, number_local, raised, operation, wrapped, extended, body_index, checked}
 use Rattle.m2_scheme.specs.Exprs.{slots_global, slot_number, frame_code, open_address, high_code, high_index, text_code, indirect}
 use Rattle.m2_scheme.specs.Modules.{numbered}
-use Rattle.m2_code.specs.Drafts.{Drafted, one, put, next_number, next_text}
+use Rattle.m2_draft.specs.Drafts.{Drafted, one, put, next_number, next_text}
 
 abbrev pub slot_added : ℕ → List Instr
 slot_added n = extended ∷ I64Const n ∷ operation Add ∷ []

@@ -11,7 +11,7 @@ use Rattle.m2_typed.specs.Types.{are_same, integer}
 use Rattle.m2_scheme.specs.Coded.{Setting, number_local, relation, operation, checked}
 use Rattle.m2_scheme.specs.Cells.{in_type}
 use Rattle.m2_scheme.specs.Exprs.{complement, empty_code, chosen_number, absolute_code, capital_code}
-use Rattle.m2_code.specs.Drafts.{Drafted, one, put, opened, place_of, closed_if_else, next_number}
+use Rattle.m2_draft.specs.Drafts.{Drafted, one, put, opened, place_of, closed_if_else, next_number}
 
 abbrev pub around_behind : List Instr
 around_behind = operation And ∷ empty_code

@@ -11,7 +11,7 @@ use Rattle.m2_scheme.specs.Coded.{Coded, Setting}
 use Rattle.m2_scheme.specs.Exprs.{Numbered, Part, Linked, argument_layer, call_layer, component_layer, link_layer, expr_layer, place_layer, expr_part, place_code, call_code}
 use Rattle.m2_scheme.specs.Modules.{numbered}
 use Rattle.m2_scheme.specs.Steps.{taken}
-use Rattle.m2_code.specs.Drafts.{Drafted, emitted}
+use Rattle.m2_draft.specs.Drafts.{Drafted, emitted}
 
 -- ---- the code of the parts that the scheme gives no name
 

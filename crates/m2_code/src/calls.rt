@@ -6,15 +6,14 @@ ghost use Rattle.m2_layout.specs.Texts.{passed};
 ghost use Rattle.m2_scheme.specs.Coded.{top_local, number_local, checked};
 ghost use Rattle.m2_scheme.specs.Exprs.{slots_global, procedure_code, high_index, indirect, module_call};
 ghost use Rattle.m2_scheme.specs.Modules.{numbered};
-ghost use Rattle.m2_code.specs.Drafts.{one, put};
-ghost use Rattle.m2_code.specs.Frames.{meant};
+ghost use Rattle.m2_draft.specs.Drafts.{one, put};
+ghost use Rattle.m2_draft.specs.Frames.{meant};
 ghost use Rattle.m2_code.specs.Called.{nested_called, slot_added, own_call, other_call, link_passed, kept_procedure, called_value, array_behind, open_code, with_passed};
 
-use crate::draft::{Draft, small};
-use crate::home::Home;
-use crate::pieces::{checked, extended, operation, raised, text, wrapped};
 use crate::places::{frame_code, high_code, index_of, open_address, twice};
-use crate::setting::{Setting, plus};
+use m2_draft::{
+    Draft, Home, Setting, checked, extended, operation, plus, raised, small, text, wrapped,
+};
 use m2_signatures::{arguments_in, has_result, is_own};
 use m2_typed::{LocalProcedure, Procedure, Slot, TypeNo};
 use std::alloc::AllocError;
@@ -86,7 +85,7 @@ fn own_call(f: Procedure, draft: &mut Draft) -> Result<(), AllocError>
 }
 
 /// A call of a procedure of another module.
-#[tactic(auto, using(crate::proofs::Emitted::put_append))]
+#[tactic(auto, using(m2_draft::proofs::Emitted::put_append))]
 fn other_call(setting: &Setting<'_>, f: Procedure, draft: &mut Draft) -> Result<(), AllocError>
     ensures { OnOk result (draft.new ≡ put (other_call setting.now.home f) draft.old) }
 {
@@ -109,7 +108,7 @@ pub fn module_call(setting: &Setting<'_>, f: Procedure, draft: &mut Draft) -> Re
 }
 
 /// The link of a procedure that is declared in one so many procedures outwards.
-#[tactic(auto, using(crate::proofs::Emitted::put_append))]
+#[tactic(auto, using(m2_draft::proofs::Emitted::put_append))]
 pub fn link_code(up: usize, draft: &mut Draft) -> Result<(), AllocError>
     ensures { OnOk result (draft.new ≡ put (link_passed up) draft.old) }
 {
@@ -174,7 +173,7 @@ pub fn array_behind(setting: &Setting<'_>, t: TypeNo, draft: &mut Draft) -> Resu
 }
 
 /// An open array for a formal ARRAY OF.
-#[tactic(auto, using(crate::proofs::Emitted::put_append))]
+#[tactic(auto, using(m2_draft::proofs::Emitted::put_append))]
 pub fn open_code(setting: &Setting<'_>, slot: Slot, draft: &mut Draft) -> Result<(), AllocError>
     ensures { OnOk result (draft.new ≡ put (open_code (meant setting.now) slot) draft.old) }
 {

@@ -5,23 +5,20 @@ ghost use Rattle.std.specs.List.{fold};
 ghost use Rattle.m2_scheme.specs.Coded.{Setting as Scheme};
 ghost use Rattle.m2_scheme.specs.Cells.{check_taken};
 ghost use Rattle.m2_scheme.specs.Exprs.{ord_check};
-ghost use Rattle.m2_code.specs.Drafts.{put};
-ghost use Rattle.m2_code.specs.Frames.{meant};
+ghost use Rattle.m2_draft.specs.Drafts.{put};
+ghost use Rattle.m2_draft.specs.Frames.{meant};
 ghost use Rattle.m2_code.specs.Values.{with_value, with_place, with_call, with_taken, with_argument, with_component, with_link, value_type, value_constant, linked_type, linked_by};
 
 use crate::calls::{
     array_behind, called_value, keep_procedure, link_code, module_call, nested_call, open_code,
     passed_text, procedure_code, top_code,
 };
-use crate::cells::{check_taken, in_type, load};
-use crate::draft::Draft;
 use crate::operators::{
     absolute, arithmetic, around_behind, begin_or, capital, char_check, combined, compared,
     element_bit, empty, end_and, keep_element, negated_behind, odd, ord_check, within_behind,
 };
-use crate::pieces::{complement, extended, number, wrapped};
 use crate::places::{element_code, field_code, high_code, open_element_code, root_code};
-use crate::setting::Setting;
+use m2_draft::{Draft, Setting, check_taken, complement, extended, in_type, load, number, wrapped};
 use m2_typed::{
     Argument, BITSET, BOOLEAN, CARDINAL, CHAR, Call, Component, INTEGER, Inclusion, Link, Place,
     TypeNo, TypedExpr,

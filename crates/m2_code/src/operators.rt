@@ -4,14 +4,13 @@ ghost use Rattle.std.specs.Prelude.{◌≡◌, ◌∷◌, [], IfOk, OnOk, pos};
 ghost use Rattle.m2_scheme.specs.Coded.{number_local, operation, relation, extended, checked};
 ghost use Rattle.m2_scheme.specs.Cells.{in_type};
 ghost use Rattle.m2_scheme.specs.Exprs.{relation_of, arithmetic_code, set_code, empty_code, ord_check, absolute_code};
-ghost use Rattle.m2_code.specs.Drafts.{one, put, place_of};
-ghost use Rattle.m2_code.specs.Frames.{meant};
+ghost use Rattle.m2_draft.specs.Drafts.{one, put, place_of};
+ghost use Rattle.m2_draft.specs.Frames.{meant};
 ghost use Rattle.m2_code.specs.Operators.{ending_and, begun_or, kept_element, element_bit, negated_behind, around_behind, within_behind, odd_code, char_check, before_sign, negative, negative_or_same, with_absolute, at_most_25, before_letter, lifted, lifted_or_same, with_capital};
 
-use crate::cells::{base_of, in_type};
-use crate::draft::Draft;
-use crate::pieces::{checked, complement, extended, is_zero, operation, relation};
-use crate::setting::Setting;
+use m2_draft::{
+    Draft, Setting, base_of, checked, complement, extended, in_type, is_zero, operation, relation,
+};
 use m2_typed::{Arithmetic, Comparison, INTEGER, SetOperator, TypeNo, are_same};
 use std::alloc::AllocError;
 use wasm_tree::{Op, Operation, Relation, ValueType};

@@ -6,15 +6,11 @@ ghost use Rattle.m2_layout.specs.Sizes.{size, offset};
 ghost use Rattle.m2_layout.specs.Shapes.{tree};
 ghost use Rattle.m2_scheme.specs.Exprs.{outwards, frame_code, slot_path, slot_code, kept_address, open_address, high_code, global_code, with_code, index_made, index_of, scaled, from_lower, element_code, open_element_code, base_global};
 ghost use Rattle.m2_scheme.specs.Cells.{load_scalar, word};
-ghost use Rattle.m2_code.specs.Drafts.{put};
-ghost use Rattle.m2_code.specs.Frames.{meant};
-ghost use Rattle.m2_code.specs.Slots.{behind_high, field_code, root_code};
+ghost use Rattle.m2_draft.specs.Drafts.{put};
+ghost use Rattle.m2_draft.specs.Frames.{meant};
+ghost use Rattle.m2_draft.specs.Slots.{behind_high, field_code, root_code};
 
-use crate::cells::{in_range, shifted};
-use crate::draft::Draft;
-use crate::home::Home;
-use crate::pieces::{operation, raised, wrapped};
-use crate::setting::{Setting, plus};
+use m2_draft::{Draft, Home, Setting, in_range, operation, plus, raised, shifted, wrapped};
 use m2_signatures::is_own;
 use m2_typed::{Made, Root, Scalar, Shape, Slot, TypeNo, Types, Variable, made_of, scalar_of};
 use std::alloc::AllocError;
@@ -72,7 +68,7 @@ pub fn frame_code(up: usize, draft: &mut Draft) -> Result<(), AllocError>
 }
 
 /// A formal or a variable of a procedure.
-#[tactic(auto, using(crate::proofs::Emitted::put_append))]
+#[tactic(auto, using(m2_draft::proofs::Emitted::put_append))]
 pub fn slot_code(setting: &Setting<'_>, slot: Slot, draft: &mut Draft) -> Result<(), AllocError>
     ensures { OnOk result (draft.new ≡ put (slot_code (meant setting.now) slot []) draft.old) }
 {
@@ -88,7 +84,7 @@ fn word(draft: &mut Draft) -> Result<(), AllocError>
 }
 
 /// What a VAR formal stands for.
-#[tactic(auto, using(crate::proofs::Emitted::put_append))]
+#[tactic(auto, using(m2_draft::proofs::Emitted::put_append))]
 pub fn alias_code(setting: &Setting<'_>, slot: Slot, draft: &mut Draft) -> Result<(), AllocError>
     ensures { OnOk result (draft.new ≡ put (kept_address (meant setting.now) slot []) draft.old) }
 {
@@ -98,7 +94,7 @@ pub fn alias_code(setting: &Setting<'_>, slot: Slot, draft: &mut Draft) -> Resul
 }
 
 /// The elements of a formal ARRAY OF.
-#[tactic(auto, using(crate::proofs::Slots::first_cell))]
+#[tactic(auto, using(m2_draft::proofs::Slots::first_cell))]
 pub fn open_address(setting: &Setting<'_>, slot: Slot, draft: &mut Draft) -> Result<(), AllocError>
     ensures { OnOk result (draft.new ≡ put (open_address (meant setting.now) slot) draft.old) }
 {
@@ -106,7 +102,7 @@ pub fn open_address(setting: &Setting<'_>, slot: Slot, draft: &mut Draft) -> Res
 }
 
 /// The greatest index of a formal ARRAY OF.
-#[tactic(auto, using(crate::proofs::Emitted::put_append))]
+#[tactic(auto, using(m2_draft::proofs::Emitted::put_append))]
 pub fn high_code(setting: &Setting<'_>, slot: Slot, draft: &mut Draft) -> Result<(), AllocError>
     ensures { OnOk result (draft.new ≡ put (high_code (meant setting.now) slot) draft.old) }
 {
@@ -169,7 +165,7 @@ fn from_lower(index: Option<Scalar>, draft: &mut Draft) -> Result<(), AllocError
 }
 
 /// An element of an array, behind its address and the index.
-#[tactic(auto, using(crate::proofs::Emitted::put_append, crate::proofs::Slots::element_is))]
+#[tactic(auto, using(m2_draft::proofs::Emitted::put_append, m2_draft::proofs::Slots::element_is))]
 pub fn element_code(setting: &Setting<'_>, t: TypeNo, draft: &mut Draft) -> Result<(), AllocError>
     ensures { OnOk result (draft.new ≡ put (element_code setting.now.home.types t) draft.old) }
 {
@@ -190,7 +186,7 @@ fn behind_high(bytes: u32, draft: &mut Draft) -> Result<(), AllocError>
 }
 
 /// An element of a formal ARRAY OF, behind its address and the index.
-#[tactic(auto, using(crate::proofs::Emitted::put_append))]
+#[tactic(auto, using(m2_draft::proofs::Emitted::put_append))]
 pub fn open_element_code(
     setting: &Setting<'_>,
     slot: Slot,

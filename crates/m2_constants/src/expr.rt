@@ -21,7 +21,8 @@ use m2_values::{
 };
 use std::alloc::{AllocError, Global};
 
-fn sign_place(sign: Option<Operator<Sign>>, at: Pos) -> Pos
+/// Where a sum begins: its sign, or else its first operand.
+pub fn sign_place(sign: Option<Operator<Sign>>, at: Pos) -> Pos
     ensures { result ≡ sign_place sign at }
 {
     match sign {

@@ -3,7 +3,7 @@
 ghost use Rattle.std.specs.Prelude.{◌≡◌, ◌≤◌, IfOk, OnOk, map, true};
 ghost use Rattle.wasm_binary.specs.Binary.{module_fits, Spells};
 ghost use Rattle.m2_layout.specs.Layouts.{IsLayout, AllFits};
-ghost use Rattle.m2_scheme.specs.Modules.{link_of, typed_module};
+ghost use Rattle.m2_scheme.specs.Modules.{link_of, max_pages, typed_module};
 ghost use Rattle.m2_emit.specs.Emitted.{emitted, parts};
 
 use crate::emitted::ModuleBytes;
@@ -43,7 +43,7 @@ pub fn emit(
 /// memory, and runs the bodies. The only error is that memory ran out, or that link has no spelling, as a number does not
 /// fit into 32 bits.
 pub fn emit_link(alloc: Global, modules: &[&ModuleBytes], pages: u32) -> Result<Vec<u8>, AllocError>
-    requires { pages ≤ 1024 }
+    requires { pages ≤ max_pages }
     ensures { let ms = parts (map (λ m. m.now) modules.now) in
         IfOk result (λ bytes. Spells bytes.items (link_of ms pages)) }
 {

@@ -7,8 +7,8 @@ ghost use Rattle.m2_scheme.specs.Modules.{functions, numbered};
 ghost use Rattle.m2_texts.specs.Offsets.{AreTexts};
 
 use crate::helpers::helpers;
-use m2_code::Home;
-use m2_steps_code::{module_function, routine_function};
+use m2_draft::Home;
+use m2_routine_code::{module_function, routine_function};
 use m2_texts::ModuleTexts;
 use m2_typed::{Routine, Which};
 use sqlite_items::Items;

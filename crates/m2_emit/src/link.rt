@@ -5,7 +5,7 @@ ghost use Rattle.wasm_tree.specs.declared.code.Op.TheVariants as op;
 ghost use Rattle.wasm_tree.specs.declared.kinds.ValueType.TheVariants as types;
 ghost use Rattle.wasm_tree.specs.declared.module.ExportKind.TheVariants as exported;
 ghost use Rattle.m2_scheme.specs.Scheme.{base_name, constant_global, exported_as, tab_name, text_name, type_from};
-ghost use Rattle.m2_scheme.specs.Modules.{all_slots, calls_from, exports_from, globals_from, helper, link_of, stack_begin};
+ghost use Rattle.m2_scheme.specs.Modules.{all_slots, calls_from, exports_from, globals_from, helper, link_of, max_pages, stack_begin};
 ghost use Rattle.m2_emit.specs.Emitted.{parts, link_exports};
 
 use crate::emitted::ModuleBytes;
@@ -86,7 +86,7 @@ fn link_globals(
     modules: &[&ModuleBytes],
     pages: u32,
 ) -> Result<Items<Constant>, AllocError>
-    requires { pages ≤ 1024 }
+    requires { pages ≤ max_pages }
     ensures { IfOk result (λ globals.
         globals
         ≡ constant_global (65536 * pages)
@@ -216,7 +216,7 @@ fn fixed(size: u32) -> Limits
 
 /// The module link for these modules in start order, with so many pages of memory.
 pub fn link_of(alloc: Global, modules: &[&ModuleBytes], pages: u32) -> Result<WModule, AllocError>
-    requires { pages ≤ 1024 }
+    requires { pages ≤ max_pages }
     ensures { IfOk result (λ m. m ≡ link_of (parts (map (λ m. m.now) modules.now)) pages) }
 {
     let slots = fixed(added(1, all_slots(modules)?)?);

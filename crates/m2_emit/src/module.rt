@@ -11,7 +11,7 @@ use crate::imports::imports_of;
 use crate::numbers::one_more;
 use crate::segments::{data_of, elements_of};
 use crate::types::types_of;
-use m2_code::Home;
+use m2_draft::Home;
 use m2_layout::Layout;
 use m2_signatures::{Signatures, signatures_of};
 use m2_texts::{ModuleTexts, module_texts};

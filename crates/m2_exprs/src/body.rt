@@ -4,7 +4,6 @@ ghost use Rattle.std.specs.Prelude.{◌≡◌, [], Ok, IfOk, map};
 ghost use Rattle.std.specs.List.{fold};
 ghost use Rattle.m2_judged.specs.Judged.{least};
 ghost use Rattle.m2_calls.specs.Functions.{form_of};
-ghost use Rattle.m2_constants.specs.Parts.{sign_place};
 ghost use Rattle.m2_exprs.specs.Meanings.{meant, picks, head, value_of, actual_in, routine_called, unary, bound, conversion, high, by_form, called_as, called_by, factor_in, term_in, pick_in};
 
 use crate::pieces::{
@@ -16,20 +15,12 @@ use m2_calls::{
     next_formal, with_argument,
 };
 use m2_computed::{Computed, Designated, combined, negated, signature_of};
+use m2_constants::sign_place;
 use m2_judged::{Fault, Judged, Scope, told};
-use m2_tree::{AddOp, Designator, Expr, Items, MulOp, Operator, Pos, Selector, Sign};
+use m2_tree::{AddOp, Designator, Expr, Items, MulOp, Operator, Pos, Selector};
 use m2_typed::{Argument, Formal, Standard, TypeNo};
 use m2_values::{add_op, mul_op};
 use std::alloc::{AllocError, Global};
-
-fn sign_place(sign: Option<Operator<Sign>>, at: Pos) -> Pos
-    ensures { result ≡ sign_place sign at }
-{
-    match sign {
-        None => at,
-        Some(operator) => operator.pos,
-    }
-}
 
 /// What an expression stands for.
 #[cycle(body)]

@@ -1,6 +1,7 @@
 //! The work of the jobs of a graph.
 
 ghost use Rattle.std.specs.Prelude.{◌≡◌, ◌<◌, ◌≤◌, ◌^◌, length, map, slice_get, IfOk, OnOk};
+ghost use Rattle.m2_graph.specs.Refused.{max_files};
 ghost use Rattle.m2_jobs.specs.Jobs.{compiled_in, compiled_at};
 ghost use Rattle.m2_jobs.specs.Spelled.{spelled_in, spelled_at};
 ghost use Rattle.m2_jobs.specs.Lent.{modules_lent};
@@ -44,7 +45,7 @@ pub struct Modules<'a> {
     /// The jobs that each job needs.
     pub jobs: &'a [Vec<usize>],
     pub ghost each: { length files.now ≡ length jobs.now },
-    pub ghost few: { length jobs.now ≤ 1024 },
+    pub ghost few: { length jobs.now ≤ max_files },
 }
 
 impl Work for Modules<'_> {

@@ -12,7 +12,6 @@ mod capped;
 mod counted;
 mod extent;
 mod extents;
-mod fitting;
 mod frame;
 mod kind;
 mod layout;
@@ -21,7 +20,6 @@ mod row;
 
 pub use extent::Extent;
 pub use extents::{Extents, element_of, field_of, scalar_in, size_of};
-pub use fitting::types_fit;
 pub use frame::{frame_row, variables_row};
 pub use kind::{Kind, Width, bytes_of, width_of};
 pub use layout::{Layout, layout_of};

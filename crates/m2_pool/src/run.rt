@@ -1,7 +1,7 @@
 // The whole: workers on threads of their own, and the gatherer.
 ghost use Rattle.std.specs.Prelude.{◌≡◌, ◌≢◌, ◌++◌, [], ℕ, ◌<◌, ◌≤◌, ◌↔◌, length, map, All, IfOk, MatchResult, Err};
 ghost use Rattle.once_cell.specs.Once.{cell_name};
-ghost use Rattle.m2_board.specs.Seats.{IsAllSeats, all_had};
+ghost use Rattle.m2_board.specs.Seats.{IsAllSeats, all_had, max_workers};
 ghost use Rattle.m2_worker.specs.Results.{all_jobs, AreResults, IsRan, IsMade};
 ghost use Rattle.m2_pool.specs.Tallied.{IsTally};
 
@@ -37,7 +37,8 @@ pub fn run_jobs<R: Threads + Sync, W: Work, G: Gate>(
     work: &W,
 ) -> Result<(Vec<W::Out>, Tally), PoolRefusal>
     requires { graph.now ≡ W.graph work.now }
-    ensures workers { (result ≡ Err PoolRefusal.Workers) ↔ ¬ ((1 ≤ workers) × (workers ≤ 64)) }
+    ensures workers { (result ≡ Err PoolRefusal.Workers)
+        ↔ ¬ ((1 ≤ workers) × (workers ≤ max_workers)) }
     ensures graph { result ≢ Err PoolRefusal.Prerequisite }
     ensures results { IfOk result (λ r.
         AreResults (W.graph work.now) (W.defines work.now)

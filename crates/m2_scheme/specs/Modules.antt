@@ -24,6 +24,10 @@ use Rattle.m2_scheme.specs.Exprs.{Numbered}
 use Rattle.m2_scheme.specs.Functions.{functions_from, module_function}
 use Rattle.m2_scheme.specs.Signatures.{Signatures, needed, ordered, number_of, type_of}
 
+-- a program's memory has at most so many pages, of 65536 bytes
+abbrev pub max_pages : ℕ
+max_pages = 1024
+
 -- ---- the module of a body
 
 abbrev pub helper : (type_index : ℕ) → List Instr → Function

@@ -20,10 +20,10 @@ use Rattle.m2_scheme.specs.Coded.{Coded, Setting, plain, ◌⨾◌, all_coded, w
 use Rattle.m2_scheme.specs.Exprs.{Numbered}
 use Rattle.m2_scheme.specs.Steps.{Arm, step_layer, arm_layer, step_code, part, block, boxed, tests_code, arm_code, chain_code, all_labels, least_of, span_of, is_dense, target, targets, from_least, dispatch, jump_arms, table_code, case_code}
 use Rattle.m2_scheme.specs.Modules.{numbered}
-use Rattle.m2_code.specs.Drafts.{Drafted, with_ops, one, put, emitted, opened, place_of, closed_block}
+use Rattle.m2_draft.specs.Drafts.{Drafted, with_ops, one, put, emitted, opened, place_of, closed_block}
 use Rattle.m2_code.specs.Values.{with_value}
-use Rattle.m2_code.proofs.Emitted.{emitted_plain, emitted_seq, then_plain}
-use Rattle.m2_code.proofs.Closed.{boxed_block}
+use Rattle.m2_draft.proofs.Emitted.{emitted_plain, emitted_seq, then_plain}
+use Rattle.m2_draft.proofs.Closed.{boxed_block}
 use Rattle.m2_steps_code.specs.Written.{with_step, with_steps, deeper, number_kept, arm_begun, with_arm, with_arms, opened_times, with_jump, with_jumps, labels_in, has_value, target_in, targets_in, dispatch_in, with_others, by_tests, by_table, by_cases, selected, selected_local, all_cases}
 use Rattle.m2_steps_code.proofs.Stepped.{arm_of, by_layer, steps_are, block_is, keeps_number}
 

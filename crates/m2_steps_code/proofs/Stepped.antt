@@ -21,10 +21,10 @@ use Rattle.m2_scheme.specs.Cells.{stored, loaded, in_type}
 use Rattle.m2_scheme.specs.Exprs.{Numbered, behind}
 use Rattle.m2_scheme.specs.Steps.{Arm, step_layer, arm_layer, step_code, taken, part, place, block, loop, block_loop, under, changed, kept, if_only, if_else, with_member, text_copied, passes, for_begin, for_turn}
 use Rattle.m2_scheme.specs.Modules.{numbered}
-use Rattle.m2_code.specs.Drafts.{Drafted, one, put, emitted, next_address, next_number, next_text, opened, place_of, closed_block, closed_loop, closed_if, closed_if_else}
+use Rattle.m2_draft.specs.Drafts.{Drafted, one, put, emitted, next_address, next_number, next_text, opened, place_of, closed_block, closed_loop, closed_if, closed_if_else}
 use Rattle.m2_code.specs.Values.{with_value, with_place, with_call, with_taken}
-use Rattle.m2_code.proofs.Emitted.{emitted_plain, emitted_seq, emitted_address, emitted_number, emitted_text, then_plain, plain_then, setting_plain, then_setting, emitted_behind}
-use Rattle.m2_code.proofs.Closed.{boxing, boxed_block, boxed_loop, boxed_if, boxed_sides}
+use Rattle.m2_draft.proofs.Emitted.{emitted_plain, emitted_seq, emitted_address, emitted_number, emitted_text, then_plain, plain_then, setting_plain, then_setting, emitted_behind}
+use Rattle.m2_draft.proofs.Closed.{boxing, boxed_block, boxed_loop, boxed_if, boxed_sides}
 use Rattle.m2_steps_code.specs.Written.{with_step, with_steps, deeper, address_kept, number_kept, for_local, for_begun, for_tested, for_turned}
 
 -- ---- one layer

@@ -1,4 +1,2 @@
-pub mod Around
-pub mod Kept
 pub mod Plans
 pub mod Written

@@ -15,7 +15,7 @@ use Rattle.m2_scheme.specs.Coded.{Setting, address_local, number_local, number, 
 use Rattle.m2_scheme.specs.Cells.{loaded, stored, in_type}
 use Rattle.m2_scheme.specs.Steps.{step_code, tests_code, passes, from_least, is_dense, least_of, span_of}
 use Rattle.m2_scheme.specs.Modules.{numbered}
-use Rattle.m2_code.specs.Drafts.{Drafted, emitted, one, put, next_address, next_number, opened, place_of, closed_block}
+use Rattle.m2_draft.specs.Drafts.{Drafted, emitted, one, put, next_address, next_number, opened, place_of, closed_block}
 use Rattle.m2_code.specs.Values.{with_value, with_place, with_taken}
 
 -- with a statement, and with statements

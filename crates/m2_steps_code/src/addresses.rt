@@ -1,41 +1,11 @@
 //! How many locals for addresses a body needs.
 
 ghost use Rattle.std.specs.Prelude.{◌≡◌, ◌+◌, ℕ, IfOk, map};
-ghost use Rattle.m2_layout.specs.Capped.{capped};
 ghost use Rattle.m2_scheme.specs.Addresses.{total, addresses_of, addresses_armed, addresses_in};
 
+use m2_draft::plus;
 use m2_typed::{TypedArm, TypedStmt};
 use std::alloc::AllocError;
-
-/// The sum. An error says that it does not fit into 32 bits.
-pub fn sum(first: u32, second: u32) -> Result<u32, AllocError>
-    ensures { IfOk result (λ n. n ≡ first + second) }
-{
-    match first.checked_add(second) {
-        None => Err(AllocError),
-        Some(both) => Ok(both),
-    }
-}
-
-/// The number in 32 bits. An error says that it does not fit.
-pub fn counted(count: usize) -> Result<u32, AllocError>
-    ensures { IfOk result (λ n. n ≡ count) }
-{
-    match u32::try_from(count) {
-        Err(_) => Err(AllocError),
-        Ok(count) => Ok(count),
-    }
-}
-
-/// The size that is kept cut to 32 bits. An error says that it may be cut.
-pub fn exact(n: u32) -> Result<u32, AllocError>
-    ensures { IfOk result (λ k. (m : ℕ) → n ≡ capped m → k ≡ m) }
-{
-    if n == 4_294_967_295 {
-        return Err(AllocError);
-    }
-    Ok(n)
-}
 
 /// The addresses of a statement.
 #[cycle(addresses)]
@@ -54,14 +24,14 @@ fn stmt_addresses(stmt: &TypedStmt) -> Result<u32, AllocError>
         TypedStmt::Halt => Ok(0),
         TypedStmt::If(_, body, others) => match others {
             None => stmts_addresses(body.as_slice()),
-            Some(others) => sum(
+            Some(others) => plus(
                 stmts_addresses(body.as_slice())?,
                 stmts_addresses(others.as_slice())?,
             ),
         },
         TypedStmt::Case(_, arms, others) => match others {
             None => arms_addresses(arms.as_slice()),
-            Some(others) => sum(
+            Some(others) => plus(
                 arms_addresses(arms.as_slice())?,
                 stmts_addresses(others.as_slice())?,
             ),
@@ -73,7 +43,7 @@ fn stmt_addresses(stmt: &TypedStmt) -> Result<u32, AllocError>
         TypedStmt::Return => Ok(0),
         TypedStmt::Give(_, _) => Ok(0),
         TypedStmt::For(_, _, _, _, _, body) => stmts_addresses(body.as_slice()),
-        TypedStmt::With(_, body) => sum(1, stmts_addresses(body.as_slice())?),
+        TypedStmt::With(_, body) => plus(1, stmts_addresses(body.as_slice())?),
     }
 }
 
@@ -84,7 +54,7 @@ fn stmts_addresses(stmts: &[TypedStmt]) -> Result<u32, AllocError>
 {
     let mut all = 0;
     for stmt in stmts {
-        all = sum(all, stmt_addresses(stmt)?)?;
+        all = plus(all, stmt_addresses(stmt)?)?;
     }
     Ok(all)
 }
@@ -105,7 +75,7 @@ fn arms_addresses(arms: &[TypedArm]) -> Result<u32, AllocError>
 {
     let mut all = 0;
     for arm in arms {
-        all = sum(all, arm_addresses(arm)?)?;
+        all = plus(all, arm_addresses(arm)?)?;
     }
     Ok(all)
 }

@@ -1,8 +1,8 @@
 //! The code of statements in statements.
 
 ghost use Rattle.std.specs.Prelude.{◌≡◌, ◌∷◌, ◌++◌, [], IfOk, OnOk, length};
-ghost use Rattle.m2_code.specs.Frames.{meant};
-ghost use Rattle.m2_code.specs.Drafts.{place_of};
+ghost use Rattle.m2_draft.specs.Frames.{meant};
+ghost use Rattle.m2_draft.specs.Drafts.{place_of};
 ghost use Rattle.m2_steps_code.specs.Written.{with_step, with_steps, with_arm, with_arms, with_jump, with_jumps, by_cases};
 
 use crate::cases::{arm_begun, arm_ended, jump_begun, more, selected, table_begun};
@@ -14,7 +14,7 @@ use crate::plan::plan_of;
 use crate::simple::{
     assign, call, change, copy, copy_text, exit, give, halt, leave, membership, print,
 };
-use m2_code::{Draft, Setting, fault};
+use m2_draft::{Draft, Setting, fault};
 use m2_typed::{TypedArm, TypedStmt};
 use std::alloc::{AllocError, Global};
 use wasm_tree::Op;

@@ -4,16 +4,16 @@ ghost use Rattle.std.specs.Prelude.{◌≡◌, ◌+◌, ◌∷◌, ◌++◌, [],
 ghost use Rattle.std.specs.List.{flat_map};
 ghost use Rattle.wasm_tree.specs.declared.code.Op.TheVariants as op;
 ghost use Rattle.wasm_tree.specs.declared.instr.Instr.TheVariants.{Br, BrTable};
-ghost use Rattle.m2_code.specs.Frames.{meant};
-ghost use Rattle.m2_code.specs.Drafts.{one, put, with_ops, opened, place_of, closed_block};
+ghost use Rattle.m2_draft.specs.Frames.{meant};
+ghost use Rattle.m2_draft.specs.Drafts.{one, put, with_ops, opened, place_of, closed_block};
 ghost use Rattle.m2_scheme.specs.Steps.{label_code, tests_code, from_least};
 ghost use Rattle.m2_steps_code.specs.Written.{selected, selected_local, arm_begun, labels_in, targets_in, beyond, dispatch_to, opened_times, table_begun};
 
-use crate::addresses::{counted, sum};
 use crate::control::open_turns;
 use crate::plan::{Plan, targets};
 use crate::simple::keep_number;
-use m2_code::{Draft, Setting, number, operation, relation, value_code, wrapped};
+use m2_code::value_code;
+use m2_draft::{Draft, Setting, number, operation, plus, relation, small, wrapped};
 use m2_typed::{Label, TypedArm, TypedExpr};
 use std::alloc::{AllocError, Global};
 use wasm_tree::{Op, Operation, Relation};
@@ -45,7 +45,7 @@ fn label_code(t: u32, label: Label, draft: &mut Draft) -> Result<(), AllocError>
 }
 
 /// Leaves a block where the selector is a value of the labels of an arm.
-#[tactic(auto, using(m2_code::proofs::Emitted::put_append))]
+#[tactic(auto, using(m2_draft::proofs::Emitted::put_append))]
 fn labels_code(t: u32, labels: &[Label], draft: &mut Draft) -> Result<(), AllocError>
     ensures { OnOk result (draft.new ≡ put (flat_map (label_code t) labels.now) draft.old) }
 {
@@ -56,7 +56,7 @@ fn labels_code(t: u32, labels: &[Label], draft: &mut Draft) -> Result<(), AllocE
 }
 
 /// Leaves a block where the selector is a value of the labels of an arm, and else goes to the next arm.
-#[tactic(auto, using(m2_code::proofs::Emitted::put_append))]
+#[tactic(auto, using(m2_draft::proofs::Emitted::put_append))]
 fn tests_code(t: u32, labels: &[Label], draft: &mut Draft) -> Result<(), AllocError>
     ensures { OnOk result (draft.new ≡ put (tests_code t labels.now) draft.old) }
 {
@@ -98,7 +98,7 @@ pub fn jump_begun(place: usize, left: usize, draft: &mut Draft) -> Result<(), Al
 pub fn more(left: usize, labels: u32) -> Result<u32, AllocError>
     ensures { IfOk result (λ n. n ≡ left + labels) }
 {
-    sum(counted(left)?, labels)
+    plus(small(left)?, labels)
 }
 
 /// Begins so many blocks.
@@ -134,7 +134,7 @@ fn branches(targets: &[u32], draft: &mut Draft) -> Result<(), AllocError>
 fn table_code(targets: &[u32], last: u32, draft: &mut Draft) -> Result<(), AllocError>
     ensures { OnOk result (draft.new ≡ one (BrTable targets.now last) draft.old) }
 {
-    draft.push_op(Op::BrTable(counted(targets.len())?, last))?;
+    draft.push_op(Op::BrTable(small(targets.len())?, last))?;
     branches(targets, draft)
 }
 
@@ -149,7 +149,7 @@ fn beyond(t: u32, plan: Plan, last: u32, draft: &mut Draft) -> Result<(), AllocE
 }
 
 /// Branches to the arm of the selector.
-#[tactic(auto, using(m2_code::proofs::Emitted::put_append))]
+#[tactic(auto, using(m2_draft::proofs::Emitted::put_append))]
 fn dispatch(
     t: u32,
     plan: Plan,
@@ -199,7 +199,7 @@ pub fn table_begun(
         (draft.new ≡ table_begun t plan.least plan.span arms.now draft.old) }
 {
     let targets = targets(alloc, arms, plan)?;
-    let last = counted(arms.len())?;
+    let last = small(arms.len())?;
     let begun = blocks_begun(arms.len(), draft)?;
     dispatch(t, plan, targets.as_slice(), last, draft)?;
     Ok(begun)

@@ -2,8 +2,8 @@
 
 ghost use Rattle.std.specs.Prelude.{◌≡◌, ◌∷◌, ◌++◌, [], IfOk, OnOk, None};
 ghost use Rattle.wasm_tree.specs.declared.instr.Instr.TheVariants.{Br, BrIf};
-ghost use Rattle.m2_code.specs.Frames.{meant};
-ghost use Rattle.m2_code.specs.Drafts.{one, put, opened, place_of, closed_block, closed_loop};
+ghost use Rattle.m2_draft.specs.Frames.{meant};
+ghost use Rattle.m2_draft.specs.Drafts.{one, put, opened, place_of, closed_block, closed_loop};
 ghost use Rattle.m2_code.specs.Values.{with_value, with_place};
 ghost use Rattle.m2_scheme.specs.Cells.{loaded};
 ghost use Rattle.m2_scheme.specs.Coded.{is_zero, wrapped, address_local};
@@ -11,9 +11,9 @@ ghost use Rattle.m2_scheme.specs.Steps.{passes};
 ghost use Rattle.m2_steps_code.specs.Written.{address_kept, for_local, for_begun, for_tested, for_passed, for_next, for_turned};
 
 use crate::simple::{keep_address, keep_number};
-use m2_code::{
-    Draft, Setting, in_type, is_zero, load, number, operation, place_code, relation, store,
-    taken_code, value_code, wrapped,
+use m2_code::{place_code, taken_code, value_code};
+use m2_draft::{
+    Draft, Setting, in_type, is_zero, load, number, operation, relation, store, wrapped,
 };
 use m2_typed::{Place, TypeNo, TypedExpr};
 use std::alloc::AllocError;
@@ -175,7 +175,7 @@ fn for_passed(
 }
 
 /// The next turn of a FOR.
-#[tactic(auto, using(m2_code::proofs::Emitted::put_append))]
+#[tactic(auto, using(m2_draft::proofs::Emitted::put_append))]
 fn for_next(
     setting: &Setting<'_>,
     place: &Place,

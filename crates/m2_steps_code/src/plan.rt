@@ -6,7 +6,7 @@ ghost use Rattle.m2_scheme.specs.Steps.{lesser, greater, values_of, is_dense, le
 ghost use Rattle.m2_steps_code.specs.Plans.{few, with_label, gap_of, dense, plan_by};
 ghost use Rattle.m2_steps_code.specs.Written.{has_value, labels_in, target_in, targets_in};
 
-use crate::addresses::counted;
+use m2_draft::small;
 use m2_typed::{Label, TypedArm};
 use std::alloc::{AllocError, Global};
 
@@ -176,7 +176,7 @@ fn target_from(arms: &[TypedArm], least: i64, distance: usize) -> Result<u32, Al
         Err(_) => Err(AllocError),
         Ok(distance) => match least.checked_add(distance) {
             None => Err(AllocError),
-            Some(value) => counted(target_of(arms, value)),
+            Some(value) => small(target_of(arms, value)),
         },
     }
 }

@@ -2,16 +2,16 @@
 
 ghost use Rattle.std.specs.Prelude.{◌≡◌, ◌∷◌, [], ◌-◌, IfOk, OnOk, length};
 ghost use Rattle.m2_typed.specs.declared.statement.TypedStmt.TheVariants as stmt;
-ghost use Rattle.m2_code.specs.Frames.{meant};
-ghost use Rattle.m2_code.specs.Drafts.{put};
+ghost use Rattle.m2_draft.specs.Frames.{meant};
+ghost use Rattle.m2_draft.specs.Drafts.{put};
 ghost use Rattle.m2_scheme.specs.Coded.{number_local, address_local};
 ghost use Rattle.m2_scheme.specs.Steps.{read_again, changed, change_operation, member_operation, with_member, text_copied};
 ghost use Rattle.m2_steps_code.specs.Written.{with_step, address_kept, number_kept};
 
-use crate::addresses::counted;
-use m2_code::{
-    Draft, Setting, call_code, check_changed, checked, complement, fault, load, operation,
-    place_code, raised, size_in, store, taken_code, text, value_code,
+use m2_code::{call_code, place_code, taken_code, value_code};
+use m2_draft::{
+    Draft, Setting, check_changed, checked, complement, fault, load, operation, raised, size_in,
+    small, store, text,
 };
 use m2_typed::{BITSET, CHAR, Call, Change, Membership, Place, TypeNo, TypedExpr};
 use std::alloc::AllocError;
@@ -146,7 +146,7 @@ fn change_operation(change: Change, draft: &mut Draft) -> Result<(), AllocError>
 }
 
 /// The result of INC or DEC, checked and stored.
-#[tactic(auto, using(m2_code::proofs::Emitted::put_append))]
+#[tactic(auto, using(m2_draft::proofs::Emitted::put_append))]
 fn changed(
     setting: &Setting<'_>,
     change: Change,
@@ -198,7 +198,7 @@ fn member_operation(membership: Membership, draft: &mut Draft) -> Result<(), All
 }
 
 /// The set with or without the element, stored.
-#[tactic(auto, using(m2_code::proofs::Emitted::put_append))]
+#[tactic(auto, using(m2_draft::proofs::Emitted::put_append))]
 fn with_member(
     setting: &Setting<'_>,
     membership: Membership,
@@ -241,12 +241,12 @@ pub fn membership(
 fn rest_of(size: u32, text: &[u8]) -> Result<u32, AllocError>
     ensures { IfOk result (λ n. n ≡ size - length text.now) }
 {
-    let bytes = counted(text.len())?;
+    let bytes = small(text.len())?;
     Ok(size.saturating_sub(bytes))
 }
 
 /// The copy of a text to an address that was kept, and zeros up to the end of the array.
-#[tactic(auto, using(m2_code::proofs::Emitted::put_append))]
+#[tactic(auto, using(m2_draft::proofs::Emitted::put_append))]
 fn text_copied(at: u32, bytes: u32, rest: u32, w: u32, draft: &mut Draft) -> Result<(), AllocError>
     ensures { OnOk result (draft.new ≡ put (text_copied at bytes rest w) draft.old) }
 {
@@ -276,5 +276,5 @@ pub fn copy_text(
     draft.push(Op::LocalTee(w))?;
     let at = draft.next_text(characters.len())?;
     let rest = rest_of(size_in(setting, t)?, characters)?;
-    text_copied(at, counted(characters.len())?, rest, w, draft)
+    text_copied(at, small(characters.len())?, rest, w, draft)
 }

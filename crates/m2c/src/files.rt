@@ -1,10 +1,12 @@
 //! Files to modules.
 
 ghost use Rattle.std.specs.Prelude.{◌≡◌, ◌<◌, ◌≤◌, ◌⊎◌, ◌↔◌, IfOk, IsErrOf};
+ghost use Rattle.m2_board.specs.Seats.{max_workers};
+ghost use Rattle.m2_scheme.specs.Modules.{max_pages};
 ghost use Rattle.m2c.specs.Build.{AreAlike, IsBuilt};
-ghost use Rattle.m2c.specs.Limits.{max_workers, max_pages};
 
 use crate::outcome::outcome_of;
+use m2_board::MAX_WORKERS;
 use m2_jobs::Crew;
 use m2_read::SourceFile;
 use m2_tree::Refusal;
@@ -12,9 +14,6 @@ use m2_worker::Gate;
 use std::alloc::{AllocError, Global};
 use std::thread::Threads;
 use thiserror::Error;
-
-/// How many threads may work.
-pub const MAX_WORKERS: usize = 64;
 
 /// How many pages of 65536 bytes a program's memory may have.
 pub const MAX_PAGES: u32 = 1024;

@@ -9,6 +9,7 @@ mod refusals;
 mod results;
 mod texts;
 
-pub use files::{BuildFault, MAX_PAGES, MAX_WORKERS, Options, Outcome, build};
+pub use files::{BuildFault, MAX_PAGES, Options, Outcome, build};
+pub use m2_board::MAX_WORKERS;
 pub use m2_read::SourceFile;
 pub use m2_worker::Gate;

@@ -5,6 +5,7 @@ ghost use Rattle.std.specs.Char.{is_ascii_alphanumeric};
 ghost use Rattle.std.specs.List.{list_all};
 ghost use Rattle.std.specs.String.{string_bytes};
 ghost use Rattle.m2_emit.specs.Emitted.{parts};
+ghost use Rattle.m2_graph.specs.Refused.{max_files};
 ghost use Rattle.m2_headline.specs.Proved.{IsName};
 ghost use Rattle.m2_scheme.specs.Modules.{stack_begin};
 ghost use Rattle.m2c.specs.Build.{named, named_bytes};
@@ -91,7 +92,7 @@ fn size_of(module: &ModuleBytes) -> u64
 /// How many bytes the variables and texts of modules take.
 #[tactic(auto, using(crate::proofs::Sums::one_more, crate::proofs::Sums::no_overflow))]
 pub fn data_size(modules: &[&ModuleBytes]) -> u64
-    requires { length modules.now ≤ 1024 }
+    requires { length modules.now ≤ max_files }
     ensures size { result ≡ stack_begin (parts (map (λ m. m.now) modules.now)) }
     ensures bound { result ≤ length modules.now * 8589934592 }
 {

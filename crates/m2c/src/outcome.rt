@@ -2,15 +2,15 @@
 
 ghost use Rattle.std.specs.Prelude.{◌≡◌, ◌≤◌, ◌+◌, ◌*◌, ◌∷◌, [], length, map, nat_lt, IfOk};
 ghost use Rattle.m2_emit.specs.Emitted.{parts};
-ghost use Rattle.m2_scheme.specs.Modules.{stack_begin};
+ghost use Rattle.m2_scheme.specs.Modules.{max_pages, stack_begin};
 ghost use Rattle.m2_graph.specs.Files.{numbered};
 ghost use Rattle.m2_graph.specs.Graph.{CompileEach};
 ghost use Rattle.m2_graph.specs.Jobs.{ArePlaces};
+ghost use Rattle.m2_graph.specs.Refused.{max_files};
 ghost use Rattle.m2_jobs.specs.Jobs.{all_compiled};
 ghost use Rattle.m2_jobs.specs.Lent.{lent, modules_lent};
 ghost use Rattle.m2_jobs.specs.Spelled.{AreSpelled};
 ghost use Rattle.m2_read.specs.Reading.{AreRead};
-ghost use Rattle.m2c.specs.Limits.{max_pages};
 ghost use Rattle.m2c.specs.Build.{is_program_part, program_file, refused_by, started, told, told_at, AreTrees, HaveGraph, IsBuilt};
 
 use crate::files::Outcome;
@@ -74,7 +74,7 @@ fn too_large(alloc: Global, trees: &[(&str, &Module)]) -> Result<Vec<Refusal>, A
 
 /// Whether the data of modules, and the least stack, need more than so many pages.
 fn is_too_large(modules: &[&ModuleBytes], pages: u32) -> bool
-    requires { length modules.now ≤ 1024 }
+    requires { length modules.now ≤ max_files }
     ensures { let ms = parts (map (λ m. m.now) modules.now) in
         result ≡ nat_lt (65536 * pages) (stack_begin ms + 4096) }
 {

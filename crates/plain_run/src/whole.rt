@@ -16,7 +16,7 @@ use crate::runs::steps;
 use m2_layout::layout_of;
 use m2_tree::Items;
 use m2_typed::TypedModule;
-use plain_store::blanks::{Blank, Kept, known, row, variables_blank};
+use plain_store::blanks::{Blank, Kept, known, plus, row, variables_blank};
 use plain_store::held::Held;
 use plain_store::prepared::Prepared;
 use plain_store::state::{Outcome, RunFault, State, Stop};
@@ -28,15 +28,6 @@ use std::alloc::Global;
 pub struct Report {
     pub end: Stop,
     pub out: Items<u8>,
-}
-
-fn plus(a: usize, b: usize) -> Result<usize, RunFault>
-    ensures { IfOk result (λ n. n ≡ a + b) }
-{
-    match a.checked_add(b) {
-        None => Err(RunFault::TooLarge),
-        Some(n) => Ok(n),
-    }
 }
 
 /// Variables of all types of the modules.

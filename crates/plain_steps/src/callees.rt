@@ -8,6 +8,7 @@ ghost use Rattle.plain_steps.specs.Parts.{entries_at};
 ghost use Rattle.std.specs.Prelude.{drop};
 
 use m2_tree::Items;
+use plain_store::blanks::plus;
 use plain_store::prepared::Prepared;
 use plain_store::state::RunFault;
 use plain_values::places::{module_place, whole};
@@ -19,15 +20,6 @@ use std::alloc::{AllocError, Global};
 pub struct Found {
     pub place: usize,
     pub number: usize,
-}
-
-fn plus(a: usize, b: usize) -> Result<usize, RunFault>
-    ensures { IfOk result (λ n. n ≡ a + b) }
-{
-    match a.checked_add(b) {
-        None => Err(RunFault::TooLarge),
-        Some(n) => Ok(n),
-    }
 }
 
 /// One less, if there is a number less.

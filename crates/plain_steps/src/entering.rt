@@ -13,7 +13,7 @@ ghost use Rattle.plain_steps.specs.Asked.{need_of, IsTooSmall, HasRoom};
 
 use m2_tree::Items;
 use m2_typed::{Formal, Routine, Shape, TypeNo, Types, made_of};
-use plain_store::blanks::formals_of;
+use plain_store::blanks::{formals_of, plus, times};
 use plain_store::prepared::Prepared;
 use plain_store::state::{Answer, Outcome, RunFault, State, Stop, copy_to, put_at, store, text_to};
 use plain_store::storage::{frame_held, frame_size, type_size};
@@ -34,24 +34,6 @@ pub struct Request<'a> {
     pub passed: Items<Passed>,
     pub next: usize,
     pub left: usize,
-}
-
-fn plus(a: usize, b: usize) -> Result<usize, RunFault>
-    ensures { IfOk result (λ n. n ≡ a + b) }
-{
-    match a.checked_add(b) {
-        None => Err(RunFault::TooLarge),
-        Some(n) => Ok(n),
-    }
-}
-
-fn times(a: usize, b: usize) -> Result<usize, RunFault>
-    ensures { IfOk result (λ n. n ≡ a * b) }
-{
-    match a.checked_mul(b) {
-        None => Err(RunFault::TooLarge),
-        Some(n) => Ok(n),
-    }
 }
 
 /// The location of a variable of an activation.

@@ -33,7 +33,8 @@ pub struct Kept {
     pub blanks: Items<Blank>,
 }
 
-fn plus(a: usize, b: usize) -> Result<usize, RunFault>
+/// The sum. The error is `TooLarge`.
+pub fn plus(a: usize, b: usize) -> Result<usize, RunFault>
     ensures { IfOk result (λ n. n ≡ a + b) }
 {
     match a.checked_add(b) {
@@ -42,7 +43,8 @@ fn plus(a: usize, b: usize) -> Result<usize, RunFault>
     }
 }
 
-fn times(a: usize, b: usize) -> Result<usize, RunFault>
+/// The product. The error is `TooLarge`.
+pub fn times(a: usize, b: usize) -> Result<usize, RunFault>
     ensures { IfOk result (λ n. n ≡ a * b) }
 {
     match a.checked_mul(b) {

@@ -33,6 +33,8 @@ pub struct Program {
     pub files: Vec<SourceFile>,
     /// All its modules, `link.wasm` too; none where their bytes are not stated.
     pub modules: Vec<Expected>,
+    /// Bytes that stand together somewhere in a module.
+    pub pieces: Vec<Expected>,
     /// The bytes that it prints.
     pub printed: Vec<u8>,
     /// The number with which it ends.
@@ -45,6 +47,7 @@ pub fn no_program(alloc: Global) -> Program {
         name: String::new(alloc),
         files: Vec::new(alloc),
         modules: Vec::new(alloc),
+        pieces: Vec::new(alloc),
         printed: Vec::new(alloc),
         end: 0,
     }
@@ -58,7 +61,7 @@ fn compared(
     bytes: &[u8],
 ) -> Result<Option<String>> {
     for module in expected {
-        if module.name.len() == name.len() + 5 && module.name.as_str().starts_with(name) {
+        if is_name_of(module.name.as_str(), name) {
             if module.bytes.as_slice() == bytes {
                 return Ok(None);
             }
@@ -87,6 +90,40 @@ fn compared_all(
     }
     if modules.len() + 1 != program.modules.len() {
         return Ok(Some(format!(in alloc; "some modules are missing")?));
+    }
+    Ok(None)
+}
+
+fn is_name_of(file: &str, name: &str) -> bool {
+    file.len() == name.len() + 5 && file.starts_with(name)
+}
+
+/// The pieces that are to stand in a module, and do not.
+fn lacking(alloc: Global, pieces: &[Expected], name: &str, bytes: &[u8]) -> Result<Option<String>> {
+    for piece in pieces {
+        let wanted = piece.bytes.as_slice();
+        if is_name_of(piece.name.as_str(), name)
+            && !bytes.windows(wanted.len()).any(|it| it == wanted)
+        {
+            return Ok(Some(format!(in alloc; "{name}.wasm lacks a piece")?));
+        }
+    }
+    Ok(None)
+}
+
+fn lacking_all(
+    alloc: Global,
+    program: &Program,
+    link: &[u8],
+    modules: &[(String, Vec<u8>)],
+) -> Result<Option<String>> {
+    if let Some(wrong) = lacking(alloc, &program.pieces, "link", link)? {
+        return Ok(Some(wrong));
+    }
+    for module in modules {
+        if let Some(wrong) = lacking(alloc, &program.pieces, module.0.as_str(), &module.1)? {
+            return Ok(Some(wrong));
+        }
     }
     Ok(None)
 }
@@ -147,7 +184,10 @@ pub fn judged<R: Threads + Sync>(
         }
         Outcome::Built { link, modules } => match compared_all(alloc, program, &link, &modules)? {
             Some(wrong) => Ok(Some(wrong)),
-            None => executed(alloc, program, &link, &modules),
+            None => match lacking_all(alloc, program, &link, &modules)? {
+                Some(wrong) => Ok(Some(wrong)),
+                None => executed(alloc, program, &link, &modules),
+            },
         },
     }
 }

@@ -65,15 +65,15 @@ fn with_file(alloc: Global, reading: &mut Reading) -> Result<()> {
     Ok(())
 }
 
-fn with_module(alloc: Global, reading: &mut Reading, line: &str) -> Result<()> {
+/// The bytes of a module, or of a piece of it, behind the name of its file.
+fn expected_in(alloc: Global, line: &str) -> Result<Expected> {
     let Some((name, digits)) = line.split_once(' ') else {
         bail!("a module without bytes");
     };
-    reading.program.modules.push(Expected {
+    Ok(Expected {
         name: String::from_str(alloc, name)?,
         bytes: bytes_of(alloc, digits)?,
-    })?;
-    Ok(())
+    })
 }
 
 /// Takes a line that begins with a sign.
@@ -82,7 +82,8 @@ fn with_sign(alloc: Global, reading: &mut Reading, sign: &str, rest: &str) -> Re
     match sign {
         "%n" => reading.program.name.push_str(rest)?,
         "%f" => reading.name.push_str(rest)?,
-        "%w" => with_module(alloc, reading, rest)?,
+        "%w" => reading.program.modules.push(expected_in(alloc, rest)?)?,
+        "%c" => reading.program.pieces.push(expected_in(alloc, rest)?)?,
         "%p" => reading.program.printed = bytes_of(alloc, rest)?,
         "%e" => reading.program.end = rest.parse()?,
         _ => bail!("an unknown sign"),

@@ -1,6 +1,6 @@
 use Rattle.std.proofs.Common.{◌≡◌, take}
 use Rattle.std.specs.List.{fold}
-use Rattle.m2_code.specs.Frames.{meant}
+use Rattle.m2_draft.specs.Frames.{meant}
 use Rattle.m2_code.specs.Values.{with_argument, with_component, with_link}
 use Rattle.m2_code.proofs.exprs.+exprs.Given as goal
 

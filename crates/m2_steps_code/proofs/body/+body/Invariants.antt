@@ -1,5 +1,5 @@
 use Rattle.std.proofs.Common.{◌≡◌, ◌+◌, take, drop, length}
-use Rattle.m2_code.specs.Frames.{meant}
+use Rattle.m2_draft.specs.Frames.{meant}
 use Rattle.m2_steps_code.specs.Written.{with_steps, with_arms, with_jumps}
 use Rattle.m2_steps_code.proofs.body.+body.Given as goal
 

@@ -1,7 +1,7 @@
 use Rattle.std.proofs.Common.{◌≡◌, drop}
 use Rattle.std.specs.Prelude.{map}
 use Rattle.wasm_tree.specs.declared.code.Op.TheVariants as op
-use Rattle.m2_code.specs.Drafts.{with_ops}
+use Rattle.m2_draft.specs.Drafts.{with_ops}
 use Rattle.m2_steps_code.proofs.cases.branches.Given as goal
 
 abbrev pub invariant-loop-target : goal.invariant-loop-target

@@ -1,7 +1,0 @@
-use Rattle.std.proofs.Common.{true}
-use Rattle.m2_layout.specs.Fitting.{module_fits}
-use Rattle.m2_layout.proofs.Walks.{walked}
-use Rattle.m2_layout.proofs.fitting.others_fit.Goals as goal
-
-pub loop-place-preserved : goal.loop-place-preserved
-loop-place-preserved c = walked (module_fits c.args.types.now) true c.args.types.now.others c.loop-place.place c.loop-place.all _ _ c.loop-place.invariant c.get.ensures c.module_fits-all.ensures

@@ -1,7 +1,0 @@
-use Rattle.std.proofs.Common.{◌≡◌, take, true}
-use Rattle.std.specs.List.{fold}
-use Rattle.m2_layout.specs.Fitting.{module_fits}
-use Rattle.m2_layout.proofs.fitting.others_fit.Given as goal
-
-abbrev pub invariant-loop-place : goal.invariant-loop-place
-invariant-loop-place l = l.all ≡ fold (module_fits l.types) true (take l.place l.types.others)
