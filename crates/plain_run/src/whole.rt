@@ -1,6 +1,6 @@
 //! The run of a program: the bodies of its modules in start order, on fresh variables.
 
-ghost use Rattle.std.specs.Prelude.{◌≡◌, ◌+◌, ◌-◌, map, IfOk};
+ghost use Rattle.std.specs.Prelude.{◌≡◌, ◌-◌, map, IfOk};
 ghost use Rattle.m2_layout.specs.Frames.{module_row};
 ghost use Rattle.m2_layout.specs.Texts.{module_texts, characters};
 ghost use Rattle.m2_layout.specs.Types.{row as row_type};

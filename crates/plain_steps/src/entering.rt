@@ -1,6 +1,6 @@
 //! How calls begin, and how they end.
 
-ghost use Rattle.std.specs.Prelude.{◌≡◌, ◌+◌, ◌*◌, ◌∷◌, [], ◌++◌, suc, false, map, length, IfOk, OnOk, MatchOption};
+ghost use Rattle.std.specs.Prelude.{◌≡◌, ◌∷◌, [], ◌++◌, suc, false, map, length, IfOk, OnOk, MatchOption};
 ghost use Rattle.m2_layout.specs.Frames.{formals_of};
 ghost use Rattle.m2_layout.specs.Texts.{passed};
 ghost use Rattle.m2_meaning.specs.Around.{Elements, Number, Variable, Array, Text};
