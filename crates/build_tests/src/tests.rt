@@ -219,7 +219,7 @@ fn tells_what_does_not_fit(rt: HostRuntime) -> Result<(), Fail> {
 }
 
 #[test]
-fn tells_a_circle_once(rt: HostRuntime) -> Result<(), Fail> {
+fn tells_a_cycle_once(rt: HostRuntime) -> Result<(), Fail> {
     let alloc = rt.alloc();
     let files = [
         file(alloc, "P.mod", "MODULE P; END P.")?,

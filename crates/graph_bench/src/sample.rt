@@ -13,9 +13,9 @@ const IMPORTS: usize = 500;
 pub enum Shape {
     /// Those before it.
     Before,
-    /// Those behind it; and the last imports the first, so that each is on a circle.
+    /// Those behind it; and the last imports the first, so that each is on a cycle.
     Round,
-    /// Those behind it; and the last imports itself, so that each leads to a circle.
+    /// Those behind it; and the last imports itself, so that each leads to a cycle.
     After,
 }
 

@@ -19,7 +19,7 @@ pub struct Sizes {
     pub starts: usize,
 }
 
-fn lent(alloc: Global, files: &[File]) -> Result<Vec<(&str, &Module)>, AllocError> {
+fn borrowed(alloc: Global, files: &[File]) -> Result<Vec<(&str, &Module)>, AllocError> {
     let mut all = Vec::new(alloc);
     for file in files {
         all.push((file.name.as_str(), &file.tree))?;
@@ -42,8 +42,8 @@ fn sizes_of(alloc: Global, files: &[(&str, &Module)]) -> Result<Sizes> {
 /// Makes the graph of a whole program of so many definitions.
 pub fn graph_once(alloc: Global, count: usize) -> Result<Sizes> {
     let files = whole(alloc, count)?;
-    let lent = lent(alloc, &files)?;
-    sizes_of(alloc, &lent)
+    let borrowed = borrowed(alloc, &files)?;
+    sizes_of(alloc, &borrowed)
 }
 
 /// How many refusals there are.
@@ -63,9 +63,9 @@ fn measure_shape(
     word: &str,
 ) -> Result<()> {
     let files = definitions(rt.alloc(), count, shape)?;
-    let lent = lent(rt.alloc(), &files)?;
+    let borrowed = borrowed(rt.alloc(), &files)?;
     let start = Instant::now(rt)?;
-    let told = refusals(rt.alloc(), &lent);
+    let told = refusals(rt.alloc(), &borrowed);
     let micros = start.elapsed(rt)?.as_micros();
     eprintln!(rt; "{count} definitions, {word}: {told} refusals in {micros} us")?;
     Ok(())
@@ -74,9 +74,9 @@ fn measure_shape(
 /// Prints how long a whole program takes.
 fn measure_whole(rt: &(impl Clock + Eprint + AllocGlobal), count: usize) -> Result<()> {
     let files = whole(rt.alloc(), count)?;
-    let lent = lent(rt.alloc(), &files)?;
+    let borrowed = borrowed(rt.alloc(), &files)?;
     let start = Instant::now(rt)?;
-    let sizes = sizes_of(rt.alloc(), &lent)?;
+    let sizes = sizes_of(rt.alloc(), &borrowed)?;
     let micros = start.elapsed(rt)?.as_micros();
     let files = sizes.files;
     let jobs = sizes.jobs;
@@ -87,7 +87,7 @@ fn measure_whole(rt: &(impl Clock + Eprint + AllocGlobal), count: usize) -> Resu
 /// Prints how long programs of about so many files take; a whole one has at most 1023.
 pub fn measure(rt: &(impl Clock + Eprint + AllocGlobal), count: usize) -> Result<()> {
     measure_whole(rt, MOST.min(count / 2))?;
-    measure_shape(rt, count, Shape::Before, "without circle")?;
-    measure_shape(rt, count, Shape::Round, "on circles")?;
-    measure_shape(rt, count, Shape::After, "leading to a circle")
+    measure_shape(rt, count, Shape::Before, "without cycle")?;
+    measure_shape(rt, count, Shape::Round, "on cycles")?;
+    measure_shape(rt, count, Shape::After, "leading to a cycle")
 }

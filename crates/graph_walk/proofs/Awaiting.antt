@@ -279,22 +279,22 @@ awaits_first links back definitions done n order counts counts' ready ready' t e
 pub awaits_last : (links : List (List ℕ)) (definitions done : List Bool) (order counts ready : List ℕ) → ready ≡ [] → Awaits links definitions done order counts ready → IsNumbering links definitions order
 awaits_last links definitions done order counts ready e a = numbers_all links definitions done order a.numbers (λ k. cond_none (is_ready links definitions (flag done) k) (sym (ready_is links definitions done order counts ready a k) ∙ ap (λ (xs : List ℕ). times xs k) e))
 
--- ---- the same of what is lent
+-- ---- the same of what is borrowed
 
-pub first_settled : (links back : List (List ℕ)) (counts now lent : List ℕ) → IsTurned links back → lent ≡ targets back (length links) → now ≡ counts → counts ≡ map (λ (ts : List ℕ). length ts + 1) links → (k : ℕ) → times lent k ≤ count_at now k
-first_settled links back counts now lent t e1 e2 e3 k = subst (λ (xs : List ℕ). times xs k ≤ count_at now k) (sym e1) (first_counts links back now t (e2 ∙ e3) k)
+pub first_settled : (links back : List (List ℕ)) (counts now borrowed : List ℕ) → IsTurned links back → borrowed ≡ targets back (length links) → now ≡ counts → counts ≡ map (λ (ts : List ℕ). length ts + 1) links → (k : ℕ) → times borrowed k ≤ count_at now k
+first_settled links back counts now borrowed t e1 e2 e3 k = subst (λ (xs : List ℕ). times xs k ≤ count_at now k) (sym e1) (first_counts links back now t (e2 ∙ e3) k)
 
-pub awaits_begins : (links back : List (List ℕ)) (definitions done lent_done : List Bool) (n len : ℕ) (order counts now counts' lent ready ready' : List ℕ) → IsTurned links back → length definitions ≡ length links → counts ≡ map (λ (ts : List ℕ). length ts + 1) links → done ≡ replicate n false → n ≡ length links → ready ≡ [] → order ≡ [] → lent_done ≡ done → lent ≡ targets back (length links) → now ≡ counts → length counts ≡ len →
-    Settles definitions lent_done lent now ready counts' ready' → Awaits links definitions done order (take len (counts' ++ drop (length counts') counts)) ready'
-awaits_begins links back definitions done lent_done n len order counts now counts' lent ready ready' t e0 e1 e2 e3 e4 e5 l1 l2 l3 l4 s =
-    let is : Settles definitions done (targets back (length links)) counts ready counts' ready' = subst (λ (p : List Bool × List ℕ × List ℕ). Settles definitions p.0 p.1 p.2 ready counts' ready') (let q : (lent_done, lent, now) ≡ (done, targets back (length links), counts) = cc in q) s in
+pub awaits_begins : (links back : List (List ℕ)) (definitions done borrowed_done : List Bool) (n len : ℕ) (order counts now counts' borrowed ready ready' : List ℕ) → IsTurned links back → length definitions ≡ length links → counts ≡ map (λ (ts : List ℕ). length ts + 1) links → done ≡ replicate n false → n ≡ length links → ready ≡ [] → order ≡ [] → borrowed_done ≡ done → borrowed ≡ targets back (length links) → now ≡ counts → length counts ≡ len →
+    Settles definitions borrowed_done borrowed now ready counts' ready' → Awaits links definitions done order (take len (counts' ++ drop (length counts') counts)) ready'
+awaits_begins links back definitions done borrowed_done n len order counts now counts' borrowed ready ready' t e0 e1 e2 e3 e4 e5 l1 l2 l3 l4 s =
+    let is : Settles definitions done (targets back (length links)) counts ready counts' ready' = subst (λ (p : List Bool × List ℕ × List ℕ). Settles definitions p.0 p.1 p.2 ready counts' ready') (let q : (borrowed_done, borrowed, now) ≡ (done, targets back (length links), counts) = cc in q) s in
     subst (λ (cs : List ℕ). Awaits links definitions done order cs ready') (sym (written_back counts counts' len (is.same ∙ l4) l4)) (awaits_first links back definitions done n order counts counts' ready ready' t e0 e1 e2 e3 e4 e5 is)
 
-pub next_settled : (links back : List (List ℕ)) (definitions done : List Bool) (order counts now lent ready : List ℕ) (node : ℕ) → IsTurned links back → length definitions ≡ length links → Awaits links definitions done order counts ready → IsNext links definitions (flag done) node → lent ≡ targets back node → now ≡ counts → (k : ℕ) → times lent k ≤ count_at now k
-next_settled links back definitions done order counts now lent ready node t e a n e1 e2 k = subst (λ (p : List ℕ × List ℕ). times p.0 k ≤ count_at p.1 k) (let q : (targets back node, counts) ≡ (lent, now) = cc in q) (settle_next links back definitions done order counts ready node t e a n k)
+pub next_settled : (links back : List (List ℕ)) (definitions done : List Bool) (order counts now borrowed ready : List ℕ) (node : ℕ) → IsTurned links back → length definitions ≡ length links → Awaits links definitions done order counts ready → IsNext links definitions (flag done) node → borrowed ≡ targets back node → now ≡ counts → (k : ℕ) → times borrowed k ≤ count_at now k
+next_settled links back definitions done order counts now borrowed ready node t e a n e1 e2 k = subst (λ (p : List ℕ × List ℕ). times p.0 k ≤ count_at p.1 k) (let q : (targets back node, counts) ≡ (borrowed, now) = cc in q) (settle_next links back definitions done order counts ready node t e a n k)
 
-pub awaits_goes_on : (links back : List (List ℕ)) (definitions done lent_done : List Bool) (len : ℕ) (order order' counts now counts' lent ready between ready' : List ℕ) (node : ℕ) → IsTurned links back → length definitions ≡ length links → Awaits links definitions done order counts ready → IsNext links definitions (flag done) node → ((k : ℕ) → times ready k ≡ times between k + cond (node == k) 1 0) →
-    order' ≡ order ++ node ∷ [] → lent_done ≡ set done node true → lent ≡ targets back node → now ≡ counts → length counts ≡ len → Settles definitions lent_done lent now between counts' ready' → Awaits links definitions (set done node true) order' (take len (counts' ++ drop (length counts') counts)) ready'
-awaits_goes_on links back definitions done lent_done len order order' counts now counts' lent ready between ready' node t e a n taken e1 l1 l2 l3 l4 s =
-    let is : Settles definitions (set done node true) (targets back node) counts between counts' ready' = subst (λ (p : List Bool × List ℕ × List ℕ). Settles definitions p.0 p.1 p.2 between counts' ready') (let q : (lent_done, lent, now) ≡ (set done node true, targets back node, counts) = cc in q) s in
+pub awaits_goes_on : (links back : List (List ℕ)) (definitions done borrowed_done : List Bool) (len : ℕ) (order order' counts now counts' borrowed ready between ready' : List ℕ) (node : ℕ) → IsTurned links back → length definitions ≡ length links → Awaits links definitions done order counts ready → IsNext links definitions (flag done) node → ((k : ℕ) → times ready k ≡ times between k + cond (node == k) 1 0) →
+    order' ≡ order ++ node ∷ [] → borrowed_done ≡ set done node true → borrowed ≡ targets back node → now ≡ counts → length counts ≡ len → Settles definitions borrowed_done borrowed now between counts' ready' → Awaits links definitions (set done node true) order' (take len (counts' ++ drop (length counts') counts)) ready'
+awaits_goes_on links back definitions done borrowed_done len order order' counts now counts' borrowed ready between ready' node t e a n taken e1 l1 l2 l3 l4 s =
+    let is : Settles definitions (set done node true) (targets back node) counts between counts' ready' = subst (λ (p : List Bool × List ℕ × List ℕ). Settles definitions p.0 p.1 p.2 between counts' ready') (let q : (borrowed_done, borrowed, now) ≡ (set done node true, targets back node, counts) = cc in q) s in
     subst (λ (p : List ℕ × List ℕ). Awaits links definitions (set done node true) p.0 p.1 ready') (let w = written_back counts counts' len (is.same ∙ l4) l4 in let q : (order ++ node ∷ [], counts') ≡ (order', take len (counts' ++ drop (length counts') counts)) = cc in q) (awaits_more links back definitions done order counts counts' ready between ready' node t e a n taken is)

@@ -1,10 +1,10 @@
--- Where there are no circles, each definition gets a number.
+-- Where there are no cycles, each definition gets a number.
 use Rattle.std.proofs.Common.{◌≡◌, ◌<◌, ◌≤◌, ℕ, zero, suc, ◌+◌, Bool, true, false, not, cond, ◌&&◌, ◌||◌, ◌==◌, List, [], ◌∷◌, ◌++◌, length, take, refl, sym, ap, subst, ◌∙◌, inl, inr, arith, append_assoc, eq-eqb, slice_index}
 use Rattle.std.specs.List.{list_all}
 use Rattle.std.proofs.lemmas.Bool.{cases_lt, false≢true, eqb-true, and_parts}
 use Rattle.std.proofs.lemmas.List.{take_more, take_all}
 use Rattle.graph_walk.specs.Links.{has, times, flag, targets, AreNodes, Leads, Pair}
-use Rattle.graph_walk.specs.Circles.{IsCircleOrder, HasCircleOrder}
+use Rattle.graph_walk.specs.Cycles.{IsCycleOrder, HasCycleOrder}
 use Rattle.graph_walk.specs.Numbering.{IsNumbering}
 use Rattle.graph_walk.proofs.Marking.{times-append}
 use Rattle.graph_walk.proofs.Chains.{or_true, has_times, pair_within}
@@ -31,7 +31,7 @@ abbrev ToDefinitions : List (List ℕ) → List Bool → Type 0
 ToDefinitions links definitions = (from to : ℕ) → has (targets links from) to ≡ true → flag definitions to ≡ true
 
 -- in the order of a walk against the pairs, what a node imports stands behind it
-imports_behind : (links : List (List ℕ)) (order : List ℕ) → IsCircleOrder links order → AreNodes links → ((k : ℕ) → Leads links k k → ⊥) → (before after : List ℕ) (x to : ℕ) → order ≡ before ++ x ∷ after → has (targets links x) to ≡ true → has after to ≡ true
+imports_behind : (links : List (List ℕ)) (order : List ℕ) → IsCycleOrder links order → AreNodes links → ((k : ℕ) → Leads links k k → ⊥) → (before after : List ℕ) (x to : ℕ) → order ≡ before ++ x ∷ after → has (targets links x) to ≡ true → has after to ≡ true
 imports_behind links order o nodes none before after x to e p = elim (has_either before (x ∷ after) to (ap (λ (xs : List ℕ). has xs to) (sym e) ∙ o.whole to (pair_within links x to nodes p))) [
   | inl earlier ↦ absurd (before_it earlier)
   | inr later ↦ elim (or_true (x == to) (has after to) later) [
@@ -44,7 +44,7 @@ imports_behind links order o nodes none before after x to e p = elim (has_either
     before_it h =
         let r = split_has before to h in
         let split : order ≡ r.0 ++ to ∷ (r.1 ++ x ∷ after) = e ∙ ap (λ (xs : List ℕ). xs ++ x ∷ after) r.2 ∙ append_assoc r.0 (to ∷ r.1) (x ∷ after) in
-        none to (o.circles r.0 (r.1 ++ x ∷ after) to x split (has_right (to ∷ r.1) (x ∷ after) x (ap (λ b. b || has after x) (eq-eqb x x refl))) (Pair to p))
+        none to (o.cycles r.0 (r.1 ++ x ∷ after) to x split (has_right (to ∷ r.1) (x ∷ after) x (ap (λ b. b || has after x) (eq-eqb x x refl))) (Pair to p))
 
 numbered_one : (links : List (List ℕ)) (definitions : List Bool) (numbered : List ℕ) (x : ℕ) → IsNumbering links definitions numbered → flag definitions x ≡ true → list_all (has numbered) (targets links x) ≡ true → has numbered x ≡ true
 numbered_one links definitions numbered x n d a = step (flag definitions x) (has numbered x) (list_all (has numbered) (targets links x)) d a (n.whole x)
@@ -55,7 +55,7 @@ numbered_one links definitions numbered x n d a = step (flag definitions x) (has
     step true false false e f g = f
     step false false a e f g = e
 
-numbered_behind : (links : List (List ℕ)) (definitions : List Bool) (order numbered : List ℕ) → IsCircleOrder links order → AreNodes links → ((k : ℕ) → Leads links k k → ⊥) → ToDefinitions links definitions → IsNumbering links definitions numbered → (before after : List ℕ) → order ≡ before ++ after → (x : ℕ) → has after x ≡ true → flag definitions x ≡ true → has numbered x ≡ true
+numbered_behind : (links : List (List ℕ)) (definitions : List Bool) (order numbered : List ℕ) → IsCycleOrder links order → AreNodes links → ((k : ℕ) → Leads links k k → ⊥) → ToDefinitions links definitions → IsNumbering links definitions numbered → (before after : List ℕ) → order ≡ before ++ after → (x : ℕ) → has after x ≡ true → flag definitions x ≡ true → has numbered x ≡ true
 numbered_behind links definitions order numbered o nodes none d n before [] e x h f = absurd (false≢true h)
 numbered_behind links definitions order numbered o nodes none d n before (y ∷ ys) e x h f =
     let later = numbered_behind links definitions order numbered o nodes none d n (before ++ y ∷ []) ys (e ∙ sym (append_assoc before (y ∷ []) ys)) in
@@ -64,8 +64,8 @@ numbered_behind links definitions order numbered o nodes none d n before (y ∷ 
       | inr m ↦ later x m f
     ]
 
--- each definition has a number where there are no circles
-pub all_numbered : (links : List (List ℕ)) (definitions : List Bool) (numbered : List ℕ) → HasCircleOrder links → AreNodes links → ((k : ℕ) → Leads links k k → ⊥) → ToDefinitions links definitions → IsNumbering links definitions numbered → (x : ℕ) → x < length links → flag definitions x ≡ true → has numbered x ≡ true
+-- each definition has a number where there are no cycles
+pub all_numbered : (links : List (List ℕ)) (definitions : List Bool) (numbered : List ℕ) → HasCycleOrder links → AreNodes links → ((k : ℕ) → Leads links k k → ⊥) → ToDefinitions links definitions → IsNumbering links definitions numbered → (x : ℕ) → x < length links → flag definitions x ≡ true → has numbered x ≡ true
 all_numbered links definitions numbered o nodes none d n x l f = numbered_behind links definitions o.0 numbered o.1 nodes none d n [] o.0 refl x (o.1.whole x l) f
 
 -- each once

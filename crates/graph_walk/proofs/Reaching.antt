@@ -4,7 +4,7 @@ use Rattle.std.proofs.lemmas.Bool.{cases_Bool, or_cases, or_left, or_right, and_
 use Rattle.std.proofs.lemmas.List.{drop_all, take_all, append-nil}
 use Rattle.graph_walk.specs.Links.{has, flag, targets, AreNodes, Leads, Pair, Longer}
 use Rattle.graph_walk.specs.Marks.{Marks}
-use Rattle.graph_walk.specs.Circles.{IsClosed}
+use Rattle.graph_walk.specs.Cycles.{IsClosed}
 use Rattle.graph_walk.proofs.Marking.{has-append, has_itself, flag_fresh, marked_within}
 
 -- what holds while nodes to be done are left
@@ -104,9 +104,9 @@ reaches_all links from old flags r k (Longer middle to l h) = r.closed middle to
 pub waiting_within : (links : List (List ℕ)) (from node : ℕ) (old flags : List Bool) (todo rest : List ℕ) → todo ≡ rest ++ node ∷ [] → Reaches links from old flags todo → node < length links
 waiting_within links from node old flags todo rest e r = subst (λ (n : ℕ). node < n) r.same (marked_within flags node (r.waiting node (ap (λ (xs : List ℕ). has xs node) e ∙ has-append rest (node ∷ []) node ∙ or_right (has rest node) (has (node ∷ []) node) (has_itself node))))
 
--- what a slice lent of a list gives back
-pub written_back : {X : Type 0} (items lent : List X) (n : ℕ) → length lent ≡ n → length items ≡ n → take n (lent ++ drop (length lent) items) ≡ lent
-written_back items lent n e1 e2 = ap (λ xs. take n (lent ++ xs)) (drop_all (length lent) items (omega arith)) ∙ ap (λ xs. take n xs) (append-nil lent) ∙ take_all n lent (omega arith)
+-- what a slice borrowed of a list gives back
+pub written_back : {X : Type 0} (items borrowed : List X) (n : ℕ) → length borrowed ≡ n → length items ≡ n → take n (borrowed ++ drop (length borrowed) items) ≡ borrowed
+written_back items borrowed n e1 e2 = ap (λ xs. take n (borrowed ++ xs)) (drop_all (length borrowed) items (omega arith)) ∙ ap (λ xs. take n xs) (append-nil borrowed) ∙ take_all n borrowed (omega arith)
 
 pub reaches_begins : (links : List (List ℕ)) (from : ℕ) (old flags : List Bool) (before todo ts : List ℕ) → length old ≡ length links → IsClosed links old → before ≡ [] → ts ≡ targets links from → Marks ts old before flags todo → Reaches links from old flags todo
 reaches_begins links from old flags before todo ts e c e1 e2 m = reaches_first links from old flags todo e c (subst (λ (p : List ℕ × List ℕ). Marks p.0 old p.1 flags todo) (let s : (ts, before) ≡ (targets links from, []) = cc in s) m)

@@ -1,4 +1,4 @@
--- Pairs the other way round, and circles in the order of a walk against them.
+-- Pairs the other way round, and cycles in the order of a walk against them.
 use Rattle.std.proofs.Common.{◌≡◌, ◌<◌, ◌≤◌, ℕ, ◌+◌, Bool, true, false, cond, ◌==◌, nat_lt, List, [], ◌∷◌, ◌++◌, length, take, get_or, set, replicate, refl, sym, ap, subst, ◌∙◌, inl, inr, arith, ◌⊎◌, eq-eqb}
 use Rattle.std.proofs.lemmas.Bool.{cases_eq, cases_lt, false≢true, eqb-true, lt-ltb, le-ltb, ne_eqb}
 use Rattle.std.proofs.lemmas.List.{get_or_past, get_or-set_same, get_or-set_other, get_or-replicate, length-set, length-replicate, length_push, take_more, take_all, get_or_append_left, get_or_push}
@@ -6,7 +6,7 @@ use Rattle.graph_walk.specs.Links.{has, times, targets, AreNodes, Leads, Pair, L
 use Rattle.graph_walk.specs.Starts.{IsStartOrder}
 use Rattle.std.specs.Prelude.{Result, Ok, Err, IfOk}
 use Rattle.graph_walk.specs.Turned.{Gathers, IsTurned}
-use Rattle.graph_walk.specs.Circles.{IsCircleOrder}
+use Rattle.graph_walk.specs.Cycles.{IsCycleOrder}
 use Rattle.graph_walk.proofs.Marking.{times-append, has_itself}
 use Rattle.graph_walk.proofs.Chains.{or_true, times_has, has_times, pair_within, pairs_nodes, from_within, pair_first, then_leads, leads_within}
 use Rattle.graph_walk.proofs.Finishing.{Whole, whole, has_right, has_either}
@@ -53,9 +53,9 @@ unturn links back t from k l (Longer middle to m h) = pair_first links to middle
 pub turned_leads : (links back : List (List ℕ)) → AreNodes links → IsTurned links back → (from to : ℕ) → to < length links → (Leads back to from → Leads links from to) × (Leads links from to → Leads back to from)
 turned_leads links back nodes t from to l = (unturn links back t to from l, turn links back nodes t from to)
 
--- ---- circles
+-- ---- cycles
 
--- where a node leads stands before it, or it is on a circle
+-- where a node leads stands before it, or it is on a cycle
 stays : (back : List (List ℕ)) (root : ℕ) (order : List ℕ) → Whole back root order → (before after : List ℕ) (x : ℕ) → order ≡ before ++ x ∷ after → (y : ℕ) → Leads back x y → (has (before ++ x ∷ []) y ≡ true) ⊎ Leads back x x
 stays back root order w before after x e k (Pair to h) = elim (w.backed before after x x to e (has_right before (x ∷ []) x (has_itself x)) h) [ inl i ↦ inl i | inr l ↦ inr (pair_first back x to x h l) ]
 stays back root order w before after x e k (Longer middle to l h) = elim (stays back root order w before after x e middle l) [
@@ -63,10 +63,10 @@ stays back root order w before after x e k (Longer middle to l h) = elim (stays 
   | inr c ↦ inr c
 ]
 
-pub circle_order_from : (links back : List (List ℕ)) (order : List ℕ) → AreNodes links → IsTurned links back → IsStartOrder back (length links) order → IsCircleOrder links order
-circle_order_from links back order nodes t is = record {
+pub cycle_order_from : (links back : List (List ℕ)) (order : List ℕ) → AreNodes links → IsTurned links back → IsStartOrder back (length links) order → IsCycleOrder links order
+cycle_order_from links back order nodes t is = record {
   whole = λ k l. w.closed (length links) k w.first (has_times (targets back (length links)) k (subst (λ (n : ℕ). 1 ≤ n) (sym (t.root k ∙ ap (λ b. cond b 1 0) (lt-ltb k (length links) l))) (omega arith)));
-  circles = λ before after node from e h l. elim (stays back (length links) order w before after node e from (turn links back nodes t from node l)) [
+  cycles = λ before after node from e h l. elim (stays back (length links) order w before after node e from (turn links back nodes t from node l)) [
     | inl i ↦ elim (has_either before (node ∷ []) from i) [
       | inl b ↦ absurd (twice before after node from e b h)
       | inr s ↦ subst (λ (k : ℕ). Leads links k node) (only node from s) l

@@ -4,5 +4,5 @@ pub mod Links
 pub mod Starts
 pub mod Numbering
 pub mod Turned
-pub mod Circles
+pub mod Cycles
 pub mod Waiting

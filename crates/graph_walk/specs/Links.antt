@@ -34,7 +34,7 @@ flag flags node = slice_index_or flags node false
 abbrev pub AreNodes : List (List ℕ) → Type 0
 AreNodes links = All (λ ts. All (λ t. t < length links) ts) links
 
--- A chain of pairs leads from one node to another. A node from which one leads back to it is on a circle.
+-- A chain of pairs leads from one node to another. A node from which one leads back to it is on a cycle.
 pub data Leads (links : List (List ℕ)) (from : ℕ) : ℕ → Type 0 where
   Pair : (to : ℕ) → has (targets links from) to ≡ true → Leads links from to
   Longer : (middle to : ℕ) → Leads links from middle → has (targets links middle) to ≡ true → Leads links from to

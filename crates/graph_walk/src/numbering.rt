@@ -12,7 +12,7 @@ use sqlite_items::Items;
 use std::alloc::{AllocError, Global};
 
 /// The definitions in the order in which they get numbers: each time the first whose imports all have numbers. Those
-/// that are on circles, or import such definitions, get none. `links` has for each node those that it imports, `back` the
+/// that are on cycles, or import such definitions, get none. `links` has for each node those that it imports, `back` the
 /// same the other way round, and `definitions` says which nodes are definitions.
 pub fn definition_order(
     alloc: Global,

@@ -32,8 +32,8 @@ needs_at xs node b l e =
     let inside : node < length ms = rw length-map l in
     get_or-map (needs_of ms) ms node b.now [] inside ∙ ap (needs_of ms) (get_or-map (λ (m : Bor Module). m.now) xs node b b.now l ∙ ap (λ (m : Bor Module). m.now) (sym e))
 
-pub is_job : (xs : List (Bor Module)) (places : List (Option ℕ)) (node : ℕ) (b : Bor Module) (found lent job : List ℕ) → node < length xs → b ≡ get_or xs node b → found ≡ needs_of (map (λ (m : Bor Module). m.now) xs) b.now → lent ≡ found → AreEachOnce job (filter_map (place_of places) lent) → IsJobBy (map (λ (m : Bor Module). m.now) xs) places node job
-is_job xs places node b found lent job l e e1 e2 h = subst (λ (ns : List ℕ). AreEachOnce job (filter_map (place_of places) ns)) (e2 ∙ e1 ∙ sym (needs_at xs node b l e)) h
+pub is_job : (xs : List (Bor Module)) (places : List (Option ℕ)) (node : ℕ) (b : Bor Module) (found borrowed job : List ℕ) → node < length xs → b ≡ get_or xs node b → found ≡ needs_of (map (λ (m : Bor Module). m.now) xs) b.now → borrowed ≡ found → AreEachOnce job (filter_map (place_of places) borrowed) → IsJobBy (map (λ (m : Bor Module). m.now) xs) places node job
+is_job xs places node b found borrowed job l e e1 e2 h = subst (λ (ns : List ℕ). AreEachOnce job (filter_map (place_of places) ns)) (e2 ∙ e1 ∙ sym (needs_at xs node b l e)) h
 
 zip_push : {Y : Type 0} (R : ℕ → Y → Type 0) (xs : List ℕ) (ys : List Y) (x : ℕ) (y : Y) → AllZip R xs ys → R x y → AllZip R (xs ++ x ∷ []) (ys ++ y ∷ [])
 zip_push R [] [] x y h r = (r, tt)
@@ -61,9 +61,9 @@ so_far_none f ms order n flags js e0 e1 e2 = (subst (λ js. AllZip (IsJob ms ord
     nothing [] = tt
     nothing (x ∷ xs) = tt
 
-pub so_far_more : {J : Type 0} (f : J → List ℕ) (ms : List Module) (order : List ℕ) (places lent : List (Option ℕ)) (i len : ℕ) (flags now flags' : List Bool) (js js' : List J) (j : J) → ArePlaces order places → lent ≡ places → i < length order → now ≡ flags → length flags ≡ len → SoFar ms order i (map f js) flags → IsJobBy ms lent (get_or order i 0) (f j) → length flags' ≡ length now → AreUnmarked flags' → js' ≡ js ++ j ∷ [] →
+pub so_far_more : {J : Type 0} (f : J → List ℕ) (ms : List Module) (order : List ℕ) (places borrowed : List (Option ℕ)) (i len : ℕ) (flags now flags' : List Bool) (js js' : List J) (j : J) → ArePlaces order places → borrowed ≡ places → i < length order → now ≡ flags → length flags ≡ len → SoFar ms order i (map f js) flags → IsJobBy ms borrowed (get_or order i 0) (f j) → length flags' ≡ length now → AreUnmarked flags' → js' ≡ js ++ j ∷ [] →
     SoFar ms order (i + 1) (map f js') (take len (flags' ++ drop (length flags') flags))
-so_far_more f ms order places lent i len flags now flags' js js' j h e l e1 e2 s job same u e3 =
+so_far_more f ms order places borrowed i len flags now flags' js js' j h e l e1 e2 s job same u e3 =
     let many : length flags' ≡ len = same ∙ ap length e1 ∙ e2 in
     let w : take len (flags' ++ drop (length flags') flags) ≡ flags' = written_back flags flags' len many e2 in (
       zip_items f (IsJob ms order) order js js' i j l s.0 (job_by_places order places (targets (needs ms) (get_or order i 0)) (f j) h (subst (λ (ps : List (Option ℕ)). IsJobBy ms ps (get_or order i 0) (f j)) e job)) e3,

@@ -17,7 +17,7 @@ use Rattle.std.specs.Prelude.{Result, Ok, Err, IfOk, IfErr}
 use Rattle.std.proofs.lemmas.List.{length-map}
 use Rattle.m2_graph.proofs.Importing.{first_within}
 use Rattle.m2_graph.specs.Refused.{fault_where, first_place, lesser, least_of, is_less, import_faults, is_repeated, is_second_program, is_without_program, is_lone, max_files, faults_of}
-use Rattle.m2_graph.specs.Told.{Told, told, told_at, circle_faults, refused_from, refused_of, IsTold}
+use Rattle.m2_graph.specs.Told.{Told, told, told_at, cycle_faults, refused_from, refused_of, IsTold}
 
 stays_some : (f : Fault) (fs : List Fault) → fold lesser (Some f) fs ≡ None → ⊥
 stays_some f [] e = cc
@@ -34,23 +34,23 @@ pub nothing_told : (name : List ℕ) (o : Option Fault) (rest : List Told) → t
 nothing_told name None rest e = refl
 nothing_told name (Some f) rest e = cc
 
-without_program : (ms : List Module) (given : ℕ) (m : Module) (circle : List Fault) → first_that is_program ms ≡ None → least_of (faults_of ms [] given m ++ circle) ≡ None → ⊥
-without_program ms given m circle none e =
+without_program : (ms : List Module) (given : ℕ) (m : Module) (cycle : List Fault) → first_that is_program ms ≡ None → least_of (faults_of ms [] given m ++ cycle) ≡ None → ⊥
+without_program ms given m cycle none e =
     let a = import_faults ms m (imported m) in
     let b = fault_where (is_repeated [] m) m.name.pos 21 in
     let c = fault_where (is_second_program [] m) m.name.pos 23 in
     let d = fault_where (is_lone ms m) m.name.pos 24 in
     let f = fault_where (given == max_files) first_place 25 in
     let w : fault_where (is_without_program ms []) first_place 23 ≡ record { pos = first_place; number = 23 } ∷ [] = ap (λ o. fault_where (not (is_some o)) first_place 23) none in
-    let is : faults_of ms [] given m ++ circle ≡ (a ++ b ++ c) ++ record { pos = first_place; number = 23 } ∷ (d ++ f ++ circle) = ap (λ (x : List Fault). (a ++ b ++ c ++ x ++ d ++ f) ++ circle) w ∙ regroup a b c d f circle in
-    never_none (a ++ b ++ c) (record { pos = first_place; number = 23 }) (d ++ f ++ circle) (ap least_of (sym is) ∙ e)
+    let is : faults_of ms [] given m ++ cycle ≡ (a ++ b ++ c) ++ record { pos = first_place; number = 23 } ∷ (d ++ f ++ cycle) = ap (λ (x : List Fault). (a ++ b ++ c ++ x ++ d ++ f) ++ cycle) w ∙ regroup a b c d f cycle in
+    never_none (a ++ b ++ c) (record { pos = first_place; number = 23 }) (d ++ f ++ cycle) (ap least_of (sym is) ∙ e)
   where
-    regroup : (a b c d f circle : List Fault) → (a ++ b ++ c ++ (record { pos = first_place; number = 23 } ∷ []) ++ d ++ f) ++ circle ≡ (a ++ b ++ c) ++ record { pos = first_place; number = 23 } ∷ (d ++ f ++ circle)
-    regroup a b c d f circle = simp append_assoc
+    regroup : (a b c d f cycle : List Fault) → (a ++ b ++ c ++ (record { pos = first_place; number = 23 } ∷ []) ++ d ++ f) ++ cycle ≡ (a ++ b ++ c) ++ record { pos = first_place; number = 23 } ∷ (d ++ f ++ cycle)
+    regroup a b c d f cycle = simp append_assoc
 
-refused_without : (fs : List File) (circle : Option (ℕ × Pos)) → first_that is_program (trees fs) ≡ None → refused_of fs circle ≡ [] → ⊥
-refused_without [] circle none e = cc
-refused_without (f ∷ fs) circle none e = without_program (trees (f ∷ fs)) f.given f.tree (circle_faults circle 0) none (nothing_told f.name _ (refused_from (trees (f ∷ fs)) circle (f.tree ∷ []) fs) e)
+refused_without : (fs : List File) (cycle : Option (ℕ × Pos)) → first_that is_program (trees fs) ≡ None → refused_of fs cycle ≡ [] → ⊥
+refused_without [] cycle none e = cc
+refused_without (f ∷ fs) cycle none e = without_program (trees (f ∷ fs)) f.given f.tree (cycle_faults cycle 0) none (nothing_told f.name _ (refused_from (trees (f ∷ fs)) cycle (f.tree ∷ []) fs) e)
 
 pub told_without : (fs : List File) (all : List Told) → IsTold fs all → first_that is_program (trees fs) ≡ None → all ≡ [] → ⊥
 told_without fs all h none e = refused_without fs h.0 none (sym h.2 ∙ e)
@@ -59,8 +59,8 @@ pub some_told : (rs : List Refusal) → (rs ≡ [] → ⊥) → map told rs ≡ 
 some_told [] n e = n refl
 some_told (r ∷ rs) n e = cc
 
-pub starts_within : (ms : List Module) (walked lent : List (List ℕ)) (first : ℕ) → first_that is_program ms ≡ Some first → walked ≡ walks ms → lent ≡ walked → first < length lent
-starts_within ms walked lent first e1 e2 e3 = omega (arith, first_within is_program ms first e1, ap length (e3 ∙ e2), length-map ms (walk_of ms))
+pub starts_within : (ms : List Module) (walked borrowed : List (List ℕ)) (first : ℕ) → first_that is_program ms ≡ Some first → walked ≡ walks ms → borrowed ≡ walked → first < length borrowed
+starts_within ms walked borrowed first e1 e2 e3 = omega (arith, first_within is_program ms first e1, ap length (e3 ∙ e2), length-map ms (walk_of ms))
 
 -- ---- files as they are given
 
@@ -72,9 +72,9 @@ pub err_map : {T E : Type 0} (P Q : E → Type 0) (r : Result T E) → ((e : E) 
 err_map P Q (Ok x) f h = tt
 err_map P Q (Err e) f h = f e h
 
-pub graph_given : (given : List File) (xs lent : List Source) (files : List ℕ) (jobs : List (List ℕ)) (starts : List ℕ) → AreInOrder given (map file_of xs) → lent ≡ xs → IsGraphOf (map file_of lent) files jobs starts → IsGraph given files jobs starts
-graph_given given xs lent files jobs starts o e h = (map file_of lent, subst (λ (ys : List Source). AreInOrder given (map file_of ys)) (sym e) o, h)
+pub graph_given : (given : List File) (xs borrowed : List Source) (files : List ℕ) (jobs : List (List ℕ)) (starts : List ℕ) → AreInOrder given (map file_of xs) → borrowed ≡ xs → IsGraphOf (map file_of borrowed) files jobs starts → IsGraph given files jobs starts
+graph_given given xs borrowed files jobs starts o e h = (map file_of borrowed, subst (λ (ys : List Source). AreInOrder given (map file_of ys)) (sym e) o, h)
 
-pub refusal_given : (given : List File) (xs lent : List Source) → AreInOrder given (map file_of xs) → lent ≡ xs → (e : GraphError) → IsRefusalOf (map file_of lent) e → IsRefusal given e
-refusal_given given xs lent o e (Refused rs) h = (map file_of lent, subst (λ (ys : List Source). AreInOrder given (map file_of ys)) (sym e) o, h)
-refusal_given given xs lent o e NoMemory h = tt
+pub refusal_given : (given : List File) (xs borrowed : List Source) → AreInOrder given (map file_of xs) → borrowed ≡ xs → (e : GraphError) → IsRefusalOf (map file_of borrowed) e → IsRefusal given e
+refusal_given given xs borrowed o e (Refused rs) h = (map file_of borrowed, subst (λ (ys : List Source). AreInOrder given (map file_of ys)) (sym e) o, h)
+refusal_given given xs borrowed o e NoMemory h = tt

@@ -13,12 +13,12 @@ use Rattle.m2_tree.specs.declared.pos.Pos.{Pos}
 use Rattle.std.specs.Prelude.{MatchOption}
 use Rattle.graph_walk.specs.Links.{Leads, AreNodes, has, flag}
 use Rattle.m2_graph.specs.Imports.{definition_of, defines, imported, links, named_by}
-use Rattle.m2_graph.specs.Told.{LeadsBack, AreLeading, IsBack, IsFirstBack, IsToldCircle}
+use Rattle.m2_graph.specs.Told.{LeadsBack, AreLeading, IsBack, IsFirstBack, IsToldCycle}
 use Rattle.m2_graph.proofs.Importing.{first_within, links_are_nodes, module_at}
 use Rattle.graph_walk.specs.Turned.{IsTurned}
 use Rattle.graph_walk.proofs.Chains.{or_true, first_step}
 use Rattle.graph_walk.proofs.Turning.{turned_leads}
-use Rattle.m2_graph.proofs.Circles.{none_back}
+use Rattle.m2_graph.proofs.Cycles.{none_back}
 use Rattle.std.proofs.lemmas.Option.{slice_get-get_or}
 use Rattle.std.proofs.lemmas.List.{length-map, get_or_past}
 
@@ -94,8 +94,8 @@ back_never_in g ms node xs i h none = subst (λ ys. All (λ y. LeadsBack ms node
 
 -- ---- the imports of a module
 
-pub back_of_names : (ms : List Module) (node : ℕ) (from : Option Ident) (names lent : List Ident) (found : Option Pos) → from ≡ None → lent ≡ names → IsFirstBack ms node lent found → IsFirstBack ms node (named_by from names) found
-back_of_names ms node from names lent found e1 e2 h = subst (λ (xs : List Ident). IsFirstBack ms node xs found) (e2 ∙ ap (λ (o : Option Ident). named_by o names) (sym e1)) h
+pub back_of_names : (ms : List Module) (node : ℕ) (from : Option Ident) (names borrowed : List Ident) (found : Option Pos) → from ≡ None → borrowed ≡ names → IsFirstBack ms node borrowed found → IsFirstBack ms node (named_by from names) found
+back_of_names ms node from names borrowed found e1 e2 h = subst (λ (xs : List Ident). IsFirstBack ms node xs found) (e2 ∙ ap (λ (o : Option Ident). named_by o names) (sym e1)) h
 
 abbrev named_in : Import → List Ident
 named_in i = named_by i.from i.names
@@ -110,7 +110,7 @@ missed_in ms node xs i x found l is none h so = back_later_in named_in ms node x
 pub never_in : (ms : List Module) (node : ℕ) (tree : Module) (xs : List Import) (i : ℕ) → xs ≡ tree.imports → length xs ≤ i → All (λ y. LeadsBack ms node y → ⊥) (flat_map named_in (take i xs)) → All (λ y. LeadsBack ms node y → ⊥) (imported tree)
 never_in ms node tree xs i e g none = subst (λ (ys : List Import). All (λ y. LeadsBack ms node y → ⊥) (flat_map named_in ys)) e (back_never_in named_in ms node xs i g none)
 
--- ---- the first definition on a circle
+-- ---- the first definition on a cycle
 
 abbrev trees_in : List (Bor Module) → List Module
 trees_in xs = map (λ (m : Bor Module). m.now) xs
@@ -118,23 +118,23 @@ trees_in xs = map (λ (m : Bor Module). m.now) xs
 pub within : (xs : List (Bor Module)) (node : ℕ) → node < length xs → node < length (trees_in xs)
 within xs node l = rw length-map l
 
-pub circle_told : (xs : List (Bor Module)) (pairs : List (List ℕ)) (node : ℕ) (b : Bor Module) (place : Option Pos) (pos : Pos) → pairs ≡ links (trees_in xs) → node < length xs → b ≡ get_or xs node b → Leads pairs node node → ((other : ℕ) → other < node → Leads pairs other other → ⊥) → IsFirstBack (trees_in xs) node (imported b.now) place → place ≡ Some pos → IsToldCircle (trees_in xs) node pos
-circle_told xs pairs node b place pos e l is on first found so = record {
-  on_circle = subst (λ (ps : List (List ℕ)). Leads ps node node) e on;
+pub cycle_told : (xs : List (Bor Module)) (pairs : List (List ℕ)) (node : ℕ) (b : Bor Module) (place : Option Pos) (pos : Pos) → pairs ≡ links (trees_in xs) → node < length xs → b ≡ get_or xs node b → Leads pairs node node → ((other : ℕ) → other < node → Leads pairs other other → ⊥) → IsFirstBack (trees_in xs) node (imported b.now) place → place ≡ Some pos → IsToldCycle (trees_in xs) node pos
+cycle_told xs pairs node b place pos e l is on first found so = record {
+  on_cycle = subst (λ (ps : List (List ℕ)). Leads ps node node) e on;
   first = λ other m h. first other m (subst (λ (ps : List (List ℕ)). Leads ps other other) (sym e) h);
   tree = b.now;
   is_tree = slice_get-get_or (trees_in xs) node b.now (rw length-map l) ∙ ap Some (module_at xs node b b.now l is);
   back = subst (λ (o : Option Pos). IsFirstBack (trees_in xs) node (imported b.now) o) so found;
 }
 
-pub circle_none : (xs : List (Bor Module)) (pairs : List (List ℕ)) (node : ℕ) (b : Bor Module) (place : Option Pos) → pairs ≡ links (trees_in xs) → node < length xs → b ≡ get_or xs node b → Leads pairs node node → IsFirstBack (trees_in xs) node (imported b.now) place → place ≡ None → ⊥
-circle_none xs pairs node b place e l is on found so = none_back xs node b l is (subst (λ (o : Option Pos). IsFirstBack (trees_in xs) node (imported b.now) o) so found) (subst (λ (ps : List (List ℕ)). Leads ps node node) e on)
+pub cycle_none : (xs : List (Bor Module)) (pairs : List (List ℕ)) (node : ℕ) (b : Bor Module) (place : Option Pos) → pairs ≡ links (trees_in xs) → node < length xs → b ≡ get_or xs node b → Leads pairs node node → IsFirstBack (trees_in xs) node (imported b.now) place → place ≡ None → ⊥
+cycle_none xs pairs node b place e l is on found so = none_back xs node b l is (subst (λ (o : Option Pos). IsFirstBack (trees_in xs) node (imported b.now) o) so found) (subst (λ (ps : List (List ℕ)). Leads ps node node) e on)
 
-pub no_circles : (ms : List Module) (pairs : List (List ℕ)) → pairs ≡ links ms → ((k : ℕ) → k < length pairs → Leads pairs k k → ⊥) → (k : ℕ) → Leads (links ms) k k → ⊥
-no_circles ms pairs e none k h =
+pub no_cycles : (ms : List Module) (pairs : List (List ℕ)) → pairs ≡ links ms → ((k : ℕ) → k < length pairs → Leads pairs k k → ⊥) → (k : ℕ) → Leads (links ms) k k → ⊥
+no_cycles ms pairs e none k h =
     let on : Leads pairs k k = subst (λ (ps : List (List ℕ)). Leads ps k k) (sym e) h in
     elim (cases_lt k (length pairs)) [ inl l ↦ none k l on | inr g ↦ (let s = first_step pairs k k on in false≢true (ap (λ (ts : List ℕ). has ts s.0) (sym (get_or_past pairs k [] g)) ∙ s.1)) ]
 
 pub none_found : (ms : List Module) (pairs : List (List ℕ)) (found : Option ℕ) → pairs ≡ links ms → MatchOption found ((k : ℕ) → k < length pairs → Leads pairs k k → ⊥) (λ node. (node < length pairs) × Leads pairs node node × ((k : ℕ) → k < node → Leads pairs k k → ⊥)) → found ≡ None → (k : ℕ) → Leads (links ms) k k → ⊥
-none_found ms pairs None e h so = no_circles ms pairs e h
+none_found ms pairs None e h so = no_cycles ms pairs e h
 none_found ms pairs (Some k) e h so = cc

@@ -3,7 +3,7 @@ pub mod Faulty
 pub mod Tables
 pub mod Bodies
 pub mod Ordered
-pub mod Circles
+pub mod Cycles
 pub mod Smaller
 pub mod Places
 pub mod Telling

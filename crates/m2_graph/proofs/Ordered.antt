@@ -43,8 +43,8 @@ numbered_push n (y ∷ ys) x k e = ap (λ zs. record { name = y.0; tree = y.1; g
 abbrev pub of_pair : Bor (List ℕ) × Bor Module → List ℕ × Module
 of_pair p = (p.0.now, p.1.now)
 
-pub lent_more : (xs : List (Bor (List ℕ) × Bor Module)) (i : ℕ) (d : Bor (List ℕ) × Bor Module) (all all' : List Source) → i < length xs → map file_of all ≡ numbered 0 (map of_pair (take i xs)) → all' ≡ all ++ record { name = (get_or xs i d).0; tree = (get_or xs i d).1; given = i } ∷ [] → map file_of all' ≡ numbered 0 (map of_pair (take (i + 1) xs))
-lent_more xs i d all all' l is more =
+pub borrowed_more : (xs : List (Bor (List ℕ) × Bor Module)) (i : ℕ) (d : Bor (List ℕ) × Bor Module) (all all' : List Source) → i < length xs → map file_of all ≡ numbered 0 (map of_pair (take i xs)) → all' ≡ all ++ record { name = (get_or xs i d).0; tree = (get_or xs i d).1; given = i } ∷ [] → map file_of all' ≡ numbered 0 (map of_pair (take (i + 1) xs))
+borrowed_more xs i d all all' l is more =
     let x = get_or xs i d in
     let much : 0 + length (map of_pair (take i xs)) ≡ i = rw length-map (omega (arith, length-take-le i xs (omega arith))) in
     ap (map file_of) more ∙ map-append file_of all (record { name = x.0; tree = x.1; given = i } ∷ []) ∙ ap (λ ys. ys ++ numbered i (of_pair x ∷ [])) is
@@ -54,8 +54,8 @@ pub trees_of : (xs : List Source) → map (λ (s : Source). s.tree.now) xs ≡ t
 trees_of [] = refl
 trees_of (x ∷ xs) = ap (λ ms. x.tree.now ∷ ms) (trees_of xs)
 
-pub lent_next : (xs : List (Bor (List ℕ) × Bor Module)) (i : ℕ) (x : Bor (List ℕ) × Bor Module) (all all' : List Source) → i < length xs → x ≡ get_or xs i x → map file_of all ≡ numbered 0 (map of_pair (take i xs)) → all' ≡ all ++ record { name = x.0; tree = x.1; given = i } ∷ [] → map file_of all' ≡ numbered 0 (map of_pair (take (i + 1) xs))
-lent_next xs i x all all' l e is more = lent_more xs i x all all' l is (subst (λ (y : Bor (List ℕ) × Bor Module). all' ≡ all ++ record { name = y.0; tree = y.1; given = i } ∷ []) e more)
+pub borrowed_next : (xs : List (Bor (List ℕ) × Bor Module)) (i : ℕ) (x : Bor (List ℕ) × Bor Module) (all all' : List Source) → i < length xs → x ≡ get_or xs i x → map file_of all ≡ numbered 0 (map of_pair (take i xs)) → all' ≡ all ++ record { name = x.0; tree = x.1; given = i } ∷ [] → map file_of all' ≡ numbered 0 (map of_pair (take (i + 1) xs))
+borrowed_next xs i x all all' l e is more = borrowed_more xs i x all all' l is (subst (λ (y : Bor (List ℕ) × Bor Module). all' ≡ all ++ record { name = y.0; tree = y.1; given = i } ∷ []) e more)
 
 pub given_at : (xs : List Source) (i : ℕ) (x : Source) → i < length xs → (get_or xs i x).given ≡ given_of (map file_of xs) i
 given_at xs i x l =

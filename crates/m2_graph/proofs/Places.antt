@@ -71,8 +71,8 @@ same_numbers f g e (x ∷ xs) = ap (λ o. cons_option o (filter_map f xs)) (e x)
 pub job_by_places : (order : List ℕ) (places : List (Option ℕ)) (nodes job : List ℕ) → ArePlaces order places → AreEachOnce job (filter_map (place_of places) nodes) → AreEachOnce job (numbers_of order nodes)
 job_by_places order places nodes job h each = subst (λ (xs : List ℕ). AreEachOnce job xs) (same_numbers (place_of places) (number_of order) h nodes) each
 
-pub places_below : (order : List ℕ) (places lent : List (Option ℕ)) (n : ℕ) → ArePlaces order places → lent ≡ places → length order ≤ n → ArePlacesBelow n lent
-places_below order places lent n h e l node k s = let w = first_within (λ one. one == node) order k (sym (h node) ∙ ap (λ (ps : List (Option ℕ)). place_of ps node) (sym e) ∙ s) in omega (arith, w)
+pub places_below : (order : List ℕ) (places borrowed : List (Option ℕ)) (n : ℕ) → ArePlaces order places → borrowed ≡ places → length order ≤ n → ArePlacesBelow n borrowed
+places_below order places borrowed n h e l node k s = let w = first_within (λ one. one == node) order k (sym (h node) ∙ ap (λ (ps : List (Option ℕ)). place_of ps node) (sym e) ∙ s) in omega (arith, w)
 
-pub numbers_below : (places : List (Option ℕ)) (nodes numbers lent : List ℕ) (n : ℕ) → ArePlacesBelow n places → numbers ≡ filter_map (place_of places) nodes → lent ≡ numbers → All (λ k. k < n) lent
-numbers_below places nodes numbers lent n h e e2 = subst (All (λ k. k < n)) (sym (e2 ∙ e)) (all_filtered (place_of places) (λ k. k < n) (λ node k s. h node k s) nodes)
+pub numbers_below : (places : List (Option ℕ)) (nodes numbers borrowed : List ℕ) (n : ℕ) → ArePlacesBelow n places → numbers ≡ filter_map (place_of places) nodes → borrowed ≡ numbers → All (λ k. k < n) borrowed
+numbers_below places nodes numbers borrowed n h e e2 = subst (All (λ k. k < n)) (sym (e2 ∙ e)) (all_filtered (place_of places) (λ k. k < n) (λ node k s. h node k s) nodes)

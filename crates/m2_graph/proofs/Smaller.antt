@@ -16,7 +16,7 @@ use Rattle.m2_graph.specs.Order.{body_numbers, IsJob, needs}
 use Rattle.m2_graph.proofs.Importing.{first_within}
 use Rattle.graph_walk.proofs.Marking.{has-append, marked_within, times_once_each}
 use Rattle.graph_walk.proofs.Chains.{or_true, times_has, has_at, done_before}
-use Rattle.m2_graph.proofs.Circles.{passes}
+use Rattle.m2_graph.proofs.Cycles.{passes}
 
 -- ---- lists of numbers
 
@@ -230,13 +230,13 @@ nodes_within ms definitions order numbering e = all_from_has (λ node. node < le
     within : (x : ℕ) → has order x ≡ true → x < length ms
     within x h = elim (or_true (has definitions x) (has (body_numbers 0 ms) x) (sym (has-append definitions (body_numbers 0 ms) x) ∙ ap (λ (xs : List ℕ). has xs x) (sym e) ∙ h)) [ inl d ↦ of_definition x d | inr b ↦ of_body x b ]
 
--- ---- the same of lent modules
+-- ---- the same of borrowed modules
 
 abbrev trees_in : List (Bor Module) → List Module
 trees_in xs = map (λ (m : Bor Module). m.now) xs
 
-pub order_within : (xs : List (Bor Module)) (definitions order lent : List ℕ) → IsNumbering (links (trees_in xs)) (map is_definition (trees_in xs)) definitions → order ≡ definitions ++ body_numbers 0 (trees_in xs) → lent ≡ order → All (λ node. node < length xs) lent
-order_within xs definitions order lent numbering e1 e2 = subst (λ (n : ℕ). All (λ node. node < n) lent) (length-map xs (λ (m : Bor Module). m.now)) (nodes_within (trees_in xs) definitions lent numbering (e2 ∙ e1))
+pub order_within : (xs : List (Bor Module)) (definitions order borrowed : List ℕ) → IsNumbering (links (trees_in xs)) (map is_definition (trees_in xs)) definitions → order ≡ definitions ++ body_numbers 0 (trees_in xs) → borrowed ≡ order → All (λ node. node < length xs) borrowed
+order_within xs definitions order borrowed numbering e1 e2 = subst (λ (n : ℕ). All (λ node. node < n) borrowed) (length-map xs (λ (m : Bor Module). m.now)) (nodes_within (trees_in xs) definitions borrowed numbering (e2 ∙ e1))
 
-pub order_jobs : (xs : List (Bor Module)) (definitions order lent : List ℕ) (jobs : List (List ℕ)) → IsNumbering (links (trees_in xs)) (map is_definition (trees_in xs)) definitions → order ≡ definitions ++ body_numbers 0 (trees_in xs) → lent ≡ order → AllZip (IsJob (trees_in xs) lent) lent jobs → AreJobs jobs
-order_jobs xs definitions order lent jobs numbering e1 e2 z = are_jobs (trees_in xs) definitions lent jobs numbering (e2 ∙ e1) z
+pub order_jobs : (xs : List (Bor Module)) (definitions order borrowed : List ℕ) (jobs : List (List ℕ)) → IsNumbering (links (trees_in xs)) (map is_definition (trees_in xs)) definitions → order ≡ definitions ++ body_numbers 0 (trees_in xs) → borrowed ≡ order → AllZip (IsJob (trees_in xs) borrowed) borrowed jobs → AreJobs jobs
+order_jobs xs definitions order borrowed jobs numbering e1 e2 z = are_jobs (trees_in xs) definitions borrowed jobs numbering (e2 ∙ e1) z

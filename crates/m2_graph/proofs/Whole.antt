@@ -7,7 +7,7 @@ use Rattle.std.proofs.lemmas.List.Sorted.{IsPermutation-refl, IsPermutation-sym,
 use Rattle.m2_tree.specs.declared.decl.Module.{Module}
 use Rattle.m2_tree.specs.declared.pos.Pos.{Pos}
 use Rattle.graph_walk.specs.Links.{has, times, flag, targets, Leads}
-use Rattle.graph_walk.specs.Circles.{HasCircleOrder}
+use Rattle.graph_walk.specs.Cycles.{HasCycleOrder}
 use Rattle.graph_walk.specs.Numbering.{IsNumbering}
 use Rattle.graph_walk.proofs.Marking.{times-append, marked_within}
 use Rattle.graph_walk.proofs.Chains.{times_has, has_times, leads_from}
@@ -18,13 +18,13 @@ use Rattle.m2_graph.specs.Graph.{IsJobs, CompileEach}
 use Rattle.m2_graph.specs.Order.{body_numbers}
 use Rattle.m2_graph.specs.Refused.{fault, fault_where, faults_of, least_of}
 use Rattle.m2_tree.specs.declared.refusal.Refusal.{Refusal}
-use Rattle.m2_graph.specs.Told.{Told, told, told_at, circle_faults, AreCircles, refused_from, refused_of, IsTold}
+use Rattle.m2_graph.specs.Told.{Told, told, told_at, cycle_faults, AreCycles, refused_from, refused_of, IsTold}
 use Rattle.m2_graph.proofs.Importing.{links_are_nodes}
 use Rattle.m2_graph.proofs.Judging.{never_none, nothing_told}
 use Rattle.m2_graph.proofs.Smaller.{linked, at_least, numbered_definition}
 use Rattle.m2_graph.proofs.Tables.{lt_suc}
 
--- ---- where nothing is told there is no circle
+-- ---- where nothing is told there is no cycle
 
 rest_none : (xs ys : List Told) → xs ++ ys ≡ [] → ys ≡ []
 rest_none [] ys e = e
@@ -33,8 +33,8 @@ rest_none (x ∷ xs) ys e = cc
 refused_somewhere : (ms : List Module) (t : ℕ × Pos) (before : List Module) (fs : List File) → refused_from ms (Some t) before fs ≡ [] → length before ≤ t.0 → t.0 < length before + length fs → ⊥
 refused_somewhere ms t before [] e low high = omega arith
 refused_somewhere ms t before (f ∷ fs) e low high = elim (cases_eq t.0 (length before)) [
-  | inl s ↦ never_none (faults_of ms before f.given f.tree) (fault t.1 22) [] (ap (λ b. least_of (faults_of ms before f.given f.tree ++ fault_where b t.1 22)) (sym (eq-eqb t.0 (length before) s)) ∙ nothing_told f.name (least_of (faults_of ms before f.given f.tree ++ circle_faults (Some t) (length before))) (refused_from ms (Some t) (before ++ f.tree ∷ []) fs) e)
-  | inr ne ↦ (let more = length_push before f.tree in refused_somewhere ms t (before ++ f.tree ∷ []) fs (rest_none (told_at f.name (least_of (faults_of ms before f.given f.tree ++ circle_faults (Some t) (length before)))) (refused_from ms (Some t) (before ++ f.tree ∷ []) fs) e) (beyond ne more) (omega (arith, more)))
+  | inl s ↦ never_none (faults_of ms before f.given f.tree) (fault t.1 22) [] (ap (λ b. least_of (faults_of ms before f.given f.tree ++ fault_where b t.1 22)) (sym (eq-eqb t.0 (length before) s)) ∙ nothing_told f.name (least_of (faults_of ms before f.given f.tree ++ cycle_faults (Some t) (length before))) (refused_from ms (Some t) (before ++ f.tree ∷ []) fs) e)
+  | inr ne ↦ (let more = length_push before f.tree in refused_somewhere ms t (before ++ f.tree ∷ []) fs (rest_none (told_at f.name (least_of (faults_of ms before f.given f.tree ++ cycle_faults (Some t) (length before)))) (refused_from ms (Some t) (before ++ f.tree ∷ []) fs) e) (beyond ne more) (omega (arith, more)))
 ]
   where
     beyond : (t.0 ≡ length before → ⊥) → length (before ++ f.tree ∷ []) ≡ length before + 1 → length (before ++ f.tree ∷ []) ≤ t.0
@@ -43,16 +43,16 @@ refused_somewhere ms t before (f ∷ fs) e low high = elim (cases_eq t.0 (length
 many_links : (ms : List Module) → length (links ms) ≡ length ms
 many_links ms = length-map ms (links_of ms)
 
-circle_refused : (fs : List File) (t : ℕ × Pos) → t.0 < length fs → refused_of fs (Some t) ≡ [] → ⊥
-circle_refused [] t l e = omega arith
-circle_refused (f ∷ fs) t l e = refused_somewhere (trees (f ∷ fs)) t [] (f ∷ fs) e (omega arith) (omega arith)
+cycle_refused : (fs : List File) (t : ℕ × Pos) → t.0 < length fs → refused_of fs (Some t) ≡ [] → ⊥
+cycle_refused [] t l e = omega arith
+cycle_refused (f ∷ fs) t l e = refused_somewhere (trees (f ∷ fs)) t [] (f ∷ fs) e (omega arith) (omega arith)
 
-no_circles : (fs : List File) → IsTold fs [] → (k : ℕ) → Leads (links (trees fs)) k k → ⊥
-no_circles fs h k l = step h.0 h.1 h.2
+no_cycles : (fs : List File) → IsTold fs [] → (k : ℕ) → Leads (links (trees fs)) k k → ⊥
+no_cycles fs h k l = step h.0 h.1 h.2
   where
-    step : (c : Option (ℕ × Pos)) → AreCircles (trees fs) c → [] ≡ refused_of fs c → ⊥
+    step : (c : Option (ℕ × Pos)) → AreCycles (trees fs) c → [] ≡ refused_of fs c → ⊥
     step None none e = none k l
-    step (Some t) circle e = circle_refused fs t (let w = leads_from (links (trees fs)) t.0 t.0 circle.on_circle in let m = many_links (trees fs) in let n = length-map fs (λ (f : File). f.tree) in omega (arith, w, m, n)) (sym e)
+    step (Some t) cycle e = cycle_refused fs t (let w = leads_from (links (trees fs)) t.0 t.0 cycle.on_cycle in let m = many_links (trees fs) in let n = length-map fs (λ (f : File). f.tree) in omega (arith, w, m, n)) (sym e)
 
 -- ---- each module has one place in the order of the jobs
 
@@ -63,7 +63,7 @@ to_definitions (m ∷ ms) node t h = elim (cases_lt node (length (m ∷ ms))) [
   | inr g ↦ absurd (false≢true (ap (λ (ts : List ℕ). has ts t) (sym (get_or_past (links (m ∷ ms)) node [] (omega (arith, g, many_links (m ∷ ms))))) ∙ h))
 ]
 
-numbered_times : (ms : List Module) (numbered : List ℕ) → HasCircleOrder (links ms) → ((k : ℕ) → Leads (links ms) k k → ⊥) → IsNumbering (links ms) (map is_definition ms) numbered → (k : ℕ) → times numbered k ≡ cond (flag (map is_definition ms) k) 1 0
+numbered_times : (ms : List Module) (numbered : List ℕ) → HasCycleOrder (links ms) → ((k : ℕ) → Leads (links ms) k k → ⊥) → IsNumbering (links ms) (map is_definition ms) numbered → (k : ℕ) → times numbered k ≡ cond (flag (map is_definition ms) k) 1 0
 numbered_times ms numbered o none n k = step (flag (map is_definition ms) k) refl
   where
     is_so : flag (map is_definition ms) k ≡ true → 1 ≤ times numbered k
@@ -142,7 +142,7 @@ same_numbers (x ∷ xs) ys h =
     let rest : IsPermutation xs (there.0 ++ there.1) = same_numbers xs (there.0 ++ there.1) (λ k. let e = h k in let s : times ys k ≡ times there.0 k + (cond {A = ℕ} (x == k) 1 0 + times there.1 k) = ap (λ (zs : List ℕ). times zs k) there.2 ∙ times-append there.0 (x ∷ there.1) k in let t = times-append there.0 there.1 k in omega (arith, e, s, t)) in
     subst (λ (zs : List ℕ). IsPermutation (x ∷ xs) zs) (sym there.2) (IsPermutation-trans (x ∷ xs) (x ∷ (there.0 ++ there.1)) (there.0 ++ x ∷ there.1) (IsPermutation-cons x xs (there.0 ++ there.1) rest) (IsPermutation-sym (there.0 ++ x ∷ there.1) (x ∷ (there.0 ++ there.1)) (IsPermutation-middle there.0 x there.1)))
 
-order_times : (ms : List Module) (numbered order : List ℕ) → HasCircleOrder (links ms) → ((k : ℕ) → Leads (links ms) k k → ⊥) → IsNumbering (links ms) (map is_definition ms) numbered → order ≡ numbered ++ body_numbers 0 ms → (k : ℕ) → times (upto 0 (length ms)) k ≡ times order k
+order_times : (ms : List Module) (numbered order : List ℕ) → HasCycleOrder (links ms) → ((k : ℕ) → Leads (links ms) k k → ⊥) → IsNumbering (links ms) (map is_definition ms) numbered → order ≡ numbered ++ body_numbers 0 ms → (k : ℕ) → times (upto 0 (length ms)) k ≡ times order k
 order_times ms numbered order o none n e k =
     let a : times order k ≡ times numbered k + times (body_numbers 0 ms) k = ap (λ (xs : List ℕ). times xs k) e ∙ times-append numbered (body_numbers 0 ms) k in
     sums (times (upto 0 (length ms)) k) (times order k) (times numbered k) (times (body_numbers 0 ms) k) (nat_lt k (length ms)) (flag (map is_definition ms) k) (upto_times 0 (length ms) k k (omega arith)) a (numbered_times ms numbered o none n k) (body_times 0 ms k k (omega arith)) (λ d. lt-ltb k (length ms) (let w = marked_within (map is_definition ms) k d in let m = length-map ms is_definition in omega (arith, w, m)))
@@ -168,21 +168,21 @@ all_indexed before (x ∷ xs) n e =
     here (y ∷ ys) zero q = absurd (omega arith)
     here (y ∷ ys) (suc m) q = here ys m (omega arith)
 
-pub compiles_each : (fs : List File) (compiled : List ℕ) (jobs : List (List ℕ)) → IsTold fs [] → HasCircleOrder (links (trees fs)) → IsJobs fs compiled jobs → CompileEach fs compiled
+pub compiles_each : (fs : List File) (compiled : List ℕ) (jobs : List (List ℕ)) → IsTold fs [] → HasCycleOrder (links (trees fs)) → IsJobs fs compiled jobs → CompileEach fs compiled
 compiles_each fs compiled jobs fine o j =
     let ms = trees fs in
     let givens = map (λ (f : File). f.given) fs in
-    let each : IsPermutation (upto 0 (length ms)) j.order = same_numbers (upto 0 (length ms)) j.order (order_times ms j.is_order.0 j.order o (no_circles fs fine) j.is_order.1 j.is_order.2) in
+    let each : IsPermutation (upto 0 (length ms)) j.order = same_numbers (upto 0 (length ms)) j.order (order_times ms j.is_order.0 j.order o (no_cycles fs fine) j.is_order.1 j.is_order.2) in
     let many : length ms ≡ length givens = length-map fs (λ (f : File). f.tree) ∙ sym (length-map fs (λ (f : File). f.given)) in
     let all : map (given_of fs) (upto 0 (length ms)) ≡ givens = ap (λ n. map (given_of fs) (upto 0 n)) many ∙ all_indexed [] givens 0 refl in
     subst (λ (xs : List ℕ). IsPermutation givens xs) (sym j.compiled) (subst (λ (xs : List ℕ). IsPermutation xs (map (given_of fs) j.order)) all (IsPermutation-map (given_of fs) (upto 0 (length ms)) j.order each))
 
 -- the same of files as they are given
-pub compiles_given : (given ordered lent : List File) (compiled : List ℕ) → AreInOrder given ordered → lent ≡ ordered → CompileEach lent compiled → CompileEach given compiled
-compiles_given given ordered lent compiled o e h = IsPermutation-trans (map (λ (f : File). f.given) given) (map (λ (f : File). f.given) ordered) compiled (IsPermutation-map (λ (f : File). f.given) given ordered o.same) (subst (λ (fs : List File). CompileEach fs compiled) e h)
+pub compiles_given : (given ordered borrowed : List File) (compiled : List ℕ) → AreInOrder given ordered → borrowed ≡ ordered → CompileEach borrowed compiled → CompileEach given compiled
+compiles_given given ordered borrowed compiled o e h = IsPermutation-trans (map (λ (f : File). f.given) given) (map (λ (f : File). f.given) ordered) compiled (IsPermutation-map (λ (f : File). f.given) given ordered o.same) (subst (λ (fs : List File). CompileEach fs compiled) e h)
 
-pub compiles_told : (ms : List Module) (fs : List File) (refusals : List Refusal) (compiled : List ℕ) (jobs : List (List ℕ)) → ms ≡ trees fs → IsTold fs (map told refusals) → refusals ≡ [] → HasCircleOrder (links ms) → IsJobs fs compiled jobs → CompileEach fs compiled
-compiles_told ms fs refusals compiled jobs e told_so none o j = compiles_each fs compiled jobs (subst (λ (rs : List Refusal). IsTold fs (map told rs)) none told_so) (subst (λ (xs : List Module). HasCircleOrder (links xs)) e o) j
+pub compiles_told : (ms : List Module) (fs : List File) (refusals : List Refusal) (compiled : List ℕ) (jobs : List (List ℕ)) → ms ≡ trees fs → IsTold fs (map told refusals) → refusals ≡ [] → HasCycleOrder (links ms) → IsJobs fs compiled jobs → CompileEach fs compiled
+compiles_told ms fs refusals compiled jobs e told_so none o j = compiles_each fs compiled jobs (subst (λ (rs : List Refusal). IsTold fs (map told rs)) none told_so) (subst (λ (xs : List Module). HasCycleOrder (links xs)) e o) j
 
 pub no_items : {X : Type 0} (xs : List X) (n : ℕ) → length xs ≡ n → true ≡ (n == 0) → xs ≡ []
 no_items [] n e z = refl

@@ -17,9 +17,9 @@ abbrev pub numbered : (n : ℕ) → List (List ℕ × Module) → List File
 numbered n [] = []
 numbered n (f ∷ fs) = record { name = f.0; tree = f.1; given = n } ∷ numbered (n + 1) fs
 
--- the files that a caller lends, with their names
+-- the files that a caller borrows, with their names
 abbrev pub files_of : List (Bor (List ℕ) × Bor Module) → List File
-files_of lent = numbered 0 (map (λ f. (f.0.now, f.1.now)) lent)
+files_of borrowed = numbered 0 (map (λ f. (f.0.now, f.1.now)) borrowed)
 
 -- the first file's name is less, byte by byte
 abbrev pub is_before : File → File → Bool

@@ -32,7 +32,7 @@ least_of fs = fold lesser None fs
 abbrev pub fault_where : Bool → Pos → ℕ → List Fault
 fault_where holds pos number = cond holds (fault pos number ∷ []) []
 
--- ---- what is refused in a module, beside circles
+-- ---- what is refused in a module, beside cycles
 
 -- whether a module passes
 abbrev pub any_that : (Module → Bool) → List Module → Bool

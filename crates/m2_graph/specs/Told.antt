@@ -12,7 +12,7 @@ use Rattle.m2_graph.specs.Imports.{imported, definition_of, links}
 use Rattle.m2_graph.specs.Refused.{fault, first_place, fault_where, faults_of, least_of}
 use Rattle.m2_graph.specs.Files.{File, trees}
 
--- ---- circles
+-- ---- cycles
 
 -- the definition that this import names is the node, or a chain of pairs leads from it to the node
 abbrev pub LeadsBack : List Module → ℕ → Ident → Type 0
@@ -37,23 +37,23 @@ abbrev pub IsFirstBack : List Module → ℕ → List Ident → Option Pos → T
 IsFirstBack modules node imports None = All (λ x. ¬ LeadsBack modules node x) imports
 IsFirstBack modules node imports (Some pos) = IsBack modules node imports pos
 
--- Of the definitions on circles this is the first in order, and at this place it has the first import that leads back
+-- Of the definitions on cycles this is the first in order, and at this place it has the first import that leads back
 -- to it.
-pub record IsToldCircle (modules : List Module) (node : ℕ) (pos : Pos) : Type 0 where
-  pub on_circle : Leads (links modules) node node
+pub record IsToldCycle (modules : List Module) (node : ℕ) (pos : Pos) : Type 0 where
+  pub on_cycle : Leads (links modules) node node
   pub first : (other : ℕ) → other < node → ¬ Leads (links modules) other other
   pub tree : Module
   pub is_tree : slice_get modules node ≡ Some tree
   pub back : IsBack modules node (imported tree) pos
 
--- what is told of circles: nothing where there are none, else a definition, and the place of one of its imports
-abbrev pub AreCircles : List Module → Option (ℕ × Pos) → Type 0
-AreCircles modules None = (node : ℕ) → ¬ Leads (links modules) node node
-AreCircles modules (Some told) = IsToldCircle modules told.0 told.1
+-- what is told of cycles: nothing where there are none, else a definition, and the place of one of its imports
+abbrev pub AreCycles : List Module → Option (ℕ × Pos) → Type 0
+AreCycles modules None = (node : ℕ) → ¬ Leads (links modules) node node
+AreCycles modules (Some told) = IsToldCycle modules told.0 told.1
 
-abbrev pub circle_faults : Option (ℕ × Pos) → ℕ → List Fault
-circle_faults None number = []
-circle_faults (Some told) number = fault_where (told.0 == number) told.1 22
+abbrev pub cycle_faults : Option (ℕ × Pos) → ℕ → List Fault
+cycle_faults None number = []
+cycle_faults (Some told) number = fault_where (told.0 == number) told.1 22
 
 -- ---- refusals
 
@@ -75,16 +75,16 @@ told_at file (Some fault) = told_of file fault ∷ []
 
 -- for each of these files, which stand behind those modules, the least that is refused in it
 abbrev pub refused_from : List Module → Option (ℕ × Pos) → (before : List Module) → List File → List Told
-refused_from modules circle before [] = []
-refused_from modules circle before (f ∷ fs) =
-    told_at f.name (least_of (faults_of modules before f.given f.tree ++ circle_faults circle (length before)))
-    ++ refused_from modules circle (before ++ f.tree ∷ []) fs
+refused_from modules cycle before [] = []
+refused_from modules cycle before (f ∷ fs) =
+    told_at f.name (least_of (faults_of modules before f.given f.tree ++ cycle_faults cycle (length before)))
+    ++ refused_from modules cycle (before ++ f.tree ∷ []) fs
 
 -- files in order, of which the first is the least; without any file there is no program module
 abbrev pub refused_of : List File → Option (ℕ × Pos) → List Told
-refused_of [] circle = told_of [] (fault first_place 23) ∷ []
-refused_of (f ∷ fs) circle = refused_from (trees (f ∷ fs)) circle [] (f ∷ fs)
+refused_of [] cycle = told_of [] (fault first_place 23) ∷ []
+refused_of (f ∷ fs) cycle = refused_from (trees (f ∷ fs)) cycle [] (f ∷ fs)
 
 -- this is told of files in order
 abbrev pub IsTold : List File → List Told → Type 0
-IsTold ordered all = (circle : Option (ℕ × Pos)) × AreCircles (trees ordered) circle × (all ≡ refused_of ordered circle)
+IsTold ordered all = (cycle : Option (ℕ × Pos)) × AreCycles (trees ordered) cycle × (all ≡ refused_of ordered cycle)

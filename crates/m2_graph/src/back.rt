@@ -1,15 +1,15 @@
-//! Imports that lead back to a definition on a circle.
+//! Imports that lead back to a definition on a cycle.
 
 ghost use Rattle.std.specs.Prelude.{◌≡◌, ◌<◌, ◌↔◌, ℕ, length, IfOk, OnOk, IsTrue};
-ghost use Rattle.graph_walk.specs.Circles.{HasCircleOrder};
+ghost use Rattle.graph_walk.specs.Cycles.{HasCycleOrder};
 ghost use Rattle.graph_walk.specs.Links.{Leads};
 ghost use Rattle.graph_walk.specs.Turned.{IsTurned};
 ghost use Rattle.m2_graph.specs.Imports.{imported, links, named_by};
 ghost use Rattle.m2_graph.specs.Program.{modules_of, IsIndexed};
-ghost use Rattle.m2_graph.specs.Told.{LeadsBack, AreLeading, IsFirstBack, AreCircles};
+ghost use Rattle.m2_graph.specs.Told.{LeadsBack, AreLeading, IsFirstBack, AreCycles};
 
 use crate::program::{Program, definition_of};
-use graph_walk::{first_on_circle, is_marked, led_to};
+use graph_walk::{first_on_cycle, is_marked, led_to};
 use m2_tree::{Ident, Import, Module, Pos};
 use sqlite_items::Items;
 use std::alloc::{AllocError, Global};
@@ -78,8 +78,8 @@ pub fn back_in(program: &Program<'_>, leading: &[bool], node: usize, tree: &Modu
     None
 }
 
-/// What is told of the first definition on a circle.
-fn told_circle(
+/// What is told of the first definition on a cycle.
+fn told_cycle(
     alloc: Global,
     program: &Program<'_>,
     pairs: &[Items<usize>],
@@ -90,9 +90,9 @@ fn told_circle(
     requires links { pairs.now ≡ links (modules_of program.now) }
     requires turned { IsTurned pairs.now back.now }
     requires within { node < length program.now.modules.now }
-    requires on_circle { Leads pairs.now node node }
+    requires on_cycle { Leads pairs.now node node }
     requires first { (other : ℕ) → other < node → ¬ Leads pairs.now other other }
-    ensures { IfOk result (λ circle. AreCircles (modules_of program.now) circle) }
+    ensures { IfOk result (λ cycle. AreCycles (modules_of program.now) cycle) }
 {
     let leading = led_to(alloc, back, node)?;
     let tree = program.modules[node];
@@ -102,9 +102,9 @@ fn told_circle(
     }
 }
 
-/// What is told of circles. `pairs` has for each module the definitions that it imports, and `back` the same the other way
+/// What is told of cycles. `pairs` has for each module the definitions that it imports, and `back` the same the other way
 /// round.
-pub fn circle_of(
+pub fn cycle_of(
     alloc: Global,
     program: &Program<'_>,
     pairs: &[Items<usize>],
@@ -113,15 +113,15 @@ pub fn circle_of(
     requires indexed { IsIndexed program.now }
     requires links { pairs.now ≡ links (modules_of program.now) }
     requires turned { IsTurned pairs.now back.now }
-    ensures circles { IfOk result (λ circle. AreCircles (modules_of program.now) circle) }
-    ensures order { OnOk result (HasCircleOrder pairs.now) }
+    ensures cycles { IfOk result (λ cycle. AreCycles (modules_of program.now) cycle) }
+    ensures order { OnOk result (HasCycleOrder pairs.now) }
 {
-    let first = first_on_circle(alloc, pairs, back)?;
+    let first = first_on_cycle(alloc, pairs, back)?;
     match first {
         None => Ok(None),
         Some(node) => {
-            let circle = told_circle(alloc, program, pairs, back, node)?;
-            Ok(circle)
+            let cycle = told_cycle(alloc, program, pairs, back, node)?;
+            Ok(cycle)
         }
     }
 }

@@ -1,11 +1,11 @@
-//! What is refused in a file, beside circles.
+//! What is refused in a file, beside cycles.
 
 ghost use Rattle.std.specs.Prelude.{◌≡◌, ◌<◌, ◌++◌, ◌||◌, length, take, fold};
 ghost use Rattle.m2_graph.specs.Imports.{imported, named_by, is_program};
 ghost use Rattle.m2_graph.specs.Refused.{fault, fault_where, is_less, lesser, least_of, is_console, is_built_in, is_bad_import, import_faults, any_that, is_second, is_repeated, is_without_program, is_second_program, is_lone, faults_of};
 ghost use Rattle.m2_graph.specs.Program.{modules_of, IsIndexed};
 ghost use Rattle.m2_graph.specs.Parts.{is_earlier};
-ghost use Rattle.m2_graph.specs.Told.{circle_faults};
+ghost use Rattle.m2_graph.specs.Told.{cycle_faults};
 
 use crate::imports::{is_definition, is_implementation, is_program};
 use crate::program::{Program, definition_of, first_file_of, implementation_of};
@@ -182,7 +182,7 @@ fn with_import(
     }
 }
 
-/// The least (place, number) at which the module with this number breaks a rule of imports, circles left aside: 20 an
+/// The least (place, number) at which the module with this number breaks a rule of imports, cycles left aside: 20 an
 /// import of a module without definition, or by a body of its own module; 21 a second file for a definition or a body, or
 /// a module named Console or link; 23 a second program module, or none; 24 an implementation without definition, or the
 /// reverse; 25 over 1024 files. `given` says how many files were given before its file.
@@ -206,20 +206,20 @@ fn file_fault(program: &Program<'_>, number: usize, given: usize, tree: &Module)
     with_fault(lonely, given == MAX_FILES, FIRST_PLACE, 25)
 }
 
-/// The least, where what is told of circles is added.
-fn with_circle(least: Option<Fault>, circle: Option<(usize, Pos)>, number: usize) -> Option<Fault>
-    ensures { result ≡ fold lesser least (circle_faults circle number) }
+/// The least, where what is told of cycles is added.
+fn with_cycle(least: Option<Fault>, cycle: Option<(usize, Pos)>, number: usize) -> Option<Fault>
+    ensures { result ≡ fold lesser least (cycle_faults cycle number) }
 {
-    match circle {
+    match cycle {
         None => least,
         Some((node, pos)) => with_fault(least, node == number, pos, 22),
     }
 }
 
-/// The least (place, number) at which the module with this number breaks a rule. `circle` is what is told of circles.
+/// The least (place, number) at which the module with this number breaks a rule. `cycle` is what is told of cycles.
 pub fn fault_of(
     program: &Program<'_>,
-    circle: Option<(usize, Pos)>,
+    cycle: Option<(usize, Pos)>,
     number: usize,
     given: usize,
     tree: &Module,
@@ -228,8 +228,8 @@ pub fn fault_of(
     requires within { number < length (modules_of program.now) }
     ensures { result ≡ least_of
         (faults_of (modules_of program.now) (take number (modules_of program.now)) given
-        tree.now ++ circle_faults circle number) }
+        tree.now ++ cycle_faults cycle number) }
 {
     let fault = file_fault(program, number, given, tree);
-    with_circle(fault, circle, number)
+    with_cycle(fault, cycle, number)
 }

@@ -97,7 +97,7 @@ impl Graph {
     /// - 20, at the module's name in the import: a module other than Console is imported and has no definition, or a body
     ///   imports its own module;
     /// - 21, at the module's name: a second file for a definition or a body, or a module named Console or link;
-    /// - 22, at the module's name in the import, for circles of definitions: the definition on a circle with the least
+    /// - 22, at the module's name in the import, for cycles of definitions: the definition on a cycle with the least
     ///   file name, at its first import that leads back to it. Of several files of a definition only the first counts;
     /// - 23, at the module's name, for each program module but the first; at 1:1 of the first file where there is none, and
     ///   of a file without name where there is no file;

@@ -1,7 +1,7 @@
 //! What is told of a program, and the numbers of its definitions.
 
 ghost use Rattle.std.specs.Prelude.{◌≡◌, map, IfOk, OnOk};
-ghost use Rattle.graph_walk.specs.Circles.{HasCircleOrder};
+ghost use Rattle.graph_walk.specs.Cycles.{HasCycleOrder};
 ghost use Rattle.m2_graph.specs.Files.{trees};
 ghost use Rattle.m2_graph.specs.Imports.{is_definition, links};
 ghost use Rattle.graph_walk.specs.Numbering.{IsNumbering};
@@ -9,7 +9,7 @@ ghost use Rattle.m2_graph.specs.Program.{modules_of, IsIndexed};
 ghost use Rattle.m2_graph.specs.Sources.{file_of};
 ghost use Rattle.m2_graph.specs.Told.{told, IsTold};
 
-use crate::back::circle_of;
+use crate::back::cycle_of;
 use crate::imports::links;
 use crate::numbering::numbering_of;
 use crate::program::Program;
@@ -39,12 +39,12 @@ pub fn judge(
     ensures numbering { IfOk result (λ j.
         IsNumbering (links (modules_of program.now))
         (map is_definition (modules_of program.now)) j.numbered) }
-    ensures order { OnOk result (HasCircleOrder (links (modules_of program.now))) }
+    ensures order { OnOk result (HasCycleOrder (links (modules_of program.now))) }
 {
     let pairs = links(alloc, program)?;
     let back = turned(alloc, &pairs)?;
     let numbered = numbering_of(alloc, program, &pairs, &back)?;
-    let circle = circle_of(alloc, program, &pairs, &back)?;
-    let refusals = refused_of(alloc, program, circle, sources)?;
+    let cycle = cycle_of(alloc, program, &pairs, &back)?;
+    let refusals = refused_of(alloc, program, cycle, sources)?;
     Ok(Judged { refusals, numbered })
 }

@@ -1,4 +1,4 @@
-//! What the modules of a program import: pairs of importer and imported, circles, the numbering of the jobs and the
+//! What the modules of a program import: pairs of importer and imported, cycles, the numbering of the jobs and the
 //! order in which bodies start.
 #![tactic(auto)]
 

@@ -15,7 +15,10 @@ pub struct Source<'a> {
     pub given: usize,
 }
 
-fn lent<'a>(alloc: Global, files: &[(&'a str, &'a Module)]) -> Result<Vec<Source<'a>>, AllocError>
+fn borrowed<'a>(
+    alloc: Global,
+    files: &[(&'a str, &'a Module)],
+) -> Result<Vec<Source<'a>>, AllocError>
     ensures { IfOk result (λ all. map file_of all.items ≡ files_of files.now) }
 {
     let mut all = Vec::new(alloc);
@@ -32,7 +35,7 @@ pub fn in_order<'a>(
 ) -> Result<Vec<Source<'a>>, AllocError>
     ensures { IfOk result (λ ordered. AreInOrder (files_of files.now) (map file_of ordered.items)) }
 {
-    let mut ordered = lent(alloc, files)?;
+    let mut ordered = borrowed(alloc, files)?;
     ordered.sort_by(|f, g| f.name.as_bytes().cmp(&g.name.as_bytes()))?;
     Ok(ordered)
 }

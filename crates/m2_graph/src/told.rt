@@ -5,7 +5,7 @@ ghost use Rattle.m2_graph.specs.Files.{trees};
 ghost use Rattle.m2_graph.specs.Program.{modules_of, IsIndexed};
 ghost use Rattle.m2_graph.specs.Refused.{faults_of, least_of};
 ghost use Rattle.m2_graph.specs.Sources.{file_of};
-ghost use Rattle.m2_graph.specs.Told.{circle_faults, told, told_of, told_at, refused_from, refused_of};
+ghost use Rattle.m2_graph.specs.Told.{cycle_faults, told, told_of, told_at, refused_from, refused_of};
 
 use crate::faults::{Fault, fault_of};
 use crate::program::Program;
@@ -46,34 +46,34 @@ fn add_refusal(
 fn refused_from(
     alloc: Global,
     program: &Program<'_>,
-    circle: Option<(usize, Pos)>,
+    cycle: Option<(usize, Pos)>,
     sources: &[Source<'_>],
 ) -> Result<Vec<Refusal>, AllocError>
     requires indexed { IsIndexed program.now }
     requires same { modules_of program.now ≡ trees (map file_of sources.now) }
     ensures { IfOk result (λ rs.
         map told rs.items
-        ≡ refused_from (trees (map file_of sources.now)) circle []
+        ≡ refused_from (trees (map file_of sources.now)) cycle []
         (map file_of sources.now)) }
 {
     let mut refusals = Vec::new(alloc);
     for (number, source) in sources.iter().enumerate() {
-        let fault = fault_of(program, circle, number, source.given, source.tree);
+        let fault = fault_of(program, cycle, number, source.given, source.tree);
         add_refusal(alloc, source.name, fault, &mut refusals)?;
     }
     Ok(refusals)
 }
 
-/// What is told of files in order. `circle` is what is told of circles.
+/// What is told of files in order. `cycle` is what is told of cycles.
 pub fn refused_of(
     alloc: Global,
     program: &Program<'_>,
-    circle: Option<(usize, Pos)>,
+    cycle: Option<(usize, Pos)>,
     sources: &[Source<'_>],
 ) -> Result<Vec<Refusal>, AllocError>
     requires indexed { IsIndexed program.now }
     requires same { modules_of program.now ≡ trees (map file_of sources.now) }
-    ensures { IfOk result (λ rs. map told rs.items ≡ refused_of (map file_of sources.now) circle) }
+    ensures { IfOk result (λ rs. map told rs.items ≡ refused_of (map file_of sources.now) cycle) }
 {
     if sources.is_empty() {
         let mut refusals = Vec::new(alloc);
@@ -84,5 +84,5 @@ pub fn refused_of(
         add_refusal(alloc, "", Some(fault), &mut refusals)?;
         return Ok(refusals);
     }
-    refused_from(alloc, program, circle, sources)
+    refused_from(alloc, program, cycle, sources)
 }

@@ -14,7 +14,7 @@ use Rattle.m2_graph.specs.declared.faults.Fault.{Fault}
 use Rattle.m2_graph.specs.Files.{File, trees}
 use Rattle.m2_graph.specs.Imports.{same_name, imported, is_definition, is_implementation, defines, implements, definition_of, first_that}
 use Rattle.m2_graph.specs.Refused.{fault, fault_where, first_place, least_of, is_console, is_bad_import, import_faults, are_one_part, is_second, is_repeated, is_second_program, is_without_program, is_built_in, is_lone, max_files, faults_of}
-use Rattle.m2_graph.specs.Told.{Told, told_at, circle_faults, refused_from, refused_of, IsTold}
+use Rattle.m2_graph.specs.Told.{Told, told_at, cycle_faults, refused_from, refused_of, IsTold}
 use Rattle.m2_graph.proofs.Judging.{never_none, nothing_told}
 use Rattle.m2_graph_laws.proofs.Lists.{Among, none_among, among_cases}
 use Rattle.m2_graph_laws.proofs.Passing.{some_that, none_that, among_taken}
@@ -52,15 +52,15 @@ filter_none {X} p (y ∷ xs) x e a = step (λ h b. filter_none p xs x h b) (p y)
     step later true g h = cc
     step later false g h = elim (among_cases y xs x a) [ inl s ↦ ap p (sym s) ∙ g | inr more ↦ later h more ]
 
-fine_one : (modules before : List Module) (given : ℕ) (m : Module) (circle : List Fault) → least_of (faults_of modules before given m ++ circle) ≡ None → Fine modules before given m
-fine_one modules before given m circle e =
+fine_one : (modules before : List Module) (given : ℕ) (m : Module) (cycle : List Fault) → least_of (faults_of modules before given m ++ cycle) ≡ None → Fine modules before given m
+fine_one modules before given m cycle e =
     let a = import_faults modules m (imported m) in
     let b = fault_where (is_repeated before m) m.name.pos 21 in
     let c = fault_where (is_second_program before m) m.name.pos 23 in
     let d = fault_where (is_without_program modules before) first_place 23 in
     let f = fault_where (is_lone modules m) m.name.pos 24 in
     let g = fault_where (given == max_files) first_place 25 in
-    let p = parts_none (faults_of modules before given m) circle (none_least (faults_of modules before given m ++ circle) e) in
+    let p = parts_none (faults_of modules before given m) cycle (none_least (faults_of modules before given m ++ cycle) e) in
     let q = parts_none (a ++ b ++ c ++ d ++ f) g p.0 in
     let r = parts_none (a ++ b ++ c ++ d) f q.0 in
     let s = parts_none (a ++ b ++ c) d r.0 in
@@ -76,20 +76,20 @@ fine_one modules before given m circle e =
 rest_none : (xs ys : List Told) → xs ++ ys ≡ [] → ys ≡ []
 rest_none xs ys e = (parts_none xs ys e).1
 
-fine_from : (modules : List Module) (circle : Option (ℕ × Pos)) (before : List Module) (fs : List File) → refused_from modules circle before fs ≡ [] → (k : ℕ) (f : File) → slice_get fs k ≡ Some f → Fine modules (before ++ take k (trees fs)) f.given f.tree
-fine_from modules circle before [] e k f at = absurd (none-some f at)
-fine_from modules circle before (g ∷ fs) e zero f at =
-    let o = least_of (faults_of modules before g.given g.tree ++ circle_faults circle (length before)) in
-    let h : Fine modules before g.given g.tree = fine_one modules before g.given g.tree (circle_faults circle (length before)) (nothing_told g.name o (refused_from modules circle (before ++ g.tree ∷ []) fs) e) in
+fine_from : (modules : List Module) (cycle : Option (ℕ × Pos)) (before : List Module) (fs : List File) → refused_from modules cycle before fs ≡ [] → (k : ℕ) (f : File) → slice_get fs k ≡ Some f → Fine modules (before ++ take k (trees fs)) f.given f.tree
+fine_from modules cycle before [] e k f at = absurd (none-some f at)
+fine_from modules cycle before (g ∷ fs) e zero f at =
+    let o = least_of (faults_of modules before g.given g.tree ++ cycle_faults cycle (length before)) in
+    let h : Fine modules before g.given g.tree = fine_one modules before g.given g.tree (cycle_faults cycle (length before)) (nothing_told g.name o (refused_from modules cycle (before ++ g.tree ∷ []) fs) e) in
     subst (λ (x : File). Fine modules (before ++ []) x.given x.tree) (same_Some g f at) (subst (λ (xs : List Module). Fine modules xs g.given g.tree) (sym (append-nil before)) h)
-fine_from modules circle before (g ∷ fs) e (suc k) f at =
-    let o = least_of (faults_of modules before g.given g.tree ++ circle_faults circle (length before)) in
-    let h = fine_from modules circle (before ++ g.tree ∷ []) fs (rest_none (told_at g.name o) (refused_from modules circle (before ++ g.tree ∷ []) fs) e) k f at in
+fine_from modules cycle before (g ∷ fs) e (suc k) f at =
+    let o = least_of (faults_of modules before g.given g.tree ++ cycle_faults cycle (length before)) in
+    let h = fine_from modules cycle (before ++ g.tree ∷ []) fs (rest_none (told_at g.name o) (refused_from modules cycle (before ++ g.tree ∷ []) fs) e) k f at in
     subst (λ (xs : List Module). Fine modules xs f.given f.tree) (append_assoc before (g.tree ∷ []) (take k (trees fs))) h
 
-fine_of : (fs : List File) (circle : Option (ℕ × Pos)) → refused_of fs circle ≡ [] → (k : ℕ) (f : File) → slice_get fs k ≡ Some f → Fine (trees fs) (take k (trees fs)) f.given f.tree
-fine_of [] circle e k f at = absurd (none-some f at)
-fine_of (g ∷ fs) circle e k f at = fine_from (trees (g ∷ fs)) circle [] (g ∷ fs) e k f at
+fine_of : (fs : List File) (cycle : Option (ℕ × Pos)) → refused_of fs cycle ≡ [] → (k : ℕ) (f : File) → slice_get fs k ≡ Some f → Fine (trees fs) (take k (trees fs)) f.given f.tree
+fine_of [] cycle e k f at = absurd (none-some f at)
+fine_of (g ∷ fs) cycle e k f at = fine_from (trees (g ∷ fs)) cycle [] (g ∷ fs) e k f at
 
 pub fine_file : (fs : List File) → IsTold fs [] → (k : ℕ) (f : File) → slice_get fs k ≡ Some f → Fine (trees fs) (take k (trees fs)) f.given f.tree
 fine_file fs h k f at = fine_of fs h.0 (sym h.2) k f at

@@ -6,7 +6,7 @@ use Rattle.std.proofs.lemmas.Option.{slice_get-get_or, none-some}
 use Rattle.std.proofs.lemmas.Bool.{false≢true}
 use Rattle.m2_graph.specs.Imports.{first_that}
 use Rattle.m2_graph.proofs.Importing.{first_within}
-use Rattle.m2_graph.proofs.Circles.{passes}
+use Rattle.m2_graph.proofs.Cycles.{passes}
 use Rattle.m2_graph_laws.proofs.Lists.{Among, none_among, later_among, among_cases}
 
 -- the element that was found

@@ -1,3 +1,3 @@
-pub mod Lent
+pub mod Borrowed
 pub mod Jobs
 pub mod Spelled

@@ -2,9 +2,9 @@
 //! a job does stands in `m2_read` and `m2_compile`.
 #![tactic(auto)]
 
-mod crew;
 mod modules;
+mod runner;
 mod texts;
 
-pub use crew::Crew;
 pub use m2_worker::Gate;
+pub use runner::Runner;

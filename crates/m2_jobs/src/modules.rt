@@ -4,7 +4,7 @@ ghost use Rattle.std.specs.Prelude.{◌≡◌, ◌<◌, ◌≤◌, ◌^◌, leng
 ghost use Rattle.m2_graph.specs.Refused.{max_files};
 ghost use Rattle.m2_jobs.specs.Jobs.{compiled_in, compiled_at};
 ghost use Rattle.m2_jobs.specs.Spelled.{spelled_in, spelled_at};
-ghost use Rattle.m2_jobs.specs.Lent.{modules_lent};
+ghost use Rattle.m2_jobs.specs.Borrowed.{modules_borrowed};
 
 use m2_compile::{Compiled, compile};
 use m2_tree::Module;
@@ -22,10 +22,10 @@ fn compiled_in(
 ) -> Result<Compiled, AllocError>
     requires { job < 2 ^ 32 }
     ensures becomes { IfOk result (λ c.
-        c ≡ compiled_in (slice_get (modules_lent trees.now) file) job
+        c ≡ compiled_in (slice_get (modules_borrowed trees.now) file) job
         (map (λ n. n.now) needed.now)) }
     ensures spelled { OnOk result
-        (spelled_in (slice_get (modules_lent trees.now) file) job (map (λ n. n.now) needed.now)) }
+        (spelled_in (slice_get (modules_borrowed trees.now) file) job (map (λ n. n.now) needed.now)) }
 {
     match at(trees, file) {
         None => Ok(Compiled::Blocked),
@@ -54,8 +54,8 @@ impl Work for Modules<'_> {
     ghost graph = { λ w. map (λ job. job.items) w.jobs.now };
 
     ghost defines = { λ w job outs c.
-        (c ≡ compiled_at (modules_lent w.trees.now) w.files.now job outs)
-        × spelled_at (modules_lent w.trees.now) w.files.now job outs };
+        (c ≡ compiled_at (modules_borrowed w.trees.now) w.files.now job outs)
+        × spelled_at (modules_borrowed w.trees.now) w.files.now job outs };
 
     fn run(&self, job: usize, prerequisites: &[&Compiled]) -> Result<Compiled, AllocError> {
         compiled_in(self.alloc, self.trees, self.files[job], job, prerequisites)

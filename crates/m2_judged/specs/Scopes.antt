@@ -35,7 +35,7 @@ or_outside None far = far
 abbrev pub Sight : Type 0 → Type 0
 Sight T = Option (Known T × Bool)
 
--- the same, of what is lent
+-- the same, of what is borrowed
 abbrev pub sighted : {T : Type 0} → Option (Bor (Known T) × Bool) → Sight T
 sighted s = option_map {U = _ × Bool} (λ e. (e.0.now, e.1)) s
 

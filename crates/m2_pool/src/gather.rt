@@ -6,42 +6,42 @@ ghost use Rattle.m2_board.specs.Graph.{prerequisites_of};
 ghost use Rattle.m2_worker.specs.Results.{picked, all_jobs, AreResults, IsResult, IsRan, IsMade};
 ghost use Rattle.m2_pool.specs.Settled.{IsSettled, all_settled};
 
-use m2_worker::{Gate, Ran, Shop, Work};
+use m2_worker::{Gate, Pool, Ran, Work};
 use once_cell::race::Note;
 use std::alloc::{AllocError, Global};
 
 /// For each job what a worker handed back of it, or nothing where no worker ran it.
 pub fn placed<W: Work, G: Gate>(
     alloc: Global,
-    shop: &Shop<'_, W, G>,
+    pool: &Pool<'_, W, G>,
     all: Vec<Ran<W>>,
 ) -> Result<Vec<Option<Ran<W>>>, AllocError>
     requires stands { All (λ r.
         MatchResult r.kept (λ n.
-        IsRan (map cell_name shop.now.cells.now) shop.now.graph.now
-        (W.defines shop.now.work.now) r.job n.cell n.known
+        IsRan (map cell_name pool.now.cells.now) pool.now.graph.now
+        (W.defines pool.now.work.now) r.job n.cell n.known
         (map (λ u. u.cell) r.used.items) (map (λ u. u.known) r.used.items)) (λ b.
-        IsMade (map cell_name shop.now.cells.now) shop.now.graph.now
-        (W.defines shop.now.work.now) r.job b.value (map (λ u. u.cell) r.used.items)
+        IsMade (map cell_name pool.now.cells.now) pool.now.graph.now
+        (W.defines pool.now.work.now) r.job b.value (map (λ u. u.cell) r.used.items)
         (map (λ u. u.known) r.used.items))) all.items }
-    ensures count { IfOk result (λ v. length v.items ≡ length shop.now.graph.now) }
+    ensures count { IfOk result (λ v. length v.items ≡ length pool.now.graph.now) }
     ensures each { IfOk result (λ v.
         (k : ℕ)
-        → k < length shop.now.graph.now
+        → k < length pool.now.graph.now
         → MatchOption (slice_index_or v.items k None) (times k (map (λ r. r.job) all.items) ≡ 0)
         (λ r.
         (r.job ≡ k)
         × MatchResult r.kept (λ n.
-        IsRan (map cell_name shop.now.cells.now) shop.now.graph.now
-        (W.defines shop.now.work.now) r.job n.cell n.known
+        IsRan (map cell_name pool.now.cells.now) pool.now.graph.now
+        (W.defines pool.now.work.now) r.job n.cell n.known
         (map (λ u. u.cell) r.used.items)
         (map (λ u. u.known) r.used.items)) (λ b.
-        IsMade (map cell_name shop.now.cells.now) shop.now.graph.now
-        (W.defines shop.now.work.now) r.job b.value
+        IsMade (map cell_name pool.now.cells.now) pool.now.graph.now
+        (W.defines pool.now.work.now) r.job b.value
         (map (λ u. u.cell) r.used.items)
         (map (λ u. u.known) r.used.items)))) }
 {
-    let mut places = no_places(alloc, shop.graph.jobs())?;
+    let mut places = no_places(alloc, pool.graph.jobs())?;
     for ran in all {
         put(&mut places, ran);
     }
@@ -77,33 +77,33 @@ fn no_places<W: Work>(alloc: Global, jobs: usize) -> Result<Vec<Option<Ran<W>>>,
 /// are settled.
 pub fn gathered<W: Work, G: Gate>(
     alloc: Global,
-    shop: &Shop<'_, W, G>,
+    pool: &Pool<'_, W, G>,
     places: Vec<Option<Ran<W>>>,
 ) -> Result<Vec<W::Out>, AllocError>
-    requires count { length places.items ≡ length shop.now.graph.now }
+    requires count { length places.items ≡ length pool.now.graph.now }
     requires places { (k : ℕ)
-        → k < length shop.now.graph.now
+        → k < length pool.now.graph.now
         → IfSome (slice_index_or places.items k None) (λ r.
         (r.job ≡ k)
         × MatchResult r.kept (λ n.
-        IsRan (map cell_name shop.now.cells.now) shop.now.graph.now
-        (W.defines shop.now.work.now) r.job n.cell n.known
+        IsRan (map cell_name pool.now.cells.now) pool.now.graph.now
+        (W.defines pool.now.work.now) r.job n.cell n.known
         (map (λ u. u.cell) r.used.items) (map (λ u. u.known) r.used.items))
         (λ b.
-        IsMade (map cell_name shop.now.cells.now) shop.now.graph.now
-        (W.defines shop.now.work.now) r.job b.value
+        IsMade (map cell_name pool.now.cells.now) pool.now.graph.now
+        (W.defines pool.now.work.now) r.job b.value
         (map (λ u. u.cell) r.used.items)
         (map (λ u. u.known) r.used.items))) }
     ensures { IfOk result (λ v.
-        AreResults shop.now.graph.now (W.defines shop.now.work.now)
-        (all_jobs (length shop.now.graph.now)) v.items) }
+        AreResults pool.now.graph.now (W.defines pool.now.work.now)
+        (all_jobs (length pool.now.graph.now)) v.items) }
 {
-    let mut outs = Vec::with_capacity(alloc, shop.graph.jobs())?;
-    let mut settled = Vec::with_capacity(alloc, shop.graph.jobs())?;
+    let mut outs = Vec::with_capacity(alloc, pool.graph.jobs())?;
+    let mut settled = Vec::with_capacity(alloc, pool.graph.jobs())?;
     for place in places {
         let job = outs.len();
-        let kept = settle(shop, job, place, &mut settled);
-        let (out, note) = one(alloc, shop, job, kept, outs.as_slice())?;
+        let kept = settle(pool, job, place, &mut settled);
+        let (out, note) = one(alloc, pool, job, kept, outs.as_slice())?;
         outs.push(out)?;
         settled.push(note)?;
     }
@@ -112,46 +112,46 @@ pub fn gathered<W: Work, G: Gate>(
 
 // What was kept of a job's result, if the job is settled: a note of its cell that knows it, or the result itself.
 fn settle<W: Work, G: Gate>(
-    shop: &Shop<'_, W, G>,
+    pool: &Pool<'_, W, G>,
     job: usize,
     place: Option<Ran<W>>,
     settled: &mut Vec<Option<Note<W::Out>>>,
 ) -> Option<Result<Note<W::Out>, Box<W::Out>>>
-    requires job { job < length shop.now.graph.now }
+    requires job { job < length pool.now.graph.now }
     requires place { IfSome place (λ r.
         (r.job ≡ job)
         × MatchResult r.kept (λ n.
-        IsRan (map cell_name shop.now.cells.now) shop.now.graph.now
-        (W.defines shop.now.work.now) r.job n.cell n.known
+        IsRan (map cell_name pool.now.cells.now) pool.now.graph.now
+        (W.defines pool.now.work.now) r.job n.cell n.known
         (map (λ u. u.cell) r.used.items) (map (λ u. u.known) r.used.items)) (λ b.
-        IsMade (map cell_name shop.now.cells.now) shop.now.graph.now
-        (W.defines shop.now.work.now) r.job b.value
+        IsMade (map cell_name pool.now.cells.now) pool.now.graph.now
+        (W.defines pool.now.work.now) r.job b.value
         (map (λ u. u.cell) r.used.items) (map (λ u. u.known) r.used.items))) }
     requires settled { (p : ℕ)
         → IfSome (slice_index_or settled.old.items p None) (λ n.
-        IsSettled (map cell_name shop.now.cells.now) shop.now.graph.now
-        (W.defines shop.now.work.now) p n.cell n.known) }
+        IsSettled (map cell_name pool.now.cells.now) pool.now.graph.now
+        (W.defines pool.now.work.now) p n.cell n.known) }
     ensures same { settled.new.items ≡ settled.old.items }
     ensures kept { IfSome result (λ k.
         MatchResult k (λ n.
-        IsSettled (map cell_name shop.now.cells.now) shop.now.graph.now
-        (W.defines shop.now.work.now) job n.cell n.known)
-        (λ b. IsResult shop.now.graph.now (W.defines shop.now.work.now) job b.value)) }
+        IsSettled (map cell_name pool.now.cells.now) pool.now.graph.now
+        (W.defines pool.now.work.now) job n.cell n.known)
+        (λ b. IsResult pool.now.graph.now (W.defines pool.now.work.now) job b.value)) }
     ensures all { IfSome place (λ r.
-        IsTrue (all_settled settled.old.items (prerequisites_of shop.now.graph.now job))
+        IsTrue (all_settled settled.old.items (prerequisites_of pool.now.graph.now job))
         → result ≡ Some r.kept) }
 {
     let Ran { job: _, kept, used } = place?;
     match kept {
         Ok(note) => {
-            if agree(shop, job, used, settled) {
+            if agree(pool, job, used, settled) {
                 Some(Ok(note))
             } else {
                 None
             }
         }
         Err(out) => {
-            if agree(shop, job, used, settled) {
+            if agree(pool, job, used, settled) {
                 Some(Err(out))
             } else {
                 None
@@ -162,30 +162,30 @@ fn settle<W: Work, G: Gate>(
 
 // Whether all prerequisites of a job are settled. Where they are, what was used of them are their results.
 fn agree<W: Work, G: Gate>(
-    shop: &Shop<'_, W, G>,
+    pool: &Pool<'_, W, G>,
     job: usize,
     used: Vec<Note<W::Out>>,
     settled: &mut Vec<Option<Note<W::Out>>>,
 ) -> bool
-    requires job { job < length shop.now.graph.now }
+    requires job { job < length pool.now.graph.now }
     requires used { map (λ u. u.cell) used.items
-        ≡ picked (map cell_name shop.now.cells.now) (prerequisites_of shop.now.graph.now job) }
+        ≡ picked (map cell_name pool.now.cells.now) (prerequisites_of pool.now.graph.now job) }
     requires settled { (p : ℕ)
         → IfSome (slice_index_or settled.old.items p None) (λ n.
-        IsSettled (map cell_name shop.now.cells.now) shop.now.graph.now
-        (W.defines shop.now.work.now) p n.cell n.known) }
+        IsSettled (map cell_name pool.now.cells.now) pool.now.graph.now
+        (W.defines pool.now.work.now) p n.cell n.known) }
     ensures same { settled.new.items ≡ settled.old.items }
     ensures agree { IsTrue result
         → (outs : List W.Out)
         → map (λ u. u.known) used.items ≡ map Some outs
-        → AreResults shop.now.graph.now (W.defines shop.now.work.now)
-        (prerequisites_of shop.now.graph.now job) outs }
-    ensures all { IsTrue (all_settled settled.old.items (prerequisites_of shop.now.graph.now job))
+        → AreResults pool.now.graph.now (W.defines pool.now.work.now)
+        (prerequisites_of pool.now.graph.now job) outs }
+    ensures all { IsTrue (all_settled settled.old.items (prerequisites_of pool.now.graph.now job))
         → IsTrue result }
 {
     // This tells the proof that the graph is sound.
-    let _jobs = shop.graph.jobs();
-    let prerequisites = shop.graph.prerequisites(job);
+    let _jobs = pool.graph.jobs();
+    let prerequisites = pool.graph.prerequisites(job);
     let mut place = 0;
     for note in used {
         if !agrees(settled, prerequisites[place], note) {
@@ -229,49 +229,49 @@ fn compared<T>(own: &mut Option<Note<T>>, used: Note<T>) -> bool
 // job's cell, if the result is there.
 fn one<W: Work, G: Gate>(
     alloc: Global,
-    shop: &Shop<'_, W, G>,
+    pool: &Pool<'_, W, G>,
     job: usize,
     kept: Option<Result<Note<W::Out>, Box<W::Out>>>,
     before: &[W::Out],
 ) -> Result<(W::Out, Option<Note<W::Out>>), AllocError>
-    requires job { job < length shop.now.graph.now }
+    requires job { job < length pool.now.graph.now }
     requires kept { IfSome kept (λ k.
         MatchResult k (λ n.
-        IsSettled (map cell_name shop.now.cells.now) shop.now.graph.now
-        (W.defines shop.now.work.now) job n.cell n.known)
-        (λ b. IsResult shop.now.graph.now (W.defines shop.now.work.now) job b.value)) }
-    requires before { AreResults shop.now.graph.now (W.defines shop.now.work.now) (all_jobs job) before.now }
-    ensures out { IfOk result (λ r. IsResult shop.now.graph.now (W.defines shop.now.work.now) job r.0) }
+        IsSettled (map cell_name pool.now.cells.now) pool.now.graph.now
+        (W.defines pool.now.work.now) job n.cell n.known)
+        (λ b. IsResult pool.now.graph.now (W.defines pool.now.work.now) job b.value)) }
+    requires before { AreResults pool.now.graph.now (W.defines pool.now.work.now) (all_jobs job) before.now }
+    ensures out { IfOk result (λ r. IsResult pool.now.graph.now (W.defines pool.now.work.now) job r.0) }
     ensures note { IfOk result (λ r.
         IfSome r.1 (λ n.
-        IsSettled (map cell_name shop.now.cells.now) shop.now.graph.now
-        (W.defines shop.now.work.now) job n.cell n.known)) }
+        IsSettled (map cell_name pool.now.cells.now) pool.now.graph.now
+        (W.defines pool.now.work.now) job n.cell n.known)) }
 {
     match kept {
         Some(Ok(mut note)) => {
-            let out = copied(shop, job, &mut note)?;
+            let out = copied(pool, job, &mut note)?;
             Ok((out, Some(note)))
         }
         Some(Err(out)) => Ok((Box::into_inner(out), None)),
-        None => Ok((run_here(alloc, shop, job, before)?, None)),
+        None => Ok((run_here(alloc, pool, job, before)?, None)),
     }
 }
 
 // A copy of what the cell of a settled job holds.
 fn copied<W: Work, G: Gate>(
-    shop: &Shop<'_, W, G>,
+    pool: &Pool<'_, W, G>,
     job: usize,
     note: &mut Note<W::Out>,
 ) -> Result<W::Out, AllocError>
-    requires job { job < length shop.now.graph.now }
-    requires note { IsSettled (map cell_name shop.now.cells.now) shop.now.graph.now
-        (W.defines shop.now.work.now) job note.old.cell note.old.known }
+    requires job { job < length pool.now.graph.now }
+    requires note { IsSettled (map cell_name pool.now.cells.now) pool.now.graph.now
+        (W.defines pool.now.work.now) job note.old.cell note.old.known }
     ensures same { note.new ≡ note.old }
-    ensures out { IfOk result (λ x. IsResult shop.now.graph.now (W.defines shop.now.work.now) job x) }
+    ensures out { IfOk result (λ x. IsResult pool.now.graph.now (W.defines pool.now.work.now) job x) }
 {
     let mut second = note.again();
-    match shop.cells[job].get_as(&mut second) {
-        Some(out) => shop.work.copy(out),
+    match pool.cells[job].get_as(&mut second) {
+        Some(out) => pool.work.copy(out),
         None => unreachable!(),
     }
 }
@@ -279,17 +279,17 @@ fn copied<W: Work, G: Gate>(
 // Runs a job, given the results of all jobs before it.
 fn run_here<W: Work, G: Gate>(
     alloc: Global,
-    shop: &Shop<'_, W, G>,
+    pool: &Pool<'_, W, G>,
     job: usize,
     before: &[W::Out],
 ) -> Result<W::Out, AllocError>
-    requires job { job < length shop.now.graph.now }
-    requires before { AreResults shop.now.graph.now (W.defines shop.now.work.now) (all_jobs job) before.now }
-    ensures { IfOk result (λ x. IsResult shop.now.graph.now (W.defines shop.now.work.now) job x) }
+    requires job { job < length pool.now.graph.now }
+    requires before { AreResults pool.now.graph.now (W.defines pool.now.work.now) (all_jobs job) before.now }
+    ensures { IfOk result (λ x. IsResult pool.now.graph.now (W.defines pool.now.work.now) job x) }
 {
-    let _jobs = shop.graph.jobs();
-    let outs = picks(alloc, before, shop.graph.prerequisites(job))?;
-    shop.work.run(job, outs.as_slice())
+    let _jobs = pool.graph.jobs();
+    let outs = picks(alloc, before, pool.graph.prerequisites(job))?;
+    pool.work.run(job, outs.as_slice())
 }
 
 // The results of these jobs, among the results of the first jobs.

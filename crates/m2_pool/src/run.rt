@@ -8,7 +8,7 @@ ghost use Rattle.m2_pool.specs.Tallied.{IsTally};
 use crate::gather::{gathered, placed};
 use crossbeam_deque::{Stealer, Worker};
 use m2_board::{Board, BoardSeat, JobGraph, PoolRefusal, Tally};
-use m2_worker::{Gate, Member, Ran, Shop, Work, empty_cells, work_on};
+use m2_worker::{Gate, Member, Pool, Ran, Work, empty_cells, work_on};
 use once_cell::race::OnceBox;
 use std::alloc::{AllocError, Global};
 use std::thread;
@@ -77,7 +77,7 @@ pub fn run_on<R: Threads + Sync, W: Work, G: Gate>(
 {
     let owns = dealt(alloc, graph, seats.len())?;
     let stealers = stealers_of(alloc, owns.as_slice())?;
-    let shop = Shop {
+    let pool = Pool {
         board: &board,
         graph,
         cells,
@@ -86,10 +86,10 @@ pub fn run_on<R: Threads + Sync, W: Work, G: Gate>(
         work,
     };
     let members = members_of(alloc, seats, owns)?;
-    let ended = all_work(rt, alloc, &shop, members)?;
-    let (seats, all) = returned(alloc, &shop, ended)?;
-    let places = placed(alloc, &shop, all)?;
-    let outs = gathered(alloc, &shop, places)?;
+    let ended = all_work(rt, alloc, &pool, members)?;
+    let (seats, all) = returned(alloc, &pool, ended)?;
+    let places = placed(alloc, &pool, all)?;
+    let outs = gathered(alloc, &pool, places)?;
     let tally = board.close(seats);
     Ok((outs, tally))
 }
@@ -164,25 +164,25 @@ fn members_of<W: Work>(
 fn all_work<R: Threads + Sync, W: Work, G: Gate>(
     rt: &R,
     alloc: Global,
-    shop: &Shop<'_, W, G>,
+    pool: &Pool<'_, W, G>,
     members: Vec<Member<W>>,
 ) -> Result<Vec<Result<Member<W>, AllocError>>, AllocError>
-    requires seats { All (λ m. (m.seat.board ≡ shop.now.board.now.id) × (m.seat.had ≡ []) × (m.ran.items ≡ []))
+    requires seats { All (λ m. (m.seat.board ≡ pool.now.board.now.id) × (m.seat.had ≡ []) × (m.ran.items ≡ []))
         members.items }
     ensures count { IfOk result (λ v. length v.items ≡ length members.items) }
     ensures each { IfOk result (λ v.
         All (λ e.
         IfOk e (λ m.
-        (m.seat.board ≡ shop.now.board.now.id)
+        (m.seat.board ≡ pool.now.board.now.id)
         × (map (λ r. r.job) m.ran.items ≡ m.seat.had)
         × All (λ r.
         MatchResult r.kept (λ n.
-        IsRan (map cell_name shop.now.cells.now) shop.now.graph.now
-        (W.defines shop.now.work.now) r.job n.cell n.known
+        IsRan (map cell_name pool.now.cells.now) pool.now.graph.now
+        (W.defines pool.now.work.now) r.job n.cell n.known
         (map (λ u. u.cell) r.used.items)
         (map (λ u. u.known) r.used.items)) (λ b.
-        IsMade (map cell_name shop.now.cells.now) shop.now.graph.now
-        (W.defines shop.now.work.now) r.job b.value
+        IsMade (map cell_name pool.now.cells.now) pool.now.graph.now
+        (W.defines pool.now.work.now) r.job b.value
         (map (λ u. u.cell) r.used.items)
         (map (λ u. u.known) r.used.items))) m.ran.items)) v.items) }
 {
@@ -190,57 +190,57 @@ fn all_work<R: Threads + Sync, W: Work, G: Gate>(
         rt,
         members,
         &|member: Member<W>| -> Result<Member<W>, AllocError>
-            requires { (member.seat.board ≡ shop.now.board.now.id)
+            requires { (member.seat.board ≡ pool.now.board.now.id)
                 × (member.seat.had ≡ [])
                 × (member.ran.items ≡ []) }
             ensures { IfOk result (λ m.
-                (m.seat.board ≡ shop.entry.now.board.now.id)
+                (m.seat.board ≡ pool.entry.now.board.now.id)
                 × (map (λ r. r.job) m.ran.items ≡ m.seat.had)
                 × All (λ r.
                 MatchResult r.kept (λ n.
-                IsRan (map cell_name shop.entry.now.cells.now)
-                shop.entry.now.graph.now (W.defines shop.entry.now.work.now)
+                IsRan (map cell_name pool.entry.now.cells.now)
+                pool.entry.now.graph.now (W.defines pool.entry.now.work.now)
                 r.job n.cell n.known (map (λ u. u.cell) r.used.items)
                 (map (λ u. u.known) r.used.items)) (λ b.
-                IsMade (map cell_name shop.entry.now.cells.now)
-                shop.entry.now.graph.now (W.defines shop.entry.now.work.now)
+                IsMade (map cell_name pool.entry.now.cells.now)
+                pool.entry.now.graph.now (W.defines pool.entry.now.work.now)
                 r.job b.value (map (λ u. u.cell) r.used.items)
                 (map (λ u. u.known) r.used.items))) m.ran.items) }
-        { work_on(alloc, shop, member) },
+        { work_on(alloc, pool, member) },
     )
 }
 
 // The seats that came back, and all that was run, if no worker was refused memory.
 fn returned<W: Work, G: Gate>(
     alloc: Global,
-    shop: &Shop<'_, W, G>,
+    pool: &Pool<'_, W, G>,
     ended: Vec<Result<Member<W>, AllocError>>,
 ) -> Result<(Vec<BoardSeat>, Vec<Ran<W>>), AllocError>
     requires { All (λ e.
         IfOk e (λ m.
-        (m.seat.board ≡ shop.now.board.now.id)
+        (m.seat.board ≡ pool.now.board.now.id)
         × (map (λ r. r.job) m.ran.items ≡ m.seat.had)
         × All (λ r.
         MatchResult r.kept (λ n.
-        IsRan (map cell_name shop.now.cells.now) shop.now.graph.now
-        (W.defines shop.now.work.now) r.job n.cell n.known
+        IsRan (map cell_name pool.now.cells.now) pool.now.graph.now
+        (W.defines pool.now.work.now) r.job n.cell n.known
         (map (λ u. u.cell) r.used.items)
         (map (λ u. u.known) r.used.items)) (λ b.
-        IsMade (map cell_name shop.now.cells.now) shop.now.graph.now
-        (W.defines shop.now.work.now) r.job b.value
+        IsMade (map cell_name pool.now.cells.now) pool.now.graph.now
+        (W.defines pool.now.work.now) r.job b.value
         (map (λ u. u.cell) r.used.items)
         (map (λ u. u.known) r.used.items))) m.ran.items)) ended.items }
     ensures count { IfOk result (λ r. length r.0.items ≡ length ended.items) }
-    ensures seats { IfOk result (λ r. All (λ s. s.board ≡ shop.now.board.now.id) r.0.items) }
+    ensures seats { IfOk result (λ r. All (λ s. s.board ≡ pool.now.board.now.id) r.0.items) }
     ensures ran { IfOk result (λ r. map (λ a. a.job) r.1.items ≡ all_had r.0.items) }
     ensures stands { IfOk result (λ o.
         All (λ r.
         MatchResult r.kept (λ n.
-        IsRan (map cell_name shop.now.cells.now) shop.now.graph.now
-        (W.defines shop.now.work.now) r.job n.cell n.known
+        IsRan (map cell_name pool.now.cells.now) pool.now.graph.now
+        (W.defines pool.now.work.now) r.job n.cell n.known
         (map (λ u. u.cell) r.used.items) (map (λ u. u.known) r.used.items)) (λ b.
-        IsMade (map cell_name shop.now.cells.now) shop.now.graph.now
-        (W.defines shop.now.work.now) r.job b.value (map (λ u. u.cell) r.used.items)
+        IsMade (map cell_name pool.now.cells.now) pool.now.graph.now
+        (W.defines pool.now.work.now) r.job b.value (map (λ u. u.cell) r.used.items)
         (map (λ u. u.known) r.used.items))) o.1.items) }
 {
     let mut seats = Vec::with_capacity(alloc, ended.len())?;

@@ -14,4 +14,4 @@ mod worker;
 pub use cells::empty_cells;
 pub use ran::Ran;
 pub use work::{Gate, Work};
-pub use worker::{Member, Shop, work_on};
+pub use worker::{Member, Pool, work_on};

@@ -29,7 +29,7 @@ pub struct Member<W: Work> {
 
 /// What all workers share.
 #[derive(Drop)]
-pub struct Shop<'a, W: Work, G: Gate> {
+pub struct Pool<'a, W: Work, G: Gate> {
     pub board: &'a Board,
     pub graph: &'a JobGraph,
     pub cells: &'a [OnceBox<W::Out>],
@@ -46,28 +46,28 @@ pub struct Shop<'a, W: Work, G: Gate> {
 /// What the worker ran is what its seat had, each with what it stands on. It fails only for want of memory.
 pub fn work_on<W: Work, G: Gate>(
     alloc: Global,
-    shop: &Shop<'_, W, G>,
+    pool: &Pool<'_, W, G>,
     mut member: Member<W>,
 ) -> Result<Member<W>, AllocError>
-    requires seat { member.seat.board ≡ shop.now.board.now.id }
+    requires seat { member.seat.board ≡ pool.now.board.now.id }
     requires new { (member.seat.had ≡ []) × (member.ran.items ≡ []) }
-    ensures seat { IfOk result (λ m. m.seat.board ≡ shop.now.board.now.id) }
+    ensures seat { IfOk result (λ m. m.seat.board ≡ pool.now.board.now.id) }
     ensures ran { IfOk result (λ m. map (λ r. r.job) m.ran.items ≡ m.seat.had) }
     ensures stands { IfOk result (λ m.
         All (λ r.
         MatchResult r.kept (λ n.
-        IsRan (map cell_name shop.now.cells.now) shop.now.graph.now
-        (W.defines shop.now.work.now) r.job n.cell n.known
+        IsRan (map cell_name pool.now.cells.now) pool.now.graph.now
+        (W.defines pool.now.work.now) r.job n.cell n.known
         (map (λ u. u.cell) r.used.items) (map (λ u. u.known) r.used.items)) (λ b.
-        IsMade (map cell_name shop.now.cells.now) shop.now.graph.now
-        (W.defines shop.now.work.now) r.job b.value (map (λ u. u.cell) r.used.items)
+        IsMade (map cell_name pool.now.cells.now) pool.now.graph.now
+        (W.defines pool.now.work.now) r.job b.value (map (λ u. u.cell) r.used.items)
         (map (λ u. u.known) r.used.items))) m.ran.items) }
 {
-    for _ in 0..shop.graph.jobs() {
-        let Some(job) = next_job(&mut member.own, shop.stealers, member.number) else {
+    for _ in 0..pool.graph.jobs() {
+        let Some(job) = next_job(&mut member.own, pool.stealers, member.number) else {
             return Ok(member);
         };
-        attempt(alloc, shop, &mut member, job)?;
+        attempt(alloc, pool, &mut member, job)?;
     }
     Ok(member)
 }
@@ -100,50 +100,50 @@ fn stolen(stealers: &[Stealer<usize>], number: usize) -> Option<usize> {
 // Tries a job: runs it if the results of its prerequisites are seen, the gate lets the worker in and the seat gets it.
 fn attempt<W: Work, G: Gate>(
     alloc: Global,
-    shop: &Shop<'_, W, G>,
+    pool: &Pool<'_, W, G>,
     member: &mut Member<W>,
     job: usize,
 ) -> Result<(), AllocError>
-    requires seat { member.old.seat.board ≡ shop.now.board.now.id }
+    requires seat { member.old.seat.board ≡ pool.now.board.now.id }
     requires ran { map (λ r. r.job) member.old.ran.items ≡ member.old.seat.had }
     requires stands { All (λ r.
         MatchResult r.kept (λ n.
-        IsRan (map cell_name shop.now.cells.now) shop.now.graph.now
-        (W.defines shop.now.work.now) r.job n.cell n.known
+        IsRan (map cell_name pool.now.cells.now) pool.now.graph.now
+        (W.defines pool.now.work.now) r.job n.cell n.known
         (map (λ u. u.cell) r.used.items) (map (λ u. u.known) r.used.items)) (λ b.
-        IsMade (map cell_name shop.now.cells.now) shop.now.graph.now
-        (W.defines shop.now.work.now) r.job b.value (map (λ u. u.cell) r.used.items)
+        IsMade (map cell_name pool.now.cells.now) pool.now.graph.now
+        (W.defines pool.now.work.now) r.job b.value (map (λ u. u.cell) r.used.items)
         (map (λ u. u.known) r.used.items))) member.old.ran.items }
-    ensures seat { member.new.seat.board ≡ shop.now.board.now.id }
+    ensures seat { member.new.seat.board ≡ pool.now.board.now.id }
     ensures ran { OnOk result (map (λ r. r.job) member.new.ran.items ≡ member.new.seat.had) }
     ensures stands { All (λ r.
         MatchResult r.kept (λ n.
-        IsRan (map cell_name shop.now.cells.now) shop.now.graph.now
-        (W.defines shop.now.work.now) r.job n.cell n.known
+        IsRan (map cell_name pool.now.cells.now) pool.now.graph.now
+        (W.defines pool.now.work.now) r.job n.cell n.known
         (map (λ u. u.cell) r.used.items) (map (λ u. u.known) r.used.items)) (λ b.
-        IsMade (map cell_name shop.now.cells.now) shop.now.graph.now
-        (W.defines shop.now.work.now) r.job b.value (map (λ u. u.cell) r.used.items)
+        IsMade (map cell_name pool.now.cells.now) pool.now.graph.now
+        (W.defines pool.now.work.now) r.job b.value (map (λ u. u.cell) r.used.items)
         (map (λ u. u.known) r.used.items))) member.new.ran.items }
 {
-    if job >= shop.graph.jobs() {
+    if job >= pool.graph.jobs() {
         return Ok(());
     }
-    let prerequisites = shop.graph.prerequisites(job);
-    let Some(found) = all_finished(alloc, shop.cells, prerequisites)? else {
+    let prerequisites = pool.graph.prerequisites(job);
+    let Some(found) = all_finished(alloc, pool.cells, prerequisites)? else {
         return Ok(());
     };
-    if !shop.gate.enter(job) {
+    if !pool.gate.enter(job) {
         return Ok(());
     }
-    if !shop.board.claim(&mut member.seat, job) {
+    if !pool.board.claim(&mut member.seat, job) {
         return Ok(());
     }
     let Found { outs, notes } = found;
-    let ran = run(alloc, shop, job, outs.as_slice(), notes)?;
+    let ran = run(alloc, pool, job, outs.as_slice(), notes)?;
     member.ran.push(ran)?;
     count_all(
-        shop.board,
-        shop.graph,
+        pool.board,
+        pool.graph,
         &mut member.seat,
         job,
         &mut member.own,
@@ -154,29 +154,29 @@ fn attempt<W: Work, G: Gate>(
 // Runs a job and publishes its result.
 fn run<W: Work, G: Gate>(
     alloc: Global,
-    shop: &Shop<'_, W, G>,
+    pool: &Pool<'_, W, G>,
     job: usize,
     prerequisites: &[&W::Out],
     used: Vec<Note<W::Out>>,
 ) -> Result<Ran<W>, AllocError>
-    requires job { job < length shop.now.graph.now }
-    requires prerequisites { length prerequisites.now ≡ length (prerequisites_of shop.now.graph.now job) }
+    requires job { job < length pool.now.graph.now }
+    requires prerequisites { length prerequisites.now ≡ length (prerequisites_of pool.now.graph.now job) }
     requires cells { map (λ u. u.cell) used.items
-        ≡ picked (map cell_name shop.now.cells.now) (prerequisites_of shop.now.graph.now job) }
+        ≡ picked (map cell_name pool.now.cells.now) (prerequisites_of pool.now.graph.now job) }
     requires known { map (λ u. u.known) used.items ≡ map (λ p. Some p.now) prerequisites.now }
     ensures job { IfOk result (λ r. r.job ≡ job) }
     ensures ran { IfOk result (λ r.
         MatchResult r.kept (λ n.
-        IsRan (map cell_name shop.now.cells.now) shop.now.graph.now
-        (W.defines shop.now.work.now) r.job n.cell n.known
+        IsRan (map cell_name pool.now.cells.now) pool.now.graph.now
+        (W.defines pool.now.work.now) r.job n.cell n.known
         (map (λ u. u.cell) r.used.items) (map (λ u. u.known) r.used.items)) (λ b.
-        IsMade (map cell_name shop.now.cells.now) shop.now.graph.now
-        (W.defines shop.now.work.now) r.job b.value (map (λ u. u.cell) r.used.items)
+        IsMade (map cell_name pool.now.cells.now) pool.now.graph.now
+        (W.defines pool.now.work.now) r.job b.value (map (λ u. u.cell) r.used.items)
         (map (λ u. u.known) r.used.items))) }
 {
-    let out = shop.work.run(job, prerequisites)?;
+    let out = pool.work.run(job, prerequisites)?;
     let out = Box::new(alloc, out)?;
-    Ok(Ran::publish(&shop.cells[job], job, out, used))
+    Ok(Ran::publish(&pool.cells[job], job, out, used))
 }
 
 // Counts each edge of a job down, and keeps the jobs whose wait it ended.

@@ -28,7 +28,7 @@ use Rattle.m2_read.specs.declared.file.SourceFile.{SourceFile}
 use Rattle.m2_compile.specs.declared.outcome.Compiled.{Compiled}
 use Rattle.m2_jobs.specs.Jobs.{all_compiled}
 use Rattle.m2_jobs.proofs.Rounds.{jobs_count}
-use Rattle.m2_jobs.specs.Lent.{lent, modules_lent}
+use Rattle.m2_jobs.specs.Borrowed.{borrowed, modules_borrowed}
 use Rattle.m2c.specs.Modules.{result_of, module_in, modules_at}
 use Rattle.m2c.specs.Build.{Told, AreTold, told_at, built_of, named_bytes, modules, refusal_in, refused_from, refused_by, started, data_and_stack, program_file, HaveGraph, IsTooLarge, IsProgram}
 use Rattle.m2_jobs.specs.Spelled.{AreSpelled}
@@ -44,12 +44,12 @@ pub all_spelled : (p : Modules) → AreFit p → headline.AreSpelled (map module
 all_spelled [] f = tt
 all_spelled (m ∷ ms) f = (record { fits = f.0; spelling = refl }, all_spelled ms f.1)
 
-pub same_modules : (trees : List (Bor (List ℕ) × Bor Module)) → modules_lent trees ≡ modules (lent trees)
+pub same_modules : (trees : List (Bor (List ℕ) × Bor Module)) → modules_borrowed trees ≡ modules (borrowed trees)
 same_modules [] = refl
 same_modules (t ∷ ts) = ap (λ (ms : List Module). t.1.now ∷ ms) (same_modules ts)
 
-pub spelled_lent : (trees : List (Bor (List ℕ) × Bor Module)) (numbers : List ℕ) (jobs : List (List ℕ)) → AreSpelled (modules_lent trees) numbers jobs → AreSpelled (modules (lent trees)) numbers jobs
-spelled_lent trees numbers jobs h = subst (λ (ms : List Module). AreSpelled ms numbers jobs) (same_modules trees) h
+pub spelled_borrowed : (trees : List (Bor (List ℕ) × Bor Module)) (numbers : List ℕ) (jobs : List (List ℕ)) → AreSpelled (modules_borrowed trees) numbers jobs → AreSpelled (modules (borrowed trees)) numbers jobs
+spelled_borrowed trees numbers jobs h = subst (λ (ms : List Module). AreSpelled ms numbers jobs) (same_modules trees) h
 
 abbrev bytes_of : TypedModule → List ℕ
 bytes_of m = module_spelling (typed_module m)
@@ -94,22 +94,22 @@ module _ (results : List Compiled) (numbers : List ℕ) (places : List (Option �
   pub placed_started : (starts : List ℕ) → modules_at (λ k. option_and_then (slice_get results) (place_of places k)) starts ≡ modules_at (result_of numbers results) starts
   placed_started = same_started (λ k. option_and_then (slice_get results) (place_of places k)) (result_of numbers results) same_results
 
-module _ (trees : List (Bor (List ℕ) × Bor Module)) (numbers : List ℕ) (jobs : List (List ℕ)) (places borrowed : List (Option ℕ)) (results : List Compiled) (are : ArePlaces numbers places) (same : borrowed ≡ places) (all : results ≡ all_compiled (modules_lent trees) numbers jobs) where
-  all_are : results ≡ all_compiled (modules (lent trees)) numbers jobs
+module _ (trees : List (Bor (List ℕ) × Bor Module)) (numbers : List ℕ) (jobs : List (List ℕ)) (places places_now : List (Option ℕ)) (results : List Compiled) (are : ArePlaces numbers places) (same : places_now ≡ places) (all : results ≡ all_compiled (modules_borrowed trees) numbers jobs) where
+  all_are : results ≡ all_compiled (modules (borrowed trees)) numbers jobs
   all_are = all ∙ ap (λ (ms : List Module). all_compiled ms numbers jobs) (same_modules trees)
 
-  pub refusals_are : (ts : List Told) → ts ≡ refused_from (λ k. option_and_then (slice_get results) (place_of borrowed k)) 0 (lent trees) → ts ≡ refused_by (lent trees) numbers jobs
+  pub refusals_are : (ts : List Told) → ts ≡ refused_from (λ k. option_and_then (slice_get results) (place_of places_now k)) 0 (borrowed trees) → ts ≡ refused_by (borrowed trees) numbers jobs
   refusals_are ts e =
-      e ∙ ap (λ (ps : List (Option ℕ)). refused_from (λ k. option_and_then (slice_get results) (place_of ps k)) 0 (lent trees)) same
-      ∙ placed_refused results numbers places are 0 (lent trees)
-      ∙ ap (λ (rs : List Compiled). refused_from (result_of numbers rs) 0 (lent trees)) all_are
+      e ∙ ap (λ (ps : List (Option ℕ)). refused_from (λ k. option_and_then (slice_get results) (place_of ps k)) 0 (borrowed trees)) same
+      ∙ placed_refused results numbers places are 0 (borrowed trees)
+      ∙ ap (λ (rs : List Compiled). refused_from (result_of numbers rs) 0 (borrowed trees)) all_are
 
-  pub started_are : (ms : List ModuleBytes) (order starts : List ℕ) → ms ≡ modules_at (λ k. option_and_then (slice_get results) (place_of borrowed k)) order → order ≡ starts → ms ≡ started (lent trees) numbers jobs starts
+  pub started_are : (ms : List ModuleBytes) (order starts : List ℕ) → ms ≡ modules_at (λ k. option_and_then (slice_get results) (place_of places_now k)) order → order ≡ starts → ms ≡ started (borrowed trees) numbers jobs starts
   started_are ms order starts e o =
       e ∙ ap (λ (ps : List (Option ℕ)). modules_at (λ k. option_and_then (slice_get results) (place_of ps k)) order) same
       ∙ placed_started results numbers places are order
       ∙ ap (λ (rs : List Compiled). modules_at (result_of numbers rs) order) all_are
-      ∙ ap (λ (ss : List ℕ). started (lent trees) numbers jobs ss) o
+      ∙ ap (λ (ss : List ℕ). started (borrowed trees) numbers jobs ss) o
 
 -- ---- the program
 

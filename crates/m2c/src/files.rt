@@ -7,7 +7,7 @@ ghost use Rattle.m2c.specs.Build.{AreAlike, IsBuilt};
 
 use crate::outcome::outcome_of;
 use m2_board::MAX_WORKERS;
-use m2_jobs::Crew;
+use m2_jobs::Runner;
 use m2_read::SourceFile;
 use m2_tree::Refusal;
 use m2_worker::Gate;
@@ -123,12 +123,12 @@ pub fn build<R: Threads + Sync, G: Gate>(
     if options.pages < 1 || options.pages > MAX_PAGES {
         return Err(BuildFault::Pages);
     }
-    let crew = Crew {
+    let runner = Runner {
         rt,
         alloc,
         workers: options.workers,
         gate,
     };
-    let outcome = outcome_of(&crew, files, options.pages)?;
+    let outcome = outcome_of(&runner, files, options.pages)?;
     Ok(outcome)
 }

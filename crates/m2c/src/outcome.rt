@@ -8,7 +8,7 @@ ghost use Rattle.m2_graph.specs.Graph.{CompileEach};
 ghost use Rattle.m2_graph.specs.Jobs.{ArePlaces};
 ghost use Rattle.m2_graph.specs.Refused.{max_files};
 ghost use Rattle.m2_jobs.specs.Jobs.{all_compiled};
-ghost use Rattle.m2_jobs.specs.Lent.{lent, modules_lent};
+ghost use Rattle.m2_jobs.specs.Borrowed.{borrowed, modules_borrowed};
 ghost use Rattle.m2_jobs.specs.Spelled.{AreSpelled};
 ghost use Rattle.m2_read.specs.Reading.{AreRead};
 ghost use Rattle.m2c.specs.Build.{is_program_part, program_file, refused_by, started, told, told_at, AreTrees, HaveGraph, IsBuilt};
@@ -22,7 +22,7 @@ use crate::texts::trees_of;
 use m2_compile::Compiled;
 use m2_emit::{ModuleBytes, emit_link};
 use m2_graph::{Graph, GraphError};
-use m2_jobs::Crew;
+use m2_jobs::Runner;
 use m2_read::{Read, SourceFile};
 use m2_tree::{Contents, Module, Pos, Refusal};
 use m2_worker::Gate;
@@ -47,7 +47,7 @@ fn is_program(tree: &Module) -> bool
 
 /// The file of the program module.
 fn program_file<'a>(trees: &[(&'a str, &'a Module)]) -> &'a str
-    ensures { result.now ≡ program_file (lent trees.now) }
+    ensures { result.now ≡ program_file (borrowed trees.now) }
 {
     match trees {
         [] => "",
@@ -64,7 +64,7 @@ fn program_file<'a>(trees: &[(&'a str, &'a Module)]) -> &'a str
 /// 61 at the begin of the file of the program module.
 fn too_large(alloc: Global, trees: &[(&str, &Module)]) -> Result<Vec<Refusal>, AllocError>
     ensures { IfOk result (λ rs.
-        map told rs.items ≡ told_at (program_file (lent trees.now)) 1 1 61 ∷ []) }
+        map told rs.items ≡ told_at (program_file (borrowed trees.now)) 1 1 61 ∷ []) }
 {
     let mut refusals = Vec::new(alloc);
     let file = program_file(trees);
@@ -92,14 +92,14 @@ fn built(
 ) -> Result<Outcome, AllocError>
     requires least { 1 ≤ pages }
     requires most { pages ≤ max_pages }
-    requires graph { HaveGraph files.now (lent trees.now) graph.now.files.items
+    requires graph { HaveGraph files.now (borrowed trees.now) graph.now.files.items
         (map (λ j. j.items) graph.now.jobs.items) graph.now.starts.items }
-    requires none { refused_by (lent trees.now) graph.now.files.items
+    requires none { refused_by (borrowed trees.now) graph.now.files.items
         (map (λ j. j.items) graph.now.jobs.items) ≡ [] }
-    requires spelled { AreSpelled (modules_lent trees.now) graph.now.files.items
+    requires spelled { AreSpelled (modules_borrowed trees.now) graph.now.files.items
         (map (λ j. j.items) graph.now.jobs.items) }
     requires modules { map (λ m. m.now) modules.now
-        ≡ started (lent trees.now) graph.now.files.items
+        ≡ started (borrowed trees.now) graph.now.files.items
         (map (λ j. j.items) graph.now.jobs.items) graph.now.starts.items }
     requires fits { stack_begin (parts (map (λ m. m.now) modules.now)) + 4096 ≤ 65536 * pages }
     ensures { IfOk result (IsBuilt files.now pages) }
@@ -120,14 +120,14 @@ fn program(
 ) -> Result<Outcome, AllocError>
     requires least { 1 ≤ pages }
     requires most { pages ≤ max_pages }
-    requires graph { HaveGraph files.now (lent trees.now) graph.now.files.items
+    requires graph { HaveGraph files.now (borrowed trees.now) graph.now.files.items
         (map (λ j. j.items) graph.now.jobs.items) graph.now.starts.items }
-    requires none { refused_by (lent trees.now) graph.now.files.items
+    requires none { refused_by (borrowed trees.now) graph.now.files.items
         (map (λ j. j.items) graph.now.jobs.items) ≡ [] }
-    requires spelled { AreSpelled (modules_lent trees.now) graph.now.files.items
+    requires spelled { AreSpelled (modules_borrowed trees.now) graph.now.files.items
         (map (λ j. j.items) graph.now.jobs.items) }
     requires modules { map (λ m. m.now) modules.now
-        ≡ started (lent trees.now) graph.now.files.items
+        ≡ started (borrowed trees.now) graph.now.files.items
         (map (λ j. j.items) graph.now.jobs.items) graph.now.starts.items }
     ensures { IfOk result (IsBuilt files.now pages) }
 {
@@ -144,7 +144,7 @@ fn places_in(
     trees: &[(&str, &Module)],
     graph: &Graph,
 ) -> Result<Vec<Option<usize>>, AllocError>
-    requires { CompileEach (numbered 0 (lent trees.now)) graph.now.files.items }
+    requires { CompileEach (numbered 0 (borrowed trees.now)) graph.now.files.items }
     ensures { IfOk result (λ places. ArePlaces graph.now.files.items places.items) }
 {
     places_of(alloc, trees.len(), graph.files())
@@ -161,11 +161,11 @@ fn of_results(
 ) -> Result<Outcome, AllocError>
     requires least { 1 ≤ pages }
     requires most { pages ≤ max_pages }
-    requires graph { HaveGraph files.now (lent trees.now) graph.now.files.items
+    requires graph { HaveGraph files.now (borrowed trees.now) graph.now.files.items
         (map (λ j. j.items) graph.now.jobs.items) graph.now.starts.items }
-    requires spelled { AreSpelled (modules_lent trees.now) graph.now.files.items
+    requires spelled { AreSpelled (modules_borrowed trees.now) graph.now.files.items
         (map (λ j. j.items) graph.now.jobs.items) }
-    requires results { results.now ≡ all_compiled (modules_lent trees.now) graph.now.files.items
+    requires results { results.now ≡ all_compiled (modules_borrowed trees.now) graph.now.files.items
         (map (λ j. j.items) graph.now.jobs.items) }
     ensures { IfOk result (IsBuilt files.now pages) }
 {
@@ -180,7 +180,7 @@ fn of_results(
 
 /// The outcome of files with this graph.
 fn of_graph<R: Threads + Sync, G: Gate>(
-    crew: &Crew<'_, R, G>,
+    runner: &Runner<'_, R, G>,
     files: &[SourceFile],
     trees: &[(&str, &Module)],
     graph: &Graph,
@@ -188,28 +188,28 @@ fn of_graph<R: Threads + Sync, G: Gate>(
 ) -> Result<Outcome, AllocError>
     requires least { 1 ≤ pages }
     requires most { pages ≤ max_pages }
-    requires graph { HaveGraph files.now (lent trees.now) graph.now.files.items
+    requires graph { HaveGraph files.now (borrowed trees.now) graph.now.files.items
         (map (λ j. j.items) graph.now.jobs.items) graph.now.starts.items }
     ensures { IfOk result (IsBuilt files.now pages) }
 {
-    let results = crew.compile_all(trees, graph)?;
-    of_results(crew.alloc, files, trees, graph, &results, pages)
+    let results = runner.compile_all(trees, graph)?;
+    of_results(runner.alloc, files, trees, graph, &results, pages)
 }
 
 /// The outcome of files whose texts have trees.
 fn of_trees<R: Threads + Sync, G: Gate>(
-    crew: &Crew<'_, R, G>,
+    runner: &Runner<'_, R, G>,
     files: &[SourceFile],
     trees: &[(&str, &Module)],
     pages: u32,
 ) -> Result<Outcome, AllocError>
     requires least { 1 ≤ pages }
     requires most { pages ≤ max_pages }
-    requires trees { AreTrees files.now (lent trees.now) }
+    requires trees { AreTrees files.now (borrowed trees.now) }
     ensures { IfOk result (IsBuilt files.now pages) }
 {
-    match Graph::of(crew.alloc, trees) {
-        Ok(graph) => of_graph(crew, files, trees, &graph, pages),
+    match Graph::of(runner.alloc, trees) {
+        Ok(graph) => of_graph(runner, files, trees, &graph, pages),
         Err(GraphError::Refused(refusals)) => Ok(Outcome::Refused(refusals)),
         Err(GraphError::NoMemory) => Err(AllocError),
     }
@@ -217,7 +217,7 @@ fn of_trees<R: Threads + Sync, G: Gate>(
 
 /// The outcome of files that were read so.
 fn of_reads<R: Threads + Sync, G: Gate>(
-    crew: &Crew<'_, R, G>,
+    runner: &Runner<'_, R, G>,
     files: &[SourceFile],
     reads: &[Read],
     pages: u32,
@@ -228,17 +228,17 @@ fn of_reads<R: Threads + Sync, G: Gate>(
     requires count { length files.now ≡ length reads.now }
     ensures { IfOk result (IsBuilt files.now pages) }
 {
-    let refused = refused_of(crew.alloc, files, reads)?;
+    let refused = refused_of(runner.alloc, files, reads)?;
     if !refused.is_empty() {
         return Ok(Outcome::Refused(in_order(refused)?));
     }
-    let trees = trees_of(crew.alloc, files, reads)?;
-    of_trees(crew, files, &trees, pages)
+    let trees = trees_of(runner.alloc, files, reads)?;
+    of_trees(runner, files, &trees, pages)
 }
 
 /// The outcome of a build where the numbers of workers and pages are fine.
 pub fn outcome_of<R: Threads + Sync, G: Gate>(
-    crew: &Crew<'_, R, G>,
+    runner: &Runner<'_, R, G>,
     files: &[SourceFile],
     pages: u32,
 ) -> Result<Outcome, AllocError>
@@ -246,6 +246,6 @@ pub fn outcome_of<R: Threads + Sync, G: Gate>(
     requires most { pages ≤ max_pages }
     ensures { IfOk result (IsBuilt files.now pages) }
 {
-    let reads = crew.read_all(files)?;
-    of_reads(crew, files, &reads, pages)
+    let reads = runner.read_all(files)?;
+    of_reads(runner, files, &reads, pages)
 }

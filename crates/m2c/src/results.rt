@@ -4,7 +4,7 @@ ghost use Rattle.std.specs.Prelude.{◌≡◌, ◌<◌, ◌++◌, ℕ, ◌==◌,
 ghost use Rattle.std.specs.Option.{option_and_then, option_copied};
 ghost use Rattle.m2_graph.specs.Jobs.{place_of, ArePlaces};
 ghost use Rattle.m2_graph.specs.Parts.{or_first};
-ghost use Rattle.m2_jobs.specs.Lent.{lent};
+ghost use Rattle.m2_jobs.specs.Borrowed.{borrowed};
 ghost use Rattle.m2c.specs.Build.{refusal_in, refused_from, told};
 ghost use Rattle.m2c.specs.Modules.{module_in, modules_at};
 
@@ -109,7 +109,7 @@ pub fn refused_by(
         map told rs.items
         ≡ refused_from
         (λ file. option_and_then (slice_get results.now) (place_of places.now file)) 0
-        (lent trees.now)) }
+        (borrowed trees.now)) }
 {
     let mut refusals = Vec::new(alloc);
     for file in 0..trees.len() {

@@ -83,7 +83,7 @@ fn trees_of(alloc: Global, rows: &[Row<'_>]) -> Result<Vec<Module>, AllocError> 
     Ok(trees)
 }
 
-fn lent<'r, 't>(
+fn borrowed<'r, 't>(
     alloc: Global,
     rows: &[Row<'r>],
     trees: &'t [Module],
@@ -97,7 +97,7 @@ fn lent<'r, 't>(
 
 fn graph_of(alloc: Global, rows: &[Row<'_>]) -> Result<Graph, GraphError> {
     let trees = trees_of(alloc, rows)?;
-    let files = lent(alloc, rows, &trees)?;
+    let files = borrowed(alloc, rows, &trees)?;
     Graph::of(alloc, &files)
 }
 
@@ -141,7 +141,7 @@ fn bodies_start_after_their_imports(rt: HostRuntime) -> Result<(), Fail> {
 
 /// Two definitions that import each other are told once.
 #[test]
-fn a_circle_is_told_once(rt: HostRuntime) -> Result<(), Fail> {
+fn a_cycle_is_told_once(rt: HostRuntime) -> Result<(), Fail> {
     let rows = [
         make_row("p.mod", Part::Body, "P", ""),
         make_row("A.mod", Part::Implementation, "A", ""),
@@ -154,7 +154,7 @@ fn a_circle_is_told_once(rt: HostRuntime) -> Result<(), Fail> {
 }
 
 #[test]
-fn a_definition_that_imports_itself_is_a_circle(rt: HostRuntime) -> Result<(), Fail> {
+fn a_definition_that_imports_itself_is_a_cycle(rt: HostRuntime) -> Result<(), Fail> {
     let rows = [
         make_row("p.mod", Part::Body, "P", ""),
         make_row("A.mod", Part::Implementation, "A", ""),

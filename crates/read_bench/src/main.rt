@@ -6,8 +6,8 @@
 #![tactic(auto)]
 
 mod corpus;
-mod crew;
 mod repeats;
+mod runner;
 mod timing;
 mod usage;
 
@@ -34,8 +34,8 @@ fn read_small<R: Print + AllocGlobal + Threads + Sync>(rt: &R) -> Result<()> {
     let (count, size) = FEW;
     let files = corpus::files(rt.alloc(), count, size)?;
     for workers in [1, 2, 4] {
-        let read = crew::read_all(rt, rt.alloc(), &files, workers)?;
-        let trees = crew::trees(&read);
+        let read = runner::read_all(rt, rt.alloc(), &files, workers)?;
+        let trees = runner::trees(&read);
         println!(rt; "{trees} of {count} files have trees, with {workers} workers")?;
     }
     let texts = repeats::read_each(rt.alloc(), SHORT)?;

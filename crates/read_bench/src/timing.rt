@@ -1,7 +1,7 @@
 //! Measures reading.
 
 use crate::usage::{Usage, forget_peak, used};
-use crate::{corpus, crew, repeats};
+use crate::{corpus, repeats, runner};
 use anyhow::Result;
 use m2_read::SourceFile;
 use std::fmt;
@@ -62,11 +62,11 @@ fn measure_once<R: Files + Clock + Eprint + AllocGlobal + Threads + Sync>(
     forget_peak(rt)?;
     let before = used(rt)?;
     let start = Instant::now(rt)?;
-    let read = crew::read_all(rt, rt.alloc(), files, workers)?;
+    let read = runner::read_all(rt, rt.alloc(), files, workers)?;
     let micros = start.elapsed(rt)?.as_micros().min(u128::from(u64::MAX)) as u64;
     let after = used(rt)?;
     tell(rt, workers, corpus::total(files), micros, (before, after))?;
-    let trees = crew::trees(&read);
+    let trees = runner::trees(&read);
     if trees != files.len() {
         eprintln!(rt; "only {trees} files have trees")?;
     }

@@ -39,10 +39,10 @@ fn bodies_at<'a>(
     ensures { Gives (λ x. (x.0, x.1.now)) result (bodies types.now bytes.now) }
 {
     let mut functions = Items::from_vec(Vec::with_capacity(alloc, types.len())?);
-    let mut pile = Vec::new(alloc);
+    let mut scratch = Vec::new(alloc);
     let mut rest = bytes;
     for type_index in types {
-        let (body, after) = body_over(alloc, &mut pile, rest)?;
+        let (body, after) = body_over(alloc, &mut scratch, rest)?;
         functions.push(Function {
             type_index: *type_index,
             body,

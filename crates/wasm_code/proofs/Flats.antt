@@ -11,7 +11,7 @@ use Rattle.wasm_tree.specs.declared.instr.Instr.TheVariants.{outs-Unreachable, o
 use Rattle.wasm_tree.specs.Code.{tree, head, joined, flat_step, flat_one, flat}
 use Rattle.wasm_tree.proofs.Flat.{joined_is}
 use Rattle.wasm_code.specs.Instructions.{one_sided}
-use Rattle.wasm_code.specs.Piled.{is_plain, one_sided_op}
+use Rattle.wasm_code.specs.ScratchStack.{is_plain, one_sided_op}
 
 at : (i : Instr) (x : Instr-F Instr) → out-Instr i ≡ x → flat_one i ≡ flat_step (map-Instr Instr (List Op) flat_one x)
 unfolding flat_one

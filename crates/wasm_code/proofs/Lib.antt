@@ -1,6 +1,6 @@
 pub mod Spelled
 pub mod Flats
-pub mod Piles
+pub mod ScratchStacks
 pub mod Written
 pub mod Loop
 pub mod LawsTagged

@@ -9,7 +9,7 @@ use Rattle.wasm_tree.proofs.Flat.{tree_front, tree_none, behind_le}
 use Rattle.wasm_bytes.specs.Number.{unsigned}
 use Rattle.wasm_bytes.specs.Parts.{vector}
 use Rattle.wasm_code.specs.Instructions.{instr_spelling}
-use Rattle.wasm_code.specs.Piled.{label_spelling}
+use Rattle.wasm_code.specs.ScratchStack.{label_spelling}
 
 -- ---- a table of labels
 

@@ -1,4 +1,4 @@
 pub mod Opcode
 pub mod Instructions
-pub mod Piled
+pub mod ScratchStack
 pub mod Inside

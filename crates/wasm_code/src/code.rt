@@ -9,7 +9,7 @@ ghost use Rattle.wasm_tree.specs.declared.instr.Instr.TheVariants as instr;
 ghost use Rattle.wasm_bytes.specs.Number.{unsigned, signed32, signed64};
 ghost use Rattle.wasm_bytes.specs.Parts.{many, vector};
 ghost use Rattle.wasm_code.specs.Instructions.{block_type, no_offset, memory_of, variable_of, plain_of, opens, ending_of, instr_of, code_in, opened, code_within, instr_spelling, code};
-ghost use Rattle.wasm_code.specs.Piled.{is_plain, one_sided_op, onto, onto_sequence, onto_code, sides_of};
+ghost use Rattle.wasm_code.specs.ScratchStack.{is_plain, one_sided_op, onto, onto_sequence, onto_code, sides_of};
 
 use crate::fits::code_fits;
 use crate::opcode::{load_of, load_opcode, numeric_of, numeric_opcode, store_of, store_opcode};
@@ -55,33 +55,33 @@ fn no_offset(bytes: &[u8]) -> Result<&[u8], WFault>
     skip(0x00, rest)
 }
 
-/// Puts an operation on the pile.
+/// Puts an operation on the scratch.
 #[inline(always)]
-fn put_op(pile: &mut Vec<Op>, op: Op) -> Result<(), AllocError>
-    ensures { OnOk result (pile.new.items ≡ pile.old.items ++ op ∷ []) }
+fn put_op(scratch: &mut Vec<Op>, op: Op) -> Result<(), AllocError>
+    ensures { OnOk result (scratch.new.items ≡ scratch.old.items ++ op ∷ []) }
 {
-    pile.reserve(1)?;
-    pile.push_reserved(op);
+    scratch.reserve(1)?;
+    scratch.push_reserved(op);
     Ok(())
 }
 
-/// Puts an instruction without others inside on the pile. The bytes behind it are those.
+/// Puts an instruction without others inside on the scratch. The bytes behind it are those.
 #[inline(always)]
-fn put<'a>(pile: &mut Vec<Op>, op: Op, rest: &'a [u8]) -> Result<&'a [u8], WFault>
+fn put<'a>(scratch: &mut Vec<Op>, op: Op, rest: &'a [u8]) -> Result<&'a [u8], WFault>
     requires { is_plain op ≡ true }
-    ensures { Gives (λ x. (pile.new.items, x.now)) result
-        (onto pile.old.items (Ok (head tree op [], rest.now))) }
+    ensures { Gives (λ x. (scratch.new.items, x.now)) result
+        (onto scratch.old.items (Ok (head tree op [], rest.now))) }
 {
-    put_op(pile, op)?;
+    put_op(scratch, op)?;
     Ok(rest)
 }
 
-/// Puts the branches of a table on the pile.
-fn put_branches(pile: &mut Vec<Op>, labels: &[u32]) -> Result<(), AllocError>
-    ensures { OnOk result (pile.new.items ≡ pile.old.items ++ map Br labels.now) }
+/// Puts the branches of a table on the scratch.
+fn put_branches(scratch: &mut Vec<Op>, labels: &[u32]) -> Result<(), AllocError>
+    ensures { OnOk result (scratch.new.items ≡ scratch.old.items ++ map Br labels.now) }
 {
     for label in labels {
-        put_op(pile, Op::Br(*label))?;
+        put_op(scratch, Op::Br(*label))?;
     }
     Ok(())
 }
@@ -108,41 +108,41 @@ fn labels_at(alloc: Global, bytes: &[u8]) -> Result<(Items<u32>, &[u8]), WFault>
     many_labels(alloc, count, rest)
 }
 
-/// Puts a table of labels on the pile. The bytes behind it are those.
+/// Puts a table of labels on the scratch. The bytes behind it are those.
 fn put_table<'a>(
-    pile: &mut Vec<Op>,
+    scratch: &mut Vec<Op>,
     labels: &[u32],
     last: u32,
     rest: &'a [u8],
 ) -> Result<&'a [u8], WFault>
-    ensures { Gives (λ x. (pile.new.items, x.now)) result
-        (onto pile.old.items (Ok (instr.BrTable labels.now last, rest.now))) }
+    ensures { Gives (λ x. (scratch.new.items, x.now)) result
+        (onto scratch.old.items (Ok (instr.BrTable labels.now last, rest.now))) }
 {
     let Ok(count) = u32::try_from(labels.len()) else {
         return Err(WFault::NoMemory);
     };
-    put_op(pile, Op::BrTable(count, last))?;
-    put_branches(pile, labels)?;
+    put_op(scratch, Op::BrTable(count, last))?;
+    put_branches(scratch, labels)?;
     Ok(rest)
 }
 
 /// Reads the instruction of memory or the numeric one that this opcode begins.
 #[inline(always)]
 #[tactic(auto, unfolding(crate::specs::Instructions::memory_of))]
-fn memory_onto<'a>(pile: &mut Vec<Op>, opcode: u8, bytes: &'a [u8]) -> Result<&'a [u8], WFault>
-    ensures { Gives (λ x. (pile.new.items, x.now)) result
-        (onto pile.old.items (memory_of opcode bytes.now)) }
+fn memory_onto<'a>(scratch: &mut Vec<Op>, opcode: u8, bytes: &'a [u8]) -> Result<&'a [u8], WFault>
+    ensures { Gives (λ x. (scratch.new.items, x.now)) result
+        (onto scratch.old.items (memory_of opcode bytes.now)) }
 {
     if let Some(load) = load_of(opcode) {
         let rest = no_offset(bytes)?;
-        return put(pile, Op::Load(load), rest);
+        return put(scratch, Op::Load(load), rest);
     }
     if let Some(width) = store_of(opcode) {
         let rest = no_offset(bytes)?;
-        return put(pile, Op::Store(width), rest);
+        return put(scratch, Op::Store(width), rest);
     }
     match numeric_of(opcode) {
-        Some(numeric) => put(pile, Op::Numeric(numeric), bytes),
+        Some(numeric) => put(scratch, Op::Numeric(numeric), bytes),
         None => Err(WFault::OutsideProfile),
     }
 }
@@ -150,37 +150,37 @@ fn memory_onto<'a>(pile: &mut Vec<Op>, opcode: u8, bytes: &'a [u8]) -> Result<&'
 /// The same of those that drop an operand, name a variable or push a constant, too.
 #[inline(always)]
 #[tactic(auto, unfolding(crate::specs::Instructions::variable_of))]
-fn variable_onto<'a>(pile: &mut Vec<Op>, opcode: u8, bytes: &'a [u8]) -> Result<&'a [u8], WFault>
-    ensures { Gives (λ x. (pile.new.items, x.now)) result
-        (onto pile.old.items (variable_of opcode bytes.now)) }
+fn variable_onto<'a>(scratch: &mut Vec<Op>, opcode: u8, bytes: &'a [u8]) -> Result<&'a [u8], WFault>
+    ensures { Gives (λ x. (scratch.new.items, x.now)) result
+        (onto scratch.old.items (variable_of opcode bytes.now)) }
 {
     match opcode {
-        0x1A => put(pile, Op::Drop, bytes),
+        0x1A => put(scratch, Op::Drop, bytes),
         0x20 => {
             let (local, rest) = unsigned_at(bytes)?;
-            put(pile, Op::LocalGet(local), rest)
+            put(scratch, Op::LocalGet(local), rest)
         }
         0x21 => {
             let (local, rest) = unsigned_at(bytes)?;
-            put(pile, Op::LocalSet(local), rest)
+            put(scratch, Op::LocalSet(local), rest)
         }
         0x22 => {
             let (local, rest) = unsigned_at(bytes)?;
-            put(pile, Op::LocalTee(local), rest)
+            put(scratch, Op::LocalTee(local), rest)
         }
         0x23 => {
             let (global, rest) = unsigned_at(bytes)?;
-            put(pile, Op::GlobalGet(global), rest)
+            put(scratch, Op::GlobalGet(global), rest)
         }
         0x41 => {
             let (number, rest) = signed32_at(bytes)?;
-            put(pile, Op::I32Const(number), rest)
+            put(scratch, Op::I32Const(number), rest)
         }
         0x42 => {
             let (number, rest) = signed64_at(bytes)?;
-            put(pile, Op::I64Const(number), rest)
+            put(scratch, Op::I64Const(number), rest)
         }
-        _ => memory_onto(pile, opcode, bytes),
+        _ => memory_onto(scratch, opcode, bytes),
     }
 }
 
@@ -189,39 +189,39 @@ fn variable_onto<'a>(pile: &mut Vec<Op>, opcode: u8, bytes: &'a [u8]) -> Result<
 #[tactic(auto, unfolding(crate::specs::Instructions::plain_of))]
 fn plain_onto<'a>(
     alloc: Global,
-    pile: &mut Vec<Op>,
+    scratch: &mut Vec<Op>,
     opcode: u8,
     bytes: &'a [u8],
 ) -> Result<&'a [u8], WFault>
-    ensures { Gives (λ x. (pile.new.items, x.now)) result
-        (onto pile.old.items (plain_of opcode bytes.now)) }
+    ensures { Gives (λ x. (scratch.new.items, x.now)) result
+        (onto scratch.old.items (plain_of opcode bytes.now)) }
 {
     match opcode {
-        0x00 => put(pile, Op::Unreachable, bytes),
+        0x00 => put(scratch, Op::Unreachable, bytes),
         0x0C => {
             let (label, rest) = unsigned_at(bytes)?;
-            put(pile, Op::Br(label), rest)
+            put(scratch, Op::Br(label), rest)
         }
         0x0D => {
             let (label, rest) = unsigned_at(bytes)?;
-            put(pile, Op::BrIf(label), rest)
+            put(scratch, Op::BrIf(label), rest)
         }
         0x0E => {
             let (labels, rest) = labels_at(alloc, bytes)?;
             let (last, rest) = unsigned_at(rest)?;
-            put_table(pile, labels.as_slice(), last, rest)
+            put_table(scratch, labels.as_slice(), last, rest)
         }
-        0x0F => put(pile, Op::Return, bytes),
+        0x0F => put(scratch, Op::Return, bytes),
         0x10 => {
             let (function, rest) = unsigned_at(bytes)?;
-            put(pile, Op::Call(function), rest)
+            put(scratch, Op::Call(function), rest)
         }
         0x11 => {
             let (type_index, rest) = unsigned_at(bytes)?;
             let rest = skip(0x00, rest)?;
-            put(pile, Op::CallIndirect(type_index), rest)
+            put(scratch, Op::CallIndirect(type_index), rest)
         }
-        _ => variable_onto(pile, opcode, bytes),
+        _ => variable_onto(scratch, opcode, bytes),
     }
 }
 
@@ -251,54 +251,54 @@ fn one_sided(opcode: u8, kind: Option<ValueType>, count: u32) -> Op
     }
 }
 
-/// Puts an operation into its place on the pile.
+/// Puts an operation into its place on the scratch.
 #[inline(always)]
-fn set_op(pile: &mut Vec<Op>, place: usize, op: Op)
-    requires { place < length pile.old.items }
-    ensures { pile.new.items ≡ slice_set pile.old.items place op }
+fn set_op(scratch: &mut Vec<Op>, place: usize, op: Op)
+    requires { place < length scratch.old.items }
+    ensures { scratch.new.items ≡ slice_set scratch.old.items place op }
 {
-    pile[place] = op;
+    scratch[place] = op;
 }
 
 /// Puts the operation with one sequence into its place: all behind it are inside.
 fn close_one(
-    pile: &mut Vec<Op>,
+    scratch: &mut Vec<Op>,
     place: usize,
     opcode: u8,
     kind: Option<ValueType>,
 ) -> Result<(), AllocError>
-    requires { place < length pile.old.items }
+    requires { place < length scratch.old.items }
     ensures { OnOk result
-        (pile.new.items ≡ slice_set pile.old.items place
-        (one_sided_op opcode kind (length pile.old.items - (place + 1)))) }
+        (scratch.new.items ≡ slice_set scratch.old.items place
+        (one_sided_op opcode kind (length scratch.old.items - (place + 1)))) }
 {
-    let Ok(count) = u32::try_from(pile.len() - (place + 1)) else {
+    let Ok(count) = u32::try_from(scratch.len() - (place + 1)) else {
         return Err(AllocError);
     };
-    set_op(pile, place, one_sided(opcode, kind, count));
+    set_op(scratch, place, one_sided(opcode, kind, count));
     Ok(())
 }
 
 /// Puts an `if` with two sides into its place: the second side begins at that length, and goes up to the end.
 fn close_two(
-    pile: &mut Vec<Op>,
+    scratch: &mut Vec<Op>,
     place: usize,
     second: usize,
     kind: Option<ValueType>,
 ) -> Result<(), AllocError>
     requires first { place < second }
-    requires second { second ≤ length pile.old.items }
+    requires second { second ≤ length scratch.old.items }
     ensures { OnOk result
-        (pile.new.items ≡ slice_set pile.old.items place
-        (IfElse kind (second - (place + 1)) (length pile.old.items - second))) }
+        (scratch.new.items ≡ slice_set scratch.old.items place
+        (IfElse kind (second - (place + 1)) (length scratch.old.items - second))) }
 {
     let Ok(count) = u32::try_from(second - (place + 1)) else {
         return Err(AllocError);
     };
-    let Ok(others) = u32::try_from(pile.len() - second) else {
+    let Ok(others) = u32::try_from(scratch.len() - second) else {
         return Err(AllocError);
     };
-    set_op(pile, place, Op::IfElse(kind, count, others));
+    set_op(scratch, place, Op::IfElse(kind, count, others));
     Ok(())
 }
 
@@ -308,29 +308,29 @@ fn close_two(
 fn sides_onto<'a>(
     alloc: Global,
     levels: u16,
-    pile: &mut Vec<Op>,
+    scratch: &mut Vec<Op>,
     opcode: u8,
     kind: Option<ValueType>,
     bytes: &'a [u8],
 ) -> Result<&'a [u8], WFault>
-    ensures { Gives (λ x. (pile.new.items, x.now)) result
-        (onto pile.old.items (sides_of levels opcode kind bytes.now)) }
+    ensures { Gives (λ x. (scratch.new.items, x.now)) result
+        (onto scratch.old.items (sides_of levels opcode kind bytes.now)) }
 {
-    let place = pile.len();
-    put_op(pile, Op::Unreachable)?;
-    let (ending, rest) = code_in(alloc, levels, pile, bytes)?;
+    let place = scratch.len();
+    put_op(scratch, Op::Unreachable)?;
+    let (ending, rest) = code_in(alloc, levels, scratch, bytes)?;
     match ending {
         Ending::End => {
-            close_one(pile, place, opcode, kind)?;
+            close_one(scratch, place, opcode, kind)?;
             Ok(rest)
         }
         Ending::Else => {
             if opcode != 0x04 {
                 return Err(WFault::OutsideProfile);
             }
-            let second = pile.len();
-            let rest = code_within(alloc, levels, pile, rest)?;
-            close_two(pile, place, second, kind)?;
+            let second = scratch.len();
+            let rest = code_within(alloc, levels, scratch, rest)?;
+            close_two(scratch, place, second, kind)?;
             Ok(rest)
         }
     }
@@ -342,49 +342,49 @@ fn sides_onto<'a>(
 fn opened_onto<'a>(
     alloc: Global,
     levels: u16,
-    pile: &mut Vec<Op>,
+    scratch: &mut Vec<Op>,
     opcode: u8,
     bytes: &'a [u8],
 ) -> Result<&'a [u8], WFault>
-    ensures { Gives (λ x. (pile.new.items, x.now)) result
-        (onto pile.old.items (opened levels opcode bytes.now)) }
+    ensures { Gives (λ x. (scratch.new.items, x.now)) result
+        (onto scratch.old.items (opened levels opcode bytes.now)) }
 {
     if levels == 0 {
         return Err(WFault::OutsideProfile);
     }
     let (kind, rest) = block_type_at(bytes)?;
-    sides_onto(alloc, levels - 1, pile, opcode, kind, rest)
+    sides_onto(alloc, levels - 1, scratch, opcode, kind, rest)
 }
 
-/// Reads the instruction that this opcode begins, and puts it on the pile.
+/// Reads the instruction that this opcode begins, and puts it on the scratch.
 #[cycle(code)]
 fn instr_onto<'a>(
     alloc: Global,
     levels: u16,
-    pile: &mut Vec<Op>,
+    scratch: &mut Vec<Op>,
     opcode: u8,
     bytes: &'a [u8],
 ) -> Result<&'a [u8], WFault>
-    ensures { Gives (λ x. (pile.new.items, x.now)) result
-        (onto pile.old.items (instr_of (opened levels) opcode bytes.now)) }
+    ensures { Gives (λ x. (scratch.new.items, x.now)) result
+        (onto scratch.old.items (instr_of (opened levels) opcode bytes.now)) }
 {
     if opens(opcode) {
-        opened_onto(alloc, levels, pile, opcode, bytes)
+        opened_onto(alloc, levels, scratch, opcode, bytes)
     } else {
-        plain_onto(alloc, pile, opcode, bytes)
+        plain_onto(alloc, scratch, opcode, bytes)
     }
 }
 
-/// Puts instructions on the pile up to what ends them, where so many levels of nesting are left.
+/// Puts instructions on the scratch up to what ends them, where so many levels of nesting are left.
 #[cycle(code)]
 fn code_in<'a>(
     alloc: Global,
     levels: u16,
-    pile: &mut Vec<Op>,
+    scratch: &mut Vec<Op>,
     bytes: &'a [u8],
 ) -> Result<(Ending, &'a [u8]), WFault>
-    ensures { Gives (λ x. ((pile.new.items, x.0), x.1.now)) result
-        (onto_sequence pile.old.items (code_in levels bytes.now)) }
+    ensures { Gives (λ x. ((scratch.new.items, x.0), x.1.now)) result
+        (onto_sequence scratch.old.items (code_in levels bytes.now)) }
 {
     let mut rest = bytes;
     for _ in 0..bytes.len() {
@@ -392,7 +392,7 @@ fn code_in<'a>(
         if let Some(ending) = ending_of(opcode) {
             return Ok((ending, after));
         }
-        rest = instr_onto(alloc, levels, pile, opcode, after)?;
+        rest = instr_onto(alloc, levels, scratch, opcode, after)?;
     }
     Err(WFault::Malformed)
 }
@@ -402,38 +402,38 @@ fn code_in<'a>(
 fn code_within<'a>(
     alloc: Global,
     levels: u16,
-    pile: &mut Vec<Op>,
+    scratch: &mut Vec<Op>,
     bytes: &'a [u8],
 ) -> Result<&'a [u8], WFault>
-    ensures { Gives (λ x. (pile.new.items, x.now)) result
-        (onto_code pile.old.items ((code_within levels).reading bytes.now)) }
+    ensures { Gives (λ x. (scratch.new.items, x.now)) result
+        (onto_code scratch.old.items ((code_within levels).reading bytes.now)) }
 {
-    match code_in(alloc, levels, pile, bytes)? {
+    match code_in(alloc, levels, scratch, bytes)? {
         (Ending::End, rest) => Ok(rest),
         (Ending::Else, _) => Err(WFault::OutsideProfile),
     }
 }
 
-/// Takes all off the pile.
-fn taken_off(pile: &mut Vec<Op>) -> Result<Code, AllocError>
-    ensures { IfOk result (λ c. c ≡ tree pile.old.items) }
+/// Takes all off the scratch.
+fn taken_off(scratch: &mut Vec<Op>) -> Result<Code, AllocError>
+    ensures { IfOk result (λ c. c ≡ tree scratch.old.items) }
 {
-    Ok(Code::new(pile.split_off(0)?))
+    Ok(Code::new(scratch.split_off(0)?))
 }
 
-/// The instructions up to the end of their sequence, read over a pile that may be used again. So each list asks for memory
+/// The instructions up to the end of their sequence, read over a scratch that may be used again. So each list asks for memory
 /// once.
 #[tactic(auto, unfolding(crate::specs::Instructions::code))]
 pub fn code_over<'a>(
     alloc: Global,
-    pile: &mut Vec<Op>,
+    scratch: &mut Vec<Op>,
     bytes: &'a [u8],
 ) -> Result<(Code, &'a [u8]), WFault>
     ensures { Gives (λ x. (x.0, x.1.now)) result (code.reading bytes.now) }
 {
-    pile.clear();
-    let rest = code_within(alloc, DEEPEST, pile, bytes)?;
-    let code = taken_off(pile)?;
+    scratch.clear();
+    let rest = code_within(alloc, DEEPEST, scratch, bytes)?;
+    let code = taken_off(scratch)?;
     Ok((code, rest))
 }
 
@@ -441,8 +441,8 @@ pub fn code_over<'a>(
 pub fn code_at(alloc: Global, bytes: &[u8]) -> Result<(Code, &[u8]), WFault>
     ensures { Gives (λ x. (x.0, x.1.now)) result (code.reading bytes.now) }
 {
-    let mut pile = Vec::new(alloc);
-    code_over(alloc, &mut pile, bytes)
+    let mut scratch = Vec::new(alloc);
+    code_over(alloc, &mut scratch, bytes)
 }
 
 /// Appends an opcode and the index behind it.

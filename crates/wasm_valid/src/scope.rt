@@ -10,7 +10,7 @@ use std::alloc::{AllocError, Global};
 use wasm_tree::{Import, ImportKind, Limits, ValueType, WModule};
 use wasm_typing::Scope;
 
-/// The lists that a scope lends.
+/// The lists that a scope borrows.
 #[derive(Drop)]
 pub struct Names {
     pub functions: Vec<u32>,

@@ -81,18 +81,18 @@ fn write_locals(out: &mut Writer, groups: &[Locals]) -> Result<(), AllocError>
     }
 }
 
-/// A body, read over a pile that may be used again.
+/// A body, read over a scratch that may be used again.
 #[tactic(auto, unfolding(crate::specs::Binary::body))]
 pub fn body_over<'a>(
     alloc: Global,
-    pile: &mut Vec<Op>,
+    scratch: &mut Vec<Op>,
     bytes: &'a [u8],
 ) -> Result<(Body, &'a [u8]), WFault>
     ensures { Gives (λ x. (x.0, x.1.now)) result (body.reading bytes.now) }
 {
     let (size, after) = unsigned_at(bytes)?;
     let (locals, rest) = locals_at(alloc, front(after, size))?;
-    let (code, left) = code_over(alloc, pile, rest)?;
+    let (code, left) = code_over(alloc, scratch, rest)?;
     let rest = closed(size, after, left)?;
     Ok((Body { locals, code }, rest))
 }
@@ -102,8 +102,8 @@ impl Binary for Body {
     ghost format = { body };
 
     fn read(alloc: Global, bytes: &[u8]) -> Result<(Body, &[u8]), WFault> {
-        let mut pile = Vec::new(alloc);
-        body_over(alloc, &mut pile, bytes)
+        let mut scratch = Vec::new(alloc);
+        body_over(alloc, &mut scratch, bytes)
     }
 
     fn write(&self, out: &mut Writer) -> Result<(), AllocError> {

@@ -1,9 +1,9 @@
 use Rattle.std.proofs.Common.{take}
 use Rattle.m2_graph.specs.Program.{modules_of}
 use Rattle.m2_graph.specs.Refused.{faults_of}
-use Rattle.m2_graph.specs.Told.{circle_faults}
+use Rattle.m2_graph.specs.Told.{cycle_faults}
 use Rattle.m2_graph.proofs.Faulty.{then_least}
 use Rattle.m2_graph.proofs.faults.fault_of.Goals as goal
 
 pub returns : goal.returns
-returns c = then_least (faults_of (modules_of c.args.program.now) (take c.args.number (modules_of c.args.program.now)) c.args.given c.args.tree.now) (circle_faults c.args.circle c.args.number) _ _ c.file_fault-fault.ensures c.with_circle.ensures
+returns c = then_least (faults_of (modules_of c.args.program.now) (take c.args.number (modules_of c.args.program.now)) c.args.given c.args.tree.now) (cycle_faults c.args.cycle c.args.number) _ _ c.file_fault-fault.ensures c.with_cycle.ensures

@@ -9,7 +9,7 @@ use Rattle.m2_compile.specs.Compiling.{compiled}
 use Rattle.m2_jobs.specs.Jobs.{compiled_in}
 use Rattle.m2_compile.specs.Spelled.{IsSpelled}
 use Rattle.m2_jobs.specs.Spelled.{spelled_in}
-use Rattle.m2_jobs.specs.Lent.{modules_lent}
+use Rattle.m2_jobs.specs.Borrowed.{modules_borrowed}
 use Rattle.m2_jobs.proofs.modules.compiled_in.Goals as goal
 
 abbrev tree_of : Bor (List ℕ) × Bor Module → Module
@@ -21,10 +21,10 @@ in_place r o m job needed e h = subst (λ (p : Option Module). IfOk r (λ x. x �
 
 pub returns-in-Some-clause-becomes : goal.returns-in-Some-clause-becomes
 returns-in-Some-clause-becomes c =
-    let some : slice_get (modules_lent c.args.trees.now) c.args.file ≡ Some c.in-Some.tree.now.1.now =
+    let some : slice_get (modules_borrowed c.args.trees.now) c.args.file ≡ Some c.in-Some.tree.now.1.now =
     slice_get-map tree_of c.args.trees.now c.args.file ∙ ap (option_map tree_of) (sym c.at.ensures ∙ ap option_copied c.in-Some.is)
     in
-    in_place c.compile.result (slice_get (modules_lent c.args.trees.now) c.args.file) c.in-Some.tree.now.1.now c.args.job (map (λ (n : Bor Compiled). n.now) c.args.needed.now) some c.compile.ensures.becomes
+    in_place c.compile.result (slice_get (modules_borrowed c.args.trees.now) c.args.file) c.in-Some.tree.now.1.now c.args.job (map (λ (n : Bor Compiled). n.now) c.args.needed.now) some c.compile.ensures.becomes
 
 spelled_in_place : {E : Type 0} (r : Result Compiled E) (o : Option Module) (m : Module) (job : ℕ) (needed : List Compiled) → o ≡ Some m
     → OnOk r (IsSpelled m job needed) → OnOk r (spelled_in o job needed)
@@ -32,7 +32,7 @@ spelled_in_place r o m job needed e h = subst (λ (p : Option Module). OnOk r (s
 
 pub returns-in-Some-clause-spelled : goal.returns-in-Some-clause-spelled
 returns-in-Some-clause-spelled c =
-    let some : slice_get (modules_lent c.args.trees.now) c.args.file ≡ Some c.in-Some.tree.now.1.now =
+    let some : slice_get (modules_borrowed c.args.trees.now) c.args.file ≡ Some c.in-Some.tree.now.1.now =
     slice_get-map tree_of c.args.trees.now c.args.file ∙ ap (option_map tree_of) (sym c.at.ensures ∙ ap option_copied c.in-Some.is)
     in
-    spelled_in_place c.compile.result (slice_get (modules_lent c.args.trees.now) c.args.file) c.in-Some.tree.now.1.now c.args.job (map (λ (n : Bor Compiled). n.now) c.args.needed.now) some c.compile.ensures.spelled
+    spelled_in_place c.compile.result (slice_get (modules_borrowed c.args.trees.now) c.args.file) c.in-Some.tree.now.1.now c.args.job (map (λ (n : Bor Compiled). n.now) c.args.needed.now) some c.compile.ensures.spelled

@@ -10,5 +10,5 @@ invariant-loop-note g l = record {
   length_is : into_iter_len l.note-iterator ≡ length (into_iter_items l.note-iterator);
   place_is : l.place ≡ length l.yielded;
   same : l.settled.items ≡ l.initial.settled.items;
-  are : (outs : List _) → map (λ u. u.known) l.yielded ≡ map Some outs → AreResults l.shop.graph.now (g.W.Work.defines l.shop.work.now) (take (length l.yielded) (prerequisites_of l.shop.graph.now l.job)) outs;
+  are : (outs : List _) → map (λ u. u.known) l.yielded ≡ map Some outs → AreResults l.pool.graph.now (g.W.Work.defines l.pool.work.now) (take (length l.yielded) (prerequisites_of l.pool.graph.now l.job)) outs;
 }

@@ -11,6 +11,6 @@ invariant-loop-place g l = record {
   rest_is : l.yielded ++ into_iter_items l.place-iterator ≡ l.fn.places.items;
   length_is : into_iter_len l.place-iterator ≡ length (into_iter_items l.place-iterator);
   count_is : length l.settled.items ≡ length l.yielded;
-  settled_are : (p : ℕ) → IfSome (get_or l.settled.items p None) (λ n. IsSettled (map cell_name l.shop.cells.now) l.shop.graph.now (g.W.Work.defines l.shop.work.now) p n.cell n.known);
-  outs_are : AreResults l.shop.graph.now (g.W.Work.defines l.shop.work.now) (all_jobs (length l.yielded)) l.outs.items;
+  settled_are : (p : ℕ) → IfSome (get_or l.settled.items p None) (λ n. IsSettled (map cell_name l.pool.cells.now) l.pool.graph.now (g.W.Work.defines l.pool.work.now) p n.cell n.known);
+  outs_are : AreResults l.pool.graph.now (g.W.Work.defines l.pool.work.now) (all_jobs (length l.yielded)) l.outs.items;
 }

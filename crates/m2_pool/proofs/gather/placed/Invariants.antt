@@ -10,6 +10,6 @@ abbrev pub invariant-loop-ran : goal.invariant-loop-ran
 invariant-loop-ran g l = record {
   rest_is : l.yielded ++ into_iter_items l.ran-iterator ≡ l.fn.all.items;
   length_is : into_iter_len l.ran-iterator ≡ length (into_iter_items l.ran-iterator);
-  count_is : length l.places.items ≡ length l.shop.graph.now;
-  each : (k : ℕ) → k < length l.shop.graph.now → MatchOption (get_or l.places.items k None) (times k (map (λ r. r.job) l.yielded) ≡ 0) (λ r. (r.job ≡ k) × MatchResult r.kept (λ n. IsRan (map cell_name l.shop.cells.now) l.shop.graph.now (g.W.Work.defines l.shop.work.now) r.job n.cell n.known (map (λ u. u.cell) r.used.items) (map (λ u. u.known) r.used.items)) (λ b. IsMade (map cell_name l.shop.cells.now) l.shop.graph.now (g.W.Work.defines l.shop.work.now) r.job b.value (map (λ u. u.cell) r.used.items) (map (λ u. u.known) r.used.items)));
+  count_is : length l.places.items ≡ length l.pool.graph.now;
+  each : (k : ℕ) → k < length l.pool.graph.now → MatchOption (get_or l.places.items k None) (times k (map (λ r. r.job) l.yielded) ≡ 0) (λ r. (r.job ≡ k) × MatchResult r.kept (λ n. IsRan (map cell_name l.pool.cells.now) l.pool.graph.now (g.W.Work.defines l.pool.work.now) r.job n.cell n.known (map (λ u. u.cell) r.used.items) (map (λ u. u.known) r.used.items)) (λ b. IsMade (map cell_name l.pool.cells.now) l.pool.graph.now (g.W.Work.defines l.pool.work.now) r.job b.value (map (λ u. u.cell) r.used.items) (map (λ u. u.known) r.used.items)));
 }

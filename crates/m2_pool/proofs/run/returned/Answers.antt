@@ -27,12 +27,12 @@ loop-one-preserved g c =
       rest_is = append_assoc c.loop-one.yielded (c.in-Some.one ∷ []) _ ∙ (ap (λ l. c.loop-one.yielded ++ l) (sym head) ∙ before.rest_is);
       length_is = grind (arith, common_steps);
       count_is = omega (arith, length-append seats (seat ∷ []), length-append c.loop-one.yielded (c.in-Some.one ∷ []));
-      seats_are = rw pushed (All-push (λ (s : SeatState). s.board ≡ c.args.shop.now.board.now.id) seats seat before.seats_are facts.0);
+      seats_are = rw pushed (All-push (λ (s : SeatState). s.board ≡ c.args.pool.now.board.now.id) seats seat before.seats_are facts.0);
       ran_is = ap (map (λ r. r.job)) joined
           ∙ (map-append (λ r. r.job) c.loop-one.all.items ran
           ∙ (ap (λ l. l ++ map (λ r. r.job) ran) before.ran_is
           ∙ (ap (λ l. all_had seats ++ l) facts.1
           ∙ (sym (together_push (λ (s : SeatState). s.had) seats seat) ∙ ap all_had (sym pushed)))));
-      stands = rw joined (All-append (λ r. MatchResult r.kept (λ n. IsRan (map cell_name c.args.shop.now.cells.now) c.args.shop.now.graph.now (g.W.Work.defines c.args.shop.now.work.now) r.job n.cell n.known (map (λ u. u.cell) r.used.items) (map (λ u. u.known) r.used.items)) (λ b. IsMade (map cell_name c.args.shop.now.cells.now) c.args.shop.now.graph.now (g.W.Work.defines c.args.shop.now.work.now) r.job b.value (map (λ u. u.cell) r.used.items) (map (λ u. u.known) r.used.items)))
+      stands = rw joined (All-append (λ r. MatchResult r.kept (λ n. IsRan (map cell_name c.args.pool.now.cells.now) c.args.pool.now.graph.now (g.W.Work.defines c.args.pool.now.work.now) r.job n.cell n.known (map (λ u. u.cell) r.used.items) (map (λ u. u.known) r.used.items)) (λ b. IsMade (map cell_name c.args.pool.now.cells.now) c.args.pool.now.graph.now (g.W.Work.defines c.args.pool.now.work.now) r.job b.value (map (λ u. u.cell) r.used.items) (map (λ u. u.known) r.used.items)))
           c.loop-one.all.items ran before.stands facts.2);
     }

@@ -11,7 +11,7 @@ invariant-loop-one g l = record {
   rest_is : l.yielded ++ into_iter_items l.one-iterator ≡ l.fn.ended.items;
   length_is : into_iter_len l.one-iterator ≡ length (into_iter_items l.one-iterator);
   count_is : length l.seats.items ≡ length l.yielded;
-  seats_are : All (λ (s : SeatState). s.board ≡ l.shop.board.now.id) l.seats.items;
+  seats_are : All (λ (s : SeatState). s.board ≡ l.pool.board.now.id) l.seats.items;
   ran_is : map (λ r. r.job) l.all.items ≡ all_had l.seats.items;
-  stands : All (λ r. MatchResult r.kept (λ n. IsRan (map cell_name l.shop.cells.now) l.shop.graph.now (g.W.Work.defines l.shop.work.now) r.job n.cell n.known (map (λ u. u.cell) r.used.items) (map (λ u. u.known) r.used.items)) (λ b. IsMade (map cell_name l.shop.cells.now) l.shop.graph.now (g.W.Work.defines l.shop.work.now) r.job b.value (map (λ u. u.cell) r.used.items) (map (λ u. u.known) r.used.items))) l.all.items;
+  stands : All (λ r. MatchResult r.kept (λ n. IsRan (map cell_name l.pool.cells.now) l.pool.graph.now (g.W.Work.defines l.pool.work.now) r.job n.cell n.known (map (λ u. u.cell) r.used.items) (map (λ u. u.known) r.used.items)) (λ b. IsMade (map cell_name l.pool.cells.now) l.pool.graph.now (g.W.Work.defines l.pool.work.now) r.job b.value (map (λ u. u.cell) r.used.items) (map (λ u. u.known) r.used.items))) l.all.items;
 }

@@ -6,7 +6,7 @@ use Rattle.m2_worker.proofs.worker.work_on.Given as goal
 
 abbrev pub invariant-loop : goal.invariant-loop
 invariant-loop g l = record {
-  seat_is : l.member.seat.board ≡ l.shop.board.now.id;
+  seat_is : l.member.seat.board ≡ l.pool.board.now.id;
   ran_is : map (λ r. r.job) l.member.ran.items ≡ l.member.seat.had;
-  stands : All (λ r. MatchResult r.kept (λ n. IsRan (map cell_name l.shop.cells.now) l.shop.graph.now (g.W.Work.defines l.shop.work.now) r.job n.cell n.known (map (λ u. u.cell) r.used.items) (map (λ u. u.known) r.used.items)) (λ b. IsMade (map cell_name l.shop.cells.now) l.shop.graph.now (g.W.Work.defines l.shop.work.now) r.job b.value (map (λ u. u.cell) r.used.items) (map (λ u. u.known) r.used.items))) l.member.ran.items;
+  stands : All (λ r. MatchResult r.kept (λ n. IsRan (map cell_name l.pool.cells.now) l.pool.graph.now (g.W.Work.defines l.pool.work.now) r.job n.cell n.known (map (λ u. u.cell) r.used.items) (map (λ u. u.known) r.used.items)) (λ b. IsMade (map cell_name l.pool.cells.now) l.pool.graph.now (g.W.Work.defines l.pool.work.now) r.job b.value (map (λ u. u.cell) r.used.items) (map (λ u. u.known) r.used.items))) l.member.ran.items;
 }

@@ -6,9 +6,9 @@ use Rattle.m2_scheme.specs.Modules.{link_of, stack_begin}
 use Rattle.m2_emit.specs.declared.emitted.ModuleBytes.{ModuleBytes}
 use Rattle.m2_emit.specs.Emitted.{parts}
 use Rattle.m2_headline.specs.Proved.{IsName}
-use Rattle.m2_jobs.specs.Lent.{lent}
+use Rattle.m2_jobs.specs.Borrowed.{borrowed}
 use Rattle.m2c.specs.Build.{named, named_bytes, started}
-use Rattle.m2c.proofs.Graphs.{is_program, spelled_lent}
+use Rattle.m2c.proofs.Graphs.{is_program, spelled_borrowed}
 use Rattle.m2c.proofs.Borrowed.{copies_borrowed, names_borrowed}
 use Rattle.m2c.proofs.outcome.built.Goals as goal
 
@@ -18,7 +18,7 @@ items_of v = v.items
 pub returns : goal.returns
 returns c =
     let g = c.args.graph.now in
-    let fs = lent c.args.trees.now in
+    let fs = borrowed c.args.trees.now in
     let whole = started fs g.files.items (map items_of g.jobs.items) g.starts.items in
     let link_is : Spells c.in_ok-link.link.items (link_of (parts whole) c.args.pages) =
     subst (λ (ms : List ModuleBytes). Spells c.in_ok-link.link.items (link_of (parts ms) c.args.pages)) c.requires.modules c.in_ok-link.ensures
@@ -28,6 +28,6 @@ returns c =
     let named_all : All IsName (map (λ m. m.name) whole) =
     subst (λ (ms : List ModuleBytes). All IsName (map (λ m. m.name) ms)) c.requires.modules (subst (All IsName) (names_borrowed c.args.modules.now) c.in_ok-modules.ensures.named)
     in
-    let spelled = spelled_lent c.args.trees.now g.files.items (map items_of g.jobs.items) c.requires.spelled in
+    let spelled = spelled_borrowed c.args.trees.now g.files.items (map items_of g.jobs.items) c.requires.spelled in
     is_program c.args.files.now fs g.files.items (map items_of g.jobs.items) g.starts.items c.requires.graph c.requires.none spelled c.args.pages c.requires.least c.requires.most fits named_all
     c.in_ok-link.link.items (map named c.in_ok-modules.modules.items) link_is built_are

@@ -4,7 +4,7 @@ use Rattle.std.proofs.lemmas.Bool.{eq-eqb, eqb-true}
 use Rattle.m2_tree.specs.declared.refusal.Refusal.{Refusal}
 use Rattle.std.specs.Borrow.{Bor}
 use Rattle.m2_emit.specs.declared.emitted.ModuleBytes.{ModuleBytes}
-use Rattle.m2_jobs.specs.Lent.{lent}
+use Rattle.m2_jobs.specs.Borrowed.{borrowed}
 use Rattle.m2c.specs.Build.{told, refused_by}
 use Rattle.m2c.proofs.Two.{none_told}
 use Rattle.m2c.proofs.Graphs.{refusals_are, started_are}
@@ -21,11 +21,11 @@ pub returns-then-not-is_empty : goal.returns-then-not-is_empty
 returns-then-not-is_empty c =
     let g = c.args.graph.now in
     let rs = c.in_ok-refusals.refusals in
-    let all : map told rs.items ≡ refused_by (lent c.args.trees.now) g.files.items (map items_of g.jobs.items) =
+    let all : map told rs.items ≡ refused_by (borrowed c.args.trees.now) g.files.items (map items_of g.jobs.items) =
     refusals_are c.args.trees.now g.files.items (map items_of g.jobs.items) c.in_ok-places.places.items _ c.args.results.now c.in_ok-places.ensures c.deref.ensures.value c.requires.results _ c.in_ok-refusals.ensures
     in
     inr (inr (inl (record {
-      trees = lent c.args.trees.now;
+      trees = borrowed c.args.trees.now;
       numbers = g.files.items;
       all_jobs = map items_of g.jobs.items;
       starts = g.starts.items;
@@ -41,7 +41,7 @@ pub program-requires-clause-none : goal.program-requires-clause-none
 program-requires-clause-none c =
     let g = c.args.graph.now in
     let rs = c.in_ok-refusals.refusals in
-    let all : map told rs.items ≡ refused_by (lent c.args.trees.now) g.files.items (map items_of g.jobs.items) =
+    let all : map told rs.items ≡ refused_by (borrowed c.args.trees.now) g.files.items (map items_of g.jobs.items) =
     refusals_are c.args.trees.now g.files.items (map items_of g.jobs.items) c.in_ok-places.places.items _ c.args.results.now c.in_ok-places.ensures c.deref.ensures.value c.requires.results _ c.in_ok-refusals.ensures
     in
     let empty : rs.items ≡ [] = no_items rs.items (let zero : vec_len rs ≡ 0 = eqb-true (vec_len rs) 0 (sym c.is_empty.ensures ∙ c.if-not-is_empty.false) in omega (arith, rs.ok.0, zero)) in

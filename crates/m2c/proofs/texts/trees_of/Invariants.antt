@@ -1,7 +1,7 @@
 use Rattle.std.proofs.Common.{◌≡◌, ◌++◌, drop}
 use Rattle.m2c.specs.Build.{trees_of}
-use Rattle.m2_jobs.specs.Lent.{lent}
+use Rattle.m2_jobs.specs.Borrowed.{borrowed}
 use Rattle.m2c.proofs.texts.trees_of.Given as goal
 
 abbrev pub invariant-loop-k : goal.invariant-loop-k
-invariant-loop-k l = lent l.trees.items ++ trees_of (drop l.k l.files) (drop l.k l.reads) ≡ trees_of l.files l.reads
+invariant-loop-k l = borrowed l.trees.items ++ trees_of (drop l.k l.files) (drop l.k l.reads) ≡ trees_of l.files l.reads

@@ -1,6 +1,6 @@
 use Rattle.std.proofs.Common.{◌≡◌, ◌+◌, ◌-◌, ◌*◌, length}
 use Rattle.wasm_code.specs.Instructions.{opened, sequence}
-use Rattle.wasm_code.specs.Piled.{onto_sequence}
+use Rattle.wasm_code.specs.ScratchStack.{onto_sequence}
 use Rattle.wasm_code.proofs.code.+code.Given as goal
 
 abbrev pub decreases-code_in : goal.decreases-code_in
@@ -20,4 +20,4 @@ decreases-sides_onto l = l.levels * 5 + 5
 
 abbrev pub invariant-code_in-loop : goal.invariant-code_in-loop
 invariant-code_in-loop l =
-    onto_sequence l.pile.items (sequence (opened l.levels) (l.end - l.counter) l.rest) ≡ onto_sequence l.fn.pile.items (sequence (opened l.levels) (length l.bytes) l.bytes)
+    onto_sequence l.scratch.items (sequence (opened l.levels) (l.end - l.counter) l.rest) ≡ onto_sequence l.fn.scratch.items (sequence (opened l.levels) (length l.bytes) l.bytes)

@@ -1,7 +1,7 @@
 use Rattle.std.proofs.Common.{◌≡◌, ◌++◌, length, take}
 use Rattle.std.specs.List.{flat_map}
 use Rattle.wasm_bytes.specs.Number.{unsigned}
-use Rattle.wasm_code.specs.Piled.{label_spelling}
+use Rattle.wasm_code.specs.ScratchStack.{label_spelling}
 use Rattle.wasm_code.proofs.code.write_labels.Given as goal
 
 abbrev pub invariant-loop-label : goal.invariant-loop-label
