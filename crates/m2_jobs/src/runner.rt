@@ -1,7 +1,8 @@
-//! Who works on a build: the two rounds of its jobs, over threads.
+//! What a build runs on, and the two rounds of its jobs, over threads.
 
 ghost use Rattle.std.specs.Prelude.{◌≡◌, ◌≢◌, ◌≤◌, Err, IfOk, Ok, OnOk, [], length, map};
 ghost use Rattle.m2_board.specs.Graph.{IsJobGraph};
+ghost use Rattle.m2_board.specs.Seats.{max_workers};
 ghost use Rattle.m2_board.specs.declared.board.Tally.{Tally as Records};
 ghost use Rattle.m2_jobs.specs.Jobs.{all_compiled};
 ghost use Rattle.m2_jobs.specs.Spelled.{AreSpelled};
@@ -31,7 +32,7 @@ pub struct Runner<'a, R: Threads + Sync, G: Gate> {
     pub workers: usize,
     pub gate: &'a G,
     pub ghost some: { 1 ≤ workers },
-    pub ghost few: { workers ≤ 64 },
+    pub ghost few: { workers ≤ max_workers },
 }
 
 /// A row for each file, with nothing in it.

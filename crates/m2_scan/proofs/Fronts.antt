@@ -9,6 +9,7 @@ use Rattle.m2_tree.specs.declared.pos.Pos.{Pos}
 use Rattle.m2_tree.specs.declared.token.Symbol.{Symbol}
 use Rattle.m2_tree.specs.declared.token.Lexeme.{Lexeme}
 use Rattle.m2_tree.specs.declared.token.Lexeme.TheVariants as lexeme
+use Rattle.m2_tree.specs.Limits.{max_name}
 use Rattle.m2_scan.specs.declared.class.Class.{Class}
 use Rattle.m2_scan.specs.declared.class.Class.TheVariants.{Space, Letter, Digit, Quote, Other}
 use Rattle.m2_scan.specs.declared.refusal.Fault.{Fault}
@@ -17,7 +18,7 @@ use Rattle.m2_scan.specs.declared.refusal.ScanError.{ScanError}
 use Rattle.m2_scan.specs.declared.refusal.ScanError.TheVariants.{Refused}
 use Rattle.m2_scan.specs.Bytes.{Text, class, in_run, is_run_byte, is_printable, is_inside, is_line_end}
 use Rattle.m2_scan.specs.Symbols.{sign_of}
-use Rattle.m2_scan.specs.Forms.{IsRun, IsQuoted, IsForm, quoted, Spells, opening, max_name}
+use Rattle.m2_scan.specs.Forms.{IsRun, IsQuoted, IsForm, quoted, Spells, opening}
 use Rattle.m2_scan.specs.Division.{RefusesIn}
 use Rattle.m2_scan.specs.Numbers.{RefusesNumber}
 use Rattle.m2_scan.specs.Steps.{moved, over, Begins, Opens, IsPair, Takes, Stops, Closes}

@@ -5,6 +5,7 @@ use Rattle.std.proofs.lemmas.List.{same_from_push}
 use Rattle.m2_tree.specs.declared.token.Symbol.{Symbol}
 use Rattle.m2_tree.specs.declared.token.Lexeme.{Lexeme}
 use Rattle.m2_tree.specs.declared.token.Lexeme.TheVariants as lexeme
+use Rattle.m2_tree.specs.Limits.{max_name}
 use Rattle.m2_scan.specs.declared.class.Class.{Class}
 use Rattle.m2_scan.specs.declared.class.Class.TheVariants.{Space, Letter, Digit, Quote, Other}
 use Rattle.m2_scan.specs.declared.number.Numeral.{Numeral}
@@ -12,7 +13,7 @@ use Rattle.m2_scan.specs.declared.number.Numeral.TheVariants.{Decimal, Octal, He
 use Rattle.m2_scan.specs.Bytes.{Text, class, is_printable}
 use Rattle.m2_scan.specs.Numbers.{Writes, limit}
 use Rattle.m2_scan.specs.Symbols.{word_of, sign_of}
-use Rattle.m2_scan.specs.Forms.{IsRun, IsQuoted, IsMember, max_name}
+use Rattle.m2_scan.specs.Forms.{IsRun, IsQuoted, IsMember}
 use Rattle.m2_scan.proofs.Levels.{closed_two}
 use Rattle.m2_scan.proofs.Numerals.{written_once}
 use Rattle.m2_scan.proofs.Shapes.{sign_is, sign_length, word_is, class_open}

@@ -6,11 +6,12 @@ use Rattle.std.specs.List.{list_all, prefix_len}
 use Rattle.std.specs.Str.{bytes_eq}
 use Rattle.std.proofs.lemmas.Slice.Eq.{bytes_eq-Decides}
 use Rattle.m2_tree.specs.declared.token.Symbol.{Symbol}
+use Rattle.m2_tree.specs.Limits.{max_name}
 use Rattle.m2_scan.specs.declared.class.Class.{Class}
 use Rattle.m2_scan.specs.declared.class.Class.TheVariants.{Space, Letter, Digit, Quote, Other}
 use Rattle.m2_scan.specs.Bytes.{Text, class, in_run, is_run_byte, is_inside, is_line_end, is_capital}
 use Rattle.m2_scan.specs.Symbols.{Spellings, words, signs, lookup, word_of, sign_of}
-use Rattle.m2_scan.specs.Forms.{IsRun, IsQuoted, IsClosed, IsForm, space, name, number, quoted, sign, comment, opened, IsLongest, opening, max_name}
+use Rattle.m2_scan.specs.Forms.{IsRun, IsQuoted, IsClosed, IsForm, space, name, number, quoted, sign, comment, opened, IsLongest, opening}
 use Rattle.m2_scan.proofs.Lists.{and_true, same_head, passes_within, passes_to}
 use Rattle.m2_scan.proofs.Levels.{closed_once}
 use Rattle.m2_scan.proofs.Places.{in_one_line}

@@ -5,13 +5,14 @@ use Rattle.m2_tree.specs.declared.pos.Pos.{Pos}
 use Rattle.m2_tree.specs.declared.token.Token.{Token}
 use Rattle.m2_tree.specs.declared.token.Lexeme.{Lexeme}
 use Rattle.m2_tree.specs.declared.token.Lexeme.TheVariants as lexeme
+use Rattle.m2_tree.specs.Limits.{max_name}
 use Rattle.m2_scan.specs.declared.class.Class.TheVariants.{Letter, Digit, Quote}
 use Rattle.m2_scan.specs.declared.number.Numeral.{Numeral}
 use Rattle.m2_scan.specs.declared.refusal.Fault.{Fault}
 use Rattle.m2_scan.specs.declared.refusal.Fault.TheVariants.{TooLong, StrayByte, OpenComment, OpenString, BadNumber, LargeNumber, LongName}
 use Rattle.m2_scan.specs.declared.refusal.ScanRefusal.{ScanRefusal}
 use Rattle.m2_scan.specs.Bytes.{Text, class, is_inside, is_printable, is_line_end}
-use Rattle.m2_scan.specs.Forms.{IsRun, IsQuoted, IsClosed, IsForm, IsLongest, IsMember, Member, max_name}
+use Rattle.m2_scan.specs.Forms.{IsRun, IsQuoted, IsClosed, IsForm, IsLongest, IsMember, Member}
 use Rattle.m2_scan.specs.Numbers.{Writes, limit}
 
 -- the place behind these bytes of a text: one line more than there are ends of lines, and one column more than there

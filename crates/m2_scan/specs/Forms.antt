@@ -4,6 +4,7 @@ use Rattle.std.specs.List.{list_all}
 use Rattle.m2_tree.specs.declared.token.Symbol.{Symbol}
 use Rattle.m2_tree.specs.declared.token.Lexeme.{Lexeme}
 use Rattle.m2_tree.specs.declared.token.Lexeme.TheVariants as lexeme
+use Rattle.m2_tree.specs.Limits.{max_name}
 use Rattle.m2_scan.specs.declared.class.Class.{Class}
 use Rattle.m2_scan.specs.declared.class.Class.TheVariants.{Space, Letter, Digit, Quote}
 use Rattle.m2_scan.specs.declared.number.Numeral.{Numeral}
@@ -56,9 +57,6 @@ IsSpace w = (b : ℕ) × (class b ≡ Space) × (w ≡ b ∷ [])
 
 abbrev pub IsComment : Text → Type 0
 IsComment w = (bs : Text) × IsClosed bs × (w ≡ opening ++ bs)
-
-abbrev pub max_name : ℕ
-max_name = 64
 
 -- The bytes are this token.
 abbrev pub Spells : Text → Lexeme → Type 0

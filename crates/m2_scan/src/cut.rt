@@ -1,6 +1,7 @@
 //! Cuts the member at the front of a text.
 
 ghost use Rattle.std.specs.Prelude.{◌≡◌, ◌≤◌, ◌<◌, ◌++◌, ◌↔◌, IfOk, IfErr, IsTrue, OnOk, Some, None, length};
+ghost use Rattle.m2_tree.specs.Limits.{max_name};
 ghost use Rattle.m2_scan.specs.declared.class.Class.TheVariants as class;
 ghost use Rattle.m2_scan.specs.declared.refusal.ScanError.TheVariants.{Refused};
 ghost use Rattle.m2_scan.specs.Division.{tokens_at};
@@ -40,7 +41,7 @@ pub fn refused(pos: Pos, fault: Fault) -> ScanError
 /// The reserved word or the name that letters and digits are. The only error is that memory ran out.
 fn named(alloc: Global, run: &[u8]) -> Result<Lexeme, AllocError>
     requires letter { IsRun class.Letter run.now }
-    requires short { length run.now ≤ 64 }
+    requires short { length run.now ≤ max_name }
     ensures { IfOk result (Spells run.now) }
 {
     match word_of(run) {

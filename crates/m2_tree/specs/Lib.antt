@@ -7,3 +7,4 @@ pub mod SoundModule
 pub mod SoundStmt
 pub mod SoundTypes
 pub mod formers
+pub mod Limits

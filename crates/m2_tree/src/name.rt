@@ -4,6 +4,7 @@ ghost use Rattle.std.specs.Prelude.{◌≡◌, ◌≤◌, length, nat_eq, IfOk};
 ghost use Rattle.std.specs.Cmp.Lexicographic.{pointwise};
 ghost use Rattle.std.specs.Cmp.Rules.{comparing};
 ghost use Rattle.std.proofs.Common.{rules};
+ghost use Rattle.m2_tree.specs.Limits.{max_name};
 
 use crate::bytes::Bytes;
 use crate::pos::Pos;
@@ -21,18 +22,19 @@ pub struct Name {
 
 impl Model for Name {
     ghost use Rattle.std.specs.Prelude.{◌≤◌, ℕ, List, length};
+    ghost use Rattle.m2_tree.specs.Limits.{max_name};
 
     ghost Value = { List ℕ };
 
     ghost view = { λ n. n.bytes };
 
-    ghost invariant = { λ n. length n.bytes ≤ 64 };
+    ghost invariant = { λ n. length n.bytes ≤ max_name };
 }
 
 impl Name {
     /// The name of these bytes. The only error is that memory ran out.
     pub fn new(alloc: Global, text: &[u8]) -> Result<Name, AllocError>
-        requires { length text.now ≤ 64 }
+        requires { length text.now ≤ max_name }
         ensures { IfOk result (λ name. name ≡ text.now) }
     {
         let bytes = Bytes::new(alloc, text)?;
@@ -42,7 +44,7 @@ impl Name {
     /// The bytes of the name.
     pub fn as_bytes(&self) -> &[u8]
         ensures value { result.now ≡ self.now }
-        ensures short { length result.now ≤ 64 }
+        ensures short { length result.now ≤ max_name }
     {
         self.bytes.as_slice()
     }
