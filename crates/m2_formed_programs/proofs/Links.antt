@@ -40,7 +40,11 @@ table_few t h =
     let it : table_type.fits t ≡ true = left (table_type.fits t) true them in
     ltb-true t.limits.min (2 ^ 32) (left (nat_lt t.limits.min (2 ^ 32)) (elim t.limits.max [ None ↦ true | Some m ↦ nat_lt m (2 ^ 32) ]) it)
 
+-- the slots of a link that has a spelling are numbers of 32 bits
+pub slots_few : (ms : List TypedModule) (pages : ℕ) → module_fits (typed_link ms pages) ≡ true → 1 + all_slots (map part_of ms) < 2 ^ 32
+slots_few ms pages fits = table_few (record { limits = record { min = 1 + all_slots (map part_of ms); max = Some (1 + all_slots (map part_of ms)) } }) (tables_fit (typed_link ms pages) fits)
+
 pub link_valid : (ms : List TypedModule) (pages : ℕ) → pages ≤ 65536 → module_fits (typed_link ms pages) ≡ true → AreDistinct (map (λ m. m.name) ms) → IsValid (typed_link ms pages)
 link_valid ms pages most fits distinct =
-    let few : 1 + all_slots (map part_of ms) < 2 ^ 32 = table_few (record { limits = record { min = 1 + all_slots (map part_of ms); max = Some (1 + all_slots (map part_of ms)) } }) (tables_fit (typed_link ms pages) fits) in
+    let few = slots_few ms pages fits in
     typed_link_valid ms pages most (omega (arith, few)) distinct

@@ -32,9 +32,10 @@ use Rattle.m2_jobs.specs.Borrowed.{borrowed, modules_borrowed}
 use Rattle.m2c.specs.Modules.{result_of, module_in, modules_at}
 use Rattle.m2c.specs.Build.{Told, AreTold, told_at, built_of, named_bytes, modules, refusal_in, refused_from, refused_by, started, data_and_stack, program_file, HaveGraph, IsTooLarge, IsProgram}
 use Rattle.m2_jobs.specs.Spelled.{AreSpelled}
-use Rattle.m2_links.specs.Linked.{imported_names}
+use Rattle.m2_links.specs.Linked.{IsLinkable, imported_names}
+use Rattle.m2_agree_linked.proofs.Programs.{typed_behave}
 use Rattle.m2_links.proofs.Placed.{modules_link}
-use Rattle.m2_formed_programs.proofs.Links.{link_valid}
+use Rattle.m2_formed_programs.proofs.Links.{slots_few, link_valid}
 use Rattle.m2c.proofs.Linked.{all_modules}
 use Rattle.m2c.proofs.Valid.{all_valid}
 use Rattle.m2c.proofs.Programs.{AreFit, AreBuilt, all_built, distinct_all, count_all}
@@ -149,6 +150,15 @@ module _ (files : List SourceFile) (fs : List (List ℕ × Module)) (numbers : L
       in
       let link_whole : link ≡ module_spelling (typed_link p pages) = link_spelled.spelling in
       let built_whole : built ≡ map built_of p = built_are ∙ ap (map named_bytes) whole.are ∙ named_emitted p in
+      let fits_all : data_and_stack p ≤ 65536 * pages = subst (λ (n : ℕ). n ≤ 65536 * pages) data_is fits in
+      let linkable : IsLinkable p pages = record {
+        distinct = distinct_all fs numbers jobs have.each as_many none spelled starts are;
+        imports = subst (λ (ns : List (List ℕ)). All (λ m. All (λ n. list_any (λ other. bytes_eq other n) ns ≡ true) (imported_names m)) p) (sym whole.names)
+            (all_modules fs numbers jobs starts have.is_graph (at_places (modules fs) starts) starts p whole.typed are.closed);
+        memory = least;
+        room = omega (arith, fits_all);
+      }
+      in
       let codes : map (λ m. m.1) built ≡ map module_bytes (map typed_module p) = ap (λ (ms : List (List ℕ × List ℕ)). map (λ m. m.1) ms) built_whole ∙ seconds p in record {
         trees = fs;
         numbers = numbers;
@@ -158,22 +168,14 @@ module _ (files : List SourceFile) (fs : List (List ℕ × Module)) (numbers : L
         none = none;
         program = p;
         typed = whole.typed;
-        fits = subst (λ (n : ℕ). n ≤ 65536 * pages) data_is fits;
+        fits = fits_all;
         code = record {
           link_spelled = link_spelled;
           body_bytes = built_whole;
           spelled = subst (λ (bs : List (List ℕ)). headline.AreSpelled bs (map typed_module p)) (sym codes) (all_spelled p whole.fit);
         };
-        links = (
-          _,
-          modules_link p pages (record {
-            distinct = distinct_all fs numbers jobs have.each as_many none spelled starts are;
-            imports = subst (λ (ns : List (List ℕ)). All (λ m. All (λ n. list_any (λ other. bytes_eq other n) ns ≡ true) (imported_names m)) p) (sym whole.names)
-                (all_modules fs numbers jobs starts have.is_graph (at_places (modules fs) starts) starts p whole.typed are.closed);
-            memory = least;
-            room = (let e = subst (λ (n : ℕ). n ≤ 65536 * pages) data_is fits in omega (arith, e));
-          }),
-        );
+        links = (_, modules_link p pages linkable);
+        behaves = λ are_modules are_typed. typed_behave p pages linkable fits_all most (slots_few p pages link_spelled.fits) are_modules are_typed;
         valid = All-cons IsValid (typed_link p pages) (map typed_module p)
             (link_valid p pages (omega (arith, most)) link_spelled.fits (distinct_all fs numbers jobs have.each as_many none spelled starts are))
             (all_valid fs numbers jobs starts have.is_graph starts p whole.typed);
