@@ -1,0 +1,3 @@
+pub mod Wants
+pub mod Known
+pub mod Constructs

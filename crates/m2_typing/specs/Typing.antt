@@ -1,5 +1,5 @@
 -- What the checker makes of expressions is typed, where names mean what is there.
-use Rattle.std.specs.Prelude.{◌≡◌, ℕ, ◌+◌, ◌≤◌, ◌^◌, ◌≤ℤ◌, pos, Bool, true, false, List, [], ◌∷◌, length, Some, None, slice_get}
+use Rattle.std.specs.Prelude.{◌≡◌, ℕ, ◌+◌, ◌≤◌, ◌<◌, ◌^◌, Bool, true, false, List, [], ◌∷◌, length, Some, None, slice_get}
 use Rattle.std.specs.List.{list_all}
 use Rattle.std.specs.Option.{is_some}
 use Rattle.m2_tree.specs.declared.name.Ident.{Ident}
@@ -78,7 +78,7 @@ fits_head = fold-Designator Bool Bool Bool Bool fits_layer fits_selector fits_de
 abbrev pub IsWord : Value → Type 0
 IsWord (constant.Number n) = Unit {0}
 IsWord (constant.Scalar s) = Unit {0}
-IsWord (constant.Set bits) = pos bits ≤ℤ pos 4294967295
+IsWord (constant.Set bits) = bits < 2 ^ 32
 IsWord (constant.Text text) = Unit {0}
 
 module _ (types : Types) where
