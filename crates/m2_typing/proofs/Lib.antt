@@ -1,3 +1,4 @@
 pub mod Wants
 pub mod Known
 pub mod Constructs
+pub mod Words
