@@ -123,14 +123,14 @@ module _ (known all : Types) (grows : Grows known all) where
 -- ---- numbers of types
 
 module _ (types : Types) where
-  pub value_in : (t : TypeNo) (r : Range) (n : ℤ) → scalar_at types t ≡ Some r → r.low ≤ℤ n → n ≤ℤ r.high → IsValue types t n
-  value_in t r n e l h = subst (λ (o : Option Range). IsIn o n) (sym e) (l, h)
+  pub within_range : (t : TypeNo) (r : Range) (n : ℤ) → scalar_at types t ≡ Some r → r.low ≤ℤ n → n ≤ℤ r.high → IsValue types t n
+  within_range t r n e l h = subst (λ (o : Option Range). IsIn o n) (sym e) (l, h)
 
   pub value_of : (t : TypeNo) (r : Range) (n : ℤ) → scalar_at types t ≡ Some r → IsValue types t n → (r.low ≤ℤ n) × (n ≤ℤ r.high)
   value_of t r n e h = subst (λ (o : Option Range). IsIn o n) e h
 
   pub number_value : (t base : TypeNo) (n : ℤ) → IsNumber types t base n → IsValue types t n
-  number_value t base n p = value_in t p.range n p.at p.low p.high
+  number_value t base n p = within_range t p.range n p.at p.low p.high
 
   pub among_itself : (t u : TypeNo) → t ≡ u → AreAmong types t u
   among_itself t u e = λ v h. subst (λ (k : TypeNo). IsValue types k v) e h
@@ -150,7 +150,7 @@ module _ (types : Types) where
       let same : high.range ≡ low.range = one_range high.range low.range (sym high.at ∙ low.at) in
       let at : scalar_at types b ≡ Some low.range = ap (λ (u : TypeNo). scalar_at types u) (sym k.own) ∙ low.at in
       let within = value_of t r v k.at h in
-      value_in b low.range v at (through low.range.low r.low v low.low within.0) (through v r.high low.range.high within.1 (subst (λ (z : Range). r.high ≤ℤ z.high) same high.high))
+      within_range b low.range v at (through low.range.low r.low v low.low within.0) (through v r.high low.range.high within.1 (subst (λ (z : Range). r.high ≤ℤ z.high) same high.high))
 
   pub base_is : (t b : TypeNo) → HasBase types t b → base_of types t ≡ b
   base_is t b k = ap (λ (o : Option Range). base_in t o) k.at ∙ k.own

@@ -2,3 +2,4 @@ pub mod Wants
 pub mod Known
 pub mod Constructs
 pub mod Words
+pub mod Operators
