@@ -3,3 +3,4 @@ pub mod Known
 pub mod Constructs
 pub mod Words
 pub mod Operators
+pub mod Calls

@@ -83,7 +83,7 @@ use Rattle.m2_typing.proofs.Constructs as made
 
 -- ---- tests
 
-where_not : (g : Gathers) {A : Type 0} {P : A → Type 0} (b : Bool) (at : Pos) (n : ℕ) {r : Result A g.Told} → (b ≡ true → Holds P r) → Holds P (told_where g (not b) at n r)
+pub where_not : (g : Gathers) {A : Type 0} {P : A → Type 0} (b : Bool) (at : Pos) (n : ℕ) {r : Result A g.Told} → (b ≡ true → Holds P r) → Holds P (told_where g (not b) at n r)
 where_not g true at n k = k refl
 where_not g false at n k = broken _
 
