@@ -4,3 +4,4 @@ pub mod Constructs
 pub mod Words
 pub mod Operators
 pub mod Calls
+pub mod Meanings
