@@ -1,6 +1,6 @@
 -- Values, arguments, calls and standard functions.
-use Rattle.std.proofs.Common.{◌≡◌, ℕ, ◌≤◌, ◌^◌, ◌≤ℤ◌, ℤ, pos, Bool, true, false, List, [], ◌∷◌, ◌++◌, length, Option, Some, None, Result, Ok, refl, sym, ap, subst, ◌∙◌}
-use Rattle.std.specs.Prelude.{not, cond, ◌&&◌, ◌-ℤ◌, if◌then◌else◌}
+use Rattle.std.proofs.Common.{◌≡◌, ℕ, ◌≤◌, ◌^◌, ◌≤ℤ◌, ℤ, Bool, true, false, List, length, Option, Some, None, Result, refl, sym, ap, subst, ◌∙◌}
+use Rattle.std.specs.Prelude.{not, cond, if◌then◌else◌}
 use Rattle.m2_tree.specs.declared.pos.Pos.{Pos}
 use Rattle.m2_typed.specs.declared.computed.Argument.{Argument}
 use Rattle.m2_typed.specs.declared.computed.Argument.TheVariants as argument
@@ -20,9 +20,9 @@ use Rattle.m2_typed.specs.declared.typed_module.TypedModule.{TypedModule}
 use Rattle.m2_typed.specs.declared.types.TypeNo.{TypeNo}
 use Rattle.m2_typed.specs.Known.{scalar_at}
 use Rattle.m2_typed.specs.Types.{are_same, is_numeric, integer, cardinal, boolean, char}
-use Rattle.m2_judged.specs.Judged.{Gathers, told, told_where, ◌▷◌}
+use Rattle.m2_judged.specs.Judged.{Gathers}
 use Rattle.m2_values.specs.Numbers.{is_between}
-use Rattle.m2_values.specs.Standards.{whole_number, bound_of, converted_part, converted}
+use Rattle.m2_values.specs.Standards.{whole_number, bound_of, converted_part}
 use Rattle.m2_values.specs.declared.operand.Ordinal.{Ordinal}
 use Rattle.m2_constants.specs.Calls.{scalar_type, unary_of, bound_by}
 use Rattle.m2_computed.specs.Classes.{class_at, array_at}
@@ -43,21 +43,21 @@ use Rattle.m2_calls.specs.declared.callee.Called.TheVariants as called
 use Rattle.m2_calls.specs.declared.standard.Unary.{Unary}
 use Rattle.m2_calls.specs.declared.standard.Unary.TheVariants as unary
 use Rattle.m2_layout.specs.Shapes.{elements_of, tree}
-use Rattle.m2_layout.specs.Types.{Ty, Cell, Array}
+use Rattle.m2_layout.specs.Types.{Ty, Array}
 use Rattle.m2_scheme.specs.Cells.{base_of}
-use Rattle.m2_agree.specs.Scene.{AreAmong, AreNatural}
-use Rattle.m2_agree_calls.specs.Passing.{Form, ByNumber, ByCopy, ByName, ByArray, value_form, form_of, forms_of, result_of}
+use Rattle.m2_agree.specs.Scene.{AreAmong}
+use Rattle.m2_agree_calls.specs.Passing.{Form, ByCopy, ByName, ByArray, value_form, form_of, forms_of, result_of}
 use Rattle.m2_agree_trees.specs.Typed.{Context, IsNamed, IsInner}
-use Rattle.m2_formed.specs.Formed.{Holds, fine, broken}
-use Rattle.m2_formed.proofs.Basics.{then_holds, told_holds, where_holds, both_holds, any_holds, Grows}
+use Rattle.m2_formed.specs.Formed.{Holds, fine}
+use Rattle.m2_formed.proofs.Basics.{then_holds, told_holds, where_holds, both_holds, Grows}
 use Rattle.m2_ranges.specs.Ranges.{IsRange}
 use Rattle.m2_ranges.proofs.Known.{range_at}
 use Rattle.m2_formed_ranges.specs.FormedRanges.{IsBased, ValueRanged}
-use Rattle.m2_formed_ranges.proofs.Types.{same_types, both_left, both_right}
+use Rattle.m2_formed_ranges.proofs.Types.{same_types, both_left}
 use Rattle.m2_formed_ranges.proofs.Subranges.{between_in, at_itself, number_between, based_at}
 use Rattle.m2_formed_ranges.proofs.Values.{unary_ranged}
-use Rattle.m2_typing.specs.Typing.{IsWord, IsConstant, HasBase, is_known, TypesTyped, ExprTyped, PlaceTyped, CallTyped, ArgumentTyped, GivenTyped, ScalarTyped, WordTyped, RoutineTyped, ValueTyped, DesignatedTyped}
-use Rattle.m2_typing.proofs.Known.{IsBits, ClassIs, class_is, scalar_known, array_known, among_base, base_is, among_natural, HasCell, ranged_cell, bits_cell, has_base, IsArray, array_is, whole_copied}
+use Rattle.m2_typing.specs.Typing.{IsConstant, is_known, TypesTyped, ExprTyped, PlaceTyped, CallTyped, ArgumentTyped, ScalarTyped, ValueTyped, DesignatedTyped}
+use Rattle.m2_typing.proofs.Known.{ClassIs, class_is, scalar_known, array_known, among_base, base_is, among_natural, HasCell, ranged_cell, bits_cell, has_base, IsArray, array_is, whole_copied}
 use Rattle.m2_typing.proofs.Words.{holds_both, unary_words, bound_word}
 use Rattle.m2_typing.proofs.Operators.{where_not, numeric_is, boolean_base, char_base, of_value_typed, scalar_typed, suited_typed}
 use Rattle.m2_typing.proofs.Constructs as made

@@ -1,6 +1,6 @@
 -- Constructs whose parts are typed are typed, wherever what they ask for is there.
-use Rattle.std.proofs.Common.{◌≡◌, ℕ, ◌+◌, ℤ, pos, Bool, true, false, List, [], ◌∷◌, ◌++◌, length, Option, Some, None, refl, sym, ap, subst, ◌∙◌, arith}
-use Rattle.std.specs.Prelude.{◌<◌, ◌≤◌, ◌^◌, ◌≤ℤ◌, ◌-ℤ◌, if◌then◌else◌, slice_get}
+use Rattle.std.proofs.Common.{◌≡◌, ℕ, ◌+◌, ℤ, pos, Bool, true, false, List, [], ◌∷◌, ◌++◌, length, Some, None, refl, sym, ap, subst, ◌∙◌, arith}
+use Rattle.std.specs.Prelude.{◌≤◌, ◌^◌, ◌≤ℤ◌, ◌-ℤ◌, if◌then◌else◌}
 use Rattle.m2_typed.specs.declared.computed.Argument.{Argument}
 use Rattle.m2_typed.specs.declared.computed.Argument.TheOpen as layer
 use Rattle.m2_typed.specs.declared.computed.Argument.TheVariants as argument
@@ -30,7 +30,7 @@ use Rattle.m2_typed.specs.Chains.{linked_to, linked, rooted, behind}
 use Rattle.m2_typed.specs.Known.{scalar_at}
 use Rattle.m2_typed.specs.Types.{are_same, integer, cardinal, boolean, char, bitset}
 use Rattle.m2_layout.specs.Shapes.{tree, elements_of}
-use Rattle.m2_layout.specs.Texts.{Texts, passed, characters, texts_of, texts_at, texts_linked, texts_behind, texts_passed}
+use Rattle.m2_layout.specs.Texts.{passed, characters, texts_of, texts_at, texts_linked, texts_behind, texts_passed}
 use Rattle.m2_layout.specs.Types.{Ty, Scalar, Natural, Cell, Array, component}
 use Rattle.m2_scheme.specs.Cells.{base_of}
 use Rattle.m2_scheme.specs.Exprs.{Part, is_own, index_of, expr_layer, expr_part}

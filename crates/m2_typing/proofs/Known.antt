@@ -1,12 +1,8 @@
 -- Types that a scope knows: what they are in the module, and their bases, cells and components.
-use Rattle.std.proofs.Common.{◌≡◌, ◌⊎◌, inl, inr, ℕ, ◌≤ℤ◌, ℤ, pos, Bool, true, false, List, [], ◌∷◌, map, Option, Some, None, refl, sym, ap, subst, ◌∙◌, arith}
-use Rattle.std.proofs.lemmas.Int.{ints}
-use Rattle.std.specs.Prelude.{not, ◌&&◌, ◌||◌, cond}
+use Rattle.std.proofs.Common.{◌≡◌, ℕ, ◌≤ℤ◌, ℤ, pos, Bool, true, false, List, [], ◌∷◌, map, Option, Some, None, refl, sym, ap, subst, ◌∙◌}
+use Rattle.std.specs.Prelude.{not, ◌&&◌, ◌||◌}
 use Rattle.std.specs.Option.{option_map, is_some}
-use Rattle.m2_typed.specs.declared.computed.TypedExpr.{TypedExpr}
-use Rattle.m2_typed.specs.declared.computed.TypedExpr.TheVariants as expr
 use Rattle.m2_typed.specs.declared.known_types.Types.{Types}
-use Rattle.m2_typed.specs.declared.shape.Formal.{Formal}
 use Rattle.m2_typed.specs.declared.shape.Made.{Made}
 use Rattle.m2_typed.specs.declared.shape.Scalar.{Scalar as Range}
 use Rattle.m2_typed.specs.declared.shape.Shape.{Shape}
@@ -21,17 +17,17 @@ use Rattle.m2_judged.specs.Scopes.{fields_shape, fields_made, fields_at}
 use Rattle.m2_computed.specs.declared.class.Class.{Class}
 use Rattle.m2_computed.specs.declared.class.Class.TheVariants as class
 use Rattle.m2_computed.specs.Classes.{class_shape, class_made, class_range, class_from, class_at, signature_shape, signature_made, signature_at, array_shape, array_made, array_at}
-use Rattle.m2_layout.specs.Types.{Ty, Scalar, Natural, Cell, Hidden, Array, Nothing, Field, row}
+use Rattle.m2_layout.specs.Types.{Ty, Scalar, Natural, Array, row}
 use Rattle.m2_layout.specs.Shapes.{scalar_kind, elements_of, shape_tree, known_trees, tree}
 use Rattle.m2_scheme.specs.Cells.{base_in, base_of, is_subrange, is_free}
 use Rattle.m2_scheme.specs.Exprs.{index_shape, index_made, index_of}
 use Rattle.m2_agree.specs.Scene.{IsIn, IsValue, AreAmong, AreNatural, IsCell}
-use Rattle.m2_agree_calls.specs.Passing.{Form, ByCopy, value_form, Result, result_in, result_made, result_of}
+use Rattle.m2_agree_calls.specs.Passing.{ByCopy, value_form, result_in, result_made, result_of}
 use Rattle.m2_agree_types.proofs.Cells.{cell_is, word_is, word_tree_is}
 use Rattle.m2_formed.proofs.Basics.{Grows}
 use Rattle.m2_ranges.specs.Ranges.{IsRange, AreRanged}
 use Rattle.m2_ranges.proofs.Known.{range_at}
-use Rattle.m2_formed_ranges.specs.FormedRanges.{IsNumber, IsBased}
+use Rattle.m2_formed_ranges.specs.FormedRanges.{IsNumber}
 use Rattle.m2_formed_ranges.proofs.Types.{same_types}
 use Rattle.m2_formed_ranges.proofs.Subranges.{type_itself, through, based_at}
 use Rattle.m2_typing.specs.Typing.{HasBase, is_known_from, is_known, IsIndexed, TypesTyped}

@@ -1,5 +1,5 @@
 -- Expressions and designators: a lemma for each construct, and then the induction.
-use Rattle.std.proofs.Common.{◌≡◌, ℕ, ◌==◌, ◌≤◌, ◌^◌, pos, Bool, true, false, List, [], ◌∷◌, ◌++◌, length, map, Option, Some, None, Result, Ok, refl, sym, ap, subst, ◌∙◌, append_assoc, arith}
+use Rattle.std.proofs.Common.{◌≡◌, ℕ, ◌==◌, pos, Bool, true, false, List, [], ◌∷◌, ◌++◌, length, map, Option, Some, None, Result, Ok, refl, sym, ap, subst, ◌∙◌, append_assoc, arith}
 use Rattle.std.proofs.lemmas.Int.{ints}
 use Rattle.std.specs.Prelude.{not, ◌&&◌}
 use Rattle.std.specs.List.{fold, list_all}
@@ -31,17 +31,15 @@ use Rattle.m2_typed.specs.declared.meaning.Meaning.TheVariants as meaning
 use Rattle.m2_typed.specs.declared.meaning.Standard.{Standard}
 use Rattle.m2_typed.specs.declared.meaning.Value.TheVariants as constant_value
 use Rattle.m2_typed.specs.declared.shape.Formal.{Formal}
-use Rattle.m2_typed.specs.declared.shape.Scalar.{Scalar as Range}
 use Rattle.m2_typed.specs.declared.shape.Signature.{Signature}
-use Rattle.m2_typed.specs.declared.typed_module.TypedModule.{TypedModule}
 use Rattle.m2_typed.specs.declared.types.TypeNo.{TypeNo}
 use Rattle.m2_typed.specs.Chains.{rooted}
 use Rattle.m2_typed.specs.Known.{scalar_at}
 use Rattle.m2_typed.specs.Types.{char}
-use Rattle.m2_judged.specs.Judged.{Gathers, told_where, both, ◌▷◌}
+use Rattle.m2_judged.specs.Judged.{Gathers, told_where, ◌▷◌}
 use Rattle.m2_judged.specs.declared.scope.Scope.{Scope}
 use Rattle.m2_constants.specs.Denote.{as_constant as constant_of}
-use Rattle.m2_constants.specs.Parts.{Part, Pick, Adds, sign_place, constant, set_type, added, with_item}
+use Rattle.m2_constants.specs.Parts.{Part, Pick, Adds, sign_place, set_type}
 use Rattle.m2_constants.specs.declared.denoted.Denoted.{Denoted}
 use Rattle.m2_constants.specs.declared.denoted.Denoted.TheVariants as denoted
 use Rattle.m2_values.specs.Operands.{letter, valued}
@@ -64,11 +62,10 @@ use Rattle.m2_calls.specs.declared.standard.Form.{Form}
 use Rattle.m2_calls.specs.declared.standard.Form.TheVariants as form
 use Rattle.m2_calls.specs.declared.standard.Unary.{Unary}
 use Rattle.m2_exprs.specs.Meanings.{Meant, Picks, of_computed, signed_first, named, field_of, formals_of, argument_by, call_given, as_constant, value_of, with_actual, actuals, routine_called, unary, bound, conversion, high, by_form, called_as, called_by, factor, term, relation, expr_layer, selector_layer, designator_layer, item_layer, meant, picks, head, item}
-use Rattle.m2_layout.specs.Frames.{formals_of as formals_made_of}
 use Rattle.m2_layout.specs.Shapes.{tree}
 use Rattle.m2_layout.specs.Types.{Ty}
 use Rattle.m2_agree_calls.specs.Frames.{kind_at}
-use Rattle.m2_agree_calls.specs.Passing.{Forms, form_of, forms_of, Result as Gives, result_of}
+use Rattle.m2_agree_calls.specs.Passing.{Forms, form_of}
 use Rattle.m2_agree_trees.specs.Typed.{Context, GlobalRoot, LocalRoot, AliasRoot, WithRoot}
 use Rattle.m2_formed.specs.Formed.{Holds, fine, broken}
 use Rattle.m2_formed.proofs.Basics.{then_holds, told_holds, both_holds, any_holds, heading_kept}
@@ -76,9 +73,9 @@ use Rattle.m2_formed_ranges.specs.FormedRanges.{itself, fits_letter, fits_layer,
 use Rattle.m2_formed_ranges.proofs.Types.{both_left, both_right}
 use Rattle.m2_formed_ranges.proofs.Subranges.{from_le}
 use Rattle.m2_formed_ranges.proofs.Values.{char_ranged}
-use Rattle.m2_typing.specs.Typing.{fits_selector, fits_designator, fits_item, fits_whole, fits_picked, fits_head, IsConstant, FormalsKnown, kind_of, TypesTyped, CallTyped, ValueTyped, DesignatedTyped, MeaningTyped, IsTyped}
+use Rattle.m2_typing.specs.Typing.{fits_selector, fits_designator, fits_item, fits_whole, fits_picked, fits_head, IsConstant, FormalsKnown, kind_of, CallTyped, ValueTyped, DesignatedTyped, MeaningTyped, IsTyped}
 use Rattle.m2_typing.proofs.Known.{signature_known, result_is}
-use Rattle.m2_typing.proofs.Words.{Small, B_, added_small, AllSmall, items_small}
+use Rattle.m2_typing.proofs.Words.{B_, added_small, AllSmall, items_small}
 use Rattle.m2_typing.proofs.Constructs as made
 use Rattle.m2_typing.proofs.Operators.{signed_typed, negated_typed, combined_typed, field_typed, indexed_typed}
 use Rattle.m2_typing.proofs.Calls.{given_typed, taken_typed, actual_typed, CalleeTyped, CalledTyped, callee_typed, call_typed, unary_typed, TypeIs, type_is, bound_typed, conversion_typed, high_typed}

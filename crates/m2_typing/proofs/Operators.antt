@@ -1,7 +1,7 @@
 -- Operators, components and what places take.
-use Rattle.std.proofs.Common.{◌≡◌, ◌⊎◌, inl, inr, ⊎_elim, ℕ, zero, suc, ◌<◌, ◌≤ℤ◌, ℤ, pos, Bool, true, false, List, [], ◌∷◌, ◌++◌, map, Option, Some, None, Result, Ok, refl, sym, ap, subst, ◌∙◌, arith}
+use Rattle.std.proofs.Common.{◌≡◌, ◌⊎◌, inl, inr, ⊎_elim, ℕ, zero, suc, ◌≤ℤ◌, ℤ, pos, Bool, true, false, List, [], ◌∷◌, map, Option, Some, None, Result, Ok, refl, sym, ap, subst, ◌∙◌, arith}
 use Rattle.std.proofs.lemmas.Int.{ints}
-use Rattle.std.specs.Prelude.{not, ◌&&◌, ◌||◌, cond, slice_get, if◌then◌else◌}
+use Rattle.std.specs.Prelude.{not, ◌&&◌, ◌||◌, slice_get, if◌then◌else◌}
 use Rattle.std.specs.Option.{option_map, is_some}
 use Rattle.m2_tree.specs.declared.pos.Pos.{Pos}
 use Rattle.m2_tree.specs.declared.name.Ident.{Ident}
@@ -15,28 +15,25 @@ use Rattle.m2_typed.specs.declared.computed.Component.TheVariants as part
 use Rattle.m2_typed.specs.declared.computed.Link.{Link}
 use Rattle.m2_typed.specs.declared.computed.Link.TheVariants as link
 use Rattle.m2_typed.specs.declared.computed.Place.{Place}
-use Rattle.m2_typed.specs.declared.computed.Root.TheVariants as root
-use Rattle.m2_typed.specs.declared.computed.Slot.{Slot}
 use Rattle.m2_typed.specs.declared.computed.TypedExpr.{TypedExpr}
 use Rattle.m2_typed.specs.declared.computed.TypedExpr.TheVariants as expr
 use Rattle.m2_typed.specs.declared.known_types.Types.{Types}
 use Rattle.m2_typed.specs.declared.meaning.Procedure.{Procedure}
 use Rattle.m2_typed.specs.declared.meaning.Value.{Value}
-use Rattle.m2_typed.specs.declared.meaning.Value.TheVariants as constant
 use Rattle.m2_typed.specs.declared.shape.Scalar.{Scalar as Range}
 use Rattle.m2_typed.specs.declared.shape.Signature.{Signature}
 use Rattle.m2_typed.specs.declared.typed_module.TypedModule.{TypedModule}
 use Rattle.m2_typed.specs.declared.types.TypeNo.{TypeNo}
-use Rattle.m2_typed.specs.Chains.{linked, rooted, behind}
-use Rattle.m2_typed.specs.Known.{range, scalar_at}
+use Rattle.m2_typed.specs.Chains.{linked, behind}
+use Rattle.m2_typed.specs.Known.{scalar_at}
 use Rattle.m2_typed.specs.Names.{place_of}
 use Rattle.m2_typed.specs.Types.{are_same, is_integer, is_numeric, integer, cardinal, boolean, char, bitset}
-use Rattle.m2_judged.specs.Judged.{Gathers, told, told_where, ◌▷◌}
+use Rattle.m2_judged.specs.Judged.{Gathers, told_where, ◌▷◌}
 use Rattle.m2_judged.specs.Scopes.{fields_shape, fields_at}
 use Rattle.m2_values.specs.Common.{common}
 use Rattle.m2_values.specs.Numbers.{is_between, fits}
-use Rattle.m2_values.specs.Operands.{operand_of, letter, is_number, is_truth}
-use Rattle.m2_values.specs.Operate.{takes, is_misfit, fitting, binary}
+use Rattle.m2_values.specs.Operands.{operand_of, is_number}
+use Rattle.m2_values.specs.Operate.{takes, is_misfit, binary}
 use Rattle.m2_values.specs.declared.operand.Ordinal.{Ordinal}
 use Rattle.m2_values.specs.declared.operand.Operand.{Operand}
 use Rattle.m2_values.specs.declared.operand.Operand.TheVariants as operand
@@ -46,9 +43,9 @@ use Rattle.m2_computed.specs.Agreement.{signatures_agree, headings_agree}
 use Rattle.m2_computed.specs.Classes.{class_at, signature_at, array_at}
 use Rattle.m2_computed.specs.Sides.{known_of, constant_side, side_of, sort_of, or_cardinal, run_of}
 use Rattle.m2_computed.specs.Signs.{signed_scalar, signed_value, signed, negated_value, negated}
-use Rattle.m2_computed.specs.Operations.{of_value, truth_of, step_of, set_step_of, relation_step, relation_set_step, equality_of, is_in, built, fitting_of, divisor_of, fitting_both, stepped, on_amounts, element_fits, member, set_built, on_sets, on_procedures, with_scalar, set_in, with_set, partner_of, routine_of, with_partner, between, folded, by_known, combined}
-use Rattle.m2_computed.specs.Selection.{typed_field, field_named, numbered_field, record_field, field, array_indexed, indices, asked, picked, indexed}
-use Rattle.m2_computed.specs.Suits.{scalar_suited, set_suited, procedure_suited, value_in, value_suited, bases_suit, sort_suits}
+use Rattle.m2_computed.specs.Operations.{of_value, truth_of, step_of, set_step_of, relation_step, equality_of, is_in, fitting_of, divisor_of, fitting_both, stepped, on_amounts, element_fits, member, set_built, on_sets, on_procedures, with_scalar, set_in, with_set, partner_of, routine_of, with_partner, between, folded, by_known, combined}
+use Rattle.m2_computed.specs.Selection.{typed_field, field_named, record_field, field, array_indexed, indices, asked, picked, indexed}
+use Rattle.m2_computed.specs.Suits.{scalar_suited, set_suited, procedure_suited, value_in, value_suited}
 use Rattle.m2_computed.specs.declared.class.Class.{Class}
 use Rattle.m2_computed.specs.declared.class.Class.TheVariants as class
 use Rattle.m2_computed.specs.declared.computed.Computed.{Computed}
@@ -57,7 +54,6 @@ use Rattle.m2_computed.specs.declared.computed.Designated.{Designated}
 use Rattle.m2_computed.specs.declared.computed.Designated.TheVariants as designated
 use Rattle.m2_computed.specs.declared.operate.SetStep.{SetStep}
 use Rattle.m2_computed.specs.declared.operate.SetStep.TheVariants as set_step
-use Rattle.m2_computed.specs.declared.operate.Step.{Step}
 use Rattle.m2_computed.specs.declared.select.Subscripted.{Subscripted}
 use Rattle.m2_computed.specs.declared.select.Subscripted.TheVariants as indexes
 use Rattle.m2_computed.specs.declared.side.Amount.{Amount}
@@ -66,13 +62,13 @@ use Rattle.m2_computed.specs.declared.side.Side.{Side}
 use Rattle.m2_computed.specs.declared.side.Side.TheVariants as side
 use Rattle.m2_layout.specs.Shapes.{tree}
 use Rattle.m2_layout.specs.Types.{Ty, row, component}
-use Rattle.m2_agree.specs.Scene.{IsValue, AreAmong, IsCell}
+use Rattle.m2_agree.specs.Scene.{IsValue, AreAmong}
 use Rattle.m2_agree_calls.specs.Frames.{Open, kind_at}
-use Rattle.m2_agree_trees.specs.Typed.{Context, IsNamed, IsInner, IsTaken}
+use Rattle.m2_agree_trees.specs.Typed.{Context, IsNamed}
 use Rattle.m2_formed.specs.Formed.{Holds, fine, broken}
 use Rattle.m2_formed.proofs.Basics.{then_holds, holds_weaker, told_holds, where_holds, both_holds, any_holds, Grows}
-use Rattle.m2_formed_ranges.specs.FormedRanges.{IsNumber, ValueRanged, IsBased}
-use Rattle.m2_formed_ranges.proofs.Types.{same_types, both_left, both_right}
+use Rattle.m2_formed_ranges.specs.FormedRanges.{IsNumber, ValueRanged}
+use Rattle.m2_formed_ranges.proofs.Types.{same_types}
 use Rattle.m2_formed_ranges.proofs.Subranges.{between_in, test_holds, beside_holds, SortRanged, OperandRanged, operand_ranged, fits_number}
 use Rattle.m2_formed_ranges.proofs.Values.{combined_ranged, signed_ranged, negated_ranged}
 use Rattle.m2_typing.specs.Typing.{IsWord, IsConstant, HasBase, TypesTyped, ExprTyped, PlaceTyped, GivenTyped, ScalarTyped, WordTyped, RoutineTyped, ValueTyped, DesignatedTyped}

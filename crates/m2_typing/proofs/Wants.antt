@@ -30,7 +30,7 @@ use Rattle.m2_layout.specs.Texts as texts
 use Rattle.m2_scheme.specs.Exprs.{is_own}
 use Rattle.m2_scheme.specs.Signatures.{Signatures, of_heading, of_expr, of_place, of_call}
 use Rattle.m2_scheme.specs.Signatures as signed
-use Rattle.m2_agree_trees.specs.Typed.{Context, HasText}
+use Rattle.m2_agree_trees.specs.Typed.{Context}
 use Rattle.m2_typing.specs.Wanted.{one_holds, argument_holds, call_holds, component_holds, link_holds, expr_holds, place_holds, calls_held, held_at, held_called, held_linked, held_behind, held_passed, of_link, of_component, of_argument, Wanted, wanted_of, wanted_at, wanted_called, wanted_linked, wanted_behind, wanted_passed, TextsStand, AreNeeded, Has}
 
 -- ---- one behind the other
@@ -282,7 +282,6 @@ module _ (m : TypedModule) where
 
   -- a chain is asked for what stands before the operator, and then what the operator asks for
   linked_by : (e : TypedExpr) (y : TypedExpr-F Argument Call Component Link TypedExpr Place) (l : Link) → out-TypedExpr e ≡ y → wanted_of m (linked_to y e l) ≡ beside (wanted_of m e) (wanted_linked m l)
-
   linked_by e (layer.Constant t n) l h = one_linked e l
   linked_by e (layer.Load t d) l h = one_linked e l
   linked_by e (layer.Procedure f) l h = one_linked e l

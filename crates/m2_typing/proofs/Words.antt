@@ -1,7 +1,7 @@
 -- Sets that constants are: numbers of 32 bits.
-use Rattle.std.proofs.Common.{◌≡◌, ℕ, ◌<◌, ◌≤◌, ◌^◌, ◌/◌, ℤ, pos, Bool, true, false, List, [], ◌∷◌, Option, Some, None, Result, Ok, Err, refl, sym, ap, subst, ◌∙◌, arith}
+use Rattle.std.proofs.Common.{ℕ, ◌<◌, ◌≤◌, ◌^◌, ◌/◌, ℤ, pos, Bool, true, false, List, [], ◌∷◌, Option, Some, None, Result, Ok, Err, arith}
 use Rattle.std.proofs.lemmas.Nat.{and_le_l, or_lt, xor_lt}
-use Rattle.std.specs.Prelude.{bit_and, bit_or, bit_xor, ◌-◌, not, ◌&&◌, cond, int_lt}
+use Rattle.std.specs.Prelude.{bit_and, bit_or, bit_xor, ◌-◌, cond, int_lt}
 use Rattle.std.specs.List.{fold}
 use Rattle.m2_tree.specs.declared.pos.Pos.{Pos}
 use Rattle.m2_tree.specs.declared.expr.RelOp.{RelOp}
@@ -14,22 +14,22 @@ use Rattle.m2_typed.specs.declared.meaning.Standard.{Standard}
 use Rattle.m2_typed.specs.declared.meaning.Standard.TheVariants.{Abs, Cap, Chr, High, Max, Min, Odd, Ord, Val, Inc, Dec, Incl, Excl, Halt, Put}
 use Rattle.m2_typed.specs.declared.meaning.Value.{Value}
 use Rattle.m2_typed.specs.declared.meaning.Value.TheVariants as value
-use Rattle.m2_typed.specs.Types.{char, cardinal}
-use Rattle.m2_judged.specs.Judged.{Gathers, told, told_where, both, ◌▷◌}
+use Rattle.m2_typed.specs.Types.{cardinal}
+use Rattle.m2_judged.specs.Judged.{Gathers}
 use Rattle.m2_judged.specs.declared.scope.Scope.{Scope}
 use Rattle.m2_values.specs.declared.operand.Ordinal.{Ordinal}
 use Rattle.m2_values.specs.declared.operand.Operand.{Operand}
 use Rattle.m2_values.specs.declared.operand.Operand.TheVariants as operands
 use Rattle.m2_values.specs.declared.operator.BinaryOp.{BinaryOp}
 use Rattle.m2_values.specs.declared.operator.BinaryOp.TheVariants.{Plus, Minus, Times, Over, Div, Mod, And, Or, Relation}
-use Rattle.m2_values.specs.Operands.{operand_of, letter, letter_operand, valued, truth, is_number}
+use Rattle.m2_values.specs.Operands.{operand_of, letter, letter_operand, valued, truth}
 use Rattle.m2_values.specs.Numbers.{number_at, evaluated, quotient, remainder}
 use Rattle.m2_values.specs.Common.{common}
-use Rattle.m2_values.specs.Sets.{without, set_related, on_sets, member, place, up_to, with_span, element, single, spanned}
-use Rattle.m2_values.specs.Operate.{applied, operated, on_scalars, binary, signed_scalar, signed_value, signed, negated_value, negated}
-use Rattle.m2_values.specs.Standards.{scalar_part, if_number, whole_number, absolute_part, capital_part, character_part, odd_part, ordinal_part, bound_of, converted_part, converted}
+use Rattle.m2_values.specs.Sets.{without, set_related, on_sets, member, place, up_to, with_span, element, single}
+use Rattle.m2_values.specs.Operate.{applied, operated, on_scalars, binary, signed_scalar, signed_value, negated_value}
+use Rattle.m2_values.specs.Standards.{scalar_part, whole_number, absolute_part, capital_part, character_part, odd_part, ordinal_part}
 use Rattle.m2_constants.specs.Calls.{unary_of, bound_by}
-use Rattle.m2_constants.specs.Parts.{Part, Adds, joined_bits, single_of, element_of, constant, added, with_item}
+use Rattle.m2_constants.specs.Parts.{Part, Adds, joined_bits, constant, added, with_item}
 use Rattle.m2_formed.specs.Formed.{Holds, fine, broken}
 use Rattle.m2_formed.proofs.Basics.{then_holds, told_holds, where_holds, both_holds, any_holds}
 use Rattle.m2_typing.specs.Typing.{IsWord}

@@ -1,5 +1,5 @@
 -- What a tree asks for where it stands: its texts, the types of its calls through the table, and no call of a procedure variable.
-use Rattle.std.specs.Prelude.{◌≡◌, ℕ, ◌+◌, Bool, true, false, ◌||◌, List, [], ◌∷◌, length, if◌then◌else◌}
+use Rattle.std.specs.Prelude.{◌≡◌, ℕ, ◌+◌, Bool, true, false, ◌||◌, List, [], ◌∷◌, length}
 use Rattle.m2_typed.specs.declared.computed.Argument.{Argument, Argument-F, fold-Argument}
 use Rattle.m2_typed.specs.declared.computed.Argument.TheOpen as layer
 use Rattle.m2_typed.specs.declared.computed.Call.{Call, Call-F, fold-Call}
