@@ -5,3 +5,4 @@ pub mod Words
 pub mod Operators
 pub mod Calls
 pub mod Meanings
+pub mod Carrying
