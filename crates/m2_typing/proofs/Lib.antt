@@ -6,3 +6,4 @@ pub mod Operators
 pub mod Calls
 pub mod Meanings
 pub mod Carrying
+pub mod Declaring
