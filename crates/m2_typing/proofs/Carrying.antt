@@ -1,0 +1,236 @@
+-- What one name more does, one type more, and one variable more.
+use Rattle.std.proofs.Common.{◌≡◌, ℕ, zero, suc, ◌==◌, Bool, true, false, cond, List, [], ◌∷◌, ◌++◌, length, Option, Some, None, Result, Ok, Err, refl, sym, ap, subst, ◌∙◌}
+use Rattle.std.specs.Prelude.{slice_get, nat_eq}
+use Rattle.std.specs.Map.{lookup}
+use Rattle.std.specs.Option.{is_some}
+use Rattle.m2_tree.specs.declared.pos.Pos.{Pos}
+use Rattle.m2_tree.specs.declared.name.Ident.{Ident}
+use Rattle.m2_typed.specs.declared.known_types.Types.{Types}
+use Rattle.m2_typed.specs.declared.meaning.Meaning.{Meaning}
+use Rattle.m2_typed.specs.declared.meaning.Meaning.TheVariants as meaning
+use Rattle.m2_typed.specs.declared.shape.Made.{Made}
+use Rattle.m2_typed.specs.declared.shape.Scalar.{Scalar as Range}
+use Rattle.m2_typed.specs.declared.shape.Shape.{Shape}
+use Rattle.m2_typed.specs.declared.shape.Shape.TheVariants as shape
+use Rattle.m2_typed.specs.declared.types.Home.{Home}
+use Rattle.m2_typed.specs.declared.types.Home.TheVariants.{Predeclared, Module}
+use Rattle.m2_typed.specs.declared.types.TypeNo.{TypeNo}
+use Rattle.m2_typed.specs.Known.{made_from, made_at, in_list, scalar_at}
+use Rattle.m2_typed.specs.Names.{same_name, found, entered}
+use Rattle.m2_judged.specs.Judged.{Gathers, told}
+use Rattle.m2_judged.specs.Scopes.{State, is_free, with_known, unless_declared, begun, is_begun, finished, unless_marked, marked}
+use Rattle.m2_judged.specs.declared.known.Known.{Known}
+use Rattle.m2_judged.specs.declared.known.Known.TheVariants.{Later, Ahead, Begun, Headed, Declared}
+use Rattle.m2_judged.specs.declared.known.Origin.TheVariants.{Here}
+use Rattle.m2_judged.specs.declared.scope.Scope.{Scope}
+use Rattle.m2_computed.specs.Classes.{array_shape, array_made, array_at}
+use Rattle.m2_made.specs.Made.{with_shape, with_made}
+use Rattle.m2_types.specs.Declare.{with_variable_type, with_procedure_type}
+use Rattle.m2_formed.specs.Formed.{Holds, fine, broken}
+use Rattle.m2_formed.proofs.Basics.{holds_weaker, Grows}
+use Rattle.m2_formed_scopes.proofs.Names.{get_more}
+use Rattle.m2_typing.specs.Typing.{IsIndexed}
+use Rattle.m2_typing.specs.Carried.{ShapeIndexed, AllIndexed, OthersIndexed, TypesIndexed, MeaningPlaced, KnownPlaced, NamesPlaced, ScopePlaced, Carries}
+use Rattle.m2_typing.proofs.Known.{scalar_known}
+
+-- ---- types that stay
+
+abbrev pub IsScalar : Types → TypeNo → Type 0
+IsScalar types t = is_some (scalar_at types t) ≡ true
+
+some_range : (o : Option Range) → is_some o ≡ true → (r : Range) × (o ≡ Some r)
+some_range None e = absurd cc
+some_range (Some r) e = (r, refl)
+
+module _ (a b : Types) (grows : Grows a b) where
+  pub scalar_stays : (t : TypeNo) → IsScalar a t → IsScalar b t
+  scalar_stays t e = let k = some_range (scalar_at a t) e in ap (λ (o : Option Range). is_some o) (scalar_known a b grows t k.0 k.1)
+
+  shape_stays : (s : Shape) → ShapeIndexed a s → ShapeIndexed b s
+  shape_stays (shape.Array i e) p = scalar_stays i p
+  shape_stays (shape.Scalar r) p = tt
+  shape_stays shape.Set p = tt
+  shape_stays (shape.Record fs) p = tt
+  shape_stays (shape.Procedure q) p = tt
+  shape_stays (shape.Open e) p = tt
+
+  all_stay : (ms : List Made) → AllIndexed a ms → AllIndexed b ms
+  all_stay [] p = tt
+  all_stay (m ∷ ms) p = (shape_stays m.shape p.0, all_stay ms p.1)
+
+  others_stay : (es : List (ℕ × List Made)) → OthersIndexed a es → OthersIndexed b es
+  others_stay [] p = tt
+  others_stay (e ∷ es) p = (all_stay e.1 p.0, others_stay es p.1)
+
+-- ---- variables that stay
+
+abbrev Longer : List TypeNo → List TypeNo → Type 0
+Longer us vs = (n : ℕ) (t : TypeNo) → slice_get us n ≡ Some t → slice_get vs n ≡ Some t
+
+meaning_stays : (home : ℕ) (us vs : List TypeNo) → Longer us vs → (m : Meaning) → MeaningPlaced home us m → MeaningPlaced home vs m
+meaning_stays home us vs k (meaning.Variable v) p = λ e. k v.number v.of (p e)
+meaning_stays home us vs k (meaning.Constant v) p = tt
+meaning_stays home us vs k (meaning.Type t n) p = tt
+meaning_stays home us vs k (meaning.Local v) p = tt
+meaning_stays home us vs k (meaning.Field f) p = tt
+meaning_stays home us vs k (meaning.Procedure q) p = tt
+meaning_stays home us vs k (meaning.LocalProcedure q) p = tt
+meaning_stays home us vs k meaning.Ahead p = tt
+meaning_stays home us vs k (meaning.Standard f) p = tt
+meaning_stays home us vs k (meaning.Module n) p = tt
+
+known_stays : {T : Type 0} (home : ℕ) (us vs : List TypeNo) → Longer us vs → (k : Known T) → KnownPlaced home us k → KnownPlaced home vs k
+known_stays home us vs l Later p = tt
+known_stays home us vs l Ahead p = tt
+known_stays home us vs l Begun p = tt
+known_stays home us vs l (Headed r) p = holds_weaker (λ m q. meaning_stays home us vs l m q) p
+known_stays home us vs l (Declared o r) p = holds_weaker (λ m q. meaning_stays home us vs l m q) p
+
+names_stay : {T : Type 0} (home : ℕ) (us vs : List TypeNo) → Longer us vs → (es : List (List ℕ × Known T)) → NamesPlaced home us es → NamesPlaced home vs es
+names_stay home us vs l [] p = tt
+names_stay home us vs l (e ∷ es) p = (known_stays home us vs l e.1 p.0, names_stay home us vs l es p.1)
+
+-- ---- steps
+
+pub carries_refl : {T : Type 0} (s : Scope T) → Carries s s
+carries_refl s = record { home = refl; tables = refl; types = λ t m e. e; variables = λ n t e. e; indexed = λ p. p; placed = λ p. p }
+
+pub carries_then : {T : Type 0} {a b c : Scope T} → Carries a b → Carries b c → Carries a c
+carries_then p q = record {
+  home = q.home ∙ p.home;
+  tables = q.tables ∙ p.tables;
+  types = λ t m e. q.types t m (p.types t m e);
+  variables = λ n t e. q.variables n t (p.variables n t e);
+  indexed = λ k. q.indexed (p.indexed k);
+  placed = λ k. q.placed (p.placed k);
+}
+
+-- ---- one name more
+
+names_by : {T : Type 0} (home : ℕ) (vs : List TypeNo) (b : Bool) (k : Known T) (e : List ℕ × Known T) (es more : List (List ℕ × Known T)) → KnownPlaced home vs k → NamesPlaced home vs (e ∷ es) → NamesPlaced home vs more → NamesPlaced home vs (cond b ((e.0, k) ∷ es) (e ∷ more))
+names_by home vs true k e es more p all q = (p, all.1)
+names_by home vs false k e es more p all q = (all.0, q)
+
+names_more : {T : Type 0} (home : ℕ) (vs : List TypeNo) (name : List ℕ) (k : Known T) (es : List (List ℕ × Known T)) → KnownPlaced home vs k → NamesPlaced home vs es → NamesPlaced home vs (entered name k es)
+names_more home vs name k [] p all = (p, tt)
+names_more home vs name k (e ∷ es) p all = names_by home vs (same_name name e.0) k e es (entered name k es) p all (names_more home vs name k es p all.1)
+
+pub known_carries : {T : Type 0} (s : Scope T) (name : List ℕ) (k : Known T) → KnownPlaced s.types.home s.variables k → Carries s (with_known name k s)
+known_carries s name k p = record {
+  home = refl;
+  tables = refl;
+  types = λ t m e. e;
+  variables = λ n t e. e;
+  indexed = λ q. q;
+  placed = λ q. names_more s.types.home s.variables name k s.own p q;
+}
+
+module _ (g : Gathers) (s : Scope g.Told) where
+  pub free_carries : (at : Pos) (name : List ℕ) (k : Known g.Told) (b : Bool) → KnownPlaced s.types.home s.variables k → Carries s (cond {A = State (Unit {0}) g.Told} b (with_known name k s, Ok tt) (s, told g at 31)).0
+  free_carries at name k true p = known_carries s name k p
+  free_carries at name k false p = carries_refl s
+
+  pub unless_carries : (name : Ident) (k : Known g.Told) → KnownPlaced s.types.home s.variables k → Carries s (unless_declared g s name k).0
+  unless_carries name k p = free_carries name.pos name.name k (is_free (found name.name s.own)) p
+
+  pub begun_carries : (name : Ident) → Carries s (begun g s name).0
+  begun_carries name = unless_carries name Begun tt
+
+finished_by : {T : Type 0} (s : Scope T) (name : List ℕ) (k : Known T) (b : Bool) → KnownPlaced s.types.home s.variables k → Carries s (cond b (with_known name k s) s)
+finished_by s name k true p = known_carries s name k p
+finished_by s name k false p = carries_refl s
+
+pub finished_carries : {T : Type 0} (s : Scope T) (name : Ident) (r : Result Meaning T) → Holds (MeaningPlaced s.types.home s.variables) r → Carries s (finished s name r)
+finished_carries s name r p = finished_by s name.name (Declared Here r) (is_begun (found name.name s.own)) p
+
+marked_by : {T : Type 0} (s : Scope T) (name : List ℕ) (k : Known T) (o : Option (Known T)) → KnownPlaced s.types.home s.variables k → Carries s (unless_marked name k s o)
+marked_by s name k (Some x) p = carries_refl s
+marked_by s name k None p = known_carries s name k p
+
+pub marked_carries : {T : Type 0} (s : Scope T) (name : Ident) (k : Known T) → KnownPlaced s.types.home s.variables k → Carries s (marked name k s)
+marked_carries s name k p = marked_by s name.name k (found name.name s.own) p
+
+-- ---- one type more
+
+made_more : (types : Types) (x : Made) → Grows types (record types { own = types.own ++ x ∷ [] })
+made_more types x t y e = from t.home t.number e where
+  here : (b : Bool) (n : ℕ) (other : Option Made) → cond b (slice_get types.own n) other ≡ Some y → cond b (slice_get (types.own ++ x ∷ []) n) other ≡ Some y
+  here true n other e = get_more types.own (x ∷ []) n y e
+  here false n other e = e
+
+  from : (h : Home) (n : ℕ) → made_from types h n ≡ Some y → made_from (record types { own = types.own ++ x ∷ [] }) h n ≡ Some y
+  from Predeclared n e = e
+  from (Module k) n e = here (k == types.home) n _ e
+
+all_more : (types : Types) (ms : List Made) (x : Made) → AllIndexed types ms → ShapeIndexed types x.shape → AllIndexed types (ms ++ x ∷ [])
+all_more types [] x p q = (q, tt)
+all_more types (m ∷ ms) x p q = (p.0, all_more types ms x p.1 q)
+
+pub shape_carries : {T : Type 0} (s : Scope T) (x : Made) → ShapeIndexed s.types x.shape → Carries s (with_shape s x)
+shape_carries s x p =
+    let now : Types = (with_shape s x).types in
+    let grows : Grows s.types now = made_more s.types x in
+    record {
+      home = refl;
+      tables = refl;
+      types = grows;
+      variables = λ n t e. e;
+      indexed = λ q. record { own = all_more now s.types.own x (all_stay s.types now grows s.types.own q.own) (shape_stays s.types now grows x.shape p); others = others_stay s.types now grows s.types.others q.others };
+      placed = λ q. q;
+    }
+
+pub made_carries : {T : Type 0} (s : Scope T) {r : Result Made T} → Holds (λ x. ShapeIndexed s.types x.shape) r → Carries s (with_made s r).0
+made_carries s (fine x p) = shape_carries s x p
+made_carries s (broken e) = carries_refl s
+
+-- ---- one variable more, and one procedure
+
+pub variable_type_carries : {T : Type 0} (s : Scope T) (t : Result TypeNo T) → Carries s (with_variable_type s t)
+variable_type_carries s (Ok t) = record {
+  home = refl;
+  tables = refl;
+  types = λ u m e. e;
+  variables = λ n u e. get_more s.variables (t ∷ []) n u e;
+  indexed = λ p. p;
+  placed = λ p. names_stay s.types.home s.variables (s.variables ++ t ∷ []) (λ n u e. get_more s.variables (t ∷ []) n u e) s.own p;
+}
+variable_type_carries s (Err e) = carries_refl s
+
+pub procedure_type_carries : {T : Type 0} (s : Scope T) (t : Result TypeNo T) → Carries s (with_procedure_type s t)
+procedure_type_carries s (Ok t) = record { home = refl; tables = refl; types = λ u m e. e; variables = λ n u e. e; indexed = λ p. p; placed = λ p. p }
+procedure_type_carries s (Err e) = carries_refl s
+
+-- ---- an array that is known
+
+module _ (types : Types) where
+  shape_indexed : (s : Shape) (a : TypeNo × TypeNo) → ShapeIndexed types s → array_shape s ≡ Some a → IsScalar types a.0
+  shape_indexed (shape.Array i e) a p q = let same : (i, e) ≡ a = cc in subst (λ (c : TypeNo × TypeNo). IsScalar types c.0) same p
+  shape_indexed (shape.Scalar r) a p q = absurd cc
+  shape_indexed shape.Set a p q = absurd cc
+  shape_indexed (shape.Record fs) a p q = absurd cc
+  shape_indexed (shape.Procedure s) a p q = absurd cc
+  shape_indexed (shape.Open e) a p q = absurd cc
+
+  all_indexed : (ms : List Made) (n : ℕ) (a : TypeNo × TypeNo) → AllIndexed types ms → array_made (slice_get ms n) ≡ Some a → IsScalar types a.0
+  all_indexed [] n a p q = absurd cc
+  all_indexed (m ∷ ms) zero a p q = shape_indexed m.shape a p.0 q
+  all_indexed (m ∷ ms) (suc n) a p q = all_indexed ms n a p.1 q
+
+  others_by : (b : Bool) (home : ℕ) (ms : List Made) (es : List (ℕ × List Made)) (n : ℕ) (a : TypeNo × TypeNo) → AllIndexed types ms → (array_made (in_list n (lookup (nat_eq home) es)) ≡ Some a → IsScalar types a.0)
+      → array_made (in_list n (cond b (Some ms) (lookup (nat_eq home) es))) ≡ Some a → IsScalar types a.0
+  others_by true home ms es n a p k q = all_indexed ms n a p q
+  others_by false home ms es n a p k q = k q
+
+  others_indexed : (home : ℕ) (es : List (ℕ × List Made)) (n : ℕ) (a : TypeNo × TypeNo) → OthersIndexed types es → array_made (in_list n (lookup (nat_eq home) es)) ≡ Some a → IsScalar types a.0
+  others_indexed home [] n a p q = absurd cc
+  others_indexed home (x ∷ es) n a p q = others_by (nat_eq home x.0) home x.1 es n a p.0 (λ f. others_indexed home es n a p.1 f) q
+
+  indexed_by : (h : TypesIndexed types) (home : Home) (n : ℕ) (a : TypeNo × TypeNo) → array_made (made_from types home n) ≡ Some a → IsScalar types a.0
+  indexed_by h Predeclared n a q = absurd cc
+  indexed_by h (Module home) n a q = here (home == types.home) q where
+    here : (b : Bool) → array_made (cond b (slice_get types.own n) (in_list n (lookup (nat_eq home) types.others))) ≡ Some a → IsScalar types a.0
+    here true q = all_indexed types.own n a h.own q
+    here false q = others_indexed home types.others n a h.others q
+
+pub indexed_known : (types : Types) → TypesIndexed types → (t i e : TypeNo) → array_at types t ≡ Some (i, e) → IsIndexed types i
+indexed_known types h t i e q = let k = some_range (scalar_at types i) (indexed_by types h t.home t.number (i, e) q) in record { range = k.0; at = k.1 }

@@ -1,0 +1,133 @@
+-- What declarations carry on: arrays have indices of scalar types, and variables stand where their names say.
+use Rattle.std.specs.Prelude.{◌≡◌, ℕ, true, List, [], ◌∷◌, Option, Some, None, slice_get}
+use Rattle.std.specs.Option.{is_some}
+use Rattle.m2_tree.specs.declared.decl.Module.{Module}
+use Rattle.m2_tree.specs.declared.decl.Def.{Def}
+use Rattle.m2_tree.specs.declared.decl.Decl.{Decl}
+use Rattle.m2_tree.specs.declared.decl.Heading.{Heading}
+use Rattle.m2_typed.specs.declared.types.TypeNo.{TypeNo}
+use Rattle.m2_typed.specs.declared.shape.Shape.{Shape}
+use Rattle.m2_typed.specs.declared.shape.Shape.TheVariants as shape
+use Rattle.m2_typed.specs.declared.shape.Made.{Made}
+use Rattle.m2_typed.specs.declared.meaning.Meaning.{Meaning}
+use Rattle.m2_typed.specs.declared.meaning.Meaning.TheVariants as meaning
+use Rattle.m2_typed.specs.declared.table.ModuleTypes.{ModuleTypes}
+use Rattle.m2_typed.specs.declared.table.Table.{Table}
+use Rattle.m2_typed.specs.declared.known_types.Types.{Types}
+use Rattle.m2_typed.specs.Known.{made_at, scalar_at}
+use Rattle.m2_judged.specs.Judged.{Gathers}
+use Rattle.m2_judged.specs.Scopes.{State}
+use Rattle.m2_judged.specs.declared.known.Known.{Known}
+use Rattle.m2_judged.specs.declared.known.Known.TheVariants.{Later, Ahead, Begun, Headed, Declared}
+use Rattle.m2_judged.specs.declared.scope.Scope.{Scope}
+use Rattle.m2_computed.specs.Classes.{array_at}
+use Rattle.m2_types.specs.Declare.{with_def}
+use Rattle.m2_types.specs.Compiled.{declared_in}
+use Rattle.m2_blocks.specs.Declarations.{Course, with_decl, declared_block, declared_module}
+use Rattle.m2_blocks.specs.declared.inner.Outside.{Outside}
+use Rattle.m2_blocks.specs.Inner.{entered_procedure, left_procedure}
+use Rattle.m2_formed.specs.Formed.{Holds}
+use Rattle.m2_typing.specs.Typing.{IsIndexed}
+
+-- ---- types
+
+-- the index of an array is of a scalar type
+abbrev pub ShapeIndexed : Types → Shape → Type 0
+ShapeIndexed types (shape.Array i e) = is_some (scalar_at types i) ≡ true
+ShapeIndexed types (shape.Scalar s) = Unit {0}
+ShapeIndexed types shape.Set = Unit {0}
+ShapeIndexed types (shape.Record fs) = Unit {0}
+ShapeIndexed types (shape.Procedure p) = Unit {0}
+ShapeIndexed types (shape.Open e) = Unit {0}
+
+abbrev pub AllIndexed : Types → List Made → Type 0
+AllIndexed types [] = Unit {0}
+AllIndexed types (m ∷ ms) = ShapeIndexed types m.shape × AllIndexed types ms
+
+abbrev pub OthersIndexed : Types → List (ℕ × List Made) → Type 0
+OthersIndexed types [] = Unit {0}
+OthersIndexed types (e ∷ es) = AllIndexed types e.1 × OthersIndexed types es
+
+-- all types that are known
+pub record TypesIndexed (types : Types) : Type 0 where
+  pub own : AllIndexed types types.own
+  pub others : OthersIndexed types types.others
+
+-- ---- names
+
+-- a variable of the module stands among its variables, with its type
+abbrev pub MeaningPlaced : (home : ℕ) → List TypeNo → Meaning → Type 0
+MeaningPlaced home vs (meaning.Variable v) = v.home ≡ home → slice_get vs v.number ≡ Some v.of
+MeaningPlaced home vs (meaning.Constant v) = Unit {0}
+MeaningPlaced home vs (meaning.Type t n) = Unit {0}
+MeaningPlaced home vs (meaning.Local v) = Unit {0}
+MeaningPlaced home vs (meaning.Field f) = Unit {0}
+MeaningPlaced home vs (meaning.Procedure p) = Unit {0}
+MeaningPlaced home vs (meaning.LocalProcedure p) = Unit {0}
+MeaningPlaced home vs meaning.Ahead = Unit {0}
+MeaningPlaced home vs (meaning.Standard f) = Unit {0}
+MeaningPlaced home vs (meaning.Module k) = Unit {0}
+
+abbrev pub KnownPlaced : {T : Type 0} → (home : ℕ) → List TypeNo → Known T → Type 0
+KnownPlaced home vs Later = Unit {0}
+KnownPlaced home vs Ahead = Unit {0}
+KnownPlaced home vs Begun = Unit {0}
+KnownPlaced home vs (Headed r) = Holds (MeaningPlaced home vs) r
+KnownPlaced home vs (Declared o r) = Holds (MeaningPlaced home vs) r
+
+abbrev pub NamesPlaced : {T : Type 0} → (home : ℕ) → List TypeNo → List (List ℕ × Known T) → Type 0
+NamesPlaced home vs [] = Unit {0}
+NamesPlaced home vs (e ∷ es) = KnownPlaced home vs e.1 × NamesPlaced home vs es
+
+abbrev pub ScopePlaced : {T : Type 0} → Scope T → Type 0
+ScopePlaced s = NamesPlaced s.types.home s.variables s.own
+
+-- what a module exports is no variable of this one
+abbrev pub ExportsElsewhere : (home : ℕ) → List (List ℕ × Meaning) → Type 0
+ExportsElsewhere home [] = Unit {0}
+ExportsElsewhere home (e ∷ es) = ((vs : List TypeNo) → MeaningPlaced home vs e.1) × ExportsElsewhere home es
+
+abbrev pub TablesElsewhere : (home : ℕ) → List Table → Type 0
+TablesElsewhere home [] = Unit {0}
+TablesElsewhere home (t ∷ ts) = ExportsElsewhere home t.exported × TablesElsewhere home ts
+
+-- ---- what is carried from one scope to another
+
+-- Types and variables stay, arrays keep indices of scalar types, and variables stand where their names say.
+pub record Carries {T : Type 0} (s s' : Scope T) : Type 0 where
+  pub home : s'.types.home ≡ s.types.home
+  pub tables : s'.tables ≡ s.tables
+  pub types : (t : TypeNo) (m : Made) → made_at s.types t ≡ Some m → made_at s'.types t ≡ Some m
+  pub variables : (n : ℕ) (t : TypeNo) → slice_get s.variables n ≡ Some t → slice_get s'.variables n ≡ Some t
+  pub indexed : TypesIndexed s.types → TypesIndexed s'.types
+  pub placed : ScopePlaced s → ScopePlaced s'
+
+-- ---- the laws
+
+-- the index of an array that is known
+abbrev pub IndexedAreKnown : Type 0
+IndexedAreKnown = (types : Types) → TypesIndexed types → (t i e : TypeNo) → array_at types t ≡ Some (i, e) → IsIndexed types i
+
+-- a declaration of a definition carries on,
+abbrev pub DefsCarry : Gathers → Type 0
+DefsCarry g = (st : State (Unit {0}) g.Told) (d : Def) → Carries st.0 (with_def g st d).0
+
+-- one of a block,
+abbrev pub DeclsCarry : Gathers → Type 0
+DeclsCarry g = (ends : List ℕ) (c : Course g.Told) (d : Decl) → Carries c.0 (with_decl g ends c d).0
+
+-- all declarations of a block,
+abbrev pub BlocksCarry : Gathers → Type 0
+BlocksCarry g = (ends : List ℕ) (st : State (Unit {0}) g.Told) (first : ℕ) (ds : List Decl) → Carries st.0 (declared_block g ends st first ds).0
+
+-- those of a definition, behind its imports,
+abbrev pub DefinitionsCarry : Gathers → Type 0
+DefinitionsCarry g = (m : Module) (modules : List (List ℕ × ℕ)) (s : Scope g.Told) (ds : List Def) → TablesElsewhere s.types.home s.tables → Carries s (declared_in g m modules s ds).0
+
+-- and those of a module
+abbrev pub ModulesCarry : Gathers → Type 0
+ModulesCarry g = (modules : List (List ℕ × ℕ)) (ends : List ℕ) (s : Scope g.Told) (m : Module) (ds : List Decl) → TablesElsewhere s.types.home s.tables → Carries s (declared_module g modules ends s m ds).0
+
+-- into a procedure and back the types stay
+abbrev pub ProceduresStay : Gathers → Type 0
+ProceduresStay g = (s : Scope g.Told) → ((seen : ℕ) (h : Heading) → (entered_procedure g s seen h).0.types ≡ s.types) × ((o : Outside) → (left_procedure o s).types ≡ s.types)
