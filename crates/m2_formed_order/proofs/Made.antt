@@ -213,7 +213,7 @@ module _ (g : Gathers) (base : Types) where
   list_ordered s m names fs before p k =
       let of : TypeNo = field_type m.1 in
       holds_weaker (λ x q. (q.0.0, q.1)) (names_ordered (ScopeOrdered base m.0) m.0.types of (cells_at m.0.types of) names (fs, beside g before (nothing_of m.1)) (beside_then g (nothing_of m.1) p (λ q.
-      holds_weaker (λ u x. ((based_on base s.types m.0 q.0.started x.0, x.1), (all_kept s.types m.0.types x.0.started (map (λ f. f.1) fs.names) q.1.0, q.1.1))) (type_given (k (based_here base s q.0))))))
+      holds_weaker (λ u x. ((based_on base s.types m.0 q.0.started x.0, x.1), (all_kept s.types m.0.types (known_kept s.types m.0.types x.0.started) (map (λ f. f.1) fs.names) q.1.0, q.1.1))) (type_given (k (based_here base s q.0))))))
 
 -- ---- the induction
 

@@ -53,19 +53,23 @@ known_kept a b p t e = from t.home t.number e where
   from Predeclared n g = refl
   from (Module k) n g = same k n ∙ by (k == a.home) n (in_list n (at k a.others)) g
 
-module _ (a b : Types) (p : StartedFrom a b) where
+-- all types that are known stay known
+abbrev pub StayKnown : Types → Types → Type 0
+StayKnown a b = (t : TypeNo) → is_known a t ≡ true → is_known b t ≡ true
+
+module _ (a b : Types) (p : StayKnown a b) where
   pub all_kept : (ts : List TypeNo) → AreKnown a ts → AreKnown b ts
   all_kept [] h = tt
-  all_kept (t ∷ ts) h = (known_kept a b p t h.0, all_kept ts h.1)
+  all_kept (t ∷ ts) h = (p t h.0, all_kept ts h.1)
 
   meaning_kept : (m : Meaning) → MeaningOrdered a m → MeaningOrdered b m
   meaning_kept (meaning.Constant v) h = tt
-  meaning_kept (meaning.Type t n) h = known_kept a b p t h
-  meaning_kept (meaning.Variable v) h = known_kept a b p v.of h
-  meaning_kept (meaning.Local v) h = known_kept a b p v.of h
+  meaning_kept (meaning.Type t n) h = p t h
+  meaning_kept (meaning.Variable v) h = p v.of h
+  meaning_kept (meaning.Local v) h = p v.of h
   meaning_kept (meaning.Field f) h = tt
-  meaning_kept (meaning.Procedure q) h = known_kept a b p q.heading h
-  meaning_kept (meaning.LocalProcedure q) h = known_kept a b p q.heading h
+  meaning_kept (meaning.Procedure q) h = p q.heading h
+  meaning_kept (meaning.LocalProcedure q) h = p q.heading h
   meaning_kept meaning.Ahead h = tt
   meaning_kept (meaning.Standard f) h = tt
   meaning_kept (meaning.Module k) h = tt
@@ -120,6 +124,7 @@ pub scope_more : {T : Type 0} (base : Types) (s : Scope T) (m : Made) → ScopeO
 scope_more base s m h p =
     let now : Types = (with_shape s m).types in
     let new : StartedFrom s.types now = more_started s m in
+    let stay : StayKnown s.types now = known_kept s.types now new in
     record {
       started = started_from base s.types now h.started new;
       types = record {
@@ -128,9 +133,9 @@ scope_more base s m h p =
         alike = begins_more s.types.own (at s.types.home s.types.others) m h.types.alike;
       };
       once = once_more s.types.own m h.once p.1;
-      names = names_kept s.types now new s.own h.names;
-      outer = blocks_kept s.types now new s.outer h.outer;
-      tables = tables_kept s.types now new s.tables h.tables;
+      names = names_kept s.types now stay s.own h.names;
+      outer = blocks_kept s.types now stay s.outer h.outer;
+      tables = tables_kept s.types now stay s.tables h.tables;
     }
 
 last_there : (xs : List Made) (x : Made) → is_some (slice_get (xs ++ x ∷ []) (length xs)) ≡ true
