@@ -77,7 +77,7 @@ at_behind k (y ∷ xs) ys e = by (nat_eq k y.0) (at_behind k xs ys) e where
   by true on e = absurd cc
   by false on e = on e
 
-at_first : {X : Type 0} (k : ℕ) (x : X) (ys : List (ℕ × X)) → at k ((k, x) ∷ ys) ≡ Some x
+pub at_first : {X : Type 0} (k : ℕ) (x : X) (ys : List (ℕ × X)) → at k ((k, x) ∷ ys) ≡ Some x
 at_first k x ys = ap (λ (b : Bool). cond b (Some x) (at k ys)) (itself k)
 
 pub at_placed : {X : Type 0} (k : ℕ) (xs : List (ℕ × X)) (x : X) (ys : List (ℕ × X)) → at k xs ≡ None → at k (xs ++ (k, x) ∷ ys) ≡ Some x
@@ -95,7 +95,7 @@ pub record Placed (others : List (ℕ × List Made)) (k : ℕ) (ms : List Made) 
   pub free : at k before ≡ None
   pub ordered : AreOrderedFrom before k [] ms
 
-placed_from : (before rest : List (ℕ × List Made)) (k : ℕ) (ms : List Made) → OthersOrdered before rest → at k before ≡ None → at k rest ≡ Some ms → Placed (before ++ rest) k ms
+pub placed_from : (before rest : List (ℕ × List Made)) (k : ℕ) (ms : List Made) → OthersOrdered before rest → at k before ≡ None → at k rest ≡ Some ms → Placed (before ++ rest) k ms
 placed_from before [] k ms h f e = absurd cc
 placed_from before (x ∷ rest) k ms h f e = by (nat_eq k x.0) refl (placed_from (before ++ x ∷ []) rest k ms h.1.1) e where
   here : k ≡ x.0 → Some x.1 ≡ Some ms → Placed (before ++ x ∷ rest) k ms
