@@ -85,7 +85,7 @@ module _ (types_of : ℕ → List Made) (home : ℕ) (ts : List Table) (p : Tabl
   first_own : HasOwn (first_types home ts)
   first_own l e n x g = absurd (none_own l e)
 
-  first_has : AllByRecursion (λ t. HasReached (first_types home ts) t.reached) ts
+  pub first_has : AllByRecursion (λ t. HasReached (first_types home ts) t.reached) ts
   first_has = all_have (first_types home ts) first_own ts all.there
 
   pub first_formed : {T : Type 0} → ScopeFormed (first_types home ts) (first_scope {T = T} home ts)
@@ -211,10 +211,10 @@ module _ (types_of : ℕ → List Made) (below : ℕ) (t : Table) (ts : List Tab
   last_part F [] y h = h.0
   last_part F (x ∷ xs) y h = last_part F xs y h.1
 
-  tables_have : AllByRecursion (λ u. HasReached begun_types u.reached) ts
+  pub tables_have : AllByRecursion (λ u. HasReached begun_types u.reached) ts
   tables_have = first_part (λ (u : Table). HasReached begun_types u.reached) ts (t ∷ []) begun_has
 
-  own_has : HasReached begun_types t.reached
+  pub own_has : HasReached begun_types t.reached
   own_has = last_part (λ (u : Table). HasReached begun_types u.reached) ts t begun_has
 
   own_reaches : Reaches (others_of (ts ++ t ∷ [])) t.reached
