@@ -1,0 +1,4 @@
+pub mod Gathered
+pub mod Begins
+pub mod Definitions
+pub mod Walks
