@@ -1,0 +1,5 @@
+pub mod Rooms
+pub mod Nested
+pub mod Blocks
+pub mod Procedures
+pub mod Modules
