@@ -1,0 +1,4 @@
+pub mod Wants
+pub mod Constructs
+pub mod Fixed
+pub mod Within
