@@ -50,18 +50,18 @@ module _ (x : Context) where
   pub both_stand : (P : (a b : ℕ) → Type 0) (u v : Wanted) → ((a b c : ℕ) → a + characters u.texts ≡ b → b + characters v.texts ≡ c → Has x a u → Has x b v → P a c) → (a : ℕ) → Has x a (beside u v) → P a (a + characters (u.texts ++ v.texts))
   both_stand P u v f a h = f a (a + characters u.texts) (a + characters (u.texts ++ v.texts)) refl (seam a u.texts v.texts) (has_first x a u v h) (has_second x a u v h)
 
+-- a condition
+pub record TestTyped (x : Context) (ws : List Ty) (e : TypedExpr) : Type 0 where
+  pub of : TypeNo
+  pub typed : ExprTyped x ws e of
+  pub among : AreAmong x.home.types of boolean
+
 module _ (x : Context) (result : Gives) where
   abbrev m : TypedModule
   m = x.home
 
   abbrev types : Types
   types = x.home.types
-
-  -- a condition
-  pub record TestTyped (ws : List Ty) (e : TypedExpr) : Type 0 where
-    pub of : TypeNo
-    pub typed : ExprTyped x ws e of
-    pub among : AreAmong types of boolean
 
   module _ (ws : List Ty) where
     expr_to : (e : TypedExpr) (t : TypeNo) → ExprTyped x ws e t → (a b : ℕ) → a + characters (texts_of e) ≡ b → Has x a (wanted_of m e) → IsExpr x ws a b e t
@@ -73,7 +73,7 @@ module _ (x : Context) (result : Gives) where
     given_to : (e : TypedExpr) (t : TypeNo) → GivenTyped x ws e t → (a b : ℕ) → a + characters (texts_of e) ≡ b → Has x a (wanted_of m e) → IsGiven x result ws a b e t
     given_to e t p a b q h = record { of = p.of; is = expr_to e p.of p.typed a b q h; taken = p.taken }
 
-    test_to : (e : TypedExpr) → TestTyped ws e → (a b : ℕ) → a + characters (texts_of e) ≡ b → Has x a (wanted_of m e) → IsTest x result ws a b e
+    test_to : (e : TypedExpr) → TestTyped x ws e → (a b : ℕ) → a + characters (texts_of e) ≡ b → Has x a (wanted_of m e) → IsTest x result ws a b e
     test_to e p a b q h = record { of = p.of; is = expr_to e p.of p.typed a b q h; among = p.among }
 
   module _ (ws : List Ty) (l : Bool) where
@@ -171,12 +171,12 @@ module _ (x : Context) (result : Gives) where
     pub halt_typed : StmtTyped x result ws l stmt.Halt
     halt_typed = stmt_at stmt.Halt (wants_halt m) (λ a. typed.Halt ws l a)
 
-    pub if_typed : (e : TypedExpr) (body : List TypedStmt) → TestTyped ws e → EachTyped body → StmtTyped x result ws l (stmt.If e body None)
+    pub if_typed : (e : TypedExpr) (body : List TypedStmt) → TestTyped x ws e → EachTyped body → StmtTyped x result ws l (stmt.If e body None)
     if_typed e body p q =
         stmt_of (stmt.If e body None) (wanted_of m e) (beside (all_in m body) nothing) (wants_if m e body) (λ a b c i j h k.
         typed.If ws l a b c e body (test_to ws e p a b i h) (row_to body q b c (last_end b (all_in m body).texts ∙ j) (has_first x b (all_in m body) nothing k)))
 
-    pub if_else_typed : (e : TypedExpr) (body others : List TypedStmt) → TestTyped ws e → EachTyped body → EachTyped others → StmtTyped x result ws l (stmt.If e body (Some others))
+    pub if_else_typed : (e : TypedExpr) (body others : List TypedStmt) → TestTyped x ws e → EachTyped body → EachTyped others → StmtTyped x result ws l (stmt.If e body (Some others))
     if_else_typed e body others p q r =
         stmt_of (stmt.If e body (Some others)) (wanted_of m e) (beside (all_in m body) (all_in m others)) (wants_if_else m e body others) (λ a b z i j h k.
         typed.IfElse ws l a b (b + characters (all_in m body).texts) z e body others (test_to ws e p a b i h) (row_to body q b _ refl (has_first x b (all_in m body) (all_in m others) k))
@@ -193,10 +193,10 @@ module _ (x : Context) (result : Gives) where
         typed.CaseElse ws l a b (b + characters (all_armed m arms).texts) z u e arms others (expr_to ws e u p a b i h) (arms_to arms q b _ refl (has_first x b (all_armed m arms) (all_in m others) k))
         (row_to others r _ z (seam b (all_armed m arms).texts (all_in m others).texts ∙ j) (has_second x b (all_armed m arms) (all_in m others) k)))
 
-    pub while_typed : (e : TypedExpr) (body : List TypedStmt) → TestTyped ws e → EachTyped body → StmtTyped x result ws l (stmt.While e body)
+    pub while_typed : (e : TypedExpr) (body : List TypedStmt) → TestTyped x ws e → EachTyped body → StmtTyped x result ws l (stmt.While e body)
     while_typed e body p q = stmt_of (stmt.While e body) (wanted_of m e) (all_in m body) (wants_while m e body) (λ a b c i j h k. typed.While ws l a b c e body (test_to ws e p a b i h) (row_to body q b c j k))
 
-    pub repeat_typed : (body : List TypedStmt) (e : TypedExpr) → EachTyped body → TestTyped ws e → StmtTyped x result ws l (stmt.Repeat body e)
+    pub repeat_typed : (body : List TypedStmt) (e : TypedExpr) → EachTyped body → TestTyped x ws e → StmtTyped x result ws l (stmt.Repeat body e)
     repeat_typed body e q p = stmt_of (stmt.Repeat body e) (all_in m body) (wanted_of m e) (wants_repeat m body e) (λ a b c i j h k. typed.Repeat ws l a b c body e (row_to body q a b i h) (test_to ws e p b c j k))
 
     pub return_typed : result ≡ None → StmtTyped x result ws l stmt.Return

@@ -2,3 +2,4 @@ pub mod Wants
 pub mod Constructs
 pub mod Fixed
 pub mod Within
+pub mod Steps
