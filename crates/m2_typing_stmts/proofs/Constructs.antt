@@ -1,5 +1,5 @@
 -- Statements whose parts are typed are typed, wherever what they ask for is there.
-use Rattle.std.proofs.Common.{◌≡◌, ℕ, ◌+◌, ℤ, pos, negsuc, Bool, true, false, List, [], ◌∷◌, ◌++◌, length, map, Option, Some, None, refl, sym, ap, subst, ◌∙◌, arith}
+use Rattle.std.proofs.Common.{◌≡◌, ℕ, ◌+◌, ℤ, pos, negsuc, Bool, true, false, List, [], ◌∷◌, ◌++◌, length, Some, None, refl, sym, ap, subst, ◌∙◌, arith}
 use Rattle.std.specs.Prelude.{◌≤◌, ◌≤ℤ◌}
 use Rattle.std.specs.List.{AllByRecursion}
 use Rattle.m2_typed.specs.declared.computed.Call.{Call}
@@ -19,7 +19,7 @@ use Rattle.m2_typed.specs.Types.{boolean, char, bitset}
 use Rattle.m2_typed.specs.Known.{scalar_at}
 use Rattle.m2_layout.specs.Types.{Ty, Scalar, Natural, Cell, Array, IsPlain}
 use Rattle.m2_layout.specs.Shapes.{tree}
-use Rattle.m2_layout.specs.Texts.{Texts, characters, texts_of, texts_at, texts_in, texts_armed, body_texts}
+use Rattle.m2_layout.specs.Texts.{Texts, characters, texts_of, texts_at}
 use Rattle.m2_scheme.specs.Cells.{base_of}
 use Rattle.m2_agree.specs.Scene.{AreAmong, IsCell, AreLabels}
 use Rattle.m2_agree_calls.specs.Passing.{Result as Gives}

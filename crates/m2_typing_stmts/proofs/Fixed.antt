@@ -1,7 +1,6 @@
 -- What an expression is as a constant expression, found beside what it means, is what it is alone.
-use Rattle.std.proofs.Common.{◌≡◌, ℕ, List, [], ◌∷◌, Option, Some, None, refl, sym, ap, ◌∙◌}
+use Rattle.std.proofs.Common.{◌≡◌, List, [], ◌∷◌, Option, Some, None, refl, sym, ap, ◌∙◌}
 use Rattle.std.specs.Prelude.{map}
-use Rattle.m2_tree.specs.declared.pos.Pos.{Pos}
 use Rattle.m2_tree.specs.declared.expr.MulOp.{MulOp}
 use Rattle.m2_tree.specs.declared.expr.AddOp.{AddOp}
 use Rattle.m2_tree.specs.declared.expr.Operator.{Operator}

@@ -1,7 +1,6 @@
 -- Statements without others inside, and what stands before and around others.
-use Rattle.std.proofs.Common.{◌≡◌, ℕ, ℤ, pos, negsuc, ◌==◌, Bool, true, false, ◌&&◌, ◌||◌, cond, List, [], ◌∷◌, ◌++◌, Option, Some, None, Result, Ok, Err, refl, sym, ap, subst, ◌∙◌, arith}
-use Rattle.std.specs.Prelude.{◌≤ℤ◌, not, int_lt, if◌then◌else◌}
-use Rattle.std.specs.List.{list_all, fold}
+use Rattle.std.proofs.Common.{◌≡◌, ℕ, ℤ, pos, negsuc, ◌==◌, Bool, true, false, ◌&&◌, ◌||◌, cond, List, Option, Some, None, Result, Ok, Err, refl, sym, ap, subst, ◌∙◌, arith}
+use Rattle.std.specs.Prelude.{◌≤ℤ◌, not, int_lt}
 use Rattle.std.proofs.lemmas.Int.{ints}
 use Rattle.m2_tree.specs.declared.pos.Pos.{Pos}
 use Rattle.m2_tree.specs.declared.name.Ident.{Ident}
@@ -14,16 +13,12 @@ use Rattle.m2_typed.specs.declared.computed.TypedExpr.TheVariants as expr
 use Rattle.m2_typed.specs.declared.known_types.Types.{Types}
 use Rattle.m2_typed.specs.declared.meaning.LocalKind.{LocalKind}
 use Rattle.m2_typed.specs.declared.meaning.LocalKind.TheVariants as kind
-use Rattle.m2_typed.specs.declared.meaning.LocalVariable.{LocalVariable}
 use Rattle.m2_typed.specs.declared.meaning.Meaning.{Meaning}
 use Rattle.m2_typed.specs.declared.meaning.Meaning.TheVariants as meaning
-use Rattle.m2_typed.specs.declared.meaning.Value.{Value}
-use Rattle.m2_typed.specs.declared.shape.Scalar.{Scalar as Range}
 use Rattle.m2_typed.specs.declared.statement.TypedStmt.{TypedStmt}
 use Rattle.m2_typed.specs.declared.statement.TypedStmt.TheVariants as step
 use Rattle.m2_typed.specs.declared.types.TypeNo.{TypeNo}
 use Rattle.m2_typed.specs.Chains.{rooted}
-use Rattle.m2_typed.specs.Known.{scalar_at}
 use Rattle.m2_typed.specs.Types.{are_same, is_numeric, integer, cardinal, boolean}
 use Rattle.m2_judged.specs.Judged.{Gathers, told_where, both, ◌▷◌}
 use Rattle.m2_judged.specs.declared.scope.Scope.{Scope}
@@ -33,7 +28,7 @@ use Rattle.m2_values.specs.declared.operand.Ordinal.{Ordinal}
 use Rattle.m2_values.specs.Operands.{operand_of, is_number}
 use Rattle.m2_values.specs.Numbers.{is_between, fits as number_fits}
 use Rattle.m2_values.specs.Standards.{scalar_part, if_number}
-use Rattle.m2_constants.specs.Parts.{Part, part, constant}
+use Rattle.m2_constants.specs.Parts.{Part, constant}
 use Rattle.m2_computed.specs.Classes.{class_at}
 use Rattle.m2_computed.specs.Sides.{side_of}
 use Rattle.m2_computed.specs.Suits.{sort_suits, bases_suit, scalar_suited, value_suited}
@@ -58,17 +53,17 @@ use Rattle.m2_agree_trees.specs.Typed.{Context}
 use Rattle.m2_agree_stmts.specs.Typed.{IsControl, OfModule, OfFrame}
 use Rattle.m2_formed.specs.Formed.{Holds, fine, broken}
 use Rattle.m2_formed.proofs.Basics.{then_holds, told_holds, both_holds, any_holds}
-use Rattle.m2_formed_ranges.specs.FormedRanges.{IsNumber, ValueRanged, ScopeRanged, fits}
-use Rattle.m2_formed_ranges.proofs.Types.{same_types, both_left, both_right}
-use Rattle.m2_formed_ranges.proofs.Subranges.{from_le, not_less, through, between_in, SortRanged, OperandRanged, operand_ranged, fits_number}
+use Rattle.m2_formed_ranges.specs.FormedRanges.{ValueRanged, ScopeRanged, fits}
+use Rattle.m2_formed_ranges.proofs.Types.{same_types, both_left}
+use Rattle.m2_formed_ranges.proofs.Subranges.{not_less, through, between_in, SortRanged, OperandRanged, operand_ranged, fits_number}
 use Rattle.m2_formed_ranges.proofs.Constants.{constants_ranged}
 use Rattle.m2_ranges.specs.Ranges.{AreRanged}
 use Rattle.m2_ranges.proofs.Known.{range_at}
-use Rattle.m2_typing.specs.Typing.{HasBase, kind_of, ExprTyped, PlaceTyped, GivenTyped, ScalarTyped, ValueTyped, DesignatedTyped, MeaningTyped, IsTyped}
-use Rattle.m2_typing.proofs.Known.{ClassIs, class_is, HasCell, ranged_cell, has_base, among_base, number_value}
+use Rattle.m2_typing.specs.Typing.{HasBase, kind_of, PlaceTyped, GivenTyped, ValueTyped, DesignatedTyped, MeaningTyped, IsTyped}
+use Rattle.m2_typing.proofs.Known.{ClassIs, class_is, ranged_cell, has_base, among_base, number_value}
 use Rattle.m2_typing.proofs.Constructs as made
-use Rattle.m2_typing.proofs.Operators.{AmountTyped, SideTyped, RunTyped, SomeTyped, side_typed}
-use Rattle.m2_steps.specs.Simple.{meant_if, exited, given_back, returned, condition, selector_amount, selector_of, selected, record_by, record_of}
+use Rattle.m2_typing.proofs.Operators.{where_not, AmountTyped, SideTyped, SomeTyped, side_typed, suited_typed}
+use Rattle.m2_steps.specs.Simple.{meant_if, exited, given_back, returned, selector_amount, selector_of, selected, record_by, record_of}
 use Rattle.m2_steps.specs.Control.{controlled_as, controlled, is_own, control_by, control_of, start_at, limit_number, limit_by, limit_at, is_zero, step_number, step_of, type_of, base_of, course, course_of, repeated_for}
 use Rattle.m2_steps.specs.declared.around.Around.{Around}
 use Rattle.m2_steps.specs.declared.control.Control.{Control}
@@ -76,12 +71,6 @@ use Rattle.m2_steps.specs.declared.control.Course.{Course}
 use Rattle.m2_typing_stmts.specs.TypingStmts.{fits_step, StmtTyped, AreReturned}
 use Rattle.m2_typing_stmts.proofs.Constructs.{TestTyped, EachTyped, exit_typed, return_typed, give_typed, for_typed}
 use Rattle.m2_typing_stmts.proofs.Fixed.{fixed_is}
-
--- ---- tests
-
-pub where_not : (g : Gathers) {A : Type 0} {P : A → Type 0} (b : Bool) (at : Pos) (n : ℕ) {r : Result A g.Told} → (b ≡ true → Holds P r) → Holds P (told_where g (not b) at n r)
-where_not g true at n k = k refl
-where_not g false at n k = broken _
 
 -- ---- numbers of 32 bits
 
@@ -97,8 +86,7 @@ untyped_value types None n p = by (int_lt n (pos 0)) refl where
   by true e = (p.0, grind (arith, e))
   by false e = (not_less n (pos 0) e, p.1)
 
-module _ (g : Gathers) (x : Context) (ws : List Ty) (opens : ℕ → Bool) (s : Scope g.Told) (h : IsTyped g x ws opens s)
-    (suits : (number : ℕ) (t : TypeNo) (at : Pos) (v : Computed) → ValueTyped x ws v → Holds (λ e. GivenTyped x ws e t) (value_suited g number s.types t at v)) where
+module _ (g : Gathers) (x : Context) (ws : List Ty) (opens : ℕ → Bool) (s : Scope g.Told) (h : IsTyped g x ws opens s) where
   abbrev types : Types
   types = x.home.types
 
@@ -182,7 +170,7 @@ module _ (g : Gathers) (x : Context) (ws : List Ty) (opens : ℕ → Bool) (s : 
     exited_typed at a = exited_as at a.in_loop
 
     given_back_typed : (t : Result TypeNo g.Told) (at : Pos) (looped : Bool) {v : Result Computed g.Told} → AreReturned types (Some t) result → Value_ v → Holds (StmtTyped x result ws looped) (given_back g s.types t at v)
-    given_back_typed (Ok t) at looped e (fine v k) = then_holds (suits 41 t at v k) (λ y q. fine (step.Give t y) (give_typed x result ws looped t y e q))
+    given_back_typed (Ok t) at looped e (fine v k) = then_holds (suited_typed x ws h.all g s.types h.types 41 t at v k) (λ y q. fine (step.Give t y) (give_typed x result ws looped t y e q))
     given_back_typed (Ok t) at looped e (broken z) = broken z
     given_back_typed (Err y) at looped e (fine v k) = broken y
     given_back_typed (Err y) at looped e (broken z) = broken (g.join y z)
@@ -300,7 +288,7 @@ module _ (g : Gathers) (x : Context) (ws : List Ty) (opens : ℕ → Bool) (s : 
       pub by : InWord c.by
 
     start_typed : (at : Pos) (t : TypeNo) {v : Result Computed g.Told} → Value_ v → Holds (λ e. GivenTyped x ws e t) (start_at g s.types at (Ok t) v)
-    start_typed at t (fine v k) = suits 41 t at v k
+    start_typed at t (fine v k) = suited_typed x ws h.all g s.types h.types 41 t at v k
     start_typed at t (broken e) = broken e
 
     course_is : (c : Control) → ControlTyped c → (d : Course) → d.control ≡ c → GivenTyped x ws d.start c.of → Some_ d.limit → InWord d.by → CourseTyped d

@@ -1,8 +1,7 @@
 -- What each statement asks for: what its parts ask for, one behind the other.
-use Rattle.std.proofs.Common.{◌≡◌, ℕ, ◌+◌, Bool, true, false, ◌||◌, List, [], ◌∷◌, ◌++◌, map, Option, Some, None, refl, sym, ap, subst, ◌∙◌, arith}
+use Rattle.std.proofs.Common.{◌≡◌, ℕ, Bool, true, false, ◌||◌, List, [], ◌∷◌, ◌++◌, map, Option, Some, None, refl, sym, ap, ◌∙◌}
 use Rattle.std.specs.Prelude.{ℤ}
 use Rattle.std.specs.List.{flat_map, list_any}
-use Rattle.std.specs.Option.{option_map}
 use Rattle.std.proofs.lemmas.List.{append-nil}
 use Rattle.m2_typed.specs.declared.computed.Call.{Call}
 use Rattle.m2_typed.specs.declared.computed.Place.{Place}
@@ -19,10 +18,9 @@ use Rattle.m2_layout.specs.Texts.{Texts, characters, texts_in, texts_armed, body
 use Rattle.m2_layout.specs.Texts as texts
 use Rattle.m2_scheme.specs.Signatures.{Signatures, of_step}
 use Rattle.m2_scheme.specs.Signatures as signed
-use Rattle.m2_agree_trees.specs.Typed.{Context}
-use Rattle.m2_typing.specs.Wanted.{one_holds, Wanted, wanted_of, wanted_at, wanted_called, Has}
-use Rattle.m2_typing.proofs.Wants.{nothing, beside, made, made_same, characters_append, seam}
-use Rattle.m2_typing_stmts.specs.Asked.{others_hold, step_holds, arm_holds, held_in, held_armed, of_arm, wanted_in, wanted_armed, wanted_by}
+use Rattle.m2_typing.specs.Wanted.{one_holds, Wanted, wanted_of, wanted_at, wanted_called}
+use Rattle.m2_typing.proofs.Wants.{nothing, beside, made, made_same}
+use Rattle.m2_typing_stmts.specs.Asked.{step_holds, arm_holds, held_in, held_armed, of_arm, wanted_in, wanted_armed, wanted_by}
 
 module _ (m : TypedModule) where
   stmt_texts : (e : TypedStmt) (y : TypedStmt-F TypedStmt TypedArm) → out-TypedStmt e ≡ y → texts_in e ≡ texts.step_texts (map-TypedStmt TypedStmt TypedArm Texts Texts texts_in texts_armed y)

@@ -8,7 +8,6 @@ use Rattle.m2_tree.specs.declared.stmt.Rest.TheOpen as layer
 use Rattle.m2_tree.specs.declared.stmt.Stmt.{Stmt, Stmt-F, fold-Stmt}
 use Rattle.m2_tree.specs.declared.stmt.Arm.{Arm, Arm-F, fold-Arm}
 use Rattle.m2_typed.specs.declared.known_types.Types.{Types}
-use Rattle.m2_typed.specs.declared.statement.TypedArm.{TypedArm}
 use Rattle.m2_typed.specs.declared.statement.TypedStmt.{TypedStmt}
 use Rattle.m2_typed.specs.declared.types.TypeNo.{TypeNo}
 use Rattle.m2_typed.specs.Known.{scalar_at}
