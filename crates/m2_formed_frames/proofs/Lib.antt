@@ -1,4 +1,5 @@
 pub mod Rooms
+pub mod Bytes
 pub mod Nested
 pub mod Blocks
 pub mod Procedures

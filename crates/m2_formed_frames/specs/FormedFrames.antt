@@ -1,5 +1,6 @@
--- Where procedures stand, and when their frames have room.
-use Rattle.std.specs.Prelude.{◌≡◌, ℕ, suc, ◌<◌, ◌^◌, All, List, Option, Some, None}
+-- Where procedures stand, when their frames have room, and what the characters of texts are.
+use Rattle.std.specs.Prelude.{◌≡◌, ℕ, suc, ◌<◌, ◌^◌, true, All, List, Option, Some, None}
+use Rattle.wasm_binary.specs.Binary.{module_fits}
 use Rattle.m2_tree.specs.declared.decl.Module.{Module}
 use Rattle.m2_typed.specs.declared.table.Table.{Table}
 use Rattle.m2_typed.specs.declared.typed_module.Routine.{Routine}
@@ -9,7 +10,9 @@ use Rattle.m2_judged.specs.Judged.{Gathers}
 use Rattle.m2_layout.specs.Sizes.{size}
 use Rattle.m2_layout.specs.Frames.{frame}
 use Rattle.m2_layout.specs.Layouts.{too_large}
+use Rattle.m2_layout.specs.Texts.{module_texts}
 use Rattle.m2_scheme.specs.Functions.{routine_of}
+use Rattle.m2_scheme.specs.Modules.{all_characters, typed_module}
 use Rattle.m2_check.specs.Checks.{checked}
 use Rattle.m2_formed.specs.Formed.{Holds}
 use Rattle.m2_formed_modules.specs.FormedModules.{AreFor}
@@ -27,6 +30,12 @@ pub record HaveRoom (m : TypedModule) : Type 0 where
 -- the build refuses what has none
 abbrev pub FramesHaveRoom : Type 0
 FramesHaveRoom = (m : TypedModule) → too_large m ≡ None → HaveRoom m
+
+-- ---- texts
+
+-- Where the module has a spelling, as each has that the build makes, the characters of its texts are bytes.
+abbrev pub TextsAreBytes : Type 0
+TextsAreBytes = (m : TypedModule) → module_fits (typed_module m) ≡ true → All (λ b. b < 256) (all_characters (module_texts m))
 
 -- ---- procedures
 
