@@ -10,7 +10,6 @@ use Rattle.wasm_code.specs.Instructions.{code}
 use Rattle.wasm_binary.specs.Binary.{func_type, import, table_type, memory_type, global, export, element, body, data_segment, types_of, bodies_spelling, module_fits}
 use Rattle.m2_scheme.specs.Modules.{all_characters, data_of, typed_module}
 use Rattle.m2_layout.specs.Texts.{module_texts}
-use Rattle.m2_typed.specs.declared.typed_module.TypedModule.{TypedModule}
 use Rattle.m2_formed_imports.proofs.Lists.{all_each}
 use Rattle.m2_formed_frames.specs.FormedFrames.{TextsAreBytes}
 
