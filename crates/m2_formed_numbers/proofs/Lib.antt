@@ -1,0 +1,4 @@
+pub mod Growth
+pub mod TypeExprs
+pub mod Declarations
+pub mod Entered
