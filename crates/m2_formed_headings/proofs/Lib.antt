@@ -1,0 +1,5 @@
+pub mod Lists
+pub mod Steps
+pub mod TypeExprs
+pub mod Declarations
+pub mod Resolving
