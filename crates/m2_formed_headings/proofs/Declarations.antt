@@ -135,7 +135,7 @@ module _ (g : Gathers) where
 
   variable_type_changes : (marks : Marks g.Told) (s : Scope g.Told) (t : Result TypeNo g.Told) → Changes marks s (with_variable_type s t)
   variable_type_changes marks s (Err e) = changes_refl marks s
-  variable_type_changes marks s (Ok t) = same_changes marks s (with_variable_type s (Ok t)) refl refl refl refl
+  variable_type_changes marks s (Ok t) = same_changes marks s (with_variable_type s (Ok t)) refl refl refl (λ t x e. e) refl
 
   -- how a name of a list is finished: a variable of the module, or of a procedure
   module _ (finish : Scope g.Told → Ident → Scope g.Told) (one : (s : Scope g.Told) (x : Ident) → Changes (λ z. marked_later z x) s (finish s x)) where
@@ -184,7 +184,7 @@ module _ (g : Gathers) where
 
   procedure_type_changes : (marks : Marks g.Told) (s : Scope g.Told) (t : Result TypeNo g.Told) → Changes marks s (with_procedure_type s t)
   procedure_type_changes marks s (Err e) = changes_refl marks s
-  procedure_type_changes marks s (Ok t) = same_changes marks s (with_procedure_type s (Ok t)) refl refl refl refl
+  procedure_type_changes marks s (Ok t) = same_changes marks s (with_procedure_type s (Ok t)) refl refl refl (λ t x e. e) refl
 
   procedure_type_own : (s : Scope g.Told) (t : Result TypeNo g.Told) → (with_procedure_type s t).own ≡ s.own
   procedure_type_own s (Ok t) = refl

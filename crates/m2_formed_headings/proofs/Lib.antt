@@ -3,3 +3,5 @@ pub mod Steps
 pub mod TypeExprs
 pub mod Declarations
 pub mod Resolving
+pub mod Agreeing
+pub mod Headings

@@ -39,15 +39,15 @@ marked_append s [] ys = refl
 marked_append s (x ∷ xs) ys = marked_append (marked_decl s x) xs ys
 
 module _ (g : Gathers) (ends : List ℕ) where
-  declared_append : (c : Course g.Told) (xs ys : List Decl) → declared_by g ends c (xs ++ ys) ≡ declared_by g ends (declared_by g ends c xs) ys
+  pub declared_append : (c : Course g.Told) (xs ys : List Decl) → declared_by g ends c (xs ++ ys) ≡ declared_by g ends (declared_by g ends c xs) ys
   declared_append c [] ys = refl
   declared_append c (x ∷ xs) ys = declared_append (with_decl g ends c x) xs ys
 
-  block_marked : (ds : List Decl) → MarksAll {T = g.Told} (λ z. marked_by z ds)
+  pub block_marked : (ds : List Decl) → MarksAll {T = g.Told} (λ z. marked_by z ds)
   block_marked [] s = marked_refl s
   block_marked (d ∷ ds) s = marked_then (decl_marked g d s) (block_marked ds (marked_decl s d))
 
-  block_changes : (ds : List Decl) (c : Course g.Told) → Changes (λ z. marked_by z ds) c.0 (declared_by g ends c ds).0
+  pub block_changes : (ds : List Decl) (c : Course g.Told) → Changes (λ z. marked_by z ds) c.0 (declared_by g ends c ds).0
   block_changes [] c = changes_refl _ c.0
   block_changes (d ∷ ds) c =
       changes_then (changes_first (λ z. marked_decl z d) (λ z. marked_by z ds) (block_marked ds) (decl_changes g ends c d))
@@ -89,7 +89,7 @@ module _ (g : Gathers) (ends : List ℕ) (a : Scope g.Told) (first : ℕ) (befor
   to_here : Changes (λ z. marked_by z before) m here
   to_here = block_changes g ends before (begun g ends a first before d rest)
 
-  to_last : Keeps here last
+  pub to_last : Keeps here last
   to_last =
       let c : Course g.Told = declared_by g ends (begun g ends a first before d rest) before in
       subst (λ (e : Course g.Told). Keeps here e.0) (sym (declared_append g ends (begun g ends a first before d rest) before (d ∷ rest))) ((block_changes g ends (d ∷ rest) c).keeps)
@@ -185,7 +185,7 @@ module _ (g : Gathers) (ends : List ℕ) (a : Scope g.Told) (first : ℕ) (befor
     unsettled at (Headed r) x s e n = absurd cc
     unsettled at (Declared o r) x s e n = awaiting o r x s e n
 
-    here_withs : here.withs ≡ []
+    pub here_withs : here.withs ≡ []
     here_withs = to_here.keeps.withs ∙ ((block_marked g ends (all g ends a first before d rest) a).keeps.withs ∙ no_withs)
 
     plain : (s : Scope g.Told) (name : Ident) → s.withs ≡ [] → looked_up g s name ≡ means_as g name.pos (known name.name s)

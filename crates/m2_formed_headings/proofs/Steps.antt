@@ -1,10 +1,16 @@
 -- What marks and declarations leave as it was: names that are there, and what names that are settled mean.
-use Rattle.std.proofs.Common.{◌≡◌, ℕ, Bool, true, false, not, cond, List, [], ◌∷◌, Option, Some, None, Result, Ok, Err, refl, sym, ap, subst, ◌∙◌}
+use Rattle.std.proofs.Common.{◌≡◌, ℕ, ◌==◌, Bool, true, false, not, cond, List, [], ◌∷◌, ◌++◌, Option, Some, None, Result, Ok, Err, refl, sym, ap, subst, ◌∙◌}
+use Rattle.std.specs.Prelude.{slice_get}
 use Rattle.std.specs.List.{fold}
 use Rattle.m2_tree.specs.declared.name.Ident.{Ident}
 use Rattle.m2_typed.specs.declared.meaning.Meaning.{Meaning}
 use Rattle.m2_typed.specs.declared.shape.Made.{Made}
+use Rattle.m2_typed.specs.declared.known_types.Types.{Types}
 use Rattle.m2_typed.specs.declared.table.Table.{Table}
+use Rattle.m2_typed.specs.declared.types.Home.{Home}
+use Rattle.m2_typed.specs.declared.types.Home.TheVariants as home
+use Rattle.m2_typed.specs.declared.types.TypeNo.{TypeNo}
+use Rattle.m2_typed.specs.Known.{made_from, made_at}
 use Rattle.m2_typed.specs.Names.{same_name, found, entered}
 use Rattle.m2_judged.specs.Judged.{Gathers, told}
 use Rattle.m2_judged.specs.Scopes.{State, is_free, with_known, unless_declared, begun, is_begun, finished, unless_marked, marked}
@@ -17,7 +23,7 @@ use Rattle.m2_judged.specs.declared.scope.Scope.{Scope}
 use Rattle.m2_made.specs.Made.{with_shape, with_made}
 use Rattle.m2_types.specs.Marking.{Marks}
 use Rattle.m2_formed_scopes.specs.FormedScopes.{picked, is_awaiting}
-use Rattle.m2_formed_scopes.proofs.Names.{same_is, found_self, kept_entered}
+use Rattle.m2_formed_scopes.proofs.Names.{get_more, same_is, found_self, kept_entered}
 use Rattle.m2_formed_headings.proofs.Lists.{index, found_other, index_entered, there_entered}
 
 -- a name that no declaration changes any more
@@ -47,25 +53,39 @@ begun_unsettled (Some Begun) e = refl
 begun_unsettled (Some (Headed m)) e = absurd cc
 begun_unsettled (Some (Declared o m)) e = absurd cc
 
+-- ---- one type more
+
+made_more : (types : Types) (x : Made) (t : TypeNo) (y : Made) → made_at types t ≡ Some y → made_at (record types { own = types.own ++ x ∷ [] }) t ≡ Some y
+made_more types x t y e = from t.home t.number e where
+  here : (b : Bool) (n : ℕ) (other : Option Made) → cond b (slice_get types.own n) other ≡ Some y → cond b (slice_get (types.own ++ x ∷ []) n) other ≡ Some y
+  here true n other e = get_more types.own (x ∷ []) n y e
+  here false n other e = e
+
+  from : (h : Home) (n : ℕ) → made_from types h n ≡ Some y → made_from (record types { own = types.own ++ x ∷ [] }) h n ≡ Some y
+  from home.Predeclared n e = e
+  from (home.Module k) n e = here (k == types.home) n _ e
+
 -- ---- steps
 
--- names that are there stay at their places, settled ones mean what they meant, and what stands around stays
+-- names that are there stay at their places, settled ones mean what they meant, types stay, and what stands around does
 pub record Keeps {T : Type 0} (s s' : Scope T) : Type 0 where
   pub tables : s'.tables ≡ s.tables
   pub outer : s'.outer ≡ s.outer
   pub withs : s'.withs ≡ s.withs
+  pub types : (t : TypeNo) (x : Made) → made_at s.types t ≡ Some x → made_at s'.types t ≡ Some x
   pub there : (name : List ℕ) (k : Known T) → found name s.own ≡ Some k → (k' : Known T) × (found name s'.own ≡ Some k')
   pub places : (name : List ℕ) (k : Known T) → found name s.own ≡ Some k → index name s'.own ≡ index name s.own
   pub settled : (name : List ℕ) (k : Known T) → is_settled k ≡ true → found name s.own ≡ Some k → found name s'.own ≡ Some k
 
 pub keeps_refl : {T : Type 0} (s : Scope T) → Keeps s s
-keeps_refl s = record { tables = refl; outer = refl; withs = refl; there = λ name k e. (k, e); places = λ name k e. refl; settled = λ name k p e. e }
+keeps_refl s = record { tables = refl; outer = refl; withs = refl; types = λ t x e. e; there = λ name k e. (k, e); places = λ name k e. refl; settled = λ name k p e. e }
 
 pub keeps_then : {T : Type 0} {a b c : Scope T} → Keeps a b → Keeps b c → Keeps a c
 keeps_then p q = record {
   tables = q.tables ∙ p.tables;
   outer = q.outer ∙ p.outer;
   withs = q.withs ∙ p.withs;
+  types = λ t x e. q.types t x (p.types t x e);
   there = λ name k e. let b = p.there name k e in q.there name b.0 b.1;
   places = λ name k e. let b = p.there name k e in q.places name b.0 b.1 ∙ p.places name k e;
   settled = λ name k s e. q.settled name k s (p.settled name k s e);
@@ -76,17 +96,22 @@ known_keeps s name v u = record {
   tables = refl;
   outer = refl;
   withs = refl;
+  types = λ t x e. e;
   there = λ other k e. there_entered name v s.own other k e;
   places = λ other k e. index_entered name v s.own other k e;
   settled = λ other k p e. kept_entered is_settled name v s.own other k p u e;
 }
 
 -- nothing but names is the same
-pub same_keeps : {T : Type 0} (s s' : Scope T) → s'.tables ≡ s.tables → s'.outer ≡ s.outer → s'.withs ≡ s.withs → s'.own ≡ s.own → Keeps s s'
-same_keeps s s' t o w e = record {
+abbrev pub TypesStay : {T : Type 0} → Scope T → Scope T → Type 0
+TypesStay s s' = (t : TypeNo) (x : Made) → made_at s.types t ≡ Some x → made_at s'.types t ≡ Some x
+
+pub same_keeps : {T : Type 0} (s s' : Scope T) → s'.tables ≡ s.tables → s'.outer ≡ s.outer → s'.withs ≡ s.withs → TypesStay s s' → s'.own ≡ s.own → Keeps s s'
+same_keeps s s' t o w m e = record {
   tables = t;
   outer = o;
   withs = w;
+  types = m;
   there = λ name k f. (k, ap (λ (es : Names _). found name es) e ∙ f);
   places = λ name k f. ap (λ (es : Names _). index name es) e;
   settled = λ name k p f. ap (λ (es : Names _). found name es) e ∙ f;
@@ -198,11 +223,11 @@ finished_by s name m v false h = changes_refl (λ z. marked name m z) s
 pub finished_changes : {T : Type 0} (s : Scope T) (name : Ident) (m : Known T) (r : Result Meaning T) → Changes (λ z. marked name m z) s (finished s name r)
 finished_changes s name m r = finished_by s name m (Declared Here r) (is_begun (found name.name s.own)) (λ e. begun_unsettled (found name.name s.own) e)
 
-pub same_changes : {T : Type 0} (marks : Marks T) (s s' : Scope T) → s'.tables ≡ s.tables → s'.outer ≡ s.outer → s'.withs ≡ s.withs → s'.own ≡ s.own → Changes marks s s'
-same_changes marks s s' t o w e = record { keeps = same_keeps s s' t o w e; others = λ z name h. ap (λ (es : Names _). found name es) e }
+pub same_changes : {T : Type 0} (marks : Marks T) (s s' : Scope T) → s'.tables ≡ s.tables → s'.outer ≡ s.outer → s'.withs ≡ s.withs → TypesStay s s' → s'.own ≡ s.own → Changes marks s s'
+same_changes marks s s' t o w m e = record { keeps = same_keeps s s' t o w m e; others = λ z name h. ap (λ (es : Names _). found name es) e }
 
 pub shape_changes : {T : Type 0} (marks : Marks T) (s : Scope T) (x : Made) → Changes marks s (with_shape s x)
-shape_changes marks s x = same_changes marks s (with_shape s x) refl refl refl refl
+shape_changes marks s x = same_changes marks s (with_shape s x) refl refl refl (made_more s.types x) refl
 
 pub made_changes : {T : Type 0} (marks : Marks T) (s : Scope T) (x : Result Made T) → Changes marks s (with_made s x).0
 made_changes marks s (Ok x) = shape_changes marks s x
