@@ -1,0 +1,5 @@
+pub mod Agree
+pub mod Preserved
+pub mod Bodies
+pub mod Imports
+pub mod Programs
