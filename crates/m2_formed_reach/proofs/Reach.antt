@@ -1,5 +1,5 @@
 -- The tables that jobs make, and the modules of bodies that are checked by them.
-use Rattle.std.proofs.Common.{◌≡◌, ℕ, zero, suc, ◌+◌, ◌<◌, Bool, true, false, ◌&&◌, cond, List, [], ◌∷◌, ◌++◌, length, Option, Some, None, Result, Ok, Err, refl, sym, ap, subst, ◌∙◌, arith, inl, inr}
+use Rattle.std.proofs.Common.{◌≡◌, ℕ, zero, suc, ◌+◌, ◌<◌, Bool, true, false, cond, List, [], ◌∷◌, ◌++◌, length, Option, Some, None, Result, Ok, Err, refl, sym, ap, subst, ◌∙◌, arith, inl, inr}
 use Rattle.std.specs.Prelude.{slice_get, slice_index_or}
 use Rattle.std.specs.List.{AllByRecursion, list_all}
 use Rattle.std.proofs.lemmas.Bool.{cases_lt}
@@ -112,13 +112,14 @@ module _ (trees : List Module) (files : List ℕ) (jobs : List (List ℕ)) (fit 
       pub formed : TableFormed its_types n t
       pub own : types_made_in t.number t.reached ≡ its_types t.number
       pub made : one t.number ≡ Defined t
+      pub before : t.number < n
 
     table_needed : (p : ℕ) (x : Compiled) → slice_get (below n) p ≡ Some x → (t : Table) → x ≡ Defined t → IsNeeded t
     table_needed p x e t q =
         let l : p < n = is_within n p x e in
         let is : one p ≡ Defined t = same_Some (one p) x (sym (at_below n p l) ∙ e) ∙ q in
         let f : IsFormedAt p t = known p l t is in
-        record { formed = formed_below its_types p n t l f.1; own = own_types_are p t is f.0; made = ap one f.0 ∙ is }
+        record { formed = formed_below its_types p n t l f.1; own = own_types_are p t is f.0; made = ap one f.0 ∙ is; before = (let q : t.number ≡ p = f.0 in omega (arith, l, q)) }
 
     with_one : (x : Compiled) (ts : List Table) → ((t : Table) → x ≡ Defined t → IsNeeded t) → AllByRecursion IsNeeded ts → AllByRecursion IsNeeded (table_in x ++ ts)
     with_one (Defined t) ts k h = (k t refl, h)
