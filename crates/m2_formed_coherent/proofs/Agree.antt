@@ -19,10 +19,10 @@ use Rattle.m2_typed.specs.declared.table.Table.{Table}
 use Rattle.m2_typed.specs.declared.known_types.Types.{Types}
 use Rattle.m2_typed.specs.Known.{in_list, made_in, scalar_at, scalar_from, scalar_made}
 use Rattle.m2_layout.specs.Types.{Ty, Array, row}
-use Rattle.m2_layout.specs.Shapes.{elements_of, tree_in, shape_tree, known_trees, tree}
+use Rattle.m2_layout.specs.Shapes.{elements_of, shape_tree, known_trees, tree}
 use Rattle.m2_modules.specs.Own.{with_variable_of, with_exported_variable, exported_variables}
 use Rattle.m2_formed_types.specs.Ordered.{named_by, is_known_from, is_known, AreKnown, AreOrderedFrom, OthersOrdered, AreOrdered}
-use Rattle.m2_formed_types.proofs.Trees.{at, at_more, at_behind, at_placed, append_more, some_of, in_some, made_by, is_among_from, is_among, known_among}
+use Rattle.m2_formed_types.proofs.Trees.{at, at_more, at_behind, at_placed, append_more, some_of, made_by, is_among_from, is_among, known_among}
 use Rattle.m2_formed_types.proofs.Shaped.{tree_shaped}
 use Rattle.m2_formed_order.specs.FormedOrder.{ExportsOrdered}
 use Rattle.m2_formed_known.specs.FormedKnown.{HasReached, entries_of, TableFormed}

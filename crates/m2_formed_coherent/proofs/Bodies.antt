@@ -1,11 +1,9 @@
 -- What the module of a body knows: its types, its variables, and what it imports.
-use Rattle.std.proofs.Common.{◌≡◌, ℕ, suc, ◌<◌, ◌==◌, Bool, true, false, cond, List, [], ◌∷◌, ◌++◌, length, Option, Some, None, Result, Ok, Err, refl, sym, ap, subst, ◌∙◌}
-use Rattle.std.proofs.lemmas.Bool.{eqb-true}
+use Rattle.std.proofs.Common.{◌≡◌, ℕ, ◌==◌, Bool, true, false, cond, List, [], ◌∷◌, ◌++◌, Option, Some, None, Result, Ok, Err, refl, sym, ap, ◌∙◌}
 use Rattle.std.proofs.lemmas.List.{append-nil, append_assoc}
-use Rattle.std.specs.Prelude.{map, slice_get}
+use Rattle.std.specs.Prelude.{slice_get}
 use Rattle.std.specs.List.{AllByRecursion, fold}
 use Rattle.std.specs.Option.{is_some, unwrap_or}
-use Rattle.m2_tree.specs.declared.decl.Heading.{Heading}
 use Rattle.m2_tree.specs.declared.decl.Module.{Module}
 use Rattle.m2_tree.specs.declared.decl.Contents.{Contents}
 use Rattle.m2_tree.specs.declared.decl.Contents.TheVariants as contents
@@ -21,28 +19,27 @@ use Rattle.m2_typed.specs.declared.known_types.Types.{Types}
 use Rattle.m2_typed.specs.declared.typed_module.TypedModule.{TypedModule}
 use Rattle.m2_typed.specs.declared.typed_module.Which.{Which}
 use Rattle.m2_typed.specs.Known.{in_list, made_in}
-use Rattle.m2_judged.specs.Judged.{Gathers, told, both}
-use Rattle.m2_judged.specs.declared.known.Known.{Known}
+use Rattle.m2_judged.specs.Judged.{Gathers}
 use Rattle.m2_judged.specs.declared.scope.Scope.{Scope}
-use Rattle.m2_types.specs.Predeclared.{console, first_scope, others_of}
+use Rattle.m2_types.specs.Predeclared.{console, first_scope}
 use Rattle.m2_types.specs.Importing.{numbered_modules}
 use Rattle.m2_types.specs.Declare.{with_variable_type, with_procedure_type}
 use Rattle.m2_blocks.specs.Nesting.{procedure_ends}
 use Rattle.m2_blocks.specs.Declarations.{declared_module}
 use Rattle.m2_modules.specs.declared.routine.Bodies.{Bodies}
 use Rattle.m2_modules.specs.Imports.{all_imports, typed_imports}
-use Rattle.m2_modules.specs.Own.{types_made_in, exported_variables, implementation_scope}
+use Rattle.m2_modules.specs.Own.{exported_variables, implementation_scope}
 use Rattle.m2_modules.specs.Routines.{typed_module}
 use Rattle.m2_bodies.specs.declared.procedure.Walk.{Walk}
 use Rattle.m2_bodies.specs.Judging.{Judges}
-use Rattle.m2_bodies.specs.Bodies.{Checked, ChecksBlock, Steps, checked_by, with_body, steps_layer, block_layer, steps, checks_block, checks_decl}
-use Rattle.m2_bodies.specs.Checked.{walked, module_or, of_body, of_implementation, of_contents, checked}
+use Rattle.m2_bodies.specs.Bodies.{Checked, ChecksBlock, Steps, with_body, steps_layer, block_layer, steps, checks_block, checks_decl}
+use Rattle.m2_bodies.specs.Checked.{walked, of_body, of_implementation, of_contents, checked}
 use Rattle.m2_formed.specs.Formed.{Holds, fine, broken}
 use Rattle.m2_formed.proofs.Basics.{then_holds, both_holds, any_holds, told_holds}
 use Rattle.m2_formed_imports.proofs.Walks.{walk_keeps}
 use Rattle.m2_formed_ranges.specs.FormedRanges.{first_types}
 use Rattle.m2_formed_types.specs.Ordered.{AreOrdered}
-use Rattle.m2_formed_types.proofs.Trees.{at, get_more, some_of}
+use Rattle.m2_formed_types.proofs.Trees.{at, get_more}
 use Rattle.m2_formed_order.specs.FormedOrder.{StartedFrom}
 use Rattle.m2_formed_known.specs.FormedKnown.{fits_block, fits_contents, HasReached, TableFormed, TablesFormed, OwnFormed}
 use Rattle.m2_formed_known.proofs.Gathered.{each_more}

@@ -12,7 +12,7 @@ use Rattle.m2_typed.specs.Names.{same_name, found, entered}
 use Rattle.m2_types.specs.Importing.{numbered_modules}
 use Rattle.m2_types.specs.Export.{with_table_if, with_place_if, with_imported, with_imports_of, with_import_of, imported_modules}
 use Rattle.m2_modules.specs.Own.{exported_variables}
-use Rattle.m2_modules.specs.Imports.{with_import_copy, definition_imports, all_imports, imported_as, with_table_of, with_name_of, with_place_of, with_module_of, typed_imports}
+use Rattle.m2_modules.specs.Imports.{with_import_copy, definition_imports, all_imports, imported_as, with_table_of, with_place_of, with_module_of, typed_imports}
 use Rattle.m2_formed_imports.proofs.Lists.{same_is, each_entered, found_each}
 use Rattle.m2_formed_imports.proofs.Imports.{IsPlaced, numbered_placed}
 use Rattle.m2_formed_known.specs.FormedKnown.{HasReached}

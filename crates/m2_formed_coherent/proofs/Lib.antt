@@ -3,3 +3,5 @@ pub mod Preserved
 pub mod Bodies
 pub mod Imports
 pub mod Programs
+pub mod EachOnce
+pub mod Graphs

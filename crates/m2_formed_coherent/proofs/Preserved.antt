@@ -1,5 +1,5 @@
 -- What names, types, variables and headings keep, declarations keep.
-use Rattle.std.proofs.Common.{◌≡◌, ℕ, ◌==◌, pos, Bool, true, false, cond, List, [], ◌∷◌, ◌++◌, length, Option, Some, None, Result, Ok, Err, refl, sym, ap, subst, ◌∙◌}
+use Rattle.std.proofs.Common.{◌≡◌, ℕ, ◌==◌, pos, Bool, true, false, cond, List, [], ◌∷◌, length, Option, Some, None, Result, Ok, Err, sym, ap, subst, ◌∙◌}
 use Rattle.std.specs.Prelude.{map, take, drop, slice_get}
 use Rattle.std.specs.List.{fold}
 use Rattle.m2_tree.specs.declared.pos.Pos.{Pos}
@@ -23,7 +23,7 @@ use Rattle.m2_typed.specs.declared.meaning.Meaning.{Meaning}
 use Rattle.m2_typed.specs.declared.meaning.Meaning.TheVariants as meaning
 use Rattle.m2_typed.specs.Names.{found, place_of}
 use Rattle.m2_judged.specs.Judged.{Gathers, told}
-use Rattle.m2_judged.specs.Scopes.{State, is_free, with_known, is_again, imported, begun, declared, finished, unless_marked, marked}
+use Rattle.m2_judged.specs.Scopes.{State, is_free, with_known, is_again, imported, begun, finished, unless_marked, marked}
 use Rattle.m2_judged.specs.declared.known.Known.{Known}
 use Rattle.m2_judged.specs.declared.known.Known.TheVariants.{Later, Ahead, Begun, Headed, Declared}
 use Rattle.m2_judged.specs.declared.known.Origin.{Origin}
@@ -34,14 +34,14 @@ use Rattle.m2_constants.specs.Parts.{part, constant}
 use Rattle.m2_made.specs.declared.field.Fields.{Fields}
 use Rattle.m2_made.specs.Fields.{no_fields}
 use Rattle.m2_made.specs.Headings.{heading_of}
-use Rattle.m2_made.specs.Made.{next_type, with_shape, with_made, too_many, enumeration_constant, enumeration_scalar, listed, enumeration, simple_type, index_type, Makes, MakesFields, then_fields, array_type, record_type, type_layer, field_layer, type_of, field_list}
+use Rattle.m2_made.specs.Made.{next_type, with_shape, with_made, too_many, enumeration_constant, enumeration_scalar, listed, simple_type, index_type, Makes, MakesFields, then_fields, type_layer, field_layer, type_of, field_list}
 use Rattle.m2_types.specs.Marking.{Marks, marked_later, marked_simple, then_marks, marked_in, marked_field, marked_constant, marked_type, marked_variables}
 use Rattle.m2_types.specs.Marking as marking
 use Rattle.m2_types.specs.Importing.{module_named, with_module_as, with_module_name, with_entry, brings_in, told_of_taken, unless_taken, from_place, with_from, exports_of, from_module, with_imports, with_import}
 use Rattle.m2_types.specs.Declare.{constant_meaning, with_constant, brings_with, type_meaning, with_type, begun_name, variable_meaning, with_variable_type, finished_variable, with_variables, procedure_meaning, with_procedure_type}
 use Rattle.m2_blocks.specs.declared.heading.Standing.{Standing}
 use Rattle.m2_blocks.specs.declared.heading.Standing.TheVariants.{Free, Awaited, Taken}
-use Rattle.m2_blocks.specs.Headings.{name_standing, nested_meaning, module_procedure, headed, headed_as, with_heading}
+use Rattle.m2_blocks.specs.Headings.{name_standing, nested_meaning, module_procedure, headed, headed_as}
 use Rattle.m2_blocks.specs.Naming.{marked_layer, marked_decl, with_marks, all_marked}
 use Rattle.m2_blocks.specs.Declarations.{Course, local_meaning, finished_local, with_locals, decl_layer, with_decl, declared_block, declared_module}
 use Rattle.m2_formed_order.proofs.Named.{unless_as, finished_as}

@@ -1,7 +1,7 @@
 -- The modules of a program that jobs make know one another's variables.
 use Rattle.std.proofs.Common.{◌≡◌, ◌⊎◌, inl, inr, ℕ, zero, suc, ◌+◌, ◌<◌, ◌==◌, Bool, true, false, not, cond, List, [], ◌∷◌, ◌++◌, length, Option, Some, None, Result, Ok, Err, refl, sym, ap, subst, ◌∙◌, arith}
 use Rattle.std.specs.Prelude.{slice_get, slice_index_or, map, codes, nat_lt, IfOk}
-use Rattle.std.specs.List.{AllByRecursion, fold, list_all, position, position_or_len, prefix_len}
+use Rattle.std.specs.List.{AllByRecursion, fold, list_all, position_or_len, prefix_len}
 use Rattle.std.specs.Option.{unwrap_or}
 use Rattle.std.proofs.lemmas.Option.{slice_get_within}
 use Rattle.std.proofs.lemmas.Bool.{eqb-true, lt-ltb}
@@ -10,14 +10,12 @@ use Rattle.m2_tree.specs.declared.decl.Def.{Def}
 use Rattle.m2_tree.specs.declared.decl.Contents.{Contents}
 use Rattle.m2_tree.specs.declared.decl.Contents.TheVariants as contents
 use Rattle.m2_tree.specs.declared.decl.Module.{Module}
-use Rattle.m2_graph.specs.Imports.{is_program, is_program_part, same_name as same_file_name}
+use Rattle.m2_graph.specs.Imports.{is_definition, is_definition_part, is_program, is_program_part, same_name as same_file_name}
 use Rattle.m2_typed.specs.declared.shape.Made.{Made}
 use Rattle.m2_typed.specs.declared.table.Table.{Table}
 use Rattle.m2_typed.specs.declared.types.TypeNo.{TypeNo}
-use Rattle.m2_typed.specs.declared.known_types.Types.{Types}
 use Rattle.m2_typed.specs.declared.typed_module.Imported.{Imported}
 use Rattle.m2_typed.specs.declared.typed_module.TypedModule.{TypedModule}
-use Rattle.m2_typed.specs.Names.{same_name}
 use Rattle.m2_judged.specs.declared.fault.Fault.{Fault}
 use Rattle.m2_judged.specs.Judged.{Gathers, least}
 use Rattle.m2_judged.specs.Scopes.{State}
@@ -47,7 +45,7 @@ use Rattle.m2_formed_types.proofs.Trees.{itself}
 use Rattle.m2_formed_known.specs.FormedKnown.{fits_module, HasReached, TableFormed}
 use Rattle.m2_formed_known.proofs.Gathered.{each_more}
 use Rattle.m2_compile.specs.declared.outcome.Compiled.{Compiled}
-use Rattle.m2_compile.specs.declared.outcome.Compiled.TheVariants.{Defined, Built, Refused, Blocked}
+use Rattle.m2_compile.specs.declared.outcome.Compiled.TheVariants.{Defined, Blocked}
 use Rattle.m2_compile.specs.Own.{own_table, tables_behind}
 use Rattle.m2_compile.specs.Compiling.{is_sound, tables_of, of_definition, of_fit, of_checked, of_contents, typed_body, compiled}
 use Rattle.m2_jobs.specs.Jobs.{compiled_in}
@@ -56,8 +54,8 @@ use Rattle.m2_formed_reach.specs.FormedReach.{result_of, types_of}
 use Rattle.m2_formed_reach.proofs.Reach.{tree_fits, IsNeeded, own_formed, behind_formed, known_below, tables_needed, tables_same}
 use Rattle.m2_formed_coherent.specs.FormedCoherent.{IsBodyOf, IsWhole}
 use Rattle.m2_formed_coherent.proofs.Agree.{variables_agree}
-use Rattle.m2_formed_coherent.proofs.Bodies.{BeginWith, OwnIn, IsKnownBy, IsKnown, module_known}
-use Rattle.m2_formed_coherent.proofs.Imports.{is_console, IsListed, AreListed, AreMade, OwnListed, IsImportOf, AreImports, table_imports, typed_are}
+use Rattle.m2_formed_coherent.proofs.Bodies.{BeginWith, IsKnownBy, IsKnown, module_known}
+use Rattle.m2_formed_coherent.proofs.Imports.{is_console, AreListed, AreMade, OwnListed, IsImportOf, AreImports, table_imports, typed_are}
 
 -- ---- results and lists
 
@@ -65,7 +63,7 @@ holds_ok : {A T : Type 0} {P : A → Type 0} {r : Result A T} → Holds P r → 
 holds_ok {P = P} (fine y p) x e = let same : y ≡ x = cc in subst P same p
 holds_ok (broken f) x e = absurd cc
 
-if_ok : {A T : Type 0} (P : A → Type 0) (r : Result A T) (x : A) → IfOk r P → r ≡ Ok x → P x
+pub if_ok : {A T : Type 0} (P : A → Type 0) (r : Result A T) (x : A) → IfOk r P → r ≡ Ok x → P x
 if_ok P (Ok y) x p e = let same : y ≡ x = cc in subst P same p
 if_ok P (Err f) x p e = absurd cc
 
@@ -135,18 +133,19 @@ module _ (trees : List Module) (files : List ℕ) (jobs : List (List ℕ)) (fit 
   needed job = tables_of (needed_of trees files jobs job)
 
   abbrev IsMade : Table → Type 0
-  IsMade t = one t.number ≡ Defined t
+  IsMade t = (t.number < length files) × (one t.number ≡ Defined t)
 
   abbrev Needed : ℕ → Table → Type 0
   Needed n = IsNeeded trees files jobs fit n (known_below trees files jobs fit n)
 
   -- ---- the definition of a table
 
-  record IsDefined (job : ℕ) (t : Table) : Type 0 where
-    tree : Module
-    is_tree : slice_get trees (slice_index_or files job 0) ≡ Some tree
-    part : is_program tree ≡ false
-    compiled_to : types.compiled least job tree (needed job) ≡ Ok t
+  pub record IsDefined (job : ℕ) (t : Table) : Type 0 where
+    pub tree : Module
+    pub is_tree : slice_get trees (slice_index_or files job 0) ≡ Some tree
+    pub definition : is_definition tree ≡ true
+    pub part : is_program tree ≡ false
+    pub compiled_to : types.compiled least job tree (needed job) ≡ Ok t
 
   no_fit : (t : Table) (b : TypedModule) (o : Option Pos) → of_fit b o ≡ Defined t → ⊥
   no_fit t b None e = absurd cc
@@ -162,7 +161,7 @@ module _ (trees : List Module) (files : List ℕ) (jobs : List (List ℕ)) (fit 
 
   module _ (job : ℕ) (t : Table) where
     from_contents : (m : Module) → slice_get trees (slice_index_or files job 0) ≡ Some m → (c : Contents) → m.contents ≡ c → of_contents m job (needed job) c ≡ Defined t → IsDefined job t
-    from_contents m there (contents.Definition ds) is e = record { tree = m; is_tree = there; part = ap is_program_part is; compiled_to = definition_ok t (types.compiled least job m (needed job)) e }
+    from_contents m there (contents.Definition ds) is e = record { tree = m; is_tree = there; definition = ap is_definition_part is; part = ap is_program_part is; compiled_to = definition_ok t (types.compiled least job m (needed job)) e }
     from_contents m there (contents.Implementation b) is e = absurd (no_body t (typed_body m job (needed job)) e)
     from_contents m there (contents.Program b) is e = absurd (no_body t (typed_body m job (needed job)) e)
 
@@ -177,14 +176,17 @@ module _ (trees : List Module) (files : List ℕ) (jobs : List (List ℕ)) (fit 
     from_tree None there e = absurd cc
     from_tree (Some m) there e = from_compiled m there e
 
-    defined_by : one job ≡ Defined t → IsDefined job t
+    pub defined_by : one job ≡ Defined t → IsDefined job t
     defined_by e = from_tree (slice_get trees (slice_index_or files job 0)) refl e
 
   -- ---- tables that jobs need
 
-  made_of : (n : ℕ) (ts : List Table) → AllByRecursion (Needed n) ts → AreMade IsMade ts
-  made_of n [] h = tt
-  made_of n (t ∷ ts) h = (inr h.0.made, made_of n ts h.1)
+  is_made : (n : ℕ) → n < length files → (t : Table) → Needed n t → IsMade t
+  is_made n l t h = ((let k : t.number < n = h.before in omega (arith, l, k)), h.made)
+
+  made_of : (n : ℕ) → n < length files → (ts : List Table) → AllByRecursion (Needed n) ts → AreMade IsMade ts
+  made_of n l [] h = tt
+  made_of n l (t ∷ ts) h = (inr (is_made n l t h.0), made_of n l ts h.1)
 
   with_console : (ts : List Table) → AreMade IsMade ts → AreMade IsMade (ts ++ console ∷ [])
   unfolding console
@@ -195,7 +197,7 @@ module _ (trees : List Module) (files : List ℕ) (jobs : List (List ℕ)) (fit 
   behind n (Some t) [] h = tt
   behind n (Some t) (u ∷ ts) h = h.1
 
-  own_is : (n : ℕ) (m : Module) (ts : List Table) → AllByRecursion (Needed n) ts → (o : Table) → own_table m ts ≡ Some o → Needed n o × (o.name ≡ m.name.name)
+  pub own_is : (n : ℕ) (m : Module) (ts : List Table) → AllByRecursion (Needed n) ts → (o : Table) → own_table m ts ≡ Some o → Needed n o × (o.name ≡ m.name.name)
   own_is n m [] h o e = absurd cc
   own_is n m (t ∷ ts) h o e = by (same_file_name t.name m.name.name) refl e where
     by : (b : Bool) → same_file_name t.name m.name.name ≡ b → cond b (Some t) None ≡ Some o → Needed n o × (o.name ≡ m.name.name)
@@ -203,13 +205,13 @@ module _ (trees : List Module) (files : List ℕ) (jobs : List (List ℕ)) (fit 
     by false q g = absurd cc
 
   -- what a definition imports are tables that jobs make
-  imports_listed : (job : ℕ) (t : Table) → one job ≡ Defined t → AreListed IsMade t.imports
-  imports_listed job t e =
+  imports_listed : (job : ℕ) (t : Table) → job < length files → one job ≡ Defined t → AreListed IsMade t.imports
+  imports_listed job t l e =
       let d : IsDefined job t = defined_by job t e in
-      holds_ok (contents_listed least d.tree IsMade job (needed job ++ console ∷ []) (with_console (needed job) (made_of job (needed job) (tables_needed trees files jobs fit job))) d.tree.contents) t d.compiled_to
+      holds_ok (contents_listed least d.tree IsMade job (needed job ++ console ∷ []) (with_console (needed job) (made_of job l (needed job) (tables_needed trees files jobs fit job))) d.tree.contents) t d.compiled_to
 
-  table_name : (job : ℕ) (t : Table) (e : one job ≡ Defined t) → t.name ≡ (defined_by job t e).tree.name.name
-  table_name job t e = let d : IsDefined job t = defined_by job t e in (if_ok (NamesImports d.tree job) (types.compiled least job d.tree (needed job)) t (tables_named least job d.tree (needed job)) d.compiled_to).name
+  pub table_named : (job : ℕ) (t : Table) (d : IsDefined job t) → NamesImports d.tree job t
+  table_named job t d = if_ok (NamesImports d.tree job) (types.compiled least job d.tree (needed job)) t (tables_named least job d.tree (needed job)) d.compiled_to
 
   -- ---- the bodies of a program
 
@@ -234,9 +236,9 @@ module _ (trees : List Module) (files : List ℕ) (jobs : List (List ℕ)) (fit 
   known_imports : (m : Module) (n : ℕ) (own : Option Table) (home : ℕ) (ts : List Table) (t : TypedModule) → AreMade IsMade ts → OwnListed IsMade own → IsKnownBy m own home ts t → AreImports IsMade t.types t.imports
   known_imports m n own home ts t made o k = subst (λ (is : List Imported). AreImports IsMade t.types is) (sym k.imports) (typed_are IsMade ts made t.types k.has own o m.imports)
 
-  part_by : (m : Module) (n : ℕ) (t : TypedModule) → slice_get trees (slice_index_or files n 0) ≡ Some m → (c : Contents) → m.contents ≡ c → IsKnown m (own_table m (needed n)) n (tables_behind (own_table m (needed n)) (needed n) ++ console ∷ []) t c → IsPart t
-  part_by m n t there (contents.Definition ds) is k = absurd k
-  part_by m n t there (contents.Program b) is k =
+  part_by : (m : Module) (n : ℕ) → n < length files → (t : TypedModule) → slice_get trees (slice_index_or files n 0) ≡ Some m → (c : Contents) → m.contents ≡ c → IsKnown m (own_table m (needed n)) n (tables_behind (own_table m (needed n)) (needed n) ++ console ∷ []) t c → IsPart t
+  part_by m n l t there (contents.Definition ds) is k = absurd k
+  part_by m n l t there (contents.Program b) is k =
       let all = tables_needed trees files jobs fit n in
       let ts : List Table = tables_behind (own_table m (needed n)) (needed n) in
       record {
@@ -245,35 +247,36 @@ module _ (trees : List Module) (files : List ℕ) (jobs : List (List ℕ)) (fit 
         is_tree = there;
         name = k.name;
         ordered = k.ordered;
-        imports = known_imports m n None n (ts ++ console ∷ []) t (with_console ts (made_of n ts (behind n (own_table m (needed n)) (needed n) all))) tt k;
+        imports = known_imports m n None n (ts ++ console ∷ []) t (with_console ts (made_of n l ts (behind n (own_table m (needed n)) (needed n) all))) tt k;
         kind = inl (ap is_program_part is, k.home_is);
       }
-  part_by m n t there (contents.Implementation b) is k =
+  part_by m n l t there (contents.Implementation b) is k =
       let all = tables_needed trees files jobs fit n in
       let ts : List Table = tables_behind (own_table m (needed n)) (needed n) in
       let o = own_is n m (needed n) all k.0 k.1 in
+      let made : IsMade k.0 = is_made n l k.0 o.0 in
       record {
         tree = m;
         job = n;
         is_tree = there;
         name = k.2.name;
         ordered = k.2.ordered;
-        imports = known_imports m n (Some k.0) k.0.number (ts ++ console ∷ []) t (with_console ts (made_of n ts (behind n (own_table m (needed n)) (needed n) all))) (imports_listed k.0.number k.0 o.0.made) k.2;
-        kind = inr (record { table = k.0; made = o.0.made; named = o.1 ∙ sym k.2.name; home = k.2.home_is; has = k.2.own_in.0; variables = k.2.own_in.1 });
+        imports = known_imports m n (Some k.0) k.0.number (ts ++ console ∷ []) t (with_console ts (made_of n l ts (behind n (own_table m (needed n)) (needed n) all))) (imports_listed k.0.number k.0 made.0 made.1) k.2;
+        kind = inr (record { table = k.0; made = made; named = o.1 ∙ sym k.2.name; home = k.2.home_is; has = k.2.own_in.0; variables = k.2.own_in.1 });
       }
 
   part_of : (t : TypedModule) → IsBodyOf trees files jobs t → IsPart t
   part_of t b =
       let all = tables_needed trees files jobs fit b.job in
       let own : Option Table = own_table b.tree (needed b.job) in
-      part_by b.tree b.job t b.is_tree b.tree.contents refl
+      part_by b.tree b.job b.is_job t b.is_tree b.tree.contents refl
       (holds_ok (module_known least (judged least) its_types b.job b.tree own (tables_behind own (needed b.job)) (tree_fits trees fit (slice_index_or files b.job 0) b.tree b.is_tree)
       (own_formed trees files jobs fit b.job (known_below trees files jobs fit b.job) b.tree (needed b.job) all) (behind_formed trees files jobs fit b.job (known_below trees files jobs fit b.job) own (needed b.job) all)) t b.typed)
 
   -- ---- numbers and names
 
   one_table : (t u : Table) → IsMade t → IsMade u → t.number ≡ u.number → t ≡ u
-  one_table t u p q e = let same : Defined t ≡ Defined u = sym p ∙ (ap one e ∙ q) in cc
+  one_table t u p q e = let same : Defined t ≡ Defined u = sym p.1 ∙ (ap one e ∙ q.1) in cc
 
   one_tree : (place : ℕ) (m n : Module) → slice_get trees place ≡ Some m → slice_get trees place ≡ Some n → m ≡ n
   one_tree place m n p q = let same : Some m ≡ Some n = sym p ∙ q in cc
@@ -292,8 +295,8 @@ module _ (trees : List Module) (files : List ℕ) (jobs : List (List ℕ)) (fit 
       let job : a.job ≡ b.job = sym x.1 ∙ (e ∙ y.1) in
       let same : a.tree ≡ b.tree = one_tree (slice_index_or files b.job 0) a.tree b.tree (ap (λ (j : ℕ). slice_get trees (slice_index_or files j 0)) (sym job) ∙ a.is_tree) b.is_tree in
       a.name ∙ (ap (λ (m : Module). m.name.name) same ∙ sym b.name)
-  names_by s t a b e (inl x) (inr y) = absurd (no_table a.tree a.job y.table a.is_tree x.0 (ap one (sym x.1 ∙ (e ∙ y.home)) ∙ y.made))
-  names_by s t a b e (inr x) (inl y) = absurd (no_table b.tree b.job x.table b.is_tree y.0 (ap one (sym y.1 ∙ (sym e ∙ x.home)) ∙ x.made))
+  names_by s t a b e (inl x) (inr y) = absurd (no_table a.tree a.job y.table a.is_tree x.0 (ap one (sym x.1 ∙ (e ∙ y.home)) ∙ y.made.1))
+  names_by s t a b e (inr x) (inl y) = absurd (no_table b.tree b.job x.table b.is_tree y.0 (ap one (sym y.1 ∙ (sym e ∙ x.home)) ∙ x.made.1))
   names_by s t a b e (inr x) (inr y) =
       let same : x.table ≡ y.table = one_table x.table y.table x.made y.made (sym x.home ∙ (e ∙ y.home)) in
       sym x.named ∙ (ap (λ (u : Table). u.name) same ∙ y.named)
@@ -319,7 +322,7 @@ module _ (trees : List Module) (files : List ℕ) (jobs : List (List ℕ)) (fit 
       same_variables i k home o h v (inl none) = (map (tree home.types) home.variables, ap (λ (ts : List TypeNo). map (tree m.types) ts ++ map (tree home.types) home.variables) (sym none))
       same_variables i k home o h v (inr some) =
           let exported : List TypeNo = exported_variables k.table.exported in
-          let f : TableFormed its_types (suc k.table.number) k.table = (tables_same trees files jobs fit k.table.number k.table k.made).1 in
+          let f : TableFormed its_types (suc k.table.number) k.table = (tables_same trees files jobs fit k.table.number k.table k.made.1).1 in
           let agree : map (tree home.types) (exported_variables k.table.exported) ≡ map (tree m.types) (exported_variables k.table.exported) = variables_agree its_types (suc k.table.number) k.table f home.types m.types o part.ordered h some.1 in (
             map (tree home.types) v.0,
             ap (λ (ts : List TypeNo). map (tree home.types) ts) v.1
@@ -328,9 +331,9 @@ module _ (trees : List Module) (files : List ℕ) (jobs : List (List ℕ)) (fit 
           )
 
       known_by : (i : Imported) → IsImportOf IsMade m.types i → (q : ℕ) (home : TypedModule) → slice_get p q ≡ Some home → home.name ≡ i.name → (a : IsPart home) → ((is_program a.tree ≡ true) × (home.types.home ≡ a.job)) ⊎ IsOwn home → Knows p m i
-      known_by i k q home at named a (inl x) = absurd (w.programs a.tree a.job k.table a.is_tree x.0 k.table.number k.made (k.name_is ∙ (sym named ∙ a.name)))
+      known_by i k q home at named a (inl x) = absurd (w.programs a.tree a.job k.table a.is_tree x.0 k.table.number k.made.0 k.made.1 (k.name_is ∙ (sym named ∙ a.name)))
       known_by i k q home at named a (inr x) =
-          let number : x.table.number ≡ k.table.number = w.definitions x.table.number k.table.number x.table k.table x.made k.made (x.named ∙ (named ∙ sym k.name_is)) in
+          let number : x.table.number ≡ k.table.number = w.definitions x.table.number k.table.number x.table k.table x.made.0 k.made.0 x.made.1 k.made.1 (x.named ∙ (named ∙ sym k.name_is)) in
           let same : x.table ≡ k.table = one_table x.table k.table x.made k.made number in
           let its_home : home.types.home ≡ i.number = x.home ∙ (number ∙ k.number_is) in
           let found : module_place p i.number ≡ q = ap (λ (n : ℕ). module_place p n) (sym its_home) ∙ own_place q home at in

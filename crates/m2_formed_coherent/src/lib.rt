@@ -3,11 +3,15 @@
 //! - `specs/FormedCoherent` says it of the modules that the jobs of a build make.
 //! - `proofs/Agree` has the trees of types that two modules know, `proofs/Preserved` what declarations keep, `proofs/Bodies`
 //!   what the module of a body knows, and `proofs/Imports` what it imports. `proofs/Programs` puts them together.
+//! - `proofs/Graphs` has the bodies that start by a graph.
 #![tactic(auto)]
 
-ghost use Rattle.m2_formed_coherent.specs.FormedCoherent.{ProgramsAreCoherent};
+ghost use Rattle.m2_formed_coherent.specs.FormedCoherent.{GraphsAreWhole, ProgramsAreCoherent};
 
-/// Modules that jobs make know one another's variables.
+/// The modules of a program know one another's variables.
 pub fn coherent_laws()
-    ensures { ProgramsAreCoherent }
+    // Those that jobs make do, where they are a whole program,
+    ensures programs { ProgramsAreCoherent }
+    // which the bodies are that start by a graph.
+    ensures graphs { GraphsAreWhole }
 {}
