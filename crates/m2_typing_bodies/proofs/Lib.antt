@@ -1,2 +1,3 @@
 pub mod Shifting
 pub mod Scopes
+pub mod Own
