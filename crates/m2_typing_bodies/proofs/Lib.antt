@@ -1,3 +1,5 @@
 pub mod Shifting
 pub mod Scopes
 pub mod Own
+pub mod Entered
+pub mod Nested

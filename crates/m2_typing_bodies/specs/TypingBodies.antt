@@ -38,6 +38,7 @@ use Rattle.m2_blocks.specs.Inner.{inwards, entered_procedure}
 use Rattle.m2_modules.specs.declared.routine.Numbered.{Numbered}
 use Rattle.m2_modules.specs.Routines.{procedure_named}
 use Rattle.m2_bodies.specs.declared.procedure.Walk.{Walk}
+use Rattle.m2_bodies.specs.Judging.{Judges}
 use Rattle.m2_bodies.specs.Inside.{returns_of}
 use Rattle.m2_bodies.specs.Bodies.{ChecksBlock, checks_block}
 use Rattle.m2_check.specs.Checks.{judged}
@@ -51,7 +52,7 @@ use Rattle.m2_formed_bodies.specs.FormedBodies.{Keeps, Begins}
 use Rattle.m2_formed_numbers.specs.FormedNumbers.{IsNumbered, all_formals}
 use Rattle.m2_formed_ranges.specs.FormedRanges.{itself, fits_constant, fits_type_decl, fits_variables, ScopeRanged}
 use Rattle.m2_formed_order.specs.FormedOrder.{ScopeOrdered}
-use Rattle.m2_typing.specs.Typing.{TypesTyped, MeaningTyped}
+use Rattle.m2_typing.specs.Typing.{TypesTyped, MeaningTyped, IsTyped}
 use Rattle.m2_typing_stmts.specs.TypingStmts.{fits_stmt, StmtsTyped, AreReturned}
 use Rattle.m2_typing_bodies.specs.Words.{ScopeWords, WordsStay}
 
@@ -104,6 +105,12 @@ pub record StageTyped (z : Stage) : Type 0 where
 -- the body of a procedure is typed
 abbrev pub BodyTyped : Stage → Routine → Type 0
 BodyTyped z r = StmtsTyped (stands z (kinds_of z.home.types r ∷ around_of z.home r)) (result_of z.home.types r.heading) [] false r.body
+
+-- what statements are judged to be is typed, where names mean what is there
+abbrev pub TypesStatements : (g : Gathers) → Judges g.Told → Type 0
+TypesStatements g judges = (x : Context) (opens : ℕ → Bool) (s : Scope g.Told) → IsTyped g x [] opens s → ScopeRanged s → s.withs ≡ []
+    → (returns : Option (Result TypeNo g.Told)) (result : Gives) → AreReturned x.home.types returns result
+    → (body : List Stmt) → list_all fits_stmt body ≡ true → Holds (StmtsTyped x result [] false) (judges s returns body)
 
 -- ---- names that mean what is there
 
