@@ -3,3 +3,4 @@ pub mod Scopes
 pub mod Own
 pub mod Entered
 pub mod Nested
+pub mod Blocks
