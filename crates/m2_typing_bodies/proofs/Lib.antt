@@ -4,3 +4,4 @@ pub mod Own
 pub mod Entered
 pub mod Nested
 pub mod Blocks
+pub mod Induction

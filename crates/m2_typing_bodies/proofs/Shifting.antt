@@ -79,3 +79,17 @@ module _ (z : Stage) (k : Kinds) (kss : List Kinds) where
     pub blocks_deeper : {T : Type 0} (bs : List (Block T)) → BlocksThere x opens level bs → BlocksThere more opens (suc level) bs
     blocks_deeper [] h = tt
     blocks_deeper (b ∷ bs) h = (names_deeper b.names h.0, blocks_deeper bs h.1)
+
+-- what is there without a frame is there in any frames
+pub meaning_anywhere : (z : Stage) (kss : List Kinds) (opens : ℕ → Bool) (level : ℕ) (m : Meaning) → MeaningThere (stands z []) opens 0 m → MeaningThere (stands z kss) opens level m
+meaning_anywhere z kss opens level (meaning.Constant v) h = (h.0, tt)
+meaning_anywhere z kss opens level (meaning.Type t n) h = (tt, tt)
+meaning_anywhere z kss opens level (meaning.Variable v) h = (record { known = h.0.known; type = h.0.type; there = h.0.there }, tt)
+meaning_anywhere z kss opens level (meaning.Local v) h = let e = h.0 in absurd cc
+meaning_anywhere z kss opens level (meaning.Field f) h = absurd h.1
+meaning_anywhere z kss opens level (meaning.Procedure f) h =
+    (record { known = h.0.known; home = h.0.home; there = h.0.there; routine = h.0.routine; is = h.0.is; outermost = h.0.outermost; forms = h.0.forms; result = h.0.result }, tt)
+meaning_anywhere z kss opens level (meaning.LocalProcedure f) h = absurd (let e = h.0.less in omega (arith, e))
+meaning_anywhere z kss opens level meaning.Ahead h = (tt, tt)
+meaning_anywhere z kss opens level (meaning.Standard f) h = (tt, tt)
+meaning_anywhere z kss opens level (meaning.Module n) h = (h.0, tt)
