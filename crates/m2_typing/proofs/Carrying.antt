@@ -54,7 +54,7 @@ module _ (a b : Types) (grows : Grows a b) where
   shape_stays (shape.Procedure q) p = tt
   shape_stays (shape.Open e) p = tt
 
-  all_stay : (ms : List Made) → AllIndexed a ms → AllIndexed b ms
+  pub all_stay : (ms : List Made) → AllIndexed a ms → AllIndexed b ms
   all_stay [] p = tt
   all_stay (m ∷ ms) p = (shape_stays m.shape p.0, all_stay ms p.1)
 

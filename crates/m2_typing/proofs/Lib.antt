@@ -7,3 +7,4 @@ pub mod Calls
 pub mod Meanings
 pub mod Carrying
 pub mod Declaring
+pub mod Reaching

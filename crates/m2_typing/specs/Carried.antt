@@ -23,10 +23,12 @@ use Rattle.m2_judged.specs.declared.scope.Scope.{Scope}
 use Rattle.m2_computed.specs.Classes.{array_at}
 use Rattle.m2_types.specs.Declare.{with_def}
 use Rattle.m2_types.specs.Compiled.{declared_in}
+use Rattle.m2_types.specs.Export.{reached_of}
 use Rattle.m2_blocks.specs.Declarations.{Course, with_decl, declared_block, declared_module}
 use Rattle.m2_blocks.specs.declared.inner.Outside.{Outside}
 use Rattle.m2_blocks.specs.Inner.{entered_procedure, left_procedure}
 use Rattle.m2_formed.specs.Formed.{Holds}
+use Rattle.m2_formed_ranges.specs.FormedRanges.{first_types}
 use Rattle.m2_typing.specs.Typing.{IsIndexed}
 
 -- ---- types
@@ -131,3 +133,22 @@ ModulesCarry g = (modules : List (List ℕ × ℕ)) (ends : List ℕ) (s : Scope
 -- into a procedure and back the types stay
 abbrev pub ProceduresStay : Gathers → Type 0
 ProceduresStay g = (s : Scope g.Told) → ((seen : ℕ) (h : Heading) → (entered_procedure g s seen h).0.types ≡ s.types) × ((o : Outside) → (left_procedure o s).types ≡ s.types)
+
+-- ---- where a module begins, and what its table reaches
+
+abbrev pub ReachedIndexed : Types → List ModuleTypes → Type 0
+ReachedIndexed types [] = Unit {0}
+ReachedIndexed types (m ∷ ms) = AllIndexed types m.made × ReachedIndexed types ms
+
+abbrev pub TablesIndexed : Types → List Table → Type 0
+TablesIndexed types [] = Unit {0}
+TablesIndexed types (t ∷ ts) = ReachedIndexed types t.reached × TablesIndexed types ts
+
+-- A module begins with such types, if its tables reach such types. Its own table reaches such types,
+abbrev pub TablesCarry : Type 0
+TablesCarry = ((home : ℕ) (tables : List Table) → TablesIndexed (first_types home tables) tables → TypesIndexed (first_types home tables))
+    × ((types : Types) → TypesIndexed types → ReachedIndexed types (reached_of types))
+
+-- and what it reaches stays so for all who know more types
+abbrev pub ReachedStay : Type 0
+ReachedStay = (a b : Types) → ((t : TypeNo) (m : Made) → made_at a t ≡ Some m → made_at b t ≡ Some m) → (ms : List ModuleTypes) → ReachedIndexed a ms → ReachedIndexed b ms

@@ -6,12 +6,25 @@
 //! - `proofs/Wants` has what each construct asks for, `proofs/Constructs` that constructs with typed parts are typed, and
 //!   `proofs/Known` what types are that a scope knows.
 //! - `proofs/Words` has that sets that are constants have 32 bits.
+//! - `specs/Carried` says what declarations carry on: arrays have indices of scalar types, and the variables of a module
+//!   stand where their names say. `proofs/Carrying`, `proofs/Declaring` and `proofs/Reaching` show it.
 //! - `proofs/Operators` and `proofs/Calls` have a lemma for each definition of `m2_computed` and `m2_calls`, and
 //!   `proofs/Meanings` those of `m2_exprs`, with the induction.
 #![tactic(auto)]
 
 ghost use Rattle.m2_judged.specs.Judged.{least, every};
 ghost use Rattle.m2_typing.specs.Typing.{ExpressionsAreTyped, DesignatorsAreTyped};
+ghost use Rattle.m2_typing.specs.Carried.{
+  BlocksCarry,
+  DeclsCarry,
+  DefinitionsCarry,
+  DefsCarry,
+  IndexedAreKnown,
+  ModulesCarry,
+  ProceduresStay,
+  ReachedStay,
+  TablesCarry,
+};
 
 /// What the checker makes of expressions and designators is typed, wherever what it asks for is there. That is so where the
 /// least broken rule is kept, and where all of them are.
@@ -22,4 +35,30 @@ pub fn typing_laws()
     // and so are designators.
     ensures least_designators { DesignatorsAreTyped least }
     ensures every_designators { DesignatorsAreTyped every }
+{}
+
+/// Declarations carry on from scope to scope: arrays have indices of scalar types, and variables stand where their names say.
+/// That is so where the least broken rule is kept, and where all of them are.
+pub fn carried_laws()
+    // The declarations of definitions carry on,
+    ensures least_defs { DefsCarry least }
+    ensures every_defs { DefsCarry every }
+    // those of blocks,
+    ensures least_decls { DeclsCarry least }
+    ensures every_decls { DeclsCarry every }
+    ensures least_blocks { BlocksCarry least }
+    ensures every_blocks { BlocksCarry every }
+    // whole definitions and whole modules,
+    ensures least_definitions { DefinitionsCarry least }
+    ensures every_definitions { DefinitionsCarry every }
+    ensures least_modules { ModulesCarry least }
+    ensures every_modules { ModulesCarry every }
+    // and the ways into procedures and back leave the types as they are.
+    ensures least_procedures { ProceduresStay least }
+    ensures every_procedures { ProceduresStay every }
+    // The same goes through tables,
+    ensures tables { TablesCarry }
+    ensures reached { ReachedStay }
+    // and so the index of an array that is known has a range.
+    ensures indexed { IndexedAreKnown }
 {}

@@ -1,0 +1,51 @@
+use Rattle.std.proofs.Common.{refl}
+use Rattle.m2_judged.specs.Judged.{least, every}
+use Rattle.m2_typing.proofs.Carrying.{indexed_known}
+use Rattle.m2_typing.proofs.Declaring.{def_carries, decl_carries, block_carries, definition_carries, module_carries_on}
+use Rattle.m2_typing.proofs.Reaching.{first_indexed, reached_indexed, reached_stay}
+use Rattle.m2_typing.proofs.carried_laws.Goals as goal
+
+pub returns-clause-least_defs : goal.returns-clause-least_defs
+returns-clause-least_defs c = def_carries least
+
+pub returns-clause-every_defs : goal.returns-clause-every_defs
+returns-clause-every_defs c = def_carries every
+
+pub returns-clause-least_decls : goal.returns-clause-least_decls
+returns-clause-least_decls c = decl_carries least
+
+pub returns-clause-every_decls : goal.returns-clause-every_decls
+returns-clause-every_decls c = decl_carries every
+
+pub returns-clause-least_blocks : goal.returns-clause-least_blocks
+returns-clause-least_blocks c = block_carries least
+
+pub returns-clause-every_blocks : goal.returns-clause-every_blocks
+returns-clause-every_blocks c = block_carries every
+
+pub returns-clause-least_definitions : goal.returns-clause-least_definitions
+returns-clause-least_definitions c = definition_carries least
+
+pub returns-clause-every_definitions : goal.returns-clause-every_definitions
+returns-clause-every_definitions c = definition_carries every
+
+pub returns-clause-least_modules : goal.returns-clause-least_modules
+returns-clause-least_modules c = module_carries_on least
+
+pub returns-clause-every_modules : goal.returns-clause-every_modules
+returns-clause-every_modules c = module_carries_on every
+
+pub returns-clause-least_procedures : goal.returns-clause-least_procedures
+returns-clause-least_procedures c = λ s. (λ seen h. refl, λ o. refl)
+
+pub returns-clause-every_procedures : goal.returns-clause-every_procedures
+returns-clause-every_procedures c = λ s. (λ seen h. refl, λ o. refl)
+
+pub returns-clause-tables : goal.returns-clause-tables
+returns-clause-tables c = (λ home tables p. first_indexed home tables p, λ types h. reached_indexed types h)
+
+pub returns-clause-reached : goal.returns-clause-reached
+returns-clause-reached c = reached_stay
+
+pub returns-clause-indexed : goal.returns-clause-indexed
+returns-clause-indexed c = indexed_known
