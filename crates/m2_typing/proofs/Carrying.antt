@@ -30,7 +30,7 @@ use Rattle.m2_formed.specs.Formed.{Holds, fine, broken}
 use Rattle.m2_formed.proofs.Basics.{holds_weaker, Grows}
 use Rattle.m2_formed_scopes.proofs.Names.{get_more}
 use Rattle.m2_typing.specs.Typing.{IsIndexed}
-use Rattle.m2_typing.specs.Carried.{ShapeIndexed, AllIndexed, OthersIndexed, TypesIndexed, MeaningPlaced, KnownPlaced, NamesPlaced, ScopePlaced, Carries}
+use Rattle.m2_typing.specs.Carried.{ShapeIndexed, AllIndexed, OthersIndexed, TypesIndexed, MeaningPlaced, KnownPlaced, NamesPlaced, ScopePlaced, MeaningWord, KnownWord, NamesWords, ScopeWords, Carries}
 use Rattle.m2_typing.proofs.Known.{scalar_known}
 
 -- ---- types that stay
@@ -93,7 +93,7 @@ names_stay home us vs l (e ∷ es) p = (known_stays home us vs l e.1 p.0, names_
 -- ---- steps
 
 pub carries_refl : {T : Type 0} (s : Scope T) → Carries s s
-carries_refl s = record { home = refl; tables = refl; types = λ t m e. e; variables = λ n t e. e; indexed = λ p. p; placed = λ p. p }
+carries_refl s = record { home = refl; tables = refl; types = λ t m e. e; variables = λ n t e. e; indexed = λ p. p; placed = λ p. p; words = λ p. p }
 
 pub carries_then : {T : Type 0} {a b c : Scope T} → Carries a b → Carries b c → Carries a c
 carries_then p q = record {
@@ -103,6 +103,7 @@ carries_then p q = record {
   variables = λ n t e. q.variables n t (p.variables n t e);
   indexed = λ k. q.indexed (p.indexed k);
   placed = λ k. q.placed (p.placed k);
+  words = λ k. q.words (p.words k);
 }
 
 -- ---- one name more
@@ -115,40 +116,49 @@ names_more : {T : Type 0} (home : ℕ) (vs : List TypeNo) (name : List ℕ) (k :
 names_more home vs name k [] p all = (p, tt)
 names_more home vs name k (e ∷ es) p all = names_by home vs (same_name name e.0) k e es (entered name k es) p all (names_more home vs name k es p all.1)
 
-pub known_carries : {T : Type 0} (s : Scope T) (name : List ℕ) (k : Known T) → KnownPlaced s.types.home s.variables k → Carries s (with_known name k s)
-known_carries s name k p = record {
+words_by : {T : Type 0} (b : Bool) (k : Known T) (e : List ℕ × Known T) (es more : List (List ℕ × Known T)) → KnownWord k → NamesWords (e ∷ es) → NamesWords more → NamesWords (cond b ((e.0, k) ∷ es) (e ∷ more))
+words_by true k e es more p all q = (p, all.1)
+words_by false k e es more p all q = (all.0, q)
+
+pub words_more : {T : Type 0} (name : List ℕ) (k : Known T) (es : List (List ℕ × Known T)) → KnownWord k → NamesWords es → NamesWords (entered name k es)
+words_more name k [] p all = (p, tt)
+words_more name k (e ∷ es) p all = words_by (same_name name e.0) k e es (entered name k es) p all (words_more name k es p all.1)
+
+pub known_carries : {T : Type 0} (s : Scope T) (name : List ℕ) (k : Known T) → KnownPlaced s.types.home s.variables k → (ScopeWords s → KnownWord k) → Carries s (with_known name k s)
+known_carries s name k p w = record {
   home = refl;
   tables = refl;
   types = λ t m e. e;
   variables = λ n t e. e;
   indexed = λ q. q;
   placed = λ q. names_more s.types.home s.variables name k s.own p q;
+  words = λ q. record { names = words_more name k s.own (w q) q.names; outer = q.outer; tables = q.tables };
 }
 
 module _ (g : Gathers) (s : Scope g.Told) where
-  pub free_carries : (at : Pos) (name : List ℕ) (k : Known g.Told) (b : Bool) → KnownPlaced s.types.home s.variables k → Carries s (cond {A = State (Unit {0}) g.Told} b (with_known name k s, Ok tt) (s, told g at 31)).0
-  free_carries at name k true p = known_carries s name k p
-  free_carries at name k false p = carries_refl s
+  pub free_carries : (at : Pos) (name : List ℕ) (k : Known g.Told) (b : Bool) → KnownPlaced s.types.home s.variables k → (ScopeWords s → KnownWord k) → Carries s (cond {A = State (Unit {0}) g.Told} b (with_known name k s, Ok tt) (s, told g at 31)).0
+  free_carries at name k true p w = known_carries s name k p w
+  free_carries at name k false p w = carries_refl s
 
-  pub unless_carries : (name : Ident) (k : Known g.Told) → KnownPlaced s.types.home s.variables k → Carries s (unless_declared g s name k).0
-  unless_carries name k p = free_carries name.pos name.name k (is_free (found name.name s.own)) p
+  pub unless_carries : (name : Ident) (k : Known g.Told) → KnownPlaced s.types.home s.variables k → (ScopeWords s → KnownWord k) → Carries s (unless_declared g s name k).0
+  unless_carries name k p w = free_carries name.pos name.name k (is_free (found name.name s.own)) p w
 
   pub begun_carries : (name : Ident) → Carries s (begun g s name).0
-  begun_carries name = unless_carries name Begun tt
+  begun_carries name = unless_carries name Begun tt (λ q. tt)
 
-finished_by : {T : Type 0} (s : Scope T) (name : List ℕ) (k : Known T) (b : Bool) → KnownPlaced s.types.home s.variables k → Carries s (cond b (with_known name k s) s)
-finished_by s name k true p = known_carries s name k p
-finished_by s name k false p = carries_refl s
+finished_by : {T : Type 0} (s : Scope T) (name : List ℕ) (k : Known T) (b : Bool) → KnownPlaced s.types.home s.variables k → (ScopeWords s → KnownWord k) → Carries s (cond b (with_known name k s) s)
+finished_by s name k true p w = known_carries s name k p w
+finished_by s name k false p w = carries_refl s
 
-pub finished_carries : {T : Type 0} (s : Scope T) (name : Ident) (r : Result Meaning T) → Holds (MeaningPlaced s.types.home s.variables) r → Carries s (finished s name r)
-finished_carries s name r p = finished_by s name.name (Declared Here r) (is_begun (found name.name s.own)) p
+pub finished_carries : {T : Type 0} (s : Scope T) (name : Ident) (r : Result Meaning T) → Holds (MeaningPlaced s.types.home s.variables) r → (ScopeWords s → Holds MeaningWord r) → Carries s (finished s name r)
+finished_carries s name r p w = finished_by s name.name (Declared Here r) (is_begun (found name.name s.own)) p w
 
-marked_by : {T : Type 0} (s : Scope T) (name : List ℕ) (k : Known T) (o : Option (Known T)) → KnownPlaced s.types.home s.variables k → Carries s (unless_marked name k s o)
-marked_by s name k (Some x) p = carries_refl s
-marked_by s name k None p = known_carries s name k p
+marked_by : {T : Type 0} (s : Scope T) (name : List ℕ) (k : Known T) (o : Option (Known T)) → KnownPlaced s.types.home s.variables k → (ScopeWords s → KnownWord k) → Carries s (unless_marked name k s o)
+marked_by s name k (Some x) p w = carries_refl s
+marked_by s name k None p w = known_carries s name k p w
 
-pub marked_carries : {T : Type 0} (s : Scope T) (name : Ident) (k : Known T) → KnownPlaced s.types.home s.variables k → Carries s (marked name k s)
-marked_carries s name k p = marked_by s name.name k (found name.name s.own) p
+pub marked_carries : {T : Type 0} (s : Scope T) (name : Ident) (k : Known T) → KnownPlaced s.types.home s.variables k → (ScopeWords s → KnownWord k) → Carries s (marked name k s)
+marked_carries s name k p w = marked_by s name.name k (found name.name s.own) p w
 
 -- ---- one type more
 
@@ -177,6 +187,7 @@ shape_carries s x p =
       variables = λ n t e. e;
       indexed = λ q. record { own = all_more now s.types.own x (all_stay s.types now grows s.types.own q.own) (shape_stays s.types now grows x.shape p); others = others_stay s.types now grows s.types.others q.others };
       placed = λ q. q;
+      words = λ q. record { names = q.names; outer = q.outer; tables = q.tables };
     }
 
 pub made_carries : {T : Type 0} (s : Scope T) {r : Result Made T} → Holds (λ x. ShapeIndexed s.types x.shape) r → Carries s (with_made s r).0
@@ -193,11 +204,20 @@ variable_type_carries s (Ok t) = record {
   variables = λ n u e. get_more s.variables (t ∷ []) n u e;
   indexed = λ p. p;
   placed = λ p. names_stay s.types.home s.variables (s.variables ++ t ∷ []) (λ n u e. get_more s.variables (t ∷ []) n u e) s.own p;
+  words = λ q. record { names = q.names; outer = q.outer; tables = q.tables };
 }
 variable_type_carries s (Err e) = carries_refl s
 
 pub procedure_type_carries : {T : Type 0} (s : Scope T) (t : Result TypeNo T) → Carries s (with_procedure_type s t)
-procedure_type_carries s (Ok t) = record { home = refl; tables = refl; types = λ u m e. e; variables = λ n u e. e; indexed = λ p. p; placed = λ p. p }
+procedure_type_carries s (Ok t) = record {
+  home = refl;
+  tables = refl;
+  types = λ u m e. e;
+  variables = λ n u e. e;
+  indexed = λ p. p;
+  placed = λ p. p;
+  words = λ q. record { names = q.names; outer = q.outer; tables = q.tables };
+}
 procedure_type_carries s (Err e) = carries_refl s
 
 -- ---- an array that is known

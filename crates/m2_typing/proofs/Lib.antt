@@ -5,6 +5,8 @@ pub mod Words
 pub mod Operators
 pub mod Calls
 pub mod Meanings
+pub mod Denoting
 pub mod Carrying
 pub mod Declaring
+pub mod Bounding
 pub mod Reaching

@@ -1,6 +1,8 @@
--- What declarations carry on: arrays have indices of scalar types, and variables stand where their names say.
+-- What declarations carry on: arrays have indices of scalar types, variables stand where their names say, and sets that are
+-- constants have 32 bits.
 use Rattle.std.specs.Prelude.{◌≡◌, ℕ, true, List, [], ◌∷◌, Option, Some, None, slice_get}
 use Rattle.std.specs.Option.{is_some}
+use Rattle.m2_tree.specs.declared.expr.Expr.{Expr}
 use Rattle.m2_tree.specs.declared.decl.Module.{Module}
 use Rattle.m2_tree.specs.declared.decl.Def.{Def}
 use Rattle.m2_tree.specs.declared.decl.Decl.{Decl}
@@ -19,17 +21,20 @@ use Rattle.m2_judged.specs.Judged.{Gathers}
 use Rattle.m2_judged.specs.Scopes.{State}
 use Rattle.m2_judged.specs.declared.known.Known.{Known}
 use Rattle.m2_judged.specs.declared.known.Known.TheVariants.{Later, Ahead, Begun, Headed, Declared}
+use Rattle.m2_judged.specs.declared.scope.Block.{Block}
 use Rattle.m2_judged.specs.declared.scope.Scope.{Scope}
+use Rattle.m2_constants.specs.Parts.{part, constant}
 use Rattle.m2_computed.specs.Classes.{array_at}
 use Rattle.m2_types.specs.Declare.{with_def}
 use Rattle.m2_types.specs.Compiled.{declared_in}
-use Rattle.m2_types.specs.Export.{reached_of}
+use Rattle.m2_types.specs.Export.{exports, reached_of}
+use Rattle.m2_types.specs.Predeclared.{first_scope}
 use Rattle.m2_blocks.specs.Declarations.{Course, with_decl, declared_block, declared_module}
 use Rattle.m2_blocks.specs.declared.inner.Outside.{Outside}
 use Rattle.m2_blocks.specs.Inner.{entered_procedure, left_procedure}
 use Rattle.m2_formed.specs.Formed.{Holds}
 use Rattle.m2_formed_ranges.specs.FormedRanges.{first_types}
-use Rattle.m2_typing.specs.Typing.{IsIndexed}
+use Rattle.m2_typing.specs.Typing.{IsWord, IsIndexed}
 
 -- ---- types
 
@@ -93,9 +98,57 @@ abbrev pub TablesElsewhere : (home : ℕ) → List Table → Type 0
 TablesElsewhere home [] = Unit {0}
 TablesElsewhere home (t ∷ ts) = ExportsElsewhere home t.exported × TablesElsewhere home ts
 
+-- ---- sets that are constants have 32 bits
+
+abbrev pub MeaningWord : Meaning → Type 0
+MeaningWord (meaning.Constant v) = IsWord v
+MeaningWord (meaning.Type t n) = Unit {0}
+MeaningWord (meaning.Variable v) = Unit {0}
+MeaningWord (meaning.Local v) = Unit {0}
+MeaningWord (meaning.Field f) = Unit {0}
+MeaningWord (meaning.Procedure p) = Unit {0}
+MeaningWord (meaning.LocalProcedure p) = Unit {0}
+MeaningWord meaning.Ahead = Unit {0}
+MeaningWord (meaning.Standard f) = Unit {0}
+MeaningWord (meaning.Module k) = Unit {0}
+
+abbrev pub KnownWord : {T : Type 0} → Known T → Type 0
+KnownWord Later = Unit {0}
+KnownWord Ahead = Unit {0}
+KnownWord Begun = Unit {0}
+KnownWord (Headed r) = Holds MeaningWord r
+KnownWord (Declared o r) = Holds MeaningWord r
+
+abbrev pub NamesWords : {T : Type 0} → List (List ℕ × Known T) → Type 0
+NamesWords [] = Unit {0}
+NamesWords (e ∷ es) = KnownWord e.1 × NamesWords es
+
+abbrev pub BlocksWords : {T : Type 0} → List (Block T) → Type 0
+BlocksWords [] = Unit {0}
+BlocksWords (b ∷ bs) = NamesWords b.names × BlocksWords bs
+
+abbrev pub ExportsWords : List (List ℕ × Meaning) → Type 0
+ExportsWords [] = Unit {0}
+ExportsWords (e ∷ es) = MeaningWord e.1 × ExportsWords es
+
+abbrev pub TablesWords : List Table → Type 0
+TablesWords [] = Unit {0}
+TablesWords (t ∷ ts) = ExportsWords t.exported × TablesWords ts
+
+-- the constants of a scope
+pub record ScopeWords {T : Type 0} (s : Scope T) : Type 0 where
+  pub names : NamesWords s.own
+  pub outer : BlocksWords s.outer
+  pub tables : TablesWords s.tables
+
+-- a constant expression means such a constant
+abbrev pub ConstantsAreWords : Gathers → Type 0
+ConstantsAreWords g = (s : Scope g.Told) → ScopeWords s → (e : Expr) → Holds IsWord (constant g s (part g e))
+
 -- ---- what is carried from one scope to another
 
--- Types and variables stay, arrays keep indices of scalar types, and variables stand where their names say.
+-- Types and variables stay, arrays keep indices of scalar types, variables stand where their names say, and constants are
+-- such constants.
 pub record Carries {T : Type 0} (s s' : Scope T) : Type 0 where
   pub home : s'.types.home ≡ s.types.home
   pub tables : s'.tables ≡ s.tables
@@ -103,6 +156,7 @@ pub record Carries {T : Type 0} (s s' : Scope T) : Type 0 where
   pub variables : (n : ℕ) (t : TypeNo) → slice_get s.variables n ≡ Some t → slice_get s'.variables n ≡ Some t
   pub indexed : TypesIndexed s.types → TypesIndexed s'.types
   pub placed : ScopePlaced s → ScopePlaced s'
+  pub words : ScopeWords s → ScopeWords s'
 
 -- ---- the laws
 
@@ -130,9 +184,11 @@ DefinitionsCarry g = (m : Module) (modules : List (List ℕ × ℕ)) (s : Scope 
 abbrev pub ModulesCarry : Gathers → Type 0
 ModulesCarry g = (modules : List (List ℕ × ℕ)) (ends : List ℕ) (s : Scope g.Told) (m : Module) (ds : List Decl) → TablesElsewhere s.types.home s.tables → Carries s (declared_module g modules ends s m ds).0
 
--- into a procedure and back the types stay
+-- into a procedure and back the types stay, and constants are such constants
 abbrev pub ProceduresStay : Gathers → Type 0
-ProceduresStay g = (s : Scope g.Told) → ((seen : ℕ) (h : Heading) → (entered_procedure g s seen h).0.types ≡ s.types) × ((o : Outside) → (left_procedure o s).types ≡ s.types)
+ProceduresStay g = (s : Scope g.Told)
+    → ((seen : ℕ) (h : Heading) → ((entered_procedure g s seen h).0.types ≡ s.types) × (ScopeWords s → ScopeWords (entered_procedure g s seen h).0))
+    × ((o : Outside) → ((left_procedure o s).types ≡ s.types) × (ScopeWords s → ScopeWords (left_procedure o s)))
 
 -- ---- where a module begins, and what its table reaches
 
@@ -152,3 +208,7 @@ TablesCarry = ((home : ℕ) (tables : List Table) → TablesIndexed (first_types
 -- and what it reaches stays so for all who know more types
 abbrev pub ReachedStay : Type 0
 ReachedStay = (a b : Types) → ((t : TypeNo) (m : Made) → made_at a t ≡ Some m → made_at b t ≡ Some m) → (ms : List ModuleTypes) → ReachedIndexed a ms → ReachedIndexed b ms
+
+-- a module begins with such constants, if its tables have such, and exports such
+abbrev pub WordsCarry : Gathers → Type 0
+WordsCarry g = ((home : ℕ) (tables : List Table) → TablesWords tables → ScopeWords (first_scope {T = g.Told} home tables)) × ((s : Scope g.Told) → ScopeWords s → ExportsWords (exports s.own))

@@ -6,8 +6,9 @@
 //! - `proofs/Wants` has what each construct asks for, `proofs/Constructs` that constructs with typed parts are typed, and
 //!   `proofs/Known` what types are that a scope knows.
 //! - `proofs/Words` has that sets that are constants have 32 bits.
-//! - `specs/Carried` says what declarations carry on: arrays have indices of scalar types, and the variables of a module
-//!   stand where their names say. `proofs/Carrying`, `proofs/Declaring` and `proofs/Reaching` show it.
+//! - `specs/Carried` says what declarations carry on: arrays have indices of scalar types, the variables of a module stand
+//!   where their names say, and sets that are constants have 32 bits. `proofs/Denoting` has constant expressions,
+//!   `proofs/Carrying` and `proofs/Declaring` declarations, `proofs/Bounding` and `proofs/Reaching` procedures and tables.
 //! - `proofs/Operators` and `proofs/Calls` have a lemma for each definition of `m2_computed` and `m2_calls`, and
 //!   `proofs/Meanings` those of `m2_exprs`, with the induction.
 #![tactic(auto)]
@@ -16,6 +17,7 @@ ghost use Rattle.m2_judged.specs.Judged.{least, every};
 ghost use Rattle.m2_typing.specs.Typing.{ExpressionsAreTyped, DesignatorsAreTyped};
 ghost use Rattle.m2_typing.specs.Carried.{
   BlocksCarry,
+  ConstantsAreWords,
   DeclsCarry,
   DefinitionsCarry,
   DefsCarry,
@@ -24,6 +26,7 @@ ghost use Rattle.m2_typing.specs.Carried.{
   ProceduresStay,
   ReachedStay,
   TablesCarry,
+  WordsCarry,
 };
 
 /// What the checker makes of expressions and designators is typed, wherever what it asks for is there. That is so where the
@@ -37,8 +40,8 @@ pub fn typing_laws()
     ensures every_designators { DesignatorsAreTyped every }
 {}
 
-/// Declarations carry on from scope to scope: arrays have indices of scalar types, and variables stand where their names say.
-/// That is so where the least broken rule is kept, and where all of them are.
+/// Declarations carry on from scope to scope: arrays have indices of scalar types, variables stand where their names say, and
+/// sets that are constants have 32 bits. That is so where the least broken rule is kept, and where all of them are.
 pub fn carried_laws()
     // The declarations of definitions carry on,
     ensures least_defs { DefsCarry least }
@@ -56,7 +59,12 @@ pub fn carried_laws()
     // and the ways into procedures and back leave the types as they are.
     ensures least_procedures { ProceduresStay least }
     ensures every_procedures { ProceduresStay every }
-    // The same goes through tables,
+    // Constant expressions mean sets of 32 bits, and so do the names that a module exports.
+    ensures least_constants { ConstantsAreWords least }
+    ensures every_constants { ConstantsAreWords every }
+    ensures least_words { WordsCarry least }
+    ensures every_words { WordsCarry every }
+    // Indices go through tables,
     ensures tables { TablesCarry }
     ensures reached { ReachedStay }
     // and so the index of an array that is known has a range.

@@ -1,7 +1,9 @@
 use Rattle.std.proofs.Common.{refl}
 use Rattle.m2_judged.specs.Judged.{least, every}
+use Rattle.m2_typing.proofs.Bounding.{entered_words, left_words, first_words, exports_words}
 use Rattle.m2_typing.proofs.Carrying.{indexed_known}
 use Rattle.m2_typing.proofs.Declaring.{def_carries, decl_carries, block_carries, definition_carries, module_carries_on}
+use Rattle.m2_typing.proofs.Denoting.{constants_words}
 use Rattle.m2_typing.proofs.Reaching.{first_indexed, reached_indexed, reached_stay}
 use Rattle.m2_typing.proofs.carried_laws.Goals as goal
 
@@ -36,10 +38,10 @@ pub returns-clause-every_modules : goal.returns-clause-every_modules
 returns-clause-every_modules c = module_carries_on every
 
 pub returns-clause-least_procedures : goal.returns-clause-least_procedures
-returns-clause-least_procedures c = λ s. (λ seen h. refl, λ o. refl)
+returns-clause-least_procedures c = λ s. (λ seen h. (refl, λ p. entered_words least s seen h p), λ o. (refl, λ p. left_words o s p))
 
 pub returns-clause-every_procedures : goal.returns-clause-every_procedures
-returns-clause-every_procedures c = λ s. (λ seen h. refl, λ o. refl)
+returns-clause-every_procedures c = λ s. (λ seen h. (refl, λ p. entered_words every s seen h p), λ o. (refl, λ p. left_words o s p))
 
 pub returns-clause-tables : goal.returns-clause-tables
 returns-clause-tables c = (λ home tables p. first_indexed home tables p, λ types h. reached_indexed types h)
@@ -49,3 +51,15 @@ returns-clause-reached c = reached_stay
 
 pub returns-clause-indexed : goal.returns-clause-indexed
 returns-clause-indexed c = indexed_known
+
+pub returns-clause-least_words : goal.returns-clause-least_words
+returns-clause-least_words c = (λ home tables p. first_words home tables p, λ s h. exports_words s h)
+
+pub returns-clause-least_constants : goal.returns-clause-least_constants
+returns-clause-least_constants c = λ s h e. constants_words least s h e
+
+pub returns-clause-every_words : goal.returns-clause-every_words
+returns-clause-every_words c = (λ home tables p. first_words home tables p, λ s h. exports_words s h)
+
+pub returns-clause-every_constants : goal.returns-clause-every_constants
+returns-clause-every_constants c = λ s h e. constants_words every s h e
