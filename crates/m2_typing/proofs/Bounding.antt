@@ -1,5 +1,5 @@
 -- Constants on the way into procedures and back, where a module begins, and in what it exports.
-use Rattle.std.proofs.Common.{◌≡◌, ℕ, pos, Bool, true, false, cond, List, [], ◌∷◌, ◌++◌, length, Option, Some, None, Result, Ok, Err}
+use Rattle.std.proofs.Common.{ℕ, pos, Bool, true, false, cond, List, [], ◌∷◌, ◌++◌, length, Option, Some, None, Result, Ok}
 use Rattle.std.specs.Prelude.{codes}
 use Rattle.std.specs.List.{fold}
 use Rattle.std.specs.Option.{is_some}

@@ -1,5 +1,5 @@
 -- What one name more does, one type more, and one variable more.
-use Rattle.std.proofs.Common.{◌≡◌, ℕ, zero, suc, ◌==◌, Bool, true, false, cond, List, [], ◌∷◌, ◌++◌, length, Option, Some, None, Result, Ok, Err, refl, sym, ap, subst, ◌∙◌}
+use Rattle.std.proofs.Common.{◌≡◌, ℕ, zero, suc, ◌==◌, Bool, true, false, cond, List, [], ◌∷◌, ◌++◌, Option, Some, None, Result, Ok, Err, refl, ap, subst, ◌∙◌}
 use Rattle.std.specs.Prelude.{slice_get, nat_eq}
 use Rattle.std.specs.Map.{lookup}
 use Rattle.std.specs.Option.{is_some}
@@ -15,7 +15,7 @@ use Rattle.m2_typed.specs.declared.shape.Shape.TheVariants as shape
 use Rattle.m2_typed.specs.declared.types.Home.{Home}
 use Rattle.m2_typed.specs.declared.types.Home.TheVariants.{Predeclared, Module}
 use Rattle.m2_typed.specs.declared.types.TypeNo.{TypeNo}
-use Rattle.m2_typed.specs.Known.{made_from, made_at, in_list, scalar_at}
+use Rattle.m2_typed.specs.Known.{made_from, in_list, scalar_at}
 use Rattle.m2_typed.specs.Names.{same_name, found, entered}
 use Rattle.m2_judged.specs.Judged.{Gathers, told}
 use Rattle.m2_judged.specs.Scopes.{State, is_free, with_known, unless_declared, begun, is_begun, finished, unless_marked, marked}
@@ -30,7 +30,7 @@ use Rattle.m2_formed.specs.Formed.{Holds, fine, broken}
 use Rattle.m2_formed.proofs.Basics.{holds_weaker, Grows}
 use Rattle.m2_formed_scopes.proofs.Names.{get_more}
 use Rattle.m2_typing.specs.Typing.{IsIndexed}
-use Rattle.m2_typing.specs.Carried.{ShapeIndexed, AllIndexed, OthersIndexed, TypesIndexed, MeaningPlaced, KnownPlaced, NamesPlaced, ScopePlaced, MeaningWord, KnownWord, NamesWords, ScopeWords, Carries}
+use Rattle.m2_typing.specs.Carried.{ShapeIndexed, AllIndexed, OthersIndexed, TypesIndexed, MeaningPlaced, KnownPlaced, NamesPlaced, MeaningWord, KnownWord, NamesWords, ScopeWords, Carries}
 use Rattle.m2_typing.proofs.Known.{scalar_known}
 
 -- ---- types that stay

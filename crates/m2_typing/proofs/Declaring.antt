@@ -1,11 +1,10 @@
 -- Type expressions, declarations, marks, imports and blocks carry on.
-use Rattle.std.proofs.Common.{◌≡◌, ℕ, zero, suc, ◌==◌, Bool, true, false, cond, List, [], ◌∷◌, ◌++◌, length, take, drop, Option, Some, None, Result, Ok, Err, refl, sym, ap, subst, ◌∙◌, pos}
-use Rattle.std.specs.Prelude.{map, nat_lt, slice_get, not}
+use Rattle.std.proofs.Common.{◌≡◌, ℕ, zero, suc, ◌==◌, Bool, true, false, cond, List, [], ◌∷◌, length, take, drop, Option, Some, None, Result, Ok, Err, refl, sym, ap, subst, ◌∙◌, pos}
+use Rattle.std.specs.Prelude.{map, nat_lt, slice_get}
 use Rattle.std.specs.List.{fold}
 use Rattle.std.specs.Option.{is_some}
 use Rattle.m2_tree.specs.declared.pos.Pos.{Pos}
 use Rattle.m2_tree.specs.declared.name.Ident.{Ident}
-use Rattle.m2_tree.specs.declared.expr.Qualified.{Qualified}
 use Rattle.m2_tree.specs.declared.decl.Constant.{Constant}
 use Rattle.m2_tree.specs.declared.decl.TypeDecl.{TypeDecl}
 use Rattle.m2_tree.specs.declared.decl.Variables.{Variables}
@@ -34,9 +33,8 @@ use Rattle.m2_typed.specs.declared.table.Table.{Table}
 use Rattle.m2_typed.specs.declared.known_types.Types.{Types}
 use Rattle.m2_typed.specs.Known.{scalar_at, cells_at}
 use Rattle.m2_typed.specs.Names.{found, place_of}
-use Rattle.m2_judged.specs.Judged.{Gathers, told, both, ◌▷◌}
-use Rattle.m2_judged.specs.Scopes.{State, is_free, with_known, begun, is_again, imported}
-use Rattle.m2_judged.specs.declared.known.Known.{Known}
+use Rattle.m2_judged.specs.Judged.{Gathers, both}
+use Rattle.m2_judged.specs.Scopes.{State, is_free, begun, is_again, imported}
 use Rattle.m2_judged.specs.declared.known.Known.TheVariants.{Later, Ahead, Headed, Declared}
 use Rattle.m2_judged.specs.declared.known.Origin.{Origin}
 use Rattle.m2_judged.specs.declared.known.Origin.TheVariants.{Here, Export}
@@ -47,15 +45,15 @@ use Rattle.m2_made.specs.declared.field.Fields.{Fields}
 use Rattle.m2_made.specs.Cells.{array_cells, count_at, is_index_scalar, is_index}
 use Rattle.m2_made.specs.Fields.{no_fields}
 use Rattle.m2_made.specs.Headings.{procedure_made, sections, result_of, heading_of}
-use Rattle.m2_made.specs.Made.{next_type, with_shape, with_made, scalar_made, enumeration_constant, enumeration_scalar, too_many, listed, simple_type, simple_place, array_in, array_of, index_type, record_of, Makes, MakesFields, then_fields, type_layer, field_layer, type_of, field_list}
+use Rattle.m2_made.specs.Made.{next_type, with_shape, with_made, enumeration_constant, enumeration_scalar, too_many, listed, simple_type, simple_place, array_of, index_type, record_of, Makes, MakesFields, then_fields, type_layer, field_layer, type_of, field_list}
 use Rattle.m2_types.specs.Marking.{Marks, marked_later, marked_simple, then_marks, marked_in, marked_field, marked_constant, marked_type, marked_variables, marked_def}
 use Rattle.m2_types.specs.Marking as marking
-use Rattle.m2_types.specs.Declare.{constant_meaning, with_constant, brings_with, type_meaning, with_type, begun_name, variable_meaning, with_variable_type, finished_variable, with_variables, procedure_meaning, with_procedure_type, declared_procedure, with_procedure, with_def}
+use Rattle.m2_types.specs.Declare.{constant_meaning, with_constant, brings_with, type_meaning, with_type, begun_name, variable_meaning, with_variable_type, finished_variable, with_variables, procedure_meaning, with_procedure_type, with_procedure, with_def}
 use Rattle.m2_types.specs.Importing.{module_named, with_module_as, with_module_name, with_entry, brings_in, told_of_taken, unless_taken, from_place, with_from, exports_of, from_module, with_imports, with_import}
 use Rattle.m2_types.specs.Compiled.{declared_in}
 use Rattle.m2_blocks.specs.declared.heading.Standing.{Standing}
 use Rattle.m2_blocks.specs.declared.heading.Standing.TheVariants.{Free, Awaited, Taken}
-use Rattle.m2_blocks.specs.Headings.{name_standing, nested_meaning, headed, module_procedure, new_procedure, with_new, headed_as, with_heading}
+use Rattle.m2_blocks.specs.Headings.{name_standing, nested_meaning, headed, module_procedure, headed_as, with_heading}
 use Rattle.m2_blocks.specs.Naming.{marked_layer, marked_decl, with_marks, all_marked}
 use Rattle.m2_blocks.specs.Declarations.{local_meaning, finished_local, with_locals, Course, decl_layer, with_decl, declared_block, declared_module}
 use Rattle.m2_formed.specs.Formed.{Holds, fine, broken}

@@ -1,5 +1,5 @@
 -- Constant expressions mean sets of 32 bits: what names mean, a lemma for each construct, and then the induction.
-use Rattle.std.proofs.Common.{◌≡◌, ℕ, ◌^◌, ◌<◌, zero, suc, pos, Bool, true, false, cond, List, [], ◌∷◌, map, Option, Some, None, Result, Ok, refl, sym, ap, subst, ◌∙◌, arith}
+use Rattle.std.proofs.Common.{◌≡◌, ℕ, zero, suc, pos, Bool, true, false, cond, List, [], ◌∷◌, map, Option, Some, None, Result, Ok, sym, ap, subst, ◌∙◌, arith}
 use Rattle.std.specs.Prelude.{nat_lt, slice_get}
 use Rattle.std.specs.List.{fold}
 use Rattle.std.specs.Option.{option_map}
@@ -35,7 +35,7 @@ use Rattle.m2_values.specs.declared.operand.Ordinal.{Ordinal}
 use Rattle.m2_values.specs.declared.operator.BinaryOp.{BinaryOp}
 use Rattle.m2_values.specs.declared.operator.BinaryOp.TheVariants as op
 use Rattle.m2_values.specs.Operands.{operand_of, valued}
-use Rattle.m2_values.specs.Operate.{combined, signed, negated}
+use Rattle.m2_values.specs.Operate.{combined}
 use Rattle.m2_values.specs.Operators.{mul_op, add_op}
 use Rattle.m2_values.specs.Standards.{whole_number, bound_of, converted_part}
 use Rattle.m2_constants.specs.declared.denoted.Denoted.{Denoted}
@@ -43,13 +43,13 @@ use Rattle.m2_constants.specs.declared.denoted.Denoted.TheVariants as denoted
 use Rattle.m2_constants.specs.declared.call.Sort.{Sort}
 use Rattle.m2_constants.specs.declared.call.Sort.TheVariants.{Unary, Bound, Conversion, Never}
 use Rattle.m2_constants.specs.Denote.{denoted_by, as_constant, of_value, component, exported_by, exported, member}
-use Rattle.m2_constants.specs.Calls.{sort_of, bound_by, type_argument, converted_by}
+use Rattle.m2_constants.specs.Calls.{sort_of, bound_by, type_argument}
 use Rattle.m2_constants.specs.Parts.{Part, Pick, Adds, sign_place, signed_first, named, field_of, constant, one, type_only, conversion, by_sort, called_as, called, factor, term, set_type, expr_layer, selector_layer, designator_layer, item_layer, part, pick, head, item}
 use Rattle.m2_formed.specs.Formed.{Holds, fine}
 use Rattle.m2_formed.proofs.Basics.{then_holds, told_holds, where_holds, both_holds, any_holds}
 use Rattle.m2_typing.specs.Typing.{IsWord}
 use Rattle.m2_typing.specs.Carried.{MeaningWord, KnownWord, NamesWords, BlocksWords, ExportsWords, TablesWords, ScopeWords}
-use Rattle.m2_typing.proofs.Words.{operand_word, binary_words, signed_words, negated_words, valued_word, unary_words, bound_word, B_, added_small, AllSmall, items_small}
+use Rattle.m2_typing.proofs.Words.{operand_word, binary_words, signed_words, negated_words, unary_words, bound_word, B_, added_small, AllSmall, items_small}
 
 -- ---- what is known of a name
 

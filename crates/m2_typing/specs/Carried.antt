@@ -1,6 +1,6 @@
 -- What declarations carry on: arrays have indices of scalar types, variables stand where their names say, and sets that are
 -- constants have 32 bits.
-use Rattle.std.specs.Prelude.{◌≡◌, ℕ, true, List, [], ◌∷◌, Option, Some, None, slice_get}
+use Rattle.std.specs.Prelude.{◌≡◌, ℕ, true, List, [], ◌∷◌, Some, slice_get}
 use Rattle.std.specs.Option.{is_some}
 use Rattle.m2_tree.specs.declared.expr.Expr.{Expr}
 use Rattle.m2_tree.specs.declared.decl.Module.{Module}
