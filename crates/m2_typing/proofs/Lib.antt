@@ -10,3 +10,4 @@ pub mod Carrying
 pub mod Declaring
 pub mod Bounding
 pub mod Reaching
+pub mod Walking

@@ -52,7 +52,7 @@ module _ (types : Types) where
   reach_by true so more p q = p
   reach_by false so more p q = q
 
-  table_reach : (ms : List ModuleTypes) (so : List (ℕ × List Made)) → ReachedIndexed types ms → OthersIndexed types so → OthersIndexed types (fold with_reached so ms)
+  pub table_reach : (ms : List ModuleTypes) (so : List (ℕ × List Made)) → ReachedIndexed types ms → OthersIndexed types so → OthersIndexed types (fold with_reached so ms)
   table_reach [] so p h = h
   table_reach (m ∷ ms) so p h = table_reach ms (with_reached so m) p.1 (reach_by (is_some (lookup (nat_eq m.number) so)) so (insert_entry nat_eq so m.number m.made) h (entry_more so m.number m.made h p.0))
 

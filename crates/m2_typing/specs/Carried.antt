@@ -1,9 +1,11 @@
 -- What declarations carry on: arrays have indices of scalar types, variables stand where their names say, and sets that are
 -- constants have 32 bits.
-use Rattle.std.specs.Prelude.{◌≡◌, ℕ, true, List, [], ◌∷◌, Some, slice_get}
+use Rattle.std.specs.Prelude.{◌≡◌, ℕ, true, List, [], ◌∷◌, ◌++◌, Option, Some, None, slice_get}
 use Rattle.std.specs.Option.{is_some}
 use Rattle.m2_tree.specs.declared.expr.Expr.{Expr}
 use Rattle.m2_tree.specs.declared.decl.Module.{Module}
+use Rattle.m2_tree.specs.declared.decl.Contents.{Contents}
+use Rattle.m2_tree.specs.declared.decl.Contents.TheVariants as contents
 use Rattle.m2_tree.specs.declared.decl.Def.{Def}
 use Rattle.m2_tree.specs.declared.decl.Decl.{Decl}
 use Rattle.m2_tree.specs.declared.decl.Heading.{Heading}
@@ -28,10 +30,13 @@ use Rattle.m2_computed.specs.Classes.{array_at}
 use Rattle.m2_types.specs.Declare.{with_def}
 use Rattle.m2_types.specs.Compiled.{declared_in}
 use Rattle.m2_types.specs.Export.{exports, reached_of}
-use Rattle.m2_types.specs.Predeclared.{first_scope}
+use Rattle.m2_types.specs.Predeclared.{console, first_scope}
 use Rattle.m2_blocks.specs.Declarations.{Course, with_decl, declared_block, declared_module}
 use Rattle.m2_blocks.specs.declared.inner.Outside.{Outside}
 use Rattle.m2_blocks.specs.Inner.{entered_procedure, left_procedure}
+use Rattle.m2_modules.specs.Own.{implementation_scope}
+use Rattle.m2_bodies.specs.Judging.{Judges}
+use Rattle.m2_bodies.specs.Checked.{checked}
 use Rattle.m2_formed.specs.Formed.{Holds}
 use Rattle.m2_formed_ranges.specs.FormedRanges.{first_types}
 use Rattle.m2_typing.specs.Typing.{IsWord, IsIndexed}
@@ -212,3 +217,25 @@ ReachedStay = (a b : Types) → ((t : TypeNo) (m : Made) → made_at a t ≡ Som
 -- a module begins with such constants, if its tables have such, and exports such
 abbrev pub WordsCarry : Gathers → Type 0
 WordsCarry g = ((home : ℕ) (tables : List Table) → TablesWords tables → ScopeWords (first_scope {T = g.Told} home tables)) × ((s : Scope g.Told) → ScopeWords s → ExportsWords (exports s.own))
+
+-- ---- whole bodies
+
+-- the types that an implementation knows where it begins
+abbrev pub implementation_types : (own : Table) → List Table → Types
+implementation_types own tables = (implementation_scope {T = Unit {0}} own tables).types
+
+-- a body begins with such types
+abbrev pub BodyBegins : (number : ℕ) → Option Table → List Table → Contents → Type 0
+BodyBegins number own tables (contents.Definition ds) = Unit {0}
+BodyBegins number None tables (contents.Implementation b) = Unit {0}
+BodyBegins number (Some own) tables (contents.Implementation b) = TypesIndexed (implementation_types own tables) × TablesElsewhere own.number tables
+BodyBegins number own tables (contents.Program b) = TypesIndexed (first_types number tables) × TablesElsewhere number tables
+
+-- then its module knows such types
+abbrev pub BodiesCarry : Gathers → Type 0
+BodiesCarry g = (judges : Judges g.Told) (number : ℕ) (m : Module) (own : Option Table) (tables : List Table) → BodyBegins number own (tables ++ console ∷ []) m.contents
+    → Holds (λ t. TypesIndexed t.types) (checked g judges number m own tables)
+
+-- An implementation begins with such types, if those that its definition and the other tables reach are such types.
+abbrev pub ImplementationsCarry : Type 0
+ImplementationsCarry = (own : Table) (tables : List Table) → ReachedIndexed (implementation_types own tables) own.reached → TablesIndexed (implementation_types own tables) tables → TypesIndexed (implementation_types own tables)

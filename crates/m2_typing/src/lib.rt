@@ -8,7 +8,8 @@
 //! - `proofs/Words` has that sets that are constants have 32 bits.
 //! - `specs/Carried` says what declarations carry on: arrays have indices of scalar types, the variables of a module stand
 //!   where their names say, and sets that are constants have 32 bits. `proofs/Denoting` has constant expressions,
-//!   `proofs/Carrying` and `proofs/Declaring` declarations, `proofs/Bounding` and `proofs/Reaching` procedures and tables.
+//!   `proofs/Carrying` and `proofs/Declaring` declarations, `proofs/Bounding` and `proofs/Reaching` procedures and tables,
+//!   and `proofs/Walking` whole bodies.
 //! - `proofs/Operators` and `proofs/Calls` have a lemma for each definition of `m2_computed` and `m2_calls`, and
 //!   `proofs/Meanings` those of `m2_exprs`, with the induction.
 #![tactic(auto)]
@@ -17,10 +18,12 @@ ghost use Rattle.m2_judged.specs.Judged.{least, every};
 ghost use Rattle.m2_typing.specs.Typing.{ExpressionsAreTyped, DesignatorsAreTyped};
 ghost use Rattle.m2_typing.specs.Carried.{
   BlocksCarry,
+  BodiesCarry,
   ConstantsAreWords,
   DeclsCarry,
   DefinitionsCarry,
   DefsCarry,
+  ImplementationsCarry,
   IndexedAreKnown,
   ModulesCarry,
   ProceduresStay,
@@ -67,6 +70,10 @@ pub fn carried_laws()
     // Indices go through tables,
     ensures tables { TablesCarry }
     ensures reached { ReachedStay }
+    // and through whole bodies,
+    ensures implementations { ImplementationsCarry }
+    ensures least_bodies { BodiesCarry least }
+    ensures every_bodies { BodiesCarry every }
     // and so the index of an array that is known has a range.
     ensures indexed { IndexedAreKnown }
 {}

@@ -5,6 +5,7 @@ use Rattle.m2_typing.proofs.Carrying.{indexed_known}
 use Rattle.m2_typing.proofs.Declaring.{def_carries, decl_carries, block_carries, definition_carries, module_carries_on}
 use Rattle.m2_typing.proofs.Denoting.{constants_words}
 use Rattle.m2_typing.proofs.Reaching.{first_indexed, reached_indexed, reached_stay}
+use Rattle.m2_typing.proofs.Walking.{checked_indexed, implementation_indexed}
 use Rattle.m2_typing.proofs.carried_laws.Goals as goal
 
 pub returns-clause-least_defs : goal.returns-clause-least_defs
@@ -63,3 +64,12 @@ returns-clause-every_words c = (λ home tables p. first_words home tables p, λ 
 
 pub returns-clause-every_constants : goal.returns-clause-every_constants
 returns-clause-every_constants c = λ s h e. constants_words every s h e
+
+pub returns-clause-least_bodies : goal.returns-clause-least_bodies
+returns-clause-least_bodies c = λ judges number m own ts p. checked_indexed least judges number m own ts p
+
+pub returns-clause-every_bodies : goal.returns-clause-every_bodies
+returns-clause-every_bodies c = λ judges number m own ts p. checked_indexed every judges number m own ts p
+
+pub returns-clause-implementations : goal.returns-clause-implementations
+returns-clause-implementations c = implementation_indexed
