@@ -11,3 +11,4 @@ pub mod Declaring
 pub mod Bounding
 pub mod Reaching
 pub mod Walking
+pub mod Scoping

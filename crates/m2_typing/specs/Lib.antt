@@ -1,3 +1,4 @@
 pub mod Wanted
 pub mod Typing
 pub mod Carried
+pub mod Scopes

@@ -3,6 +3,7 @@
 //! - `specs/Wanted` says what a tree asks for where it stands: its texts, the types of its calls through the table, and no
 //!   call of a procedure variable.
 //! - `specs/Typing` says when what the checker makes of a part is typed, and what a scope is to know for that.
+//! - `specs/Scopes` says the same of the names of a scope, block by block, and `proofs/Scoping` that this is enough.
 //! - `proofs/Wants` has what each construct asks for, `proofs/Constructs` that constructs with typed parts are typed, and
 //!   `proofs/Known` what types are that a scope knows.
 //! - `proofs/Words` has that sets that are constants have 32 bits.
@@ -16,6 +17,7 @@
 
 ghost use Rattle.m2_judged.specs.Judged.{least, every};
 ghost use Rattle.m2_typing.specs.Typing.{ExpressionsAreTyped, DesignatorsAreTyped};
+ghost use Rattle.m2_typing.specs.Scopes.{BlocksStay, ScopesAreTyped, SlotsAreKinds};
 ghost use Rattle.m2_typing.specs.Carried.{
   BlocksCarry,
   BodiesCarry,
@@ -41,6 +43,19 @@ pub fn typing_laws()
     // and so are designators.
     ensures least_designators { DesignatorsAreTyped least }
     ensures every_designators { DesignatorsAreTyped every }
+{}
+
+/// Where the names of a scope are typed block by block, they mean what is there. That is so where the least broken rule is kept,
+/// and where all of them are.
+pub fn scope_laws()
+    // Names mean what is there,
+    ensures least_scopes { ScopesAreTyped least }
+    ensures every_scopes { ScopesAreTyped every }
+    // and the blocks around stay so in a procedure.
+    ensures least_blocks { BlocksStay least }
+    ensures every_blocks { BlocksStay every }
+    // Formals and variables have their kinds in the frame of their procedure.
+    ensures slots { SlotsAreKinds }
 {}
 
 /// Declarations carry on from scope to scope: arrays have indices of scalar types, variables stand where their names say, and
