@@ -1,13 +1,11 @@
 -- What names mean in a scope whose names are typed, block by block.
-use Rattle.std.proofs.Common.{◌≡◌, ℕ, zero, suc, ◌-◌, ◌+◌, ◌<◌, ◌≤◌, Bool, true, false, cond, List, [], ◌∷◌, ◌++◌, length, map, Option, Some, None, Result, Ok, refl, sym, ap, subst, ◌∙◌, arith}
-use Rattle.std.specs.Prelude.{slice_get, nat_lt, drop, if◌then◌else◌}
+use Rattle.std.proofs.Common.{◌≡◌, ℕ, zero, suc, ◌-◌, ◌+◌, ◌≤◌, Bool, true, false, cond, List, [], ◌∷◌, ◌++◌, length, map, Option, Some, None, Result, refl, sym, ap, subst, ◌∙◌, arith}
+use Rattle.std.specs.Prelude.{slice_get, nat_lt, drop}
 use Rattle.std.specs.List.{fold}
 use Rattle.std.specs.Option.{option_map}
 use Rattle.m2_tree.specs.declared.pos.Pos.{Pos}
 use Rattle.m2_tree.specs.declared.name.Ident.{Ident}
-use Rattle.m2_typed.specs.declared.computed.Slot.{Slot}
 use Rattle.m2_typed.specs.declared.meaning.LocalKind.{LocalKind}
-use Rattle.m2_typed.specs.declared.meaning.LocalKind.TheVariants as local
 use Rattle.m2_typed.specs.declared.meaning.LocalVariable.{LocalVariable}
 use Rattle.m2_typed.specs.declared.meaning.Meaning.{Meaning}
 use Rattle.m2_typed.specs.declared.meaning.Meaning.TheVariants as meaning
@@ -24,17 +22,16 @@ use Rattle.m2_judged.specs.declared.known.Known.TheVariants.{Later, Ahead, Begun
 use Rattle.m2_judged.specs.declared.scope.Block.{Block}
 use Rattle.m2_judged.specs.declared.scope.OpenedRecord.{OpenedRecord}
 use Rattle.m2_judged.specs.declared.scope.Scope.{Scope}
-use Rattle.m2_computed.specs.Values.{slot_of, nested_by}
+use Rattle.m2_computed.specs.Values.{nested_by}
 use Rattle.m2_layout.specs.Frames.{formals_of}
 use Rattle.m2_layout.specs.Shapes.{tree}
-use Rattle.m2_layout.specs.Types.{Ty}
 use Rattle.m2_agree_calls.specs.Frames.{Kind, Kept, Kinds, or_none, kind_at, formal_kind as kind_in_frame, kinds_of}
-use Rattle.m2_agree_trees.specs.Typed.{Context, IsVariable, IsNamed, IsInner}
+use Rattle.m2_agree_trees.specs.Typed.{Context, IsInner}
 use Rattle.m2_blocks.specs.Inner.{formal_kind}
 use Rattle.m2_formed.specs.Formed.{Holds, fine}
 use Rattle.m2_formed.proofs.Basics.{holds_weaker, told_holds}
 use Rattle.m2_typing.specs.Typing.{kind_of, MeaningTyped, IsTyped}
-use Rattle.m2_typing.specs.Scopes.{IsNested, MeaningIn, KnownIn, NamesIn, BlocksIn, ScopeTyped, formal_slot, variable_slot, slots_of}
+use Rattle.m2_typing.specs.Scopes.{MeaningIn, KnownIn, NamesIn, BlocksIn, ScopeTyped, formal_slot, variable_slot, slots_of}
 
 -- ---- names that all have a meaning of which a fact holds
 
@@ -220,10 +217,9 @@ module _ (x : Context) (opens : ℕ → Bool) (ks : Kinds) where
     blocks_within : (level i : ℕ) (b : Block T) (bs : List (Block T)) → i + length bs ≡ suc level → length x.kinds ≡ level → BlocksIn x opens level i bs → NamesIn x opens level x.kinds b.names → BlocksIn within opens (suc level) i (bs ++ b ∷ [])
     blocks_within level i b [] e long p q =
         let at : i - 1 ≡ level = omega (arith, e) in
-        let one : suc level - (i - 1) ≡ 1 = omega (arith, at) in
-        (
+        let one : suc level - (i - 1) ≡ 1 = omega (arith, at) in (
           subst (λ (n : ℕ). NamesIn within opens (i - 1) (drop n (ks ∷ x.kinds)) b.names) (sym one)
-          (subst (λ (n : ℕ). NamesIn within opens n x.kinds b.names) (sym at) (names_within level x.kinds b.names q)),
+              (subst (λ (n : ℕ). NamesIn within opens n x.kinds b.names) (sym at) (names_within level x.kinds b.names q)),
           tt,
         )
     blocks_within level i b (c ∷ bs) e long p q = (

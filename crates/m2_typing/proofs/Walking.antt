@@ -1,5 +1,5 @@
 -- Whole bodies: what the declarations of a block carry on stays in the bodies of its procedures.
-use Rattle.std.proofs.Common.{◌≡◌, ℕ, ◌+◌, ◌==◌, Bool, true, false, cond, List, [], ◌∷◌, ◌++◌, length, Option, Some, None, Result, Ok, refl, sym, ap, subst, ◌∙◌}
+use Rattle.std.proofs.Common.{◌≡◌, ℕ, ◌==◌, Bool, true, false, cond, List, [], ◌∷◌, ◌++◌, length, Option, Some, None, Result, refl, sym, ap, subst, ◌∙◌}
 use Rattle.std.specs.Prelude.{map, slice_get}
 use Rattle.std.specs.List.{AllByRecursion, fold}
 use Rattle.std.specs.Option.{unwrap_or}
@@ -10,7 +10,7 @@ use Rattle.m2_tree.specs.declared.decl.Contents.{Contents}
 use Rattle.m2_tree.specs.declared.decl.Contents.TheVariants as contents
 use Rattle.m2_tree.specs.declared.decl.Decl.{Decl, Decl-F, out-Decl, roll-Decl, out-roll-Decl, map-Decl, fold_out-Decl, ind-Decl}
 use Rattle.m2_tree.specs.declared.decl.Decl.TheOpen as layer
-use Rattle.m2_tree.specs.declared.decl.Block.{Block, Block-F, out-Block, roll-Block, out-roll-Block, map-Block, fold_out-Block, ind-Block}
+use Rattle.m2_tree.specs.declared.decl.Block.{Block, Block-F, out-Block, roll-Block, out-roll-Block, map-Block, fold_out-Block}
 use Rattle.m2_typed.specs.declared.shape.Made.{Made}
 use Rattle.m2_typed.specs.declared.shape.Shape.{Shape}
 use Rattle.m2_typed.specs.declared.shape.Shape.TheVariants as shape
@@ -20,24 +20,23 @@ use Rattle.m2_typed.specs.declared.known_types.Types.{Types}
 use Rattle.m2_typed.specs.declared.typed_module.TypedModule.{TypedModule}
 use Rattle.m2_typed.specs.declared.typed_module.Which.{Which}
 use Rattle.m2_typed.specs.declared.types.TypeNo.{TypeNo}
-use Rattle.m2_judged.specs.Judged.{Gathers, told}
+use Rattle.m2_judged.specs.Judged.{Gathers}
 use Rattle.m2_judged.specs.Scopes.{State}
 use Rattle.m2_judged.specs.declared.scope.Scope.{Scope}
-use Rattle.m2_types.specs.Predeclared.{console, others_of, with_table, first_scope}
+use Rattle.m2_types.specs.Predeclared.{console, others_of, first_scope}
 use Rattle.m2_types.specs.Importing.{numbered_modules}
 use Rattle.m2_blocks.specs.Nesting.{procedure_ends}
 use Rattle.m2_blocks.specs.Naming.{marked_layer, marked_decl, with_marks}
 use Rattle.m2_blocks.specs.Declarations.{Course, Declared, decl_layer, with_decl, all_declared, declared_block, declared_module}
-use Rattle.m2_modules.specs.Own.{shape_copy, made_copy, types_made_in, own_types, implementation_scope}
+use Rattle.m2_modules.specs.Own.{shape_copy, made_copy, types_made_in, implementation_scope}
 use Rattle.m2_bodies.specs.declared.procedure.Walk.{Walk}
 use Rattle.m2_bodies.specs.Judging.{Judges}
 use Rattle.m2_bodies.specs.Inside.{which_of, begun_procedure}
 use Rattle.m2_bodies.specs.Bodies.{ChecksBlock, Steps, marked_by, declared_by, checked_by, with_body, begun_from, procedure_checked, steps_layer, block_layer, steps, checks_block, checks_decl}
-use Rattle.m2_bodies.specs.Checked.{walked, of_body, of_implementation, of_contents, checked}
+use Rattle.m2_bodies.specs.Checked.{walked, of_body, of_contents, checked}
 use Rattle.m2_formed.specs.Formed.{Holds, fine}
 use Rattle.m2_formed.proofs.Basics.{then_holds, told_holds, any_holds}
-use Rattle.m2_formed_ranges.specs.FormedRanges.{first_types}
-use Rattle.m2_typing.specs.Carried.{ShapeIndexed, AllIndexed, OthersIndexed, TypesIndexed, TablesElsewhere, ReachedIndexed, TablesIndexed, implementation_types, BodyBegins}
+use Rattle.m2_typing.specs.Carried.{ShapeIndexed, AllIndexed, TypesIndexed, TablesElsewhere, ReachedIndexed, TablesIndexed, implementation_types, BodyBegins}
 use Rattle.m2_typing.proofs.Declaring.{block_carries, module_carries_on}
 use Rattle.m2_typing.proofs.Reaching.{table_reach, tables_indexed}
 
