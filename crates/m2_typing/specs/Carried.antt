@@ -1,6 +1,6 @@
 -- What declarations carry on: arrays have indices of scalar types, variables stand where their names say, and sets that are
 -- constants have 32 bits.
-use Rattle.std.specs.Prelude.{◌≡◌, ℕ, true, List, [], ◌∷◌, ◌++◌, Option, Some, None, slice_get}
+use Rattle.std.specs.Prelude.{◌≡◌, ℕ, ◌≤◌, true, List, [], ◌∷◌, ◌++◌, map, length, drop, Option, Some, None, Ok, slice_get}
 use Rattle.std.specs.Option.{is_some}
 use Rattle.m2_tree.specs.declared.expr.Expr.{Expr}
 use Rattle.m2_tree.specs.declared.decl.Module.{Module}
@@ -9,10 +9,14 @@ use Rattle.m2_tree.specs.declared.decl.Contents.TheVariants as contents
 use Rattle.m2_tree.specs.declared.decl.Def.{Def}
 use Rattle.m2_tree.specs.declared.decl.Decl.{Decl}
 use Rattle.m2_tree.specs.declared.decl.Heading.{Heading}
+use Rattle.m2_tree.specs.declared.decl.Section.{Section}
+use Rattle.m2_tree.specs.declared.expr.Qualified.{Qualified}
 use Rattle.m2_typed.specs.declared.types.TypeNo.{TypeNo}
 use Rattle.m2_typed.specs.declared.shape.Shape.{Shape}
 use Rattle.m2_typed.specs.declared.shape.Shape.TheVariants as shape
+use Rattle.m2_typed.specs.declared.shape.Formal.{Formal}
 use Rattle.m2_typed.specs.declared.shape.Made.{Made}
+use Rattle.m2_typed.specs.declared.meaning.LocalKind.{LocalKind}
 use Rattle.m2_typed.specs.declared.meaning.Meaning.{Meaning}
 use Rattle.m2_typed.specs.declared.meaning.Meaning.TheVariants as meaning
 use Rattle.m2_typed.specs.declared.table.ModuleTypes.{ModuleTypes}
@@ -27,19 +31,22 @@ use Rattle.m2_judged.specs.declared.scope.Block.{Block}
 use Rattle.m2_judged.specs.declared.scope.Scope.{Scope}
 use Rattle.m2_constants.specs.Parts.{part, constant}
 use Rattle.m2_computed.specs.Classes.{array_at}
+use Rattle.m2_made.specs.Headings.{sections}
+use Rattle.m2_made.specs.Named.{named_type}
 use Rattle.m2_types.specs.Declare.{with_def}
 use Rattle.m2_types.specs.Compiled.{declared_in}
 use Rattle.m2_types.specs.Export.{exports, reached_of}
 use Rattle.m2_types.specs.Predeclared.{console, first_scope}
 use Rattle.m2_blocks.specs.Declarations.{Course, with_decl, declared_block, declared_module}
 use Rattle.m2_blocks.specs.declared.inner.Outside.{Outside}
-use Rattle.m2_blocks.specs.Inner.{entered_procedure, left_procedure}
+use Rattle.m2_blocks.specs.Inner.{inwards, entered_procedure, left_procedure}
 use Rattle.m2_modules.specs.Own.{implementation_scope}
 use Rattle.m2_bodies.specs.Judging.{Judges}
 use Rattle.m2_bodies.specs.Checked.{checked}
 use Rattle.m2_formed.specs.Formed.{Holds}
 use Rattle.m2_formed_ranges.specs.FormedRanges.{first_types}
 use Rattle.m2_typing.specs.Typing.{IsWord, IsIndexed}
+use Rattle.m2_typing.specs.Scopes.{formal_slot, variable_slot}
 
 -- ---- types
 
@@ -94,10 +101,22 @@ NamesPlaced home vs (e ∷ es) = KnownPlaced home vs e.1 × NamesPlaced home vs 
 abbrev pub ScopePlaced : {T : Type 0} → Scope T → Type 0
 ScopePlaced s = NamesPlaced s.types.home s.variables s.own
 
--- what a module exports is no variable of this one
+-- what another module exports: no variable of this one, and none of a procedure
+abbrev pub IsElsewhere : (home : ℕ) → Meaning → Type 0
+IsElsewhere home (meaning.Variable v) = v.home ≡ home → ⊥
+IsElsewhere home (meaning.Local v) = ⊥
+IsElsewhere home (meaning.Constant v) = Unit {0}
+IsElsewhere home (meaning.Type t n) = Unit {0}
+IsElsewhere home (meaning.Field f) = Unit {0}
+IsElsewhere home (meaning.Procedure p) = Unit {0}
+IsElsewhere home (meaning.LocalProcedure p) = Unit {0}
+IsElsewhere home meaning.Ahead = Unit {0}
+IsElsewhere home (meaning.Standard f) = Unit {0}
+IsElsewhere home (meaning.Module k) = Unit {0}
+
 abbrev pub ExportsElsewhere : (home : ℕ) → List (List ℕ × Meaning) → Type 0
 ExportsElsewhere home [] = Unit {0}
-ExportsElsewhere home (e ∷ es) = ((vs : List TypeNo) → MeaningPlaced home vs e.1) × ExportsElsewhere home es
+ExportsElsewhere home (e ∷ es) = IsElsewhere home e.1 × ExportsElsewhere home es
 
 abbrev pub TablesElsewhere : (home : ℕ) → List Table → Type 0
 TablesElsewhere home [] = Unit {0}
@@ -150,10 +169,52 @@ pub record ScopeWords {T : Type 0} (s : Scope T) : Type 0 where
 abbrev pub ConstantsAreWords : Gathers → Type 0
 ConstantsAreWords g = (s : Scope g.Told) → ScopeWords s → (e : Expr) → Holds IsWord (constant g s (part g e))
 
+-- ---- formals and variables of a procedure stand in the slots that their names say
+
+-- behind these formals stand the other variables
+abbrev pub slots_from : List Formal → List TypeNo → List (LocalKind × TypeNo)
+slots_from fs vs = map formal_slot fs ++ map variable_slot (drop (length fs) vs)
+
+abbrev pub MeaningSlot : List (LocalKind × TypeNo) → (level : ℕ) → Meaning → Type 0
+MeaningSlot slots level (meaning.Local v) = (v.level ≡ level) × (slice_get slots v.number ≡ Some (v.kind, v.of))
+MeaningSlot slots level (meaning.Constant v) = Unit {0}
+MeaningSlot slots level (meaning.Type t n) = Unit {0}
+MeaningSlot slots level (meaning.Variable v) = Unit {0}
+MeaningSlot slots level (meaning.Field f) = Unit {0}
+MeaningSlot slots level (meaning.Procedure p) = Unit {0}
+MeaningSlot slots level (meaning.LocalProcedure p) = Unit {0}
+MeaningSlot slots level meaning.Ahead = Unit {0}
+MeaningSlot slots level (meaning.Standard f) = Unit {0}
+MeaningSlot slots level (meaning.Module k) = Unit {0}
+
+abbrev pub KnownSlot : {T : Type 0} → List (LocalKind × TypeNo) → (level : ℕ) → Known T → Type 0
+KnownSlot slots level Later = Unit {0}
+KnownSlot slots level Ahead = Unit {0}
+KnownSlot slots level Begun = Unit {0}
+KnownSlot slots level (Headed r) = Holds (MeaningSlot slots level) r
+KnownSlot slots level (Declared o r) = Holds (MeaningSlot slots level) r
+
+abbrev pub NamesSlots : {T : Type 0} → List (LocalKind × TypeNo) → (level : ℕ) → List (List ℕ × Known T) → Type 0
+NamesSlots slots level [] = Unit {0}
+NamesSlots slots level (e ∷ es) = KnownSlot slots level e.1 × NamesSlots slots level es
+
+abbrev pub ScopeSlots : {T : Type 0} → List Formal → Scope T → Type 0
+ScopeSlots fs s = NamesSlots (slots_from fs s.variables) s.level s.own
+
+-- Where the formals of a procedure break no rule in its scope, they are its first variables.
+abbrev pub FormalsAreSlots : Gathers → Type 0
+FormalsAreSlots g = (s : Scope g.Told) (seen : ℕ) (h : Heading) (fs : List Formal) → (sections g (inwards s seen) h.formals).1 ≡ Ok fs
+    → let e = (entered_procedure g s seen h).0 in (e.variables ≡ map (λ f. f.of) fs) × ScopeSlots fs e
+
+-- Two scopes in which names of types mean the same have the same formals.
+abbrev pub FormalsStay : Gathers → Type 0
+FormalsStay g = (a b : Scope g.Told) → ((q : Qualified) (t : TypeNo) → named_type g a q ≡ Ok t → named_type g b q ≡ Ok t)
+    → (xs : List Section) (fs : List Formal) → (sections g a xs).1 ≡ Ok fs → (sections g b xs).1 ≡ Ok fs
+
 -- ---- what is carried from one scope to another
 
--- Types and variables stay, arrays keep indices of scalar types, variables stand where their names say, and constants are
--- such constants.
+-- Types and variables stay, arrays keep indices of scalar types, variables stand where their names say, those of procedures
+-- in their slots, and constants are such constants.
 pub record Carries {T : Type 0} (s s' : Scope T) : Type 0 where
   pub home : s'.types.home ≡ s.types.home
   pub tables : s'.tables ≡ s.tables
@@ -162,6 +223,8 @@ pub record Carries {T : Type 0} (s s' : Scope T) : Type 0 where
   pub indexed : TypesIndexed s.types → TypesIndexed s'.types
   pub placed : ScopePlaced s → ScopePlaced s'
   pub words : ScopeWords s → ScopeWords s'
+  pub longer : length s.variables ≤ length s'.variables
+  pub slots : (fs : List Formal) → length fs ≤ length s.variables → ScopeSlots fs s → ScopeSlots fs s'
 
 -- ---- the laws
 

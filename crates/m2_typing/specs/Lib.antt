@@ -1,4 +1,4 @@
 pub mod Wanted
 pub mod Typing
-pub mod Carried
 pub mod Scopes
+pub mod Carried
