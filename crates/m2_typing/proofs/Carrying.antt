@@ -123,7 +123,7 @@ known_slot_stays xs ys level l Begun p = tt
 known_slot_stays xs ys level l (Headed r) p = holds_weaker (λ m q. slot_stays xs ys level l m q) p
 known_slot_stays xs ys level l (Declared o r) p = holds_weaker (λ m q. slot_stays xs ys level l m q) p
 
-slots_stay : {T : Type 0} (xs ys : Slots) (level : ℕ) → LongerSlots xs ys → (es : List (List ℕ × Known T)) → NamesSlots xs level es → NamesSlots ys level es
+pub slots_stay : {T : Type 0} (xs ys : Slots) (level : ℕ) → LongerSlots xs ys → (es : List (List ℕ × Known T)) → NamesSlots xs level es → NamesSlots ys level es
 slots_stay xs ys level l [] p = tt
 slots_stay xs ys level l (e ∷ es) p = (known_slot_stays xs ys level l e.1 p.0, slots_stay xs ys level l es p.1)
 

@@ -12,3 +12,4 @@ pub mod Bounding
 pub mod Reaching
 pub mod Walking
 pub mod Scoping
+pub mod Entering

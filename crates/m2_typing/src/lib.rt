@@ -25,6 +25,8 @@ ghost use Rattle.m2_typing.specs.Carried.{
   DeclsCarry,
   DefinitionsCarry,
   DefsCarry,
+  FormalsAreSlots,
+  FormalsStay,
   ImplementationsCarry,
   IndexedAreKnown,
   ModulesCarry,
@@ -54,8 +56,14 @@ pub fn scope_laws()
     // and the blocks around stay so in a procedure.
     ensures least_blocks { BlocksStay least }
     ensures every_blocks { BlocksStay every }
-    // Formals and variables have their kinds in the frame of their procedure.
+    // Formals and variables have their kinds in the frame of their procedure,
     ensures slots { SlotsAreKinds }
+    // formals are the first variables of the procedure's scope,
+    ensures least_formals { FormalsAreSlots least }
+    ensures every_formals { FormalsAreSlots every }
+    // and they are the same in all scopes in which names of types mean the same.
+    ensures least_same { FormalsStay least }
+    ensures every_same { FormalsStay every }
 {}
 
 /// Declarations carry on from scope to scope: arrays have indices of scalar types, variables stand where their names say, and

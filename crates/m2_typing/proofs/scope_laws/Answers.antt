@@ -1,4 +1,5 @@
 use Rattle.m2_judged.specs.Judged.{least, every}
+use Rattle.m2_typing.proofs.Entering.{formals_are_slots, formals_stay}
 use Rattle.m2_typing.proofs.Scoping.{scope_typed, blocks_stay, slots_are_kinds}
 use Rattle.m2_typing.proofs.scope_laws.Goals as goal
 
@@ -16,3 +17,15 @@ returns-clause-every_blocks c = λ x opens ks level b bs e long p q. blocks_stay
 
 pub returns-clause-slots : goal.returns-clause-slots
 returns-clause-slots c = slots_are_kinds
+
+pub returns-clause-least_formals : goal.returns-clause-least_formals
+returns-clause-least_formals c = λ s seen h fs e. formals_are_slots least s seen h fs e
+
+pub returns-clause-least_same : goal.returns-clause-least_same
+returns-clause-least_same c = λ a b same xs fs e. formals_stay least a b same xs fs e
+
+pub returns-clause-every_formals : goal.returns-clause-every_formals
+returns-clause-every_formals c = λ s seen h fs e. formals_are_slots every s seen h fs e
+
+pub returns-clause-every_same : goal.returns-clause-every_same
+returns-clause-every_same c = λ a b same xs fs e. formals_stay every a b same xs fs e
