@@ -1,5 +1,5 @@
 -- Type expressions, declarations, marks, imports and blocks carry on.
-use Rattle.std.proofs.Common.{◌≡◌, ℕ, zero, suc, ◌==◌, Bool, true, false, cond, List, [], ◌∷◌, length, take, drop, Option, Some, None, Result, Ok, Err, refl, sym, ap, subst, ◌∙◌, pos, ◌≤◌, ◌+◌, length-append, arith, ◌++◌}
+use Rattle.std.proofs.Common.{◌≡◌, ℕ, zero, suc, ◌==◌, Bool, true, false, cond, List, [], ◌∷◌, length, take, drop, Option, Some, None, Result, Ok, Err, refl, sym, ap, subst, ◌∙◌, pos, ◌≤◌, length-append, arith, ◌++◌}
 use Rattle.std.specs.Prelude.{map, nat_lt, slice_get}
 use Rattle.std.proofs.lemmas.List.{length-map, length-drop}
 use Rattle.std.specs.List.{fold}
@@ -63,7 +63,7 @@ use Rattle.m2_formed_ranges.proofs.Declarations.{meant_holds}
 use Rattle.m2_formed_scopes.proofs.Names.{get_last}
 use Rattle.m2_typing.specs.Carried.{ShapeIndexed, MeaningPlaced, IsElsewhere, ExportsElsewhere, TablesElsewhere, MeaningWord, ExportsWords, TablesWords, ScopeWords, slots_from, MeaningSlot, Carries}
 use Rattle.m2_typing.specs.Scopes.{formal_slot, variable_slot}
-use Rattle.m2_typing.proofs.Carrying.{Slots, SlotFor, slots_behind, IsScalar, scalar_stays, carries_refl, carries_then, free_carries, unless_carries, begun_carries, finished_carries, known_carries, marked_carries, shape_carries, made_carries, variable_type_carries, procedure_type_carries, then_finished}
+use Rattle.m2_typing.proofs.Carrying.{Slots, slots_behind, IsScalar, scalar_stays, carries_refl, carries_then, free_carries, unless_carries, begun_carries, finished_carries, known_carries, marked_carries, shape_carries, made_carries, variable_type_carries, procedure_type_carries, then_finished}
 use Rattle.m2_typing.proofs.Denoting.{constants_words}
 use Rattle.m2_typing.proofs.Operators.{where_not}
 

@@ -1,5 +1,5 @@
 -- Formals are the first variables of a procedure's scope, and stay the same where names of types mean the same.
-use Rattle.std.proofs.Common.{◌≡◌, ℕ, zero, suc, Bool, true, false, cond, List, [], ◌∷◌, ◌++◌, length, map, drop, Option, Some, None, Result, Ok, Err, refl, sym, ap, subst, ◌∙◌, append_assoc}
+use Rattle.std.proofs.Common.{◌≡◌, ℕ, Bool, true, false, cond, List, [], ◌∷◌, ◌++◌, length, map, drop, Some, Result, Ok, Err, refl, sym, ap, subst, ◌∙◌, append_assoc}
 use Rattle.std.specs.Prelude.{slice_get}
 use Rattle.std.specs.List.{fold}
 use Rattle.std.specs.Option.{is_some}
@@ -9,12 +9,11 @@ use Rattle.m2_tree.specs.declared.expr.Qualified.{Qualified}
 use Rattle.m2_tree.specs.declared.decl.FormalType.{FormalType}
 use Rattle.m2_tree.specs.declared.decl.Heading.{Heading}
 use Rattle.m2_tree.specs.declared.decl.Section.{Section}
-use Rattle.m2_typed.specs.declared.meaning.LocalKind.{LocalKind}
 use Rattle.m2_typed.specs.declared.meaning.Meaning.TheVariants as meaning
 use Rattle.m2_typed.specs.declared.shape.Formal.{Formal}
 use Rattle.m2_typed.specs.declared.types.TypeNo.{TypeNo}
 use Rattle.m2_typed.specs.Names.{found, entered}
-use Rattle.m2_judged.specs.Judged.{Gathers, both, ◌▷◌}
+use Rattle.m2_judged.specs.Judged.{Gathers, ◌▷◌}
 use Rattle.m2_judged.specs.declared.known.Known.{Known}
 use Rattle.m2_judged.specs.declared.known.Known.TheVariants.{Declared}
 use Rattle.m2_judged.specs.declared.known.Origin.TheVariants.{Here}
@@ -117,9 +116,9 @@ formals_are_slots g s seen h fs q =
     let k = formals_entered g (inwards s seen) h.formals fs q in
     let e : Scope g.Told = (entered_procedure g s seen h).0 in
     let none : slots_from fs e.variables ≡ map formal_slot fs =
-        ap (λ (ts : List TypeNo). map formal_slot fs ++ map variable_slot (drop (length fs) ts)) k.0
-        ∙ ap (λ (ts : List TypeNo). map formal_slot fs ++ map variable_slot ts) (drop_all of_formal fs)
-        ∙ append-nil (map formal_slot fs)
+    ap (λ (ts : List TypeNo). map formal_slot fs ++ map variable_slot (drop (length fs) ts)) k.0
+    ∙ ap (λ (ts : List TypeNo). map formal_slot fs ++ map variable_slot ts) (drop_all of_formal fs)
+    ∙ append-nil (map formal_slot fs)
     in
     (k.0, subst (λ (us : Slots). NamesSlots us e.level e.own) (sym none) k.1)
 
