@@ -13,3 +13,4 @@ pub mod Reaching
 pub mod Walking
 pub mod Scoping
 pub mod Entering
+pub mod Naming

@@ -7,6 +7,7 @@
 //! - `proofs/Wants` has what each construct asks for, `proofs/Constructs` that constructs with typed parts are typed, and
 //!   `proofs/Known` what types are that a scope knows.
 //! - `proofs/Words` has that sets that are constants have 32 bits.
+//! - `specs/Names` says what each sort of name asks for, and `proofs/Naming` that the names of a block are typed then.
 //! - `specs/Carried` says what declarations carry on: arrays have indices of scalar types, the variables of a module stand
 //!   where their names say, and sets that are constants have 32 bits. `proofs/Denoting` has constant expressions,
 //!   `proofs/Carrying` and `proofs/Declaring` declarations, `proofs/Bounding` and `proofs/Reaching` procedures and tables,
@@ -18,6 +19,7 @@
 ghost use Rattle.m2_judged.specs.Judged.{least, every};
 ghost use Rattle.m2_typing.specs.Typing.{ExpressionsAreTyped, DesignatorsAreTyped};
 ghost use Rattle.m2_typing.specs.Scopes.{BlocksStay, ScopesAreTyped, SlotsAreKinds};
+ghost use Rattle.m2_typing.specs.Names.{NamesAreTyped, VariablesAreThere};
 ghost use Rattle.m2_typing.specs.Carried.{
   BlocksCarry,
   BodiesCarry,
@@ -64,6 +66,11 @@ pub fn scope_laws()
     // and they are the same in all scopes in which names of types mean the same.
     ensures least_same { FormalsStay least }
     ensures every_same { FormalsStay every }
+    // A variable of a module that is known is there,
+    ensures variables { VariablesAreThere }
+    // and the names of a block are typed, where all sorts of them stand where they say.
+    ensures least_names { NamesAreTyped least }
+    ensures every_names { NamesAreTyped every }
 {}
 
 /// Declarations carry on from scope to scope: arrays have indices of scalar types, variables stand where their names say, and

@@ -1,5 +1,6 @@
 use Rattle.m2_judged.specs.Judged.{least, every}
 use Rattle.m2_typing.proofs.Entering.{formals_are_slots, formals_stay}
+use Rattle.m2_typing.proofs.Naming.{variable_there, block_typed}
 use Rattle.m2_typing.proofs.Scoping.{scope_typed, blocks_stay, slots_are_kinds}
 use Rattle.m2_typing.proofs.scope_laws.Goals as goal
 
@@ -29,3 +30,12 @@ returns-clause-every_formals c = λ s seen h fs e. formals_are_slots every s see
 
 pub returns-clause-every_same : goal.returns-clause-every_same
 returns-clause-every_same c = λ a b same xs fs e. formals_stay every a b same xs fs e
+
+pub returns-clause-variables : goal.returns-clause-variables
+returns-clause-variables c = variable_there
+
+pub returns-clause-least_names : goal.returns-clause-least_names
+returns-clause-least_names c = λ x opens types vs slots level kss es h. block_typed x opens types vs slots level kss es h
+
+pub returns-clause-every_names : goal.returns-clause-every_names
+returns-clause-every_names c = λ x opens types vs slots level kss es h. block_typed x opens types vs slots level kss es h
