@@ -32,7 +32,7 @@ use Rattle.m2_formed.specs.Formed.{Holds, fine, broken}
 use Rattle.m2_formed.proofs.Basics.{holds_weaker, Grows}
 use Rattle.m2_formed_scopes.proofs.Names.{get_more}
 use Rattle.m2_typing.specs.Typing.{IsIndexed}
-use Rattle.m2_typing.specs.Carried.{ShapeIndexed, AllIndexed, OthersIndexed, TypesIndexed, MeaningPlaced, KnownPlaced, NamesPlaced, MeaningWord, KnownWord, NamesWords, ScopeWords, slots_from, MeaningSlot, KnownSlot, NamesSlots, Carries}
+use Rattle.m2_typing.specs.Carried.{ShapeIndexed, AllIndexed, OthersIndexed, TypesIndexed, MeaningPlaced, KnownPlaced, NamesPlaced, MeaningWord, KnownWord, NamesWords, ScopeWords, slots_from, slots_in, StandsIn, MeaningSlot, KnownSlot, NamesSlots, Carries}
 use Rattle.m2_typing.specs.Scopes.{formal_slot, variable_slot}
 use Rattle.m2_typing.proofs.Known.{scalar_known}
 
@@ -99,7 +99,7 @@ abbrev pub Slots : Type 0
 Slots = List (LocalKind × TypeNo)
 
 abbrev pub SlotFor : {T : Type 0} → Scope T → Known T → Type 0
-SlotFor s k = (fs : List Formal) → length fs ≤ length s.variables → KnownSlot (slots_from fs s.variables) s.level k
+SlotFor s k = (o : Option (List Formal)) → StandsIn o s → KnownSlot (slots_in o s.variables) s.level k
 
 abbrev LongerSlots : Slots → Slots → Type 0
 LongerSlots xs ys = (n : ℕ) (t : LocalKind × TypeNo) → slice_get xs n ≡ Some t → slice_get ys n ≡ Some t
@@ -146,6 +146,10 @@ slots_behind fs vs t l =
 slots_longer : (fs : List Formal) (vs : List TypeNo) (t : TypeNo) → length fs ≤ length vs → LongerSlots (slots_from fs vs) (slots_from fs (vs ++ t ∷ []))
 slots_longer fs vs t l n s e = subst (λ (us : Slots). slice_get us n ≡ Some s) (sym (slots_behind fs vs t l)) (get_more (slots_from fs vs) (variable_slot t ∷ []) n s e)
 
+slots_grow : {T : Type 0} (s : Scope T) (t : TypeNo) (o : Option (List Formal)) → StandsIn o s → LongerSlots (slots_in o s.variables) (slots_in o (s.variables ++ t ∷ []))
+slots_grow s t None l = λ n u e. e
+slots_grow s t (Some fs) l = slots_longer fs s.variables t l
+
 slots_by : {T : Type 0} (xs : Slots) (level : ℕ) (b : Bool) (k : Known T) (e : List ℕ × Known T) (es more : List (List ℕ × Known T)) → KnownSlot xs level k → NamesSlots xs level (e ∷ es) → NamesSlots xs level more → NamesSlots xs level (cond b ((e.0, k) ∷ es) (e ∷ more))
 slots_by xs level true k e es more p all q = (p, all.1)
 slots_by xs level false k e es more p all q = (all.0, q)
@@ -157,7 +161,11 @@ slots_more xs level name k (e ∷ es) p all = slots_by xs level (same_name name 
 -- ---- steps
 
 pub carries_refl : {T : Type 0} (s : Scope T) → Carries s s
-carries_refl s = record { home = refl; tables = refl; types = λ t m e. e; variables = λ n t e. e; indexed = λ p. p; placed = λ p. p; words = λ p. p; longer = omega arith; slots = λ fs l p. p }
+carries_refl s = record { home = refl; tables = refl; types = λ t m e. e; variables = λ n t e. e; indexed = λ p. p; placed = λ p. p; words = λ p. p; longer = omega arith; level = refl; slots = λ o l p. p }
+
+stands_on : {T : Type 0} {a b : Scope T} → Carries a b → (o : Option (List Formal)) → StandsIn o a → StandsIn o b
+stands_on p None l = p.level ∙ l
+stands_on p (Some fs) l = let a = p.longer in omega (arith, l, a)
 
 pub carries_then : {T : Type 0} {a b c : Scope T} → Carries a b → Carries b c → Carries a c
 carries_then p q = record {
@@ -169,7 +177,8 @@ carries_then p q = record {
   placed = λ k. q.placed (p.placed k);
   words = λ k. q.words (p.words k);
   longer = let a = p.longer in let b = q.longer in omega (arith, a, b);
-  slots = λ fs l k. let a = p.longer in q.slots fs (omega (arith, l, a)) (p.slots fs l k);
+  level = q.level ∙ p.level;
+  slots = λ o l k. q.slots o (stands_on p o l) (p.slots o l k);
 }
 
 -- ---- one name more
@@ -200,7 +209,8 @@ known_carries s name k p w z = record {
   placed = λ q. names_more s.types.home s.variables name k s.own p q;
   words = λ q. record { names = words_more name k s.own (w q) q.names; outer = q.outer; tables = q.tables };
   longer = omega arith;
-  slots = λ fs l q. slots_more (slots_from fs s.variables) s.level name k s.own (z fs l) q;
+  level = refl;
+  slots = λ o l q. slots_more (slots_in o s.variables) s.level name k s.own (z o l) q;
 }
 
 module _ (g : Gathers) (s : Scope g.Told) where
@@ -257,7 +267,8 @@ shape_carries s x p =
       placed = λ q. q;
       words = λ q. record { names = q.names; outer = q.outer; tables = q.tables };
       longer = omega arith;
-      slots = λ fs l q. q;
+      level = refl;
+      slots = λ o l q. q;
     }
 
 pub made_carries : {T : Type 0} (s : Scope T) {r : Result Made T} → Holds (λ x. ShapeIndexed s.types x.shape) r → Carries s (with_made s r).0
@@ -276,7 +287,8 @@ variable_type_carries s (Ok t) = record {
   placed = λ p. names_stay s.types.home s.variables (s.variables ++ t ∷ []) (λ n u e. get_more s.variables (t ∷ []) n u e) s.own p;
   words = λ q. record { names = q.names; outer = q.outer; tables = q.tables };
   longer = let e = length-append s.variables (t ∷ []) in omega (arith, e);
-  slots = λ fs l q. slots_stay (slots_from fs s.variables) (slots_from fs (s.variables ++ t ∷ [])) s.level (slots_longer fs s.variables t l) s.own q;
+  level = refl;
+  slots = λ o l q. slots_stay (slots_in o s.variables) (slots_in o (s.variables ++ t ∷ [])) s.level (slots_grow s t o l) s.own q;
 }
 variable_type_carries s (Err e) = carries_refl s
 
@@ -290,13 +302,14 @@ procedure_type_carries s (Ok t) = record {
   placed = λ p. p;
   words = λ q. record { names = q.names; outer = q.outer; tables = q.tables };
   longer = omega arith;
-  slots = λ fs l q. q;
+  level = refl;
+  slots = λ o l q. q;
 }
 procedure_type_carries s (Err e) = carries_refl s
 
 -- a name is finished behind a step that carries on; its slot is asked for what stood before
 then_by : {T : Type 0} (a s : Scope T) (name : List ℕ) (k : Known T) (b : Bool) → Carries a s → KnownPlaced s.types.home s.variables k → (ScopeWords s → KnownWord k)
-    → ((fs : List Formal) → length fs ≤ length a.variables → KnownSlot (slots_from fs s.variables) s.level k) → Carries a (cond b (with_known name k s) s)
+    → ((o : Option (List Formal)) → StandsIn o a → KnownSlot (slots_in o s.variables) s.level k) → Carries a (cond b (with_known name k s) s)
 then_by a s name k true c p w z = record {
   home = c.home;
   tables = c.tables;
@@ -306,12 +319,13 @@ then_by a s name k true c p w z = record {
   placed = λ q. names_more s.types.home s.variables name k s.own p (c.placed q);
   words = λ q. let r = c.words q in record { names = words_more name k s.own (w r) r.names; outer = r.outer; tables = r.tables };
   longer = c.longer;
-  slots = λ fs l q. slots_more (slots_from fs s.variables) s.level name k s.own (z fs l) (c.slots fs l q);
+  level = c.level;
+  slots = λ o l q. slots_more (slots_in o s.variables) s.level name k s.own (z o l) (c.slots o l q);
 }
 then_by a s name k false c p w z = c
 
 pub then_finished : {T : Type 0} (a s : Scope T) (name : Ident) (r : Result Meaning T) → Carries a s → Holds (MeaningPlaced s.types.home s.variables) r → (ScopeWords s → Holds MeaningWord r)
-    → ((fs : List Formal) → length fs ≤ length a.variables → Holds (MeaningSlot (slots_from fs s.variables) s.level) r) → Carries a (finished s name r)
+    → ((o : Option (List Formal)) → StandsIn o a → Holds (MeaningSlot (slots_in o s.variables) s.level) r) → Carries a (finished s name r)
 then_finished a s name r c p w z = then_by a s name.name (Declared Here r) (is_begun (found name.name s.own)) c p w z
 
 -- ---- an array that is known

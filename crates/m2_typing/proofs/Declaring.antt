@@ -61,7 +61,8 @@ use Rattle.m2_formed.specs.Formed.{Holds, fine, broken}
 use Rattle.m2_formed.proofs.Basics.{then_holds, holds_weaker, where_holds, both_holds, any_holds}
 use Rattle.m2_formed_ranges.proofs.Declarations.{meant_holds}
 use Rattle.m2_formed_scopes.proofs.Names.{get_last}
-use Rattle.m2_typing.specs.Carried.{ShapeIndexed, MeaningPlaced, IsElsewhere, ExportsElsewhere, TablesElsewhere, MeaningWord, ExportsWords, TablesWords, ScopeWords, slots_from, MeaningSlot, Carries}
+use Rattle.m2_formed_scopes.proofs.Declarations.{same_home}
+use Rattle.m2_typing.specs.Carried.{ShapeIndexed, MeaningPlaced, IsElsewhere, ExportsElsewhere, TablesElsewhere, MeaningWord, ExportsWords, TablesWords, ScopeWords, slots_from, slots_in, StandsIn, MeaningSlot, Carries}
 use Rattle.m2_typing.specs.Scopes.{formal_slot, variable_slot}
 use Rattle.m2_typing.proofs.Carrying.{Slots, slots_behind, IsScalar, scalar_stays, carries_refl, carries_then, free_carries, unless_carries, begun_carries, finished_carries, known_carries, marked_carries, shape_carries, made_carries, variable_type_carries, procedure_type_carries, then_finished}
 use Rattle.m2_typing.proofs.Denoting.{constants_words}
@@ -280,6 +281,13 @@ module _ (g : Gathers) where
   variables_carry [] st = carries_refl st.0
   variables_carry (v ∷ vs) st = carries_then (variable_list st v) (variables_carry vs (with_variables g st v))
 
+  -- the scope of a procedure
+  abbrev Nested : Scope g.Told → Type 0
+  Nested s = s.level ≡ 0 → ⊥
+
+  nested_on : {a b : Scope g.Told} → Carries a b → Nested a → Nested b
+  nested_on c deep e = deep (sym c.level ∙ e)
+
   -- a variable stands behind all others
   slot_last : (fs : List Formal) (vs : List TypeNo) (t : TypeNo) → length fs ≤ length vs → slice_get (slots_from fs (vs ++ t ∷ [])) (length vs) ≡ Some (variable_slot t)
   slot_last fs vs t l =
@@ -290,10 +298,11 @@ module _ (g : Gathers) where
       let at : length vs ≡ length (slots_from fs vs) = omega (arith, a, b, c, d, l) in
       ap (λ (n : ℕ). slice_get (slots_from fs (vs ++ t ∷ [])) n) at ∙ ap (λ (us : Slots). slice_get us (length (slots_from fs vs))) (slots_behind fs vs t l) ∙ get_last (slots_from fs vs) (variable_slot t)
 
-  local_slot : (s : Scope g.Told) (t : Result TypeNo g.Told) (fs : List Formal) → length fs ≤ length s.variables
-      → Holds (MeaningSlot (slots_from fs (with_variable_type s t).variables) (with_variable_type s t).level) (local_meaning s.level (length s.variables) t)
-  local_slot s (Err e) fs l = broken e
-  local_slot s (Ok t) fs l = fine (meaning.Local (record { level = s.level; number = length s.variables; kind = kind.Variable; of = t })) (refl, slot_last fs s.variables t l)
+  local_slot : (s : Scope g.Told) (t : Result TypeNo g.Told) → Nested s → (o : Option (List Formal)) → StandsIn o s
+      → Holds (MeaningSlot (slots_in o (with_variable_type s t).variables) (with_variable_type s t).level) (local_meaning s.level (length s.variables) t)
+  local_slot s (Err e) deep o l = broken e
+  local_slot s (Ok t) deep None l = absurd (deep l)
+  local_slot s (Ok t) deep (Some fs) l = fine (meaning.Local (record { level = s.level; number = length s.variables; kind = kind.Variable; of = t })) (refl, slot_last fs s.variables t l)
 
   local_placed : (s : Scope g.Told) (t : Result TypeNo g.Told) → Holds (MeaningPlaced (with_variable_type s t).types.home (with_variable_type s t).variables) (local_meaning s.level (length s.variables) t)
   local_placed s t = meant_holds (λ u. meaning.Local (record { level = s.level; number = length s.variables; kind = kind.Variable; of = u })) (λ u. tt) t
@@ -301,24 +310,29 @@ module _ (g : Gathers) where
   local_word : (s : Scope g.Told) (t : Result TypeNo g.Told) → Holds MeaningWord (local_meaning s.level (length s.variables) t)
   local_word s t = meant_holds (λ u. meaning.Local (record { level = s.level; number = length s.variables; kind = kind.Variable; of = u })) (λ u. tt) t
 
-  locals_all : (t : Result TypeNo g.Told) (names : List Ident) (s : Scope g.Told) → Goes s (fold (finished_local t) s names)
-  locals_all t [] s = carries_refl s
-  locals_all t (x ∷ xs) s =
-      carries_then (then_finished s (with_variable_type s t) x (local_meaning s.level (length s.variables) t) (variable_type_carries s t) (local_placed s t) (λ q. local_word s t) (local_slot s t)) (locals_all t xs (finished_local t s x))
+  locals_all : (t : Result TypeNo g.Told) (names : List Ident) (s : Scope g.Told) → Nested s → Goes s (fold (finished_local t) s names)
+  locals_all t [] s deep = carries_refl s
+  locals_all t (x ∷ xs) s deep =
+      let c : Goes s (finished_local t s x) = then_finished s (with_variable_type s t) x (local_meaning s.level (length s.variables) t) (variable_type_carries s t) (local_placed s t) (λ q. local_word s t) (local_slot s t deep) in
+      carries_then c (locals_all t xs (finished_local t s x) (nested_on c deep))
 
-  local_list : (st : State (Unit {0}) g.Told) (v : Variables) → Goes st.0 (with_locals g st v).0
-  local_list st v =
+  local_list : (st : State (Unit {0}) g.Told) (v : Variables) → Nested st.0 → Goes st.0 (with_locals g st v).0
+  local_list st v deep =
       let b : State (Unit {0}) g.Told = fold (begun_name g) st v.names in
       let t : State TypeNo g.Told = type_of g v.of b.0 in
-      carries_then (begun_all v.names st) (carries_then (type_of_carries v.of b.0) (locals_all t.1 v.names t.0))
+      let c : Goes st.0 t.0 = carries_then (begun_all v.names st) (type_of_carries v.of b.0) in
+      carries_then c (locals_all t.1 v.names t.0 (nested_on c deep))
 
-  locals_carry : (vs : List Variables) (st : State (Unit {0}) g.Told) → Goes st.0 (fold (with_locals g) st vs).0
-  locals_carry [] st = carries_refl st.0
-  locals_carry (v ∷ vs) st = carries_then (local_list st v) (locals_carry vs (with_locals g st v))
+  locals_carry : (vs : List Variables) (st : State (Unit {0}) g.Told) → Nested st.0 → Goes st.0 (fold (with_locals g) st vs).0
+  locals_carry [] st deep = carries_refl st.0
+  locals_carry (v ∷ vs) st deep = let c : Goes st.0 (with_locals g st v).0 = local_list st v deep in carries_then c (locals_carry vs (with_locals g st v) (nested_on c deep))
 
-  variables_by : (b : Bool) (st : State (Unit {0}) g.Told) (vs : List Variables) → Goes st.0 (cond {A = State (Unit {0}) g.Told} b (fold (with_variables g) st vs) (fold (with_locals g) st vs)).0
-  variables_by true st vs = variables_carry vs st
-  variables_by false st vs = locals_carry vs st
+  nested_by : (s : Scope g.Told) → (s.level == 0) ≡ false → Nested s
+  nested_by s e z = let k : true ≡ false = sym (same_home s.level 0 z) ∙ e in cc
+
+  variables_by : (b : Bool) (st : State (Unit {0}) g.Told) → (st.0.level == 0) ≡ b → (vs : List Variables) → Goes st.0 (cond {A = State (Unit {0}) g.Told} b (fold (with_variables g) st vs) (fold (with_locals g) st vs)).0
+  variables_by true st e vs = variables_carry vs st
+  variables_by false st e vs = locals_carry vs st (nested_by st.0 e)
 
   -- ---- procedures
 
@@ -355,7 +369,7 @@ module _ (g : Gathers) where
   decl_by : {A B : Type 0} (ends : List ℕ) (c : Course g.Told) (y : Decl-F A B) → Goes c.0 (decl_layer g ends c y).0
   decl_by ends c (decl.Constants cs) = constants_carry cs (c.0, c.1)
   decl_by ends c (decl.Types ts) = types_carry ts (c.0, c.1)
-  decl_by ends c (decl.Variables vs) = variables_by (c.0.level == 0) (c.0, c.1) vs
+  decl_by ends c (decl.Variables vs) = variables_by (c.0.level == 0) (c.0, c.1) refl vs
   decl_by ends c (decl.Procedure h b) = heading_carries c.0 h c.2
 
   pub decl_carries : (ends : List ℕ) (c : Course g.Told) (d : Decl) → Goes c.0 (with_decl g ends c d).0
@@ -441,7 +455,7 @@ module _ (g : Gathers) where
   again_by s false st p = p
 
   imported_carries : (s : Scope g.Told) (at : Pos) (name : List ℕ) (o : Origin) (m : Meaning) → MeaningPlaced s.types.home s.variables m → (ScopeWords s → MeaningWord m) → ((slots : Slots) → MeaningSlot slots s.level m) → Goes s (imported g s at name o (Ok m)).0
-  imported_carries s at name o m p w z = again_by s (is_again (found name s.own) o) _ (free_carries g s at name (Declared o (Ok m)) (is_free (found name s.own)) (fine m p) (λ q. fine m (w q)) (λ fs l. fine m (z (slots_from fs s.variables))))
+  imported_carries s at name o m p w z = again_by s (is_again (found name s.own) o) _ (free_carries g s at name (Declared o (Ok m)) (is_free (found name s.own)) (fine m p) (λ q. fine m (w q)) (λ fs l. fine m (z (slots_in fs s.variables))))
 
   module_carries : (s : Scope g.Told) (name : Ident) (r : Result ℕ g.Told) → Goes s (with_module_as g s name r).0
   module_carries s name (Ok k) = imported_carries s name.pos name.name (origin.Module k) (meaning.Module k) tt (λ q. tt) (λ slots. tt)

@@ -111,7 +111,7 @@ module _ (g : Gathers) (s : Scope g.Told) where
       (k.types, k.names)
 
 pub formals_are_slots : (g : Gathers) (s : Scope g.Told) (seen : ℕ) (h : Heading) (fs : List Formal) → (sections g (inwards s seen) h.formals).1 ≡ Ok fs
-    → let e = (entered_procedure g s seen h).0 in (e.variables ≡ map (λ (f : Formal). f.of) fs) × ScopeSlots fs e
+    → let e = (entered_procedure g s seen h).0 in (e.variables ≡ map (λ (f : Formal). f.of) fs) × ScopeSlots (Some fs) e
 formals_are_slots g s seen h fs q =
     let k = formals_entered g (inwards s seen) h.formals fs q in
     let e : Scope g.Told = (entered_procedure g s seen h).0 in

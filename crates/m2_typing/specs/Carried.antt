@@ -175,6 +175,16 @@ ConstantsAreWords g = (s : Scope g.Told) → ScopeWords s → (e : Expr) → Hol
 abbrev pub slots_from : List Formal → List TypeNo → List (LocalKind × TypeNo)
 slots_from fs vs = map formal_slot fs ++ map variable_slot (drop (length fs) vs)
 
+-- a module has no slots
+abbrev pub slots_in : Option (List Formal) → List TypeNo → List (LocalKind × TypeNo)
+slots_in None vs = []
+slots_in (Some fs) vs = slots_from fs vs
+
+-- a scope of a module, or one of a procedure with these formals
+abbrev pub StandsIn : {T : Type 0} → Option (List Formal) → Scope T → Type 0
+StandsIn None s = s.level ≡ 0
+StandsIn (Some fs) s = length fs ≤ length s.variables
+
 abbrev pub MeaningSlot : List (LocalKind × TypeNo) → (level : ℕ) → Meaning → Type 0
 MeaningSlot slots level (meaning.Local v) = (v.level ≡ level) × (slice_get slots v.number ≡ Some (v.kind, v.of))
 MeaningSlot slots level (meaning.Constant v) = Unit {0}
@@ -198,13 +208,13 @@ abbrev pub NamesSlots : {T : Type 0} → List (LocalKind × TypeNo) → (level :
 NamesSlots slots level [] = Unit {0}
 NamesSlots slots level (e ∷ es) = KnownSlot slots level e.1 × NamesSlots slots level es
 
-abbrev pub ScopeSlots : {T : Type 0} → List Formal → Scope T → Type 0
-ScopeSlots fs s = NamesSlots (slots_from fs s.variables) s.level s.own
+abbrev pub ScopeSlots : {T : Type 0} → Option (List Formal) → Scope T → Type 0
+ScopeSlots o s = NamesSlots (slots_in o s.variables) s.level s.own
 
 -- Where the formals of a procedure break no rule in its scope, they are its first variables.
 abbrev pub FormalsAreSlots : Gathers → Type 0
 FormalsAreSlots g = (s : Scope g.Told) (seen : ℕ) (h : Heading) (fs : List Formal) → (sections g (inwards s seen) h.formals).1 ≡ Ok fs
-    → let e = (entered_procedure g s seen h).0 in (e.variables ≡ map (λ f. f.of) fs) × ScopeSlots fs e
+    → let e = (entered_procedure g s seen h).0 in (e.variables ≡ map (λ f. f.of) fs) × ScopeSlots (Some fs) e
 
 -- Two scopes in which names of types mean the same have the same formals.
 abbrev pub FormalsStay : Gathers → Type 0
@@ -224,7 +234,8 @@ pub record Carries {T : Type 0} (s s' : Scope T) : Type 0 where
   pub placed : ScopePlaced s → ScopePlaced s'
   pub words : ScopeWords s → ScopeWords s'
   pub longer : length s.variables ≤ length s'.variables
-  pub slots : (fs : List Formal) → length fs ≤ length s.variables → ScopeSlots fs s → ScopeSlots fs s'
+  pub level : s'.level ≡ s.level
+  pub slots : (o : Option (List Formal)) → StandsIn o s → ScopeSlots o s → ScopeSlots o s'
 
 -- ---- the laws
 
