@@ -14,3 +14,4 @@ pub mod Walking
 pub mod Scoping
 pub mod Entering
 pub mod Naming
+pub mod Exporting

@@ -292,6 +292,21 @@ ReachedStay = (a b : Types) → ((t : TypeNo) (m : Made) → made_at a t ≡ Som
 abbrev pub WordsCarry : Gathers → Type 0
 WordsCarry g = ((home : ℕ) (tables : List Table) → TablesWords tables → ScopeWords (first_scope {T = g.Told} home tables)) × ((s : Scope g.Told) → ScopeWords s → ExportsWords (exports s.own))
 
+-- what a module exports is no variable of a procedure
+abbrev pub ExportsFree : List (List ℕ × Meaning) → Type 0
+ExportsFree [] = Unit {0}
+ExportsFree (e ∷ es) = MeaningSlot [] 0 e.1 × ExportsFree es
+
+-- A module exports no such variable, and begins without one.
+abbrev pub ModulesHaveNoSlots : Gathers → Type 0
+ModulesHaveNoSlots g = ((s : Scope g.Told) → s.level ≡ 0 → ScopeSlots None s → ExportsFree (exports s.own))
+    × ((home : ℕ) (tables : List Table) → let s = first_scope {T = g.Told} home tables in ScopeSlots None s × ScopePlaced s)
+    × ((own : Table) (tables : List Table) → ExportsFree own.exported → ScopeSlots None (implementation_scope {T = g.Told} own tables))
+
+-- An implementation begins with such constants, if its definition exports such, and so do the other tables.
+abbrev pub ImplementationsAreWords : Gathers → Type 0
+ImplementationsAreWords g = (own : Table) (tables : List Table) → ExportsWords own.exported → TablesWords tables → ScopeWords (implementation_scope {T = g.Told} own tables)
+
 -- ---- whole bodies
 
 -- the types that an implementation knows where it begins

@@ -11,7 +11,7 @@
 //! - `specs/Carried` says what declarations carry on: arrays have indices of scalar types, the variables of a module stand
 //!   where their names say, and sets that are constants have 32 bits. `proofs/Denoting` has constant expressions,
 //!   `proofs/Carrying` and `proofs/Declaring` declarations, `proofs/Bounding` and `proofs/Reaching` procedures and tables,
-//!   and `proofs/Walking` whole bodies.
+//!   `proofs/Exporting` what modules export, and `proofs/Walking` whole bodies.
 //! - `proofs/Operators` and `proofs/Calls` have a lemma for each definition of `m2_computed` and `m2_calls`, and
 //!   `proofs/Meanings` those of `m2_exprs`, with the induction.
 #![tactic(auto)]
@@ -29,9 +29,11 @@ ghost use Rattle.m2_typing.specs.Carried.{
   DefsCarry,
   FormalsAreSlots,
   FormalsStay,
+  ImplementationsAreWords,
   ImplementationsCarry,
   IndexedAreKnown,
   ModulesCarry,
+  ModulesHaveNoSlots,
   ProceduresStay,
   ReachedStay,
   TablesCarry,
@@ -97,6 +99,11 @@ pub fn carried_laws()
     ensures every_constants { ConstantsAreWords every }
     ensures least_words { WordsCarry least }
     ensures every_words { WordsCarry every }
+    ensures least_own { ImplementationsAreWords least }
+    ensures every_own { ImplementationsAreWords every }
+    // Modules have no variables of procedures.
+    ensures least_free { ModulesHaveNoSlots least }
+    ensures every_free { ModulesHaveNoSlots every }
     // Indices go through tables,
     ensures tables { TablesCarry }
     ensures reached { ReachedStay }

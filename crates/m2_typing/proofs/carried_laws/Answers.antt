@@ -3,6 +3,7 @@ use Rattle.m2_judged.specs.Judged.{least, every}
 use Rattle.m2_typing.proofs.Bounding.{entered_words, left_words, first_words, exports_words}
 use Rattle.m2_typing.proofs.Carrying.{indexed_known}
 use Rattle.m2_typing.proofs.Declaring.{def_carries, decl_carries, block_carries, definition_carries, module_carries_on}
+use Rattle.m2_typing.proofs.Exporting.{exports_free, implementation_slots, implementation_words}
 use Rattle.m2_typing.proofs.Denoting.{constants_words}
 use Rattle.m2_typing.proofs.Reaching.{first_indexed, reached_indexed, reached_stay}
 use Rattle.m2_typing.proofs.Walking.{checked_indexed, implementation_indexed}
@@ -73,3 +74,15 @@ returns-clause-every_bodies c = λ judges number m own ts p. checked_indexed eve
 
 pub returns-clause-implementations : goal.returns-clause-implementations
 returns-clause-implementations c = implementation_indexed
+
+pub returns-clause-least_own : goal.returns-clause-least_own
+returns-clause-least_own c = λ own tables p q. implementation_words own tables p q
+
+pub returns-clause-least_free : goal.returns-clause-least_free
+returns-clause-least_free c = (λ s e h. exports_free s e h, λ home tables. (tt, tt), λ own tables p. implementation_slots least.Told own tables p)
+
+pub returns-clause-every_own : goal.returns-clause-every_own
+returns-clause-every_own c = λ own tables p q. implementation_words own tables p q
+
+pub returns-clause-every_free : goal.returns-clause-every_free
+returns-clause-every_free c = (λ s e h. exports_free s e h, λ home tables. (tt, tt), λ own tables p. implementation_slots every.Told own tables p)
