@@ -1,5 +1,5 @@
 -- What a module exports, and the names with which an implementation begins.
-use Rattle.std.proofs.Common.{◌≡◌, ℕ, zero, Bool, true, false, cond, List, [], ◌∷◌, None, Result, Ok, subst}
+use Rattle.std.proofs.Common.{◌≡◌, ℕ, Bool, true, false, cond, List, [], ◌∷◌, None, Result, Ok, subst}
 use Rattle.std.specs.List.{fold}
 use Rattle.m2_typed.specs.declared.meaning.Meaning.{Meaning}
 use Rattle.m2_typed.specs.declared.table.Table.{Table}
@@ -12,7 +12,7 @@ use Rattle.m2_judged.specs.declared.known.Known.TheVariants.{Later, Ahead, Begun
 use Rattle.m2_judged.specs.declared.scope.Scope.{Scope}
 use Rattle.m2_types.specs.Predeclared.{first_scope}
 use Rattle.m2_types.specs.Export.{with_meaning, with_declared, with_known, with_export, exports}
-use Rattle.m2_modules.specs.Own.{with_own_name, own_names, implementation_scope}
+use Rattle.m2_modules.specs.Own.{with_own_name, implementation_scope}
 use Rattle.m2_formed.specs.Formed.{Holds, fine, broken}
 use Rattle.m2_typing.specs.Carried.{NamesWords, ExportsWords, TablesWords, ScopeWords, MeaningSlot, KnownSlot, NamesSlots, ScopeSlots, ExportsFree}
 use Rattle.m2_typing.proofs.Carrying.{words_more, slots_more}

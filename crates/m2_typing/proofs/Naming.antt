@@ -1,5 +1,5 @@
 -- The names of one block, sort by sort.
-use Rattle.std.proofs.Common.{◌≡◌, ℕ, zero, suc, Bool, true, false, ◌||◌, cond, List, [], ◌∷◌, ◌++◌, map, Option, Some, None, Result, Ok, Err, refl, sym, ap, subst, ◌∙◌, ◌==◌, eqb-true}
+use Rattle.std.proofs.Common.{◌≡◌, ℕ, zero, suc, Bool, true, false, ◌||◌, cond, List, [], ◌∷◌, map, Some, Result, refl, sym, ap, ◌∙◌, ◌==◌, eqb-true}
 use Rattle.std.specs.Prelude.{slice_get}
 use Rattle.std.specs.List.{list_any}
 use Rattle.m2_typed.specs.declared.meaning.LocalKind.{LocalKind}
@@ -14,14 +14,13 @@ use Rattle.m2_layout.specs.Types.{Ty, row, component}
 use Rattle.m2_layout.specs.Shapes.{tree}
 use Rattle.m2_layout.specs.Frames.{module_row}
 use Rattle.m2_meaning.specs.Around.{module_place}
-use Rattle.m2_scheme.specs.Exprs.{is_own, variables_row, import_place, imported_row}
-use Rattle.m2_agree_calls.specs.Frames.{Kinds, kind_at}
+use Rattle.m2_scheme.specs.Exprs.{is_own, import_place, imported_row}
+use Rattle.m2_agree_calls.specs.Frames.{Kinds}
 use Rattle.m2_agree_trees.specs.Typed.{Context, IsVariable}
 use Rattle.m2_formed.specs.Formed.{Holds, fine, broken}
 use Rattle.m2_formed_ranges.specs.FormedRanges.{MeaningRanged, KnownRanged, NamesRanged}
 use Rattle.m2_formed_ranges.proofs.Types.{value_kept}
 use Rattle.m2_formed_scopes.proofs.Declarations.{same_home}
-use Rattle.m2_typing.specs.Typing.{kind_of}
 use Rattle.m2_typing.specs.Scopes.{MeaningIn, KnownIn, NamesIn}
 use Rattle.m2_typing.specs.Carried.{MeaningPlaced, KnownPlaced, NamesPlaced, MeaningWord, KnownWord, NamesWords, MeaningSlot, KnownSlot, NamesSlots}
 use Rattle.m2_typing.specs.Names.{HasVariables, HasOwn, MeaningElse, KnownElse, NamesElse, BlockFound}
