@@ -59,7 +59,7 @@ use Rattle.m2_formed_coherent.proofs.Imports.{is_console, AreListed, AreMade, Ow
 
 -- ---- results and lists
 
-holds_ok : {A T : Type 0} {P : A → Type 0} {r : Result A T} → Holds P r → (x : A) → r ≡ Ok x → P x
+pub holds_ok : {A T : Type 0} {P : A → Type 0} {r : Result A T} → Holds P r → (x : A) → r ≡ Ok x → P x
 holds_ok {P = P} (fine y p) x e = let same : y ≡ x = cc in subst P same p
 holds_ok (broken f) x e = absurd cc
 
