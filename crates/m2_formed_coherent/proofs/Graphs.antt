@@ -78,9 +78,6 @@ either false q e = inr e
 
 -- ---- modules by name
 
-names : Program → List (List ℕ)
-names p = map (λ m. m.name) p
-
 -- a module of this name
 record IsNamed (p : Program) (name : List ℕ) : Type 0 where
   place : ℕ
@@ -208,8 +205,6 @@ module _ (fs : List (List ℕ × Module)) (files : List ℕ) (jobs : List (List 
 
   module_stands : (t : TypedModule) (b : IsBodyOf ms files jobs t) → StandsOnImports b.tree (own_table b.tree (tables_of (needed_of ms files jobs b.job))) t
   module_stands t b =
-      let tables : List Table = tables_of (needed_of ms files jobs b.job) in
-      let own : Option Table = own_table b.tree (tables_of (needed_of ms files jobs b.job)) in
       if_ok (StandsOnImports b.tree (own_table b.tree (tables_of (needed_of ms files jobs b.job)))) (typed_body b.tree b.job (tables_of (needed_of ms files jobs b.job))) t
       (modules_stand least (judged least) b.job b.tree (own_table b.tree (tables_of (needed_of ms files jobs b.job))) (tables_behind (own_table b.tree (tables_of (needed_of ms files jobs b.job))) (tables_of (needed_of ms files jobs b.job)))) b.typed
 
@@ -302,7 +297,6 @@ module _ (fs : List (List ℕ × Module)) (files : List ℕ) (jobs : List (List 
   pub graphs_whole : (p : Program) → AreBodiesIn ms files jobs starts p → IsWhole ms files jobs p
   graphs_whole p b =
       let started : AreStarted ms starts = are_started fs files jobs starts graph in
-      let whole : List Module = at_places ms starts in
       let closed = bodies_closed (at_places ms starts) starts p b started.closed in
       record {
         bodies = bodies_are starts p b;
