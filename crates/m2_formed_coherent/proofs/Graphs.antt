@@ -31,6 +31,9 @@ use Rattle.m2_typed.specs.Names.{same_name}
 use Rattle.m2_judged.specs.Judged.{least}
 use Rattle.m2_check.specs.Checks.{judged}
 use Rattle.m2_links.specs.Linked.{Program}
+use Rattle.m2_agree_linked.specs.Knows.{IsCoherent}
+use Rattle.m2_ranges.specs.Ranges.{AreRanged}
+use Rattle.m2_formed_types.specs.Ordered.{AreOrdered}
 use Rattle.m2_formed_imports.specs.FormedImports.{is_imported, is_imported_by, IsImport, StandsOnImports}
 use Rattle.m2_formed_imports.proofs.Imports.{modules_stand}
 use Rattle.m2_formed_ranges.proofs.Types.{both_left, both_right}
@@ -40,10 +43,10 @@ use Rattle.m2_compile.specs.Own.{own_table, tables_behind}
 use Rattle.m2_compile.specs.Compiling.{tables_of, typed_body}
 use Rattle.m2_jobs.specs.Spelled.{needed_of}
 use Rattle.m2_formed_reach.specs.FormedReach.{result_of}
-use Rattle.m2_formed_reach.proofs.Reach.{tables_needed}
+use Rattle.m2_formed_reach.proofs.Reach.{tree_fits, tables_needed, bodies_know}
 use Rattle.m2_formed_coherent.specs.FormedCoherent.{IsBodyOf, IsWhole, IsBodyIn, AreBodiesIn}
 use Rattle.m2_formed_coherent.proofs.EachOnce.{job_of}
-use Rattle.m2_formed_coherent.proofs.Programs.{if_ok, IsDefined, defined_by, table_named, own_is}
+use Rattle.m2_formed_coherent.proofs.Programs.{holds_ok, if_ok, IsDefined, defined_by, table_named, own_is, coherent}
 
 -- ---- lists
 
@@ -74,9 +77,6 @@ either true q e = inl refl
 either false q e = inr e
 
 -- ---- modules by name
-
-names : Program → List (List ℕ)
-names p = map (λ m. m.name) p
 
 -- a module of this name
 record IsNamed (p : Program) (name : List ℕ) : Type 0 where
@@ -205,8 +205,6 @@ module _ (fs : List (List ℕ × Module)) (files : List ℕ) (jobs : List (List 
 
   module_stands : (t : TypedModule) (b : IsBodyOf ms files jobs t) → StandsOnImports b.tree (own_table b.tree (tables_of (needed_of ms files jobs b.job))) t
   module_stands t b =
-      let tables : List Table = tables_of (needed_of ms files jobs b.job) in
-      let own : Option Table = own_table b.tree (tables_of (needed_of ms files jobs b.job)) in
       if_ok (StandsOnImports b.tree (own_table b.tree (tables_of (needed_of ms files jobs b.job)))) (typed_body b.tree b.job (tables_of (needed_of ms files jobs b.job))) t
       (modules_stand least (judged least) b.job b.tree (own_table b.tree (tables_of (needed_of ms files jobs b.job))) (tables_behind (own_table b.tree (tables_of (needed_of ms files jobs b.job))) (tables_of (needed_of ms files jobs b.job)))) b.typed
 
@@ -299,7 +297,6 @@ module _ (fs : List (List ℕ × Module)) (files : List ℕ) (jobs : List (List 
   pub graphs_whole : (p : Program) → AreBodiesIn ms files jobs starts p → IsWhole ms files jobs p
   graphs_whole p b =
       let started : AreStarted ms starts = are_started fs files jobs starts graph in
-      let whole : List Module = at_places ms starts in
       let closed = bodies_closed (at_places ms starts) starts p b started.closed in
       record {
         bodies = bodies_are starts p b;
@@ -311,3 +308,10 @@ module _ (fs : List (List ℕ × Module)) (files : List ℕ) (jobs : List (List 
         definitions = definitions_one;
         programs = programs_none;
       }
+
+  pub graphs_coherent : (p : Program) → AreBodiesIn ms files jobs starts p → (place : ℕ) (m : TypedModule) → slice_get p place ≡ Some m → IsCoherent p place m × (AreRanged m.types × AreOrdered m.types)
+  graphs_coherent p b place m e =
+      let body : IsBodyOf ms files jobs m = body_got (IsBodyOf ms files jobs) p (bodies_are starts p b) place m e in (
+        coherent ms files jobs fit p (graphs_whole p b) place m e,
+        holds_ok (bodies_know ms files jobs fit body.tree body.job (tree_fits ms fit (slice_index_or files body.job 0) body.tree body.is_tree)) m body.typed,
+      )

@@ -59,7 +59,7 @@ use Rattle.m2_formed_coherent.proofs.Imports.{is_console, AreListed, AreMade, Ow
 
 -- ---- results and lists
 
-holds_ok : {A T : Type 0} {P : A → Type 0} {r : Result A T} → Holds P r → (x : A) → r ≡ Ok x → P x
+pub holds_ok : {A T : Type 0} {P : A → Type 0} {r : Result A T} → Holds P r → (x : A) → r ≡ Ok x → P x
 holds_ok {P = P} (fine y p) x e = let same : y ≡ x = cc in subst P same p
 holds_ok (broken f) x e = absurd cc
 
@@ -321,7 +321,6 @@ module _ (trees : List Module) (files : List ℕ) (jobs : List (List ℕ)) (fit 
           → ((i.variables ≡ []) ⊎ ((i.variables ≡ exported_variables k.table.exported) × HasReached m.types k.table.reached)) → (more : List Ty) × (map (tree home.types) home.variables ≡ map (tree m.types) i.variables ++ more)
       same_variables i k home o h v (inl none) = (map (tree home.types) home.variables, ap (λ (ts : List TypeNo). map (tree m.types) ts ++ map (tree home.types) home.variables) (sym none))
       same_variables i k home o h v (inr some) =
-          let exported : List TypeNo = exported_variables k.table.exported in
           let f : TableFormed its_types (suc k.table.number) k.table = (tables_same trees files jobs fit k.table.number k.table k.made.1).1 in
           let agree : map (tree home.types) (exported_variables k.table.exported) ≡ map (tree m.types) (exported_variables k.table.exported) = variables_agree its_types (suc k.table.number) k.table f home.types m.types o part.ordered h some.1 in (
             map (tree home.types) v.0,

@@ -14,6 +14,8 @@ use Rattle.m2_agree_linked.specs.Knows.{IsCoherent}
 use Rattle.m2_compile.specs.declared.outcome.Compiled.TheVariants.{Defined}
 use Rattle.m2_compile.specs.Compiling.{tables_of, typed_body}
 use Rattle.m2_jobs.specs.Spelled.{needed_of}
+use Rattle.m2_ranges.specs.Ranges.{AreRanged}
+use Rattle.m2_formed_types.specs.Ordered.{AreOrdered}
 use Rattle.m2_formed_known.specs.FormedKnown.{fits_module}
 use Rattle.m2_formed_reach.specs.FormedReach.{result_of}
 
@@ -66,3 +68,9 @@ ProgramsAreCoherent = (trees : List Module) (files : List ℕ) (jobs : List (Lis
 abbrev pub GraphsAreWhole : Type 0
 GraphsAreWhole = (fs : List (List ℕ × Module)) (files : List ℕ) (jobs : List (List ℕ)) (starts : List ℕ) → IsGraph (numbered 0 fs) files jobs starts → CompileEach (numbered 0 fs) files
     → list_all fits_module (trees_of fs) ≡ true → (p : Program) → AreBodiesIn (trees_of fs) files jobs starts p → IsWhole (trees_of fs) files jobs p
+
+-- So its modules know one another's variables, and types in order, with ranges of the language.
+abbrev pub GraphsAreCoherent : Type 0
+GraphsAreCoherent = (fs : List (List ℕ × Module)) (files : List ℕ) (jobs : List (List ℕ)) (starts : List ℕ) → IsGraph (numbered 0 fs) files jobs starts → CompileEach (numbered 0 fs) files
+    → list_all fits_module (trees_of fs) ≡ true → (p : Program) → AreBodiesIn (trees_of fs) files jobs starts p
+    → (place : ℕ) (m : TypedModule) → slice_get p place ≡ Some m → IsCoherent p place m × (AreRanged m.types × AreOrdered m.types)

@@ -6,7 +6,7 @@
 //! - `proofs/Graphs` has the bodies that start by a graph.
 #![tactic(auto)]
 
-ghost use Rattle.m2_formed_coherent.specs.FormedCoherent.{GraphsAreWhole, ProgramsAreCoherent};
+ghost use Rattle.m2_formed_coherent.specs.FormedCoherent.{GraphsAreCoherent, GraphsAreWhole, ProgramsAreCoherent};
 
 /// The modules of a program know one another's variables.
 pub fn coherent_laws()
@@ -14,4 +14,6 @@ pub fn coherent_laws()
     ensures programs { ProgramsAreCoherent }
     // which the bodies are that start by a graph.
     ensures graphs { GraphsAreWhole }
+    // So the modules of each such program do, and they know types in order, with ranges of the language.
+    ensures coherent { GraphsAreCoherent }
 {}

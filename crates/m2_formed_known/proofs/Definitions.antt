@@ -114,8 +114,8 @@ module _ (a b : Types) (has : HasReached b (reached_of a)) where
     from home.Predeclared n g = refl
     from (home.Module k) n g = let x = some_of (made_in a k n) g in ap is_some (made_stays k n x.0 x.1)
 
-  all_kept_ : Kept a b
-  all_kept_ t r e = from t.home t.number e where
+  ranges_kept : Kept a b
+  ranges_kept t r e = from t.home t.number e where
     made : (k n : ℕ) (o : Option Made) → made_in a k n ≡ o → scalar_made o ≡ Some r → scalar_made (made_in b k n) ≡ Some r
     made k n None q g = absurd cc
     made k n (Some x) q g = ap scalar_made (made_stays k n x q) ∙ g
@@ -126,7 +126,7 @@ module _ (a b : Types) (has : HasReached b (reached_of a)) where
 
   based_entries : (es : List (ℕ × List Made)) → OthersBased a es → AllByRecursion (λ e. AllBased b e.1) es
   based_entries [] h = tt
-  based_entries (e ∷ es) h = (all_kept a b all_kept_ e.1 h.0, based_entries es h.1)
+  based_entries (e ∷ es) h = (all_kept a b ranges_kept e.1 h.0, based_entries es h.1)
 
 -- ---- the table
 
@@ -183,10 +183,10 @@ module _ (g : Gathers) (types_of : ℕ → List Made) (number : ℕ) (ts : List 
         ordered = subst (λ (es : List (ℕ × List Made)). OthersOrdered [] es) (sym (entries_are s.types)) (behind s.types.others s.types.home s.types.own gathered.ordered no_own h.ordered.types.own);
         once = all_reached (λ (x : ModuleTypes). AllOnce x.made) s.types gathered.once h.ordered.once;
         ranged = reached_ranged s.types h.ranged.types;
-        based = λ types has. all_reached (λ (x : ModuleTypes). AllBased types x.made) s.types (based_entries s.types types has s.types.others h.ranged.others) (all_kept s.types types (all_kept_ s.types types has) s.types.own h.ranged.own);
+        based = λ types has. all_reached (λ (x : ModuleTypes). AllBased types x.made) s.types (based_entries s.types types has s.types.others h.ranged.others) (all_kept s.types types (ranges_kept s.types types has) s.types.own h.ranged.own);
         exports = λ types has. (
           exports_kept s.types types (all_stay s.types types has) (exports s.own) (exports_ordered (first_types number ts) s h.ordered),
-          (tables_kept s.types types (all_kept_ s.types types has) (table_of m modules s ∷ []) (exports_ranged s h.ranged, tt)).0,
+          (tables_kept s.types types (ranges_kept s.types types has) (table_of m modules s ∷ []) (exports_ranged s h.ranged, tt)).0,
         );
       }
 

@@ -262,5 +262,5 @@ module _ (g : Gathers) (judges : Judges g.Told) where
     contents_formed own ts (contents.Implementation b) e o p = own_formed own ts b e o p
     contents_formed own ts (contents.Program b) e o p = body_formed (first_types number ts) (first_scope number ts) None m b e (first_formed types_of number ts p)
 
-    pub bodies_formed_ : (own : Option Table) (ts : List Table) → fits_contents m.contents ≡ true → OwnFormed types_of number own → TablesFormed types_of number ts → Holds TypesFormed (checked g judges number m own ts)
-    bodies_formed_ own ts e o p = contents_formed own (ts ++ console ∷ []) m.contents e o (each_more (TableFormed types_of number) ts console p (console_formed types_of number))
+    pub checked_formed : (own : Option Table) (ts : List Table) → fits_contents m.contents ≡ true → OwnFormed types_of number own → TablesFormed types_of number ts → Holds TypesFormed (checked g judges number m own ts)
+    checked_formed own ts e o p = contents_formed own (ts ++ console ∷ []) m.contents e o (each_more (TableFormed types_of number) ts console p (console_formed types_of number))

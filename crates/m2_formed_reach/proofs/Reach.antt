@@ -27,7 +27,7 @@ use Rattle.m2_formed_types.specs.Ordered.{AreOrdered}
 use Rattle.m2_formed_ranges.proofs.Types.{both_left, both_right}
 use Rattle.m2_formed_known.specs.FormedKnown.{fits_contents, fits_module, TableFormed, TablesFormed, OwnFormed}
 use Rattle.m2_formed_known.proofs.Definitions.{tables_formed}
-use Rattle.m2_formed_known.proofs.Walks.{bodies_formed_}
+use Rattle.m2_formed_known.proofs.Walks.{checked_formed}
 use Rattle.m2_compile.specs.declared.outcome.Compiled.{Compiled}
 use Rattle.m2_compile.specs.declared.outcome.Compiled.TheVariants.{Defined, Built, Refused, Blocked}
 use Rattle.m2_compile.specs.Own.{own_table, tables_behind}
@@ -193,7 +193,7 @@ module _ (trees : List Module) (files : List ℕ) (jobs : List (List ℕ)) (fit 
     body_formed m f =
         let ts : List Table = tables_of (picked (below n) (prerequisites_of jobs n)) in
         let h : AllByRecursion IsNeeded ts = all_needed (prerequisites_of jobs n) in
-        bodies_formed_ least (judged least) its_types n m (own_table m ts) (tables_behind (own_table m ts) ts) f (own_formed m ts h) (behind_formed (own_table m ts) ts h)
+        checked_formed least (judged least) its_types n m (own_table m ts) (tables_behind (own_table m ts) ts) f (own_formed m ts h) (behind_formed (own_table m ts) ts h)
 
   -- ---- all jobs
 

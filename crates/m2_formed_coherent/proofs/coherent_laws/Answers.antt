@@ -1,5 +1,5 @@
 use Rattle.m2_formed_coherent.proofs.Programs.{coherent}
-use Rattle.m2_formed_coherent.proofs.Graphs.{graphs_whole}
+use Rattle.m2_formed_coherent.proofs.Graphs.{graphs_whole, graphs_coherent}
 use Rattle.m2_formed_coherent.proofs.coherent_laws.Goals as goal
 
 pub returns-clause-programs : goal.returns-clause-programs
@@ -7,3 +7,6 @@ returns-clause-programs c = λ trees files jobs fit p w place m there. coherent 
 
 pub returns-clause-graphs : goal.returns-clause-graphs
 returns-clause-graphs c = λ fs files jobs starts graph each fit p b. graphs_whole fs files jobs starts graph each fit p b
+
+pub returns-clause-coherent : goal.returns-clause-coherent
+returns-clause-coherent c = λ fs files jobs starts graph each fit p b place m e. graphs_coherent fs files jobs starts graph each fit p b place m e
