@@ -89,7 +89,7 @@ module _ (g : Gathers) (judges : Judges g.Told) (base : Types) (ends : List ℕ)
   -- ---- one body
 
   module _ (words : WordsStay g) (around : Option Which) where
-    step_known : {x : Steps g.Told} {ks : List ℕ} (p : IsStep g judges ends x ks) → StepTyped p → (seen : ℕ) (w : Walk g.Told) → (checked_by x around seen w).so_far ≡ Ok tt → ScopeKnown base w.scope → ScopeKnown base (checked_by x around seen w).scope
+    pub step_known : {x : Steps g.Told} {ks : List ℕ} (p : IsStep g judges ends x ks) → StepTyped p → (seen : ℕ) (w : Walk g.Told) → (checked_by x around seen w).so_far ≡ Ok tt → ScopeKnown base w.scope → ScopeKnown base (checked_by x around seen w).scope
     step_known (constants_step cs) b seen w ok k = k
     step_known (types_step ts) b seen w ok k = k
     step_known (variables_step vs) b seen w ok k = k

@@ -5,3 +5,4 @@ pub mod Entered
 pub mod Nested
 pub mod Blocks
 pub mod Induction
+pub mod Outermost
