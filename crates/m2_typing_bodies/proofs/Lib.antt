@@ -4,5 +4,6 @@ pub mod Own
 pub mod Entered
 pub mod Nested
 pub mod Blocks
-pub mod Induction
 pub mod Outermost
+pub mod Induction
+pub mod Modules

@@ -188,21 +188,9 @@ LocalsStay g = (ends : List ℕ) (st : State (Unit {0}) g.Told) (first : ℕ) (d
 
 -- ---- headings
 
--- no WITH is open, and each name of the block is declared
-abbrev pub KnownDeclared : {T : Type 0} → Known T → Type 0
-KnownDeclared Later = ⊥
-KnownDeclared Ahead = ⊥
-KnownDeclared Begun = ⊥
-KnownDeclared (Headed r) = ⊥
-KnownDeclared (Declared o r) = Unit {0}
-
-abbrev pub NamesDeclared : {T : Type 0} → List (List ℕ × Known T) → Type 0
-NamesDeclared [] = Unit {0}
-NamesDeclared (e ∷ es) = KnownDeclared e.1 × NamesDeclared es
-
+-- no WITH is open
 pub record IsFresh {T : Type 0} (s : Scope T) : Type 0 where
   pub withs : s.withs ≡ []
-  pub names : NamesDeclared s.own
 
 module _ (g : Gathers) where
   -- In this scope, and in all later types, the heading's type has the formals that are computed where its block is entered,

@@ -2,6 +2,7 @@ use Rattle.m2_judged.specs.Judged.{least, every}
 use Rattle.m2_check.specs.Checks.{judged}
 use Rattle.m2_formed_bodies.proofs.Induction.{judged_formed}
 use Rattle.m2_typing_bodies.proofs.Induction.{judged_typed, blocks_typed}
+use Rattle.m2_typing_bodies.proofs.Modules.{modules_typed}
 use Rattle.m2_typing_bodies.proofs.typing_body_laws.Goals as goal
 
 pub returns-clause-least : goal.returns-clause-least
@@ -9,3 +10,9 @@ returns-clause-least c = λ words keeps headings base ends b fit. blocks_typed l
 
 pub returns-clause-every : goal.returns-clause-every
 returns-clause-every c = λ words keeps headings base ends b fit. blocks_typed every (judged every) (judged_formed every) (judged_typed every) base words ends keeps headings b fit
+
+pub returns-clause-least_modules : goal.returns-clause-least_modules
+returns-clause-least_modules c = modules_typed least
+
+pub returns-clause-every_modules : goal.returns-clause-every_modules
+returns-clause-every_modules c = modules_typed every
