@@ -1,12 +1,11 @@
 -- Where modules begin: definitions, programs and implementations.
-use Rattle.std.proofs.Common.{◌≡◌, ℕ, zero, suc, ◌<◌, ◌==◌, Bool, true, false, ◌||◌, cond, List, [], ◌∷◌, ◌++◌, Option, Some, None, Result, Ok, Err, refl, sym, ap, subst, ◌∙◌, arith}
+use Rattle.std.proofs.Common.{◌≡◌, ℕ, ◌<◌, ◌==◌, Bool, true, false, ◌||◌, cond, List, [], ◌∷◌, ◌++◌, Option, Some, None, Ok, refl, sym, ap, subst, ◌∙◌, arith}
 use Rattle.std.proofs.lemmas.List.{append-nil, append_assoc}
 use Rattle.std.specs.Prelude.{slice_get, map}
 use Rattle.std.specs.List.{AllByRecursion, fold}
 use Rattle.m2_typed.specs.declared.types.Home.{Home}
 use Rattle.m2_typed.specs.declared.types.Home.TheVariants.{Predeclared, Module}
 use Rattle.m2_typed.specs.declared.types.TypeNo.{TypeNo}
-use Rattle.m2_typed.specs.declared.shape.Scalar.{Scalar as Range}
 use Rattle.m2_typed.specs.declared.shape.Shape.{Shape}
 use Rattle.m2_typed.specs.declared.shape.Shape.TheVariants as shape
 use Rattle.m2_typed.specs.declared.shape.Made.{Made}
@@ -21,22 +20,22 @@ use Rattle.m2_judged.specs.declared.known.Known.TheVariants.{Declared}
 use Rattle.m2_judged.specs.declared.known.Origin.TheVariants.{Here}
 use Rattle.m2_judged.specs.declared.scope.Scope.{Scope}
 use Rattle.m2_types.specs.Predeclared.{console, with_table, others_of, predeclared_block, first_scope}
-use Rattle.m2_modules.specs.Own.{with_own_name, own_names, exported_variables, exported_headings, with_field_copy, fields_copy, shape_copy, made_copy, types_made_in, own_types, implementation_scope}
+use Rattle.m2_modules.specs.Own.{with_own_name, own_names, exported_variables, exported_headings, with_field_copy, shape_copy, made_copy, types_made_in, own_types, implementation_scope}
 use Rattle.m2_formed.specs.Formed.{fine}
 use Rattle.m2_formed_tables.proofs.Order.{has, keys, other_way, has_more}
-use Rattle.m2_ranges.specs.Ranges.{AreRangedFrom, OthersRanged}
-use Rattle.m2_formed_ranges.specs.FormedRanges.{AllBased, OthersBased, NamesRanged, BlocksRanged, ExportsRanged, TablesRanged, ReachedRanged, TablesReach, ScopeRanged, first_types}
+use Rattle.m2_ranges.specs.Ranges.{AreRangedFrom}
+use Rattle.m2_formed_ranges.specs.FormedRanges.{AllBased, NamesRanged, BlocksRanged, ExportsRanged, TablesRanged, ReachedRanged, TablesReach, ScopeRanged, first_types}
 use Rattle.m2_formed_ranges.proofs.Types.{Kept, blocks_kept}
 use Rattle.m2_formed_ranges.proofs.Made.{names_more}
 use Rattle.m2_formed_ranges.proofs.Tables.{first_ranged, others_of_ranged}
-use Rattle.m2_formed_types.specs.Ordered.{AreOrderedFrom, BeginsWith, AreOrdered}
+use Rattle.m2_formed_types.specs.Ordered.{AreOrderedFrom, BeginsWith}
 use Rattle.m2_formed_types.proofs.Trees.{at, fold_more}
 use Rattle.m2_formed_order.specs.FormedOrder.{StandOnce, FieldsOnce, AllOnce, NamesOrdered, ExportsOrdered, TablesOrdered, ScopeOrdered}
 use Rattle.m2_formed_order.proofs.Types.{started_here}
 use Rattle.m2_formed_order.proofs.Named.{names_more as ordered_more}
 use Rattle.m2_formed_order.proofs.Tables.{predeclared_ordered, first_ordered}
 use Rattle.m2_formed_known.specs.FormedKnown.{HasReached, TableFormed, TablesFormed}
-use Rattle.m2_formed_known.proofs.Gathered.{each_at, each_more, Reaches, Gathered, AllGathered, tables_gathered, tables_each, others_based, made_each, HasOwn, has_reached, all_have, reached_ordered}
+use Rattle.m2_formed_known.proofs.Gathered.{each_at, each_more, Reaches, AllGathered, tables_gathered, tables_each, others_based, made_each, HasOwn, all_have, reached_ordered}
 
 -- a scope with types in order and with ranges of the language
 pub record ScopeFormed {T : Type 0} (base : Types) (s : Scope T) : Type 0 where

@@ -1,8 +1,8 @@
 -- The table of a definition.
-use Rattle.std.proofs.Common.{◌≡◌, ℕ, zero, suc, ◌<◌, ◌==◌, Bool, true, false, cond, List, [], ◌∷◌, ◌++◌, Option, Some, None, Result, Ok, Err, refl, sym, ap, subst, ◌∙◌, arith}
+use Rattle.std.proofs.Common.{◌≡◌, ℕ, suc, ◌<◌, ◌==◌, Bool, true, false, cond, List, [], ◌∷◌, ◌++◌, Option, Some, None, Result, refl, sym, ap, subst, ◌∙◌, arith}
 use Rattle.std.proofs.lemmas.Bool.{eqb-true}
 use Rattle.std.proofs.lemmas.List.{append-nil}
-use Rattle.std.specs.Prelude.{slice_get, map}
+use Rattle.std.specs.Prelude.{slice_get}
 use Rattle.std.specs.List.{AllByRecursion, fold, list_all}
 use Rattle.std.specs.Option.{is_some}
 use Rattle.m2_tree.specs.declared.decl.Contents.{Contents}
@@ -11,30 +11,27 @@ use Rattle.m2_tree.specs.declared.decl.Def.{Def}
 use Rattle.m2_tree.specs.declared.decl.Module.{Module}
 use Rattle.m2_typed.specs.declared.types.Home.{Home}
 use Rattle.m2_typed.specs.declared.types.Home.TheVariants as home
-use Rattle.m2_typed.specs.declared.types.TypeNo.{TypeNo}
-use Rattle.m2_typed.specs.declared.shape.Scalar.{Scalar as Range}
 use Rattle.m2_typed.specs.declared.shape.Made.{Made}
 use Rattle.m2_typed.specs.declared.table.ModuleTypes.{ModuleTypes}
 use Rattle.m2_typed.specs.declared.table.Table.{Table}
 use Rattle.m2_typed.specs.declared.known_types.Types.{Types}
-use Rattle.m2_typed.specs.Known.{in_list, made_in, scalar_at, scalar_from, scalar_made}
+use Rattle.m2_typed.specs.Known.{in_list, made_in, scalar_from, scalar_made}
 use Rattle.m2_judged.specs.Judged.{Gathers}
-use Rattle.m2_judged.specs.Scopes.{State}
 use Rattle.m2_judged.specs.declared.scope.Scope.{Scope}
-use Rattle.m2_types.specs.Predeclared.{console, others_of, first_scope}
+use Rattle.m2_types.specs.Predeclared.{console, first_scope}
 use Rattle.m2_types.specs.Importing.{numbered_modules}
 use Rattle.m2_types.specs.Export.{with_types as reached_with, own_types, reached_of, exports}
 use Rattle.m2_types.specs.Compiled.{table_of, declared_in, of_contents, compiled}
 use Rattle.m2_modules.specs.Own.{types_made_in}
 use Rattle.m2_formed.specs.Formed.{Holds, fine, broken}
 use Rattle.m2_formed.proofs.Basics.{then_holds, told_holds}
-use Rattle.m2_formed_ranges.specs.FormedRanges.{AllBased, OthersBased, ExportsRanged, ScopeRanged, first_types, fits_def}
+use Rattle.m2_formed_ranges.specs.FormedRanges.{AllBased, OthersBased, ScopeRanged, first_types, fits_def}
 use Rattle.m2_formed_ranges.proofs.Types.{Kept, all_kept, tables_kept}
 use Rattle.m2_formed_ranges.proofs.Tables.{exports_ranged, reached_ranged}
 use Rattle.m2_formed_ranges.proofs.Blocks.{definition_ranged}
-use Rattle.m2_formed_types.specs.Ordered.{AreOrderedFrom, OthersOrdered, is_known, is_known_from}
+use Rattle.m2_formed_types.specs.Ordered.{AreOrderedFrom, OthersOrdered, is_known_from}
 use Rattle.m2_formed_types.proofs.Trees.{at, some_of, itself, append_more}
-use Rattle.m2_formed_order.specs.FormedOrder.{AllOnce, ExportsOrdered, ScopeOrdered}
+use Rattle.m2_formed_order.specs.FormedOrder.{AllOnce, ScopeOrdered}
 use Rattle.m2_formed_order.proofs.Types.{StayKnown, exports_kept}
 use Rattle.m2_formed_order.proofs.Made.{each_append}
 use Rattle.m2_formed_order.proofs.Tables.{exports_ordered}

@@ -1,5 +1,5 @@
 -- The types that tables reach, each module's once, and in order.
-use Rattle.std.proofs.Common.{◌≡◌, ℕ, zero, suc, ◌<◌, ◌==◌, Bool, true, false, cond, List, [], ◌∷◌, ◌++◌, Option, Some, None, refl, sym, ap, subst, ◌∙◌, arith}
+use Rattle.std.proofs.Common.{◌≡◌, ℕ, ◌<◌, ◌==◌, Bool, true, false, cond, List, [], ◌∷◌, ◌++◌, Option, Some, None, refl, sym, ap, subst, ◌∙◌}
 use Rattle.std.proofs.lemmas.Bool.{eqb-true}
 use Rattle.std.proofs.lemmas.List.{append-nil}
 use Rattle.std.specs.Prelude.{slice_get, nat_eq, if◌then◌else◌}
@@ -20,7 +20,7 @@ use Rattle.m2_formed_ranges.specs.FormedRanges.{AllBased, OthersBased}
 use Rattle.m2_formed_types.specs.Ordered.{named_by, is_known_from, is_known, AreKnown, AreOrderedFrom, OthersOrdered}
 use Rattle.m2_formed_types.proofs.Trees.{at, at_more, at_behind, at_first, append_more, made_by, Placed, placed_from, some_of, in_some}
 use Rattle.m2_formed_order.specs.FormedOrder.{AllOnce}
-use Rattle.m2_formed_known.specs.FormedKnown.{HasReached, entries_of, TableFormed, TablesFormed}
+use Rattle.m2_formed_known.specs.FormedKnown.{HasReached, entries_of, TablesFormed}
 
 -- ---- lists of modules
 

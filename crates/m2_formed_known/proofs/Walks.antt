@@ -1,5 +1,5 @@
 -- The bodies of procedures keep what a scope knows of types.
-use Rattle.std.proofs.Common.{◌≡◌, ℕ, ◌+◌, Bool, true, false, ◌&&◌, List, [], ◌∷◌, ◌++◌, length, Option, Some, None, Result, Ok, Err, refl, sym, ap, subst, ◌∙◌}
+use Rattle.std.proofs.Common.{◌≡◌, ℕ, ◌+◌, Bool, true, false, ◌&&◌, List, [], ◌∷◌, ◌++◌, length, Option, Some, None, Result, refl, sym, ap, subst, ◌∙◌}
 use Rattle.std.specs.Prelude.{map, slice_get}
 use Rattle.std.specs.List.{AllByRecursion, fold, list_all}
 use Rattle.std.specs.Option.{unwrap_or}
@@ -10,14 +10,14 @@ use Rattle.m2_tree.specs.declared.decl.Contents.{Contents}
 use Rattle.m2_tree.specs.declared.decl.Contents.TheVariants as contents
 use Rattle.m2_tree.specs.declared.decl.Decl.{Decl, Decl-F, out-Decl, roll-Decl, out-roll-Decl, map-Decl, fold_out-Decl, ind-Decl}
 use Rattle.m2_tree.specs.declared.decl.Decl.TheOpen as layer
-use Rattle.m2_tree.specs.declared.decl.Block.{Block, Block-F, out-Block, roll-Block, out-roll-Block, map-Block, fold_out-Block, ind-Block}
+use Rattle.m2_tree.specs.declared.decl.Block.{Block, Block-F, out-Block, roll-Block, out-roll-Block, map-Block, fold_out-Block}
 use Rattle.m2_typed.specs.declared.shape.Made.{Made}
 use Rattle.m2_typed.specs.declared.table.Table.{Table}
 use Rattle.m2_typed.specs.declared.known_types.Types.{Types}
 use Rattle.m2_typed.specs.declared.typed_module.TypedModule.{TypedModule}
 use Rattle.m2_typed.specs.declared.typed_module.Which.{Which}
 use Rattle.m2_typed.specs.declared.types.TypeNo.{TypeNo}
-use Rattle.m2_judged.specs.Judged.{Gathers, told}
+use Rattle.m2_judged.specs.Judged.{Gathers}
 use Rattle.m2_judged.specs.Scopes.{State}
 use Rattle.m2_judged.specs.declared.scope.Scope.{Scope}
 use Rattle.m2_types.specs.Predeclared.{console, first_scope}
@@ -25,7 +25,7 @@ use Rattle.m2_types.specs.Importing.{numbered_modules}
 use Rattle.m2_blocks.specs.Nesting.{procedure_ends}
 use Rattle.m2_blocks.specs.Naming.{marked_layer, marked_decl, with_marks}
 use Rattle.m2_blocks.specs.Declarations.{Course, Declared, decl_layer, with_decl, all_declared, declared_block, declared_module}
-use Rattle.m2_modules.specs.Own.{types_made_in, implementation_scope}
+use Rattle.m2_modules.specs.Own.{implementation_scope}
 use Rattle.m2_bodies.specs.declared.procedure.Walk.{Walk}
 use Rattle.m2_bodies.specs.Judging.{Judges}
 use Rattle.m2_bodies.specs.Inside.{which_of, begun_procedure, told_in}

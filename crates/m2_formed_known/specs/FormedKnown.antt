@@ -10,7 +10,6 @@ use Rattle.m2_tree.specs.declared.decl.Module.{Module}
 use Rattle.m2_typed.specs.declared.shape.Made.{Made}
 use Rattle.m2_typed.specs.declared.table.ModuleTypes.{ModuleTypes}
 use Rattle.m2_typed.specs.declared.table.Table.{Table}
-use Rattle.m2_typed.specs.declared.typed_module.TypedModule.{TypedModule}
 use Rattle.m2_typed.specs.declared.known_types.Types.{Types}
 use Rattle.m2_typed.specs.Known.{made_in}
 use Rattle.m2_judged.specs.Judged.{Gathers}

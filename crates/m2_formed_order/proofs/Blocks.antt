@@ -1,7 +1,7 @@
 -- Marks, imports, whole blocks, and the way into procedures and back keep types in order.
 use Rattle.std.proofs.Common.{◌≡◌, ℕ, zero, suc, Bool, true, false, cond, List, [], ◌∷◌, ◌++◌, length, Option, Some, None, Result, Ok, Err, refl, sym, ap, subst, ◌∙◌}
 use Rattle.std.specs.Prelude.{map, take, drop, slice_get}
-use Rattle.std.specs.List.{fold, list_all}
+use Rattle.std.specs.List.{fold}
 use Rattle.std.specs.Option.{is_some}
 use Rattle.m2_tree.specs.declared.pos.Pos.{Pos}
 use Rattle.m2_tree.specs.declared.name.Ident.{Ident}
@@ -46,7 +46,7 @@ use Rattle.m2_types.specs.Compiled.{declared_in}
 use Rattle.m2_blocks.specs.Naming.{marked_layer, marked_decl, with_marks, all_marked}
 use Rattle.m2_blocks.specs.Declarations.{Course, with_decl, declared_block, declared_module}
 use Rattle.m2_blocks.specs.declared.inner.Outside.{Outside}
-use Rattle.m2_blocks.specs.Inner.{inwards, formal_kind, formal_meaning, Formals, with_formal, with_section, entered_procedure, split_last, popped, left_procedure}
+use Rattle.m2_blocks.specs.Inner.{inwards, formal_meaning, Formals, with_formal, with_section, entered_procedure, split_last, popped, left_procedure}
 use Rattle.m2_formed.specs.Formed.{Holds, fine, broken}
 use Rattle.m2_formed.proofs.Basics.{then_holds, holds_weaker}
 use Rattle.m2_formed_ranges.proofs.Made.{beside_then, const_holds}

@@ -1,5 +1,5 @@
 -- Declarations lead from scopes with types in order to such scopes.
-use Rattle.std.proofs.Common.{◌≡◌, ℕ, ◌==◌, Bool, true, false, cond, List, [], ◌∷◌, length, Option, Some, None, Result, Ok, Err, refl, sym, ap, subst, ◌∙◌}
+use Rattle.std.proofs.Common.{◌≡◌, ℕ, ◌==◌, Bool, true, false, cond, List, [], ◌∷◌, length, Option, Some, None, Result, Ok, Err, refl, subst}
 use Rattle.std.specs.List.{fold}
 use Rattle.m2_tree.specs.declared.name.Ident.{Ident}
 use Rattle.m2_tree.specs.declared.decl.Constant.{Constant}
@@ -13,12 +13,11 @@ use Rattle.m2_tree.specs.declared.decl.Decl.TheOpen as layer
 use Rattle.m2_typed.specs.declared.types.TypeNo.{TypeNo}
 use Rattle.m2_typed.specs.declared.known_types.Types.{Types}
 use Rattle.m2_typed.specs.declared.meaning.Procedure.{Procedure}
-use Rattle.m2_typed.specs.declared.meaning.LocalKind.TheVariants as kind
 use Rattle.m2_typed.specs.declared.meaning.Meaning.{Meaning}
 use Rattle.m2_typed.specs.declared.meaning.Meaning.TheVariants as meaning
 use Rattle.m2_typed.specs.declared.meaning.Value.{Value}
 use Rattle.m2_typed.specs.Names.{found}
-use Rattle.m2_judged.specs.Judged.{Gathers, beside, ◌▷◌}
+use Rattle.m2_judged.specs.Judged.{Gathers, beside}
 use Rattle.m2_judged.specs.Scopes.{State, begun, finished}
 use Rattle.m2_judged.specs.declared.known.Known.{Known}
 use Rattle.m2_judged.specs.declared.known.Known.TheVariants.{Later, Ahead, Begun, Headed, Declared}
@@ -31,13 +30,13 @@ use Rattle.m2_made.specs.Made.{nothing_of, type_of, with_made}
 use Rattle.m2_types.specs.Declare.{nothing_told, constant_meaning, with_constant, brings_with, type_meaning, with_type, begun_name, variable_meaning, with_variable_type, finished_variable, with_variables, procedure_meaning, with_procedure_type, declared_procedure, with_procedure, with_def}
 use Rattle.m2_blocks.specs.declared.heading.Standing.{Standing}
 use Rattle.m2_blocks.specs.declared.heading.Standing.TheVariants.{Free, Awaited, Taken}
-use Rattle.m2_blocks.specs.Headings.{standing_of, standing_judged, standing_from, standing_known, name_standing, nested_meaning, module_procedure, headed, headed_as, with_heading}
+use Rattle.m2_blocks.specs.Headings.{standing_of, standing_judged, standing_from, name_standing, nested_meaning, module_procedure, headed, headed_as, with_heading}
 use Rattle.m2_blocks.specs.Declarations.{Course, local_meaning, finished_local, with_locals, decl_layer}
 use Rattle.m2_formed.specs.Formed.{Holds, fine, broken}
 use Rattle.m2_formed.proofs.Basics.{then_holds, holds_weaker, any_holds}
 use Rattle.m2_formed_ranges.proofs.Made.{beside_then, const_holds}
 use Rattle.m2_formed_types.specs.Ordered.{is_known}
-use Rattle.m2_formed_order.specs.FormedOrder.{MeaningOrdered, KnownOrdered, ScopeOrdered, StateOrdered, MadeOrdered}
+use Rattle.m2_formed_order.specs.FormedOrder.{MeaningOrdered, ScopeOrdered, StateOrdered, MadeOrdered}
 use Rattle.m2_formed_order.proofs.Named.{FoundOrdered, name_found, known_ordered, unless_ordered, finished_as, finished_ordered}
 use Rattle.m2_formed_order.proofs.Made.{made_ordered, heading_ordered, type_of_ordered}
 

@@ -1,5 +1,5 @@
 -- Type expressions lead from scopes with types in order to such scopes.
-use Rattle.std.proofs.Common.{◌≡◌, ℕ, pos, Bool, true, false, cond, List, [], ◌∷◌, ◌++◌, length, Option, Some, None, Result, Ok, Err, refl, sym, ap, subst, ◌∙◌}
+use Rattle.std.proofs.Common.{◌≡◌, ℕ, pos, Bool, true, false, cond, List, [], ◌∷◌, ◌++◌, Option, Some, None, Result, Ok, Err, refl, sym, ap, subst, ◌∙◌}
 use Rattle.std.specs.Prelude.{map, nat_lt}
 use Rattle.std.specs.List.{fold, AllByRecursion}
 use Rattle.std.specs.Option.{is_some}
@@ -19,7 +19,7 @@ use Rattle.m2_typed.specs.declared.types.TypeNo.{TypeNo}
 use Rattle.m2_typed.specs.declared.shape.Formal.{Formal}
 use Rattle.m2_typed.specs.declared.shape.Made.{Made}
 use Rattle.m2_typed.specs.declared.known_types.Types.{Types}
-use Rattle.m2_typed.specs.Known.{cells_at, is_result}
+use Rattle.m2_typed.specs.Known.{cells_at}
 use Rattle.m2_typed.specs.Names.{found, entered, same_name}
 use Rattle.m2_judged.specs.declared.known.Known.{Known}
 use Rattle.m2_judged.specs.declared.known.Known.TheVariants.{Declared}
@@ -31,14 +31,14 @@ use Rattle.m2_constants.specs.Parts.{part}
 use Rattle.m2_made.specs.declared.field.Fields.{Fields}
 use Rattle.m2_made.specs.Cells.{array_cells, count_at}
 use Rattle.m2_made.specs.Fields.{no_fields, with_field, with_name}
-use Rattle.m2_made.specs.Named.{first_of, named_type}
-use Rattle.m2_made.specs.Headings.{formal_of, result_in, result_of, procedure_made, joined_formal, with_parameter, procedure_type, repeated, joined_formals, with_section, sections, heading_of}
+use Rattle.m2_made.specs.Named.{first_of}
+use Rattle.m2_made.specs.Headings.{formal_of, result_of, procedure_made, joined_formal, with_parameter, procedure_type, repeated, joined_formals, with_section, sections, heading_of}
 use Rattle.m2_made.specs.Made.{next_type, with_shape, with_made, too_many, enumeration_constant, enumeration_scalar, listed, enumeration, subrange, simple_type, simple_place, array_in, index_type, field_type, nothing_of, Makes, MakesFields, then_fields, array_type, record_type, fields_named, type_layer, field_layer, type_of, field_list}
 use Rattle.m2_formed.specs.Formed.{Holds, fine, broken}
 use Rattle.m2_formed.proofs.Basics.{then_holds, holds_weaker, where_holds, both_holds, any_holds}
 use Rattle.m2_formed_tables.proofs.Order.{has, keys, other_way, still_apart, keys_entered}
 use Rattle.m2_formed_ranges.proofs.Made.{beside_then, const_holds}
-use Rattle.m2_formed_types.specs.Ordered.{named_by, result_named, is_known, AreKnown}
+use Rattle.m2_formed_types.specs.Ordered.{result_named, is_known, AreKnown}
 use Rattle.m2_formed_order.specs.FormedOrder.{StandOnce, ScopeOrdered, MadeOrdered}
 use Rattle.m2_formed_order.proofs.Types.{known_kept, all_kept, ShapeOrdered, scope_more, next_known, based_on, based_here}
 use Rattle.m2_formed_order.proofs.Named.{named_ordered, known_ordered, unless_as}

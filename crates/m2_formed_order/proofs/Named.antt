@@ -1,5 +1,5 @@
 -- What names mean, and one name more.
-use Rattle.std.proofs.Common.{◌≡◌, ℕ, zero, suc, Bool, true, false, cond, List, [], ◌∷◌, ◌++◌, length, Option, Some, None, Result, Ok, Err, refl}
+use Rattle.std.proofs.Common.{◌≡◌, ℕ, zero, suc, Bool, true, false, cond, List, [], ◌∷◌, Option, Some, None, Result, Ok}
 use Rattle.std.specs.Prelude.{slice_get, nat_lt}
 use Rattle.std.specs.List.{fold}
 use Rattle.std.specs.Option.{option_map}
@@ -10,7 +10,6 @@ use Rattle.m2_typed.specs.declared.meaning.OpenedField.{OpenedField}
 use Rattle.m2_typed.specs.declared.meaning.Meaning.{Meaning}
 use Rattle.m2_typed.specs.declared.meaning.Meaning.TheVariants as meaning
 use Rattle.m2_typed.specs.declared.table.Table.{Table}
-use Rattle.m2_typed.specs.declared.types.TypeNo.{TypeNo}
 use Rattle.m2_typed.specs.declared.known_types.Types.{Types}
 use Rattle.m2_typed.specs.Names.{found, place_of, entered, same_name}
 use Rattle.m2_judged.specs.declared.known.Known.{Known}
@@ -19,10 +18,10 @@ use Rattle.m2_judged.specs.declared.known.Origin.TheVariants.{Here}
 use Rattle.m2_judged.specs.declared.scope.Block.{Block}
 use Rattle.m2_judged.specs.declared.scope.Scope.{Scope}
 use Rattle.m2_judged.specs.Scopes.{State, Sight, or_outside, seen_at, in_block, nearer, known_outside, or_around, known, means_seen, means_as, opened, means_or, looked_up, is_free, with_known, unless_declared, is_begun, finished, unless_marked, marked}
-use Rattle.m2_judged.specs.Judged.{Gathers, told, ◌▷◌}
+use Rattle.m2_judged.specs.Judged.{Gathers, told}
 use Rattle.m2_constants.specs.Denote.{exported_by, exported, member}
 use Rattle.m2_made.specs.Named.{type_meant, in_module, of_module, named_type}
-use Rattle.m2_formed.specs.Formed.{Holds, fine, broken}
+use Rattle.m2_formed.specs.Formed.{Holds, fine}
 use Rattle.m2_formed.proofs.Basics.{then_holds, told_holds}
 use Rattle.m2_formed_types.specs.Ordered.{is_known}
 use Rattle.m2_formed_order.specs.FormedOrder.{MeaningOrdered, KnownOrdered, NamesOrdered, BlocksOrdered, ExportsOrdered, TablesOrdered, ScopeOrdered}

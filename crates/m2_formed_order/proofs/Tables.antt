@@ -1,5 +1,5 @@
 -- The scope in which a module begins, and what a definition exports.
-use Rattle.std.proofs.Common.{◌≡◌, ℕ, pos, Bool, true, false, cond, List, [], ◌∷◌, Option, Result, Ok, refl}
+use Rattle.std.proofs.Common.{ℕ, pos, Bool, true, false, cond, List, [], ◌∷◌, Result, Ok, refl}
 use Rattle.std.specs.Prelude.{codes}
 use Rattle.std.specs.List.{fold}
 use Rattle.m2_typed.specs.declared.meaning.Standard.TheVariants.{Abs, Cap, Chr, High, Max, Min, Odd, Ord, Val, Inc, Dec, Incl, Excl, Halt}

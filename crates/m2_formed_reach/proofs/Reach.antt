@@ -1,5 +1,5 @@
 -- The tables that jobs make, and the modules of bodies that are checked by them.
-use Rattle.std.proofs.Common.{◌≡◌, ℕ, zero, suc, ◌+◌, ◌<◌, Bool, true, false, ◌&&◌, cond, List, [], ◌∷◌, ◌++◌, length, Option, Some, None, Result, Ok, Err, refl, sym, ap, subst, ◌∙◌, arith, inl, inr}
+use Rattle.std.proofs.Common.{◌≡◌, ℕ, zero, suc, ◌+◌, ◌<◌, Bool, true, false, cond, List, [], ◌∷◌, ◌++◌, length, Option, Some, None, Result, Ok, Err, refl, sym, ap, subst, ◌∙◌, arith, inl, inr}
 use Rattle.std.specs.Prelude.{slice_get, slice_index_or}
 use Rattle.std.specs.List.{AllByRecursion, list_all}
 use Rattle.std.proofs.lemmas.Bool.{cases_lt}
@@ -53,7 +53,7 @@ long_more : {X : Type 0} (xs : List X) (x : X) → length (xs ++ x ∷ []) ≡ s
 long_more [] x = refl
 long_more (y ∷ xs) x = let k : length (xs ++ x ∷ []) ≡ suc (length xs) = long_more xs x in omega (arith, k)
 
-tree_fits : (ms : List Module) → list_all fits_module ms ≡ true → (k : ℕ) (m : Module) → slice_get ms k ≡ Some m → fits_module m ≡ true
+pub tree_fits : (ms : List Module) → list_all fits_module ms ≡ true → (k : ℕ) (m : Module) → slice_get ms k ≡ Some m → fits_module m ≡ true
 tree_fits [] e k m g = absurd cc
 tree_fits (x ∷ ms) e zero m g = let same : x ≡ m = cc in subst (λ (y : Module). fits_module y ≡ true) same (both_left (fits_module x) (list_all fits_module ms) e)
 tree_fits (x ∷ ms) e (suc k) m g = tree_fits ms (both_right (fits_module x) (list_all fits_module ms) e) k m g
@@ -108,16 +108,18 @@ module _ (trees : List Module) (files : List ℕ) (jobs : List (List ℕ)) (fit 
 
   module _ (n : ℕ) (known : (p : ℕ) → p < n → Fact p) where
     -- a table that a job needs
-    record IsNeeded (t : Table) : Type 0 where
-      formed : TableFormed its_types n t
-      own : types_made_in t.number t.reached ≡ its_types t.number
+    pub record IsNeeded (t : Table) : Type 0 where
+      pub formed : TableFormed its_types n t
+      pub own : types_made_in t.number t.reached ≡ its_types t.number
+      pub made : one t.number ≡ Defined t
+      pub before : t.number < n
 
     table_needed : (p : ℕ) (x : Compiled) → slice_get (below n) p ≡ Some x → (t : Table) → x ≡ Defined t → IsNeeded t
     table_needed p x e t q =
         let l : p < n = is_within n p x e in
         let is : one p ≡ Defined t = same_Some (one p) x (sym (at_below n p l) ∙ e) ∙ q in
         let f : IsFormedAt p t = known p l t is in
-        record { formed = formed_below its_types p n t l f.1; own = own_types_are p t is f.0 }
+        record { formed = formed_below its_types p n t l f.1; own = own_types_are p t is f.0; made = ap one f.0 ∙ is; before = (let q : t.number ≡ p = f.0 in omega (arith, l, q)) }
 
     with_one : (x : Compiled) (ts : List Table) → ((t : Table) → x ≡ Defined t → IsNeeded t) → AllByRecursion IsNeeded ts → AllByRecursion IsNeeded (table_in x ++ ts)
     with_one (Defined t) ts k h = (k t refl, h)
@@ -178,11 +180,11 @@ module _ (trees : List Module) (files : List ℕ) (jobs : List (List ℕ)) (fit 
     own_by true t h = (h.formed, h.own)
     own_by false t h = tt
 
-    own_formed : (m : Module) (ts : List Table) → AllByRecursion IsNeeded ts → OwnFormed its_types n (own_table m ts)
+    pub own_formed : (m : Module) (ts : List Table) → AllByRecursion IsNeeded ts → OwnFormed its_types n (own_table m ts)
     own_formed m [] h = tt
     own_formed m (t ∷ ts) h = own_by (same_name t.name m.name.name) t h.0
 
-    behind_formed : (o : Option Table) (ts : List Table) → AllByRecursion IsNeeded ts → TablesFormed its_types n (tables_behind o ts)
+    pub behind_formed : (o : Option Table) (ts : List Table) → AllByRecursion IsNeeded ts → TablesFormed its_types n (tables_behind o ts)
     behind_formed None ts h = all_formed ts h
     behind_formed (Some t) [] h = tt
     behind_formed (Some t) (u ∷ ts) h = all_formed ts h.1
@@ -201,6 +203,13 @@ module _ (trees : List Module) (files : List ℕ) (jobs : List (List ℕ)) (fit 
     | inl less ↦ facts_below n p less
     | inr le ↦ let e : p ≡ n = omega (arith, l, le) in subst (λ (k : ℕ). Fact k) (sym e) (fact_next n (facts_below n))
   ]
+
+  pub known_below : (n p : ℕ) → p < n → Fact p
+  known_below = facts_below
+
+  -- the tables that a job needs
+  pub tables_needed : (n : ℕ) → AllByRecursion (IsNeeded n (known_below n)) (tables_of (needed_of trees files jobs n))
+  tables_needed n = all_needed n (known_below n) (prerequisites_of jobs n)
 
   pub tables_same : (job : ℕ) (t : Table) → one job ≡ Defined t → IsFormedAt job t
   tables_same job = facts_below (suc job) job (omega arith)

@@ -1,5 +1,5 @@
 -- The trees of types that stand in order.
-use Rattle.std.proofs.Common.{◌≡◌, ℕ, zero, suc, ◌+◌, ◌<◌, ◌==◌, Bool, true, false, cond, List, [], ◌∷◌, ◌++◌, length, Option, Some, None, refl, sym, ap, subst, ◌∙◌, arith}
+use Rattle.std.proofs.Common.{◌≡◌, ℕ, zero, suc, ◌+◌, ◌==◌, Bool, true, false, cond, List, [], ◌∷◌, ◌++◌, length, Option, Some, None, refl, sym, ap, subst, ◌∙◌, arith}
 use Rattle.std.proofs.lemmas.Bool.{eqb-true, eqb-false}
 use Rattle.std.specs.Prelude.{slice_get, nat_eq, map}
 use Rattle.std.specs.List.{AllByRecursion, fold}
@@ -12,10 +12,10 @@ use Rattle.m2_typed.specs.declared.shape.Shape.{Shape}
 use Rattle.m2_typed.specs.declared.shape.Shape.TheVariants as shape
 use Rattle.m2_typed.specs.declared.shape.Made.{Made}
 use Rattle.m2_typed.specs.declared.known_types.Types.{Types}
-use Rattle.m2_typed.specs.Known.{scalar_at, made_at, made_in, in_list}
+use Rattle.m2_typed.specs.Known.{scalar_at, in_list}
 use Rattle.m2_layout.specs.Types.{Ty, Array, row}
-use Rattle.m2_layout.specs.Shapes.{Trees, or_nothing, in_module, tree_in, shape_tree, with_made, module_trees, with_module, other_trees, known_trees, tree, elements_of}
-use Rattle.m2_formed_types.specs.Ordered.{named_by, is_known_from, is_known, AreKnown, AreOrderedFrom, OthersOrdered, BeginsWith, AreOrdered}
+use Rattle.m2_layout.specs.Shapes.{Trees, or_nothing, in_module, tree_in, shape_tree, with_made, module_trees, with_module, elements_of}
+use Rattle.m2_formed_types.specs.Ordered.{named_by, is_known_from, is_known, AreOrderedFrom, OthersOrdered, AreOrdered}
 
 -- ---- numbers and lists
 

@@ -11,7 +11,6 @@ use Rattle.m2_typed.specs.declared.shape.Shape.TheVariants as shape
 use Rattle.m2_typed.specs.declared.shape.Made.{Made}
 use Rattle.m2_typed.specs.declared.known_types.Types.{Types}
 use Rattle.m2_typed.specs.Known.{made_in, made_at}
-use Rattle.m2_layout.specs.Types.{Ty}
 use Rattle.m2_layout.specs.Shapes.{shape_tree, known_trees, tree}
 
 -- ---- the types that a type names

@@ -1,5 +1,5 @@
 -- What one name more does, one type more, and one variable more.
-use Rattle.std.proofs.Common.{◌≡◌, ℕ, zero, suc, ◌==◌, Bool, true, false, cond, List, [], ◌∷◌, ◌++◌, length, Option, Some, None, Result, Ok, Err, refl, sym, ap, subst, ◌∙◌}
+use Rattle.std.proofs.Common.{◌≡◌, ℕ, zero, suc, ◌==◌, Bool, true, false, cond, List, [], ◌∷◌, ◌++◌, Option, Some, None, Result, Ok, Err, refl, ap, subst, ◌∙◌, ◌≤◌, map, drop, append_assoc, length-append, arith, length, sym}
 use Rattle.std.specs.Prelude.{slice_get, nat_eq}
 use Rattle.std.specs.Map.{lookup}
 use Rattle.std.specs.Option.{is_some}
@@ -8,6 +8,8 @@ use Rattle.m2_tree.specs.declared.name.Ident.{Ident}
 use Rattle.m2_typed.specs.declared.known_types.Types.{Types}
 use Rattle.m2_typed.specs.declared.meaning.Meaning.{Meaning}
 use Rattle.m2_typed.specs.declared.meaning.Meaning.TheVariants as meaning
+use Rattle.m2_typed.specs.declared.meaning.LocalKind.{LocalKind}
+use Rattle.m2_typed.specs.declared.shape.Formal.{Formal}
 use Rattle.m2_typed.specs.declared.shape.Made.{Made}
 use Rattle.m2_typed.specs.declared.shape.Scalar.{Scalar as Range}
 use Rattle.m2_typed.specs.declared.shape.Shape.{Shape}
@@ -15,7 +17,7 @@ use Rattle.m2_typed.specs.declared.shape.Shape.TheVariants as shape
 use Rattle.m2_typed.specs.declared.types.Home.{Home}
 use Rattle.m2_typed.specs.declared.types.Home.TheVariants.{Predeclared, Module}
 use Rattle.m2_typed.specs.declared.types.TypeNo.{TypeNo}
-use Rattle.m2_typed.specs.Known.{made_from, made_at, in_list, scalar_at}
+use Rattle.m2_typed.specs.Known.{made_from, in_list, scalar_at}
 use Rattle.m2_typed.specs.Names.{same_name, found, entered}
 use Rattle.m2_judged.specs.Judged.{Gathers, told}
 use Rattle.m2_judged.specs.Scopes.{State, is_free, with_known, unless_declared, begun, is_begun, finished, unless_marked, marked}
@@ -30,7 +32,8 @@ use Rattle.m2_formed.specs.Formed.{Holds, fine, broken}
 use Rattle.m2_formed.proofs.Basics.{holds_weaker, Grows}
 use Rattle.m2_formed_scopes.proofs.Names.{get_more}
 use Rattle.m2_typing.specs.Typing.{IsIndexed}
-use Rattle.m2_typing.specs.Carried.{ShapeIndexed, AllIndexed, OthersIndexed, TypesIndexed, MeaningPlaced, KnownPlaced, NamesPlaced, ScopePlaced, Carries}
+use Rattle.m2_typing.specs.Carried.{ShapeIndexed, AllIndexed, OthersIndexed, TypesIndexed, MeaningPlaced, KnownPlaced, NamesPlaced, MeaningWord, KnownWord, NamesWords, ScopeWords, slots_from, slots_in, StandsIn, MeaningSlot, KnownSlot, NamesSlots, Carries}
+use Rattle.m2_typing.specs.Scopes.{formal_slot, variable_slot}
 use Rattle.m2_typing.proofs.Known.{scalar_known}
 
 -- ---- types that stay
@@ -54,7 +57,7 @@ module _ (a b : Types) (grows : Grows a b) where
   shape_stays (shape.Procedure q) p = tt
   shape_stays (shape.Open e) p = tt
 
-  all_stay : (ms : List Made) → AllIndexed a ms → AllIndexed b ms
+  pub all_stay : (ms : List Made) → AllIndexed a ms → AllIndexed b ms
   all_stay [] p = tt
   all_stay (m ∷ ms) p = (shape_stays m.shape p.0, all_stay ms p.1)
 
@@ -90,10 +93,79 @@ names_stay : {T : Type 0} (home : ℕ) (us vs : List TypeNo) → Longer us vs �
 names_stay home us vs l [] p = tt
 names_stay home us vs l (e ∷ es) p = (known_stays home us vs l e.1 p.0, names_stay home us vs l es p.1)
 
+-- ---- slots
+
+abbrev pub Slots : Type 0
+Slots = List (LocalKind × TypeNo)
+
+abbrev pub SlotFor : {T : Type 0} → Scope T → Known T → Type 0
+SlotFor s k = (o : Option (List Formal)) → StandsIn o s → KnownSlot (slots_in o s.variables) s.level k
+
+abbrev LongerSlots : Slots → Slots → Type 0
+LongerSlots xs ys = (n : ℕ) (t : LocalKind × TypeNo) → slice_get xs n ≡ Some t → slice_get ys n ≡ Some t
+
+slot_stays : (xs ys : Slots) (level : ℕ) → LongerSlots xs ys → (m : Meaning) → MeaningSlot xs level m → MeaningSlot ys level m
+slot_stays xs ys level k (meaning.Local v) p = (p.0, k v.number (v.kind, v.of) p.1)
+slot_stays xs ys level k (meaning.Constant v) p = tt
+slot_stays xs ys level k (meaning.Type t n) p = tt
+slot_stays xs ys level k (meaning.Variable v) p = tt
+slot_stays xs ys level k (meaning.Field f) p = tt
+slot_stays xs ys level k (meaning.Procedure q) p = tt
+slot_stays xs ys level k (meaning.LocalProcedure q) p = tt
+slot_stays xs ys level k meaning.Ahead p = tt
+slot_stays xs ys level k (meaning.Standard f) p = tt
+slot_stays xs ys level k (meaning.Module n) p = tt
+
+known_slot_stays : {T : Type 0} (xs ys : Slots) (level : ℕ) → LongerSlots xs ys → (k : Known T) → KnownSlot xs level k → KnownSlot ys level k
+known_slot_stays xs ys level l Later p = tt
+known_slot_stays xs ys level l Ahead p = tt
+known_slot_stays xs ys level l Begun p = tt
+known_slot_stays xs ys level l (Headed r) p = holds_weaker (λ m q. slot_stays xs ys level l m q) p
+known_slot_stays xs ys level l (Declared o r) p = holds_weaker (λ m q. slot_stays xs ys level l m q) p
+
+pub slots_stay : {T : Type 0} (xs ys : Slots) (level : ℕ) → LongerSlots xs ys → (es : List (List ℕ × Known T)) → NamesSlots xs level es → NamesSlots ys level es
+slots_stay xs ys level l [] p = tt
+slots_stay xs ys level l (e ∷ es) p = (known_slot_stays xs ys level l e.1 p.0, slots_stay xs ys level l es p.1)
+
+drop_behind : {A : Type 0} (n : ℕ) (vs : List A) (t : A) → n ≤ length vs → drop n (vs ++ t ∷ []) ≡ drop n vs ++ t ∷ []
+drop_behind zero vs t l = refl
+drop_behind (suc n) [] t l = absurd (omega (arith, l))
+drop_behind (suc n) (v ∷ vs) t l = drop_behind n vs t (omega (arith, l))
+
+map_behind : {A B : Type 0} (f : A → B) (vs : List A) (t : A) → map f (vs ++ t ∷ []) ≡ map f vs ++ f t ∷ []
+map_behind f [] t = refl
+map_behind f (v ∷ vs) t = ap (λ ys. f v ∷ ys) (map_behind f vs t)
+
+-- one variable more is one slot more
+pub slots_behind : (fs : List Formal) (vs : List TypeNo) (t : TypeNo) → length fs ≤ length vs → slots_from fs (vs ++ t ∷ []) ≡ slots_from fs vs ++ variable_slot t ∷ []
+slots_behind fs vs t l =
+    ap (λ (us : List TypeNo). map formal_slot fs ++ map variable_slot us) (drop_behind (length fs) vs t l)
+    ∙ ap (λ (us : Slots). map formal_slot fs ++ us) (map_behind variable_slot (drop (length fs) vs) t)
+    ∙ sym (append_assoc (map formal_slot fs) (map variable_slot (drop (length fs) vs)) (variable_slot t ∷ []))
+
+slots_longer : (fs : List Formal) (vs : List TypeNo) (t : TypeNo) → length fs ≤ length vs → LongerSlots (slots_from fs vs) (slots_from fs (vs ++ t ∷ []))
+slots_longer fs vs t l n s e = subst (λ (us : Slots). slice_get us n ≡ Some s) (sym (slots_behind fs vs t l)) (get_more (slots_from fs vs) (variable_slot t ∷ []) n s e)
+
+slots_grow : {T : Type 0} (s : Scope T) (t : TypeNo) (o : Option (List Formal)) → StandsIn o s → LongerSlots (slots_in o s.variables) (slots_in o (s.variables ++ t ∷ []))
+slots_grow s t None l = λ n u e. e
+slots_grow s t (Some fs) l = slots_longer fs s.variables t l
+
+slots_by : {T : Type 0} (xs : Slots) (level : ℕ) (b : Bool) (k : Known T) (e : List ℕ × Known T) (es more : List (List ℕ × Known T)) → KnownSlot xs level k → NamesSlots xs level (e ∷ es) → NamesSlots xs level more → NamesSlots xs level (cond b ((e.0, k) ∷ es) (e ∷ more))
+slots_by xs level true k e es more p all q = (p, all.1)
+slots_by xs level false k e es more p all q = (all.0, q)
+
+pub slots_more : {T : Type 0} (xs : Slots) (level : ℕ) (name : List ℕ) (k : Known T) (es : List (List ℕ × Known T)) → KnownSlot xs level k → NamesSlots xs level es → NamesSlots xs level (entered name k es)
+slots_more xs level name k [] p all = (p, tt)
+slots_more xs level name k (e ∷ es) p all = slots_by xs level (same_name name e.0) k e es (entered name k es) p all (slots_more xs level name k es p all.1)
+
 -- ---- steps
 
 pub carries_refl : {T : Type 0} (s : Scope T) → Carries s s
-carries_refl s = record { home = refl; tables = refl; types = λ t m e. e; variables = λ n t e. e; indexed = λ p. p; placed = λ p. p }
+carries_refl s = record { home = refl; tables = refl; types = λ t m e. e; variables = λ n t e. e; indexed = λ p. p; placed = λ p. p; words = λ p. p; longer = omega arith; level = refl; slots = λ o l p. p }
+
+stands_on : {T : Type 0} {a b : Scope T} → Carries a b → (o : Option (List Formal)) → StandsIn o a → StandsIn o b
+stands_on p None l = p.level ∙ l
+stands_on p (Some fs) l = let a = p.longer in omega (arith, l, a)
 
 pub carries_then : {T : Type 0} {a b c : Scope T} → Carries a b → Carries b c → Carries a c
 carries_then p q = record {
@@ -103,6 +175,10 @@ carries_then p q = record {
   variables = λ n t e. q.variables n t (p.variables n t e);
   indexed = λ k. q.indexed (p.indexed k);
   placed = λ k. q.placed (p.placed k);
+  words = λ k. q.words (p.words k);
+  longer = let a = p.longer in let b = q.longer in omega (arith, a, b);
+  level = q.level ∙ p.level;
+  slots = λ o l k. q.slots o (stands_on p o l) (p.slots o l k);
 }
 
 -- ---- one name more
@@ -115,40 +191,52 @@ names_more : {T : Type 0} (home : ℕ) (vs : List TypeNo) (name : List ℕ) (k :
 names_more home vs name k [] p all = (p, tt)
 names_more home vs name k (e ∷ es) p all = names_by home vs (same_name name e.0) k e es (entered name k es) p all (names_more home vs name k es p all.1)
 
-pub known_carries : {T : Type 0} (s : Scope T) (name : List ℕ) (k : Known T) → KnownPlaced s.types.home s.variables k → Carries s (with_known name k s)
-known_carries s name k p = record {
+words_by : {T : Type 0} (b : Bool) (k : Known T) (e : List ℕ × Known T) (es more : List (List ℕ × Known T)) → KnownWord k → NamesWords (e ∷ es) → NamesWords more → NamesWords (cond b ((e.0, k) ∷ es) (e ∷ more))
+words_by true k e es more p all q = (p, all.1)
+words_by false k e es more p all q = (all.0, q)
+
+pub words_more : {T : Type 0} (name : List ℕ) (k : Known T) (es : List (List ℕ × Known T)) → KnownWord k → NamesWords es → NamesWords (entered name k es)
+words_more name k [] p all = (p, tt)
+words_more name k (e ∷ es) p all = words_by (same_name name e.0) k e es (entered name k es) p all (words_more name k es p all.1)
+
+pub known_carries : {T : Type 0} (s : Scope T) (name : List ℕ) (k : Known T) → KnownPlaced s.types.home s.variables k → (ScopeWords s → KnownWord k) → SlotFor s k → Carries s (with_known name k s)
+known_carries s name k p w z = record {
   home = refl;
   tables = refl;
   types = λ t m e. e;
   variables = λ n t e. e;
   indexed = λ q. q;
   placed = λ q. names_more s.types.home s.variables name k s.own p q;
+  words = λ q. record { names = words_more name k s.own (w q) q.names; outer = q.outer; tables = q.tables };
+  longer = omega arith;
+  level = refl;
+  slots = λ o l q. slots_more (slots_in o s.variables) s.level name k s.own (z o l) q;
 }
 
 module _ (g : Gathers) (s : Scope g.Told) where
-  pub free_carries : (at : Pos) (name : List ℕ) (k : Known g.Told) (b : Bool) → KnownPlaced s.types.home s.variables k → Carries s (cond {A = State (Unit {0}) g.Told} b (with_known name k s, Ok tt) (s, told g at 31)).0
-  free_carries at name k true p = known_carries s name k p
-  free_carries at name k false p = carries_refl s
+  pub free_carries : (at : Pos) (name : List ℕ) (k : Known g.Told) (b : Bool) → KnownPlaced s.types.home s.variables k → (ScopeWords s → KnownWord k) → SlotFor s k → Carries s (cond {A = State (Unit {0}) g.Told} b (with_known name k s, Ok tt) (s, told g at 31)).0
+  free_carries at name k true p w z = known_carries s name k p w z
+  free_carries at name k false p w z = carries_refl s
 
-  pub unless_carries : (name : Ident) (k : Known g.Told) → KnownPlaced s.types.home s.variables k → Carries s (unless_declared g s name k).0
-  unless_carries name k p = free_carries name.pos name.name k (is_free (found name.name s.own)) p
+  pub unless_carries : (name : Ident) (k : Known g.Told) → KnownPlaced s.types.home s.variables k → (ScopeWords s → KnownWord k) → SlotFor s k → Carries s (unless_declared g s name k).0
+  unless_carries name k p w z = free_carries name.pos name.name k (is_free (found name.name s.own)) p w z
 
   pub begun_carries : (name : Ident) → Carries s (begun g s name).0
-  begun_carries name = unless_carries name Begun tt
+  begun_carries name = unless_carries name Begun tt (λ q. tt) (λ fs l. tt)
 
-finished_by : {T : Type 0} (s : Scope T) (name : List ℕ) (k : Known T) (b : Bool) → KnownPlaced s.types.home s.variables k → Carries s (cond b (with_known name k s) s)
-finished_by s name k true p = known_carries s name k p
-finished_by s name k false p = carries_refl s
+finished_by : {T : Type 0} (s : Scope T) (name : List ℕ) (k : Known T) (b : Bool) → KnownPlaced s.types.home s.variables k → (ScopeWords s → KnownWord k) → SlotFor s k → Carries s (cond b (with_known name k s) s)
+finished_by s name k true p w z = known_carries s name k p w z
+finished_by s name k false p w z = carries_refl s
 
-pub finished_carries : {T : Type 0} (s : Scope T) (name : Ident) (r : Result Meaning T) → Holds (MeaningPlaced s.types.home s.variables) r → Carries s (finished s name r)
-finished_carries s name r p = finished_by s name.name (Declared Here r) (is_begun (found name.name s.own)) p
+pub finished_carries : {T : Type 0} (s : Scope T) (name : Ident) (r : Result Meaning T) → Holds (MeaningPlaced s.types.home s.variables) r → (ScopeWords s → Holds MeaningWord r) → SlotFor s (Declared Here r) → Carries s (finished s name r)
+finished_carries s name r p w z = finished_by s name.name (Declared Here r) (is_begun (found name.name s.own)) p w z
 
-marked_by : {T : Type 0} (s : Scope T) (name : List ℕ) (k : Known T) (o : Option (Known T)) → KnownPlaced s.types.home s.variables k → Carries s (unless_marked name k s o)
-marked_by s name k (Some x) p = carries_refl s
-marked_by s name k None p = known_carries s name k p
+marked_by : {T : Type 0} (s : Scope T) (name : List ℕ) (k : Known T) (o : Option (Known T)) → KnownPlaced s.types.home s.variables k → (ScopeWords s → KnownWord k) → SlotFor s k → Carries s (unless_marked name k s o)
+marked_by s name k (Some x) p w z = carries_refl s
+marked_by s name k None p w z = known_carries s name k p w z
 
-pub marked_carries : {T : Type 0} (s : Scope T) (name : Ident) (k : Known T) → KnownPlaced s.types.home s.variables k → Carries s (marked name k s)
-marked_carries s name k p = marked_by s name.name k (found name.name s.own) p
+pub marked_carries : {T : Type 0} (s : Scope T) (name : Ident) (k : Known T) → KnownPlaced s.types.home s.variables k → (ScopeWords s → KnownWord k) → SlotFor s k → Carries s (marked name k s)
+marked_carries s name k p w z = marked_by s name.name k (found name.name s.own) p w z
 
 -- ---- one type more
 
@@ -177,6 +265,10 @@ shape_carries s x p =
       variables = λ n t e. e;
       indexed = λ q. record { own = all_more now s.types.own x (all_stay s.types now grows s.types.own q.own) (shape_stays s.types now grows x.shape p); others = others_stay s.types now grows s.types.others q.others };
       placed = λ q. q;
+      words = λ q. record { names = q.names; outer = q.outer; tables = q.tables };
+      longer = omega arith;
+      level = refl;
+      slots = λ o l q. q;
     }
 
 pub made_carries : {T : Type 0} (s : Scope T) {r : Result Made T} → Holds (λ x. ShapeIndexed s.types x.shape) r → Carries s (with_made s r).0
@@ -193,12 +285,48 @@ variable_type_carries s (Ok t) = record {
   variables = λ n u e. get_more s.variables (t ∷ []) n u e;
   indexed = λ p. p;
   placed = λ p. names_stay s.types.home s.variables (s.variables ++ t ∷ []) (λ n u e. get_more s.variables (t ∷ []) n u e) s.own p;
+  words = λ q. record { names = q.names; outer = q.outer; tables = q.tables };
+  longer = let e = length-append s.variables (t ∷ []) in omega (arith, e);
+  level = refl;
+  slots = λ o l q. slots_stay (slots_in o s.variables) (slots_in o (s.variables ++ t ∷ [])) s.level (slots_grow s t o l) s.own q;
 }
 variable_type_carries s (Err e) = carries_refl s
 
 pub procedure_type_carries : {T : Type 0} (s : Scope T) (t : Result TypeNo T) → Carries s (with_procedure_type s t)
-procedure_type_carries s (Ok t) = record { home = refl; tables = refl; types = λ u m e. e; variables = λ n u e. e; indexed = λ p. p; placed = λ p. p }
+procedure_type_carries s (Ok t) = record {
+  home = refl;
+  tables = refl;
+  types = λ u m e. e;
+  variables = λ n u e. e;
+  indexed = λ p. p;
+  placed = λ p. p;
+  words = λ q. record { names = q.names; outer = q.outer; tables = q.tables };
+  longer = omega arith;
+  level = refl;
+  slots = λ o l q. q;
+}
 procedure_type_carries s (Err e) = carries_refl s
+
+-- a name is finished behind a step that carries on; its slot is asked for what stood before
+then_by : {T : Type 0} (a s : Scope T) (name : List ℕ) (k : Known T) (b : Bool) → Carries a s → KnownPlaced s.types.home s.variables k → (ScopeWords s → KnownWord k)
+    → ((o : Option (List Formal)) → StandsIn o a → KnownSlot (slots_in o s.variables) s.level k) → Carries a (cond b (with_known name k s) s)
+then_by a s name k true c p w z = record {
+  home = c.home;
+  tables = c.tables;
+  types = c.types;
+  variables = c.variables;
+  indexed = c.indexed;
+  placed = λ q. names_more s.types.home s.variables name k s.own p (c.placed q);
+  words = λ q. let r = c.words q in record { names = words_more name k s.own (w r) r.names; outer = r.outer; tables = r.tables };
+  longer = c.longer;
+  level = c.level;
+  slots = λ o l q. slots_more (slots_in o s.variables) s.level name k s.own (z o l) (c.slots o l q);
+}
+then_by a s name k false c p w z = c
+
+pub then_finished : {T : Type 0} (a s : Scope T) (name : Ident) (r : Result Meaning T) → Carries a s → Holds (MeaningPlaced s.types.home s.variables) r → (ScopeWords s → Holds MeaningWord r)
+    → ((o : Option (List Formal)) → StandsIn o a → Holds (MeaningSlot (slots_in o s.variables) s.level) r) → Carries a (finished s name r)
+then_finished a s name r c p w z = then_by a s name.name (Declared Here r) (is_begun (found name.name s.own)) c p w z
 
 -- ---- an array that is known
 

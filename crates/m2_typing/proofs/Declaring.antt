@@ -1,11 +1,11 @@
 -- Type expressions, declarations, marks, imports and blocks carry on.
-use Rattle.std.proofs.Common.{◌≡◌, ℕ, zero, suc, ◌==◌, Bool, true, false, cond, List, [], ◌∷◌, ◌++◌, length, take, drop, Option, Some, None, Result, Ok, Err, refl, sym, ap, subst, ◌∙◌, pos}
-use Rattle.std.specs.Prelude.{map, nat_lt, slice_get, not}
+use Rattle.std.proofs.Common.{◌≡◌, ℕ, zero, suc, ◌==◌, Bool, true, false, cond, List, [], ◌∷◌, length, take, drop, Option, Some, None, Result, Ok, Err, refl, sym, ap, subst, ◌∙◌, pos, ◌≤◌, length-append, arith, ◌++◌}
+use Rattle.std.specs.Prelude.{map, nat_lt, slice_get}
+use Rattle.std.proofs.lemmas.List.{length-map, length-drop}
 use Rattle.std.specs.List.{fold}
 use Rattle.std.specs.Option.{is_some}
 use Rattle.m2_tree.specs.declared.pos.Pos.{Pos}
 use Rattle.m2_tree.specs.declared.name.Ident.{Ident}
-use Rattle.m2_tree.specs.declared.expr.Qualified.{Qualified}
 use Rattle.m2_tree.specs.declared.decl.Constant.{Constant}
 use Rattle.m2_tree.specs.declared.decl.TypeDecl.{TypeDecl}
 use Rattle.m2_tree.specs.declared.decl.Variables.{Variables}
@@ -34,9 +34,8 @@ use Rattle.m2_typed.specs.declared.table.Table.{Table}
 use Rattle.m2_typed.specs.declared.known_types.Types.{Types}
 use Rattle.m2_typed.specs.Known.{scalar_at, cells_at}
 use Rattle.m2_typed.specs.Names.{found, place_of}
-use Rattle.m2_judged.specs.Judged.{Gathers, told, both, ◌▷◌}
-use Rattle.m2_judged.specs.Scopes.{State, is_free, with_known, begun, is_again, imported}
-use Rattle.m2_judged.specs.declared.known.Known.{Known}
+use Rattle.m2_judged.specs.Judged.{Gathers, both}
+use Rattle.m2_judged.specs.Scopes.{State, is_free, begun, is_again, imported}
 use Rattle.m2_judged.specs.declared.known.Known.TheVariants.{Later, Ahead, Headed, Declared}
 use Rattle.m2_judged.specs.declared.known.Origin.{Origin}
 use Rattle.m2_judged.specs.declared.known.Origin.TheVariants.{Here, Export}
@@ -47,30 +46,33 @@ use Rattle.m2_made.specs.declared.field.Fields.{Fields}
 use Rattle.m2_made.specs.Cells.{array_cells, count_at, is_index_scalar, is_index}
 use Rattle.m2_made.specs.Fields.{no_fields}
 use Rattle.m2_made.specs.Headings.{procedure_made, sections, result_of, heading_of}
-use Rattle.m2_made.specs.Made.{next_type, with_shape, with_made, scalar_made, enumeration_constant, enumeration_scalar, too_many, listed, simple_type, simple_place, array_in, array_of, index_type, record_of, Makes, MakesFields, then_fields, type_layer, field_layer, type_of, field_list}
+use Rattle.m2_made.specs.Made.{next_type, with_shape, with_made, enumeration_constant, enumeration_scalar, too_many, listed, simple_type, simple_place, array_of, index_type, record_of, Makes, MakesFields, then_fields, type_layer, field_layer, type_of, field_list}
 use Rattle.m2_types.specs.Marking.{Marks, marked_later, marked_simple, then_marks, marked_in, marked_field, marked_constant, marked_type, marked_variables, marked_def}
 use Rattle.m2_types.specs.Marking as marking
-use Rattle.m2_types.specs.Declare.{constant_meaning, with_constant, brings_with, type_meaning, with_type, begun_name, variable_meaning, with_variable_type, finished_variable, with_variables, procedure_meaning, with_procedure_type, declared_procedure, with_procedure, with_def}
+use Rattle.m2_types.specs.Declare.{constant_meaning, with_constant, brings_with, type_meaning, with_type, begun_name, variable_meaning, with_variable_type, finished_variable, with_variables, procedure_meaning, with_procedure_type, with_procedure, with_def}
 use Rattle.m2_types.specs.Importing.{module_named, with_module_as, with_module_name, with_entry, brings_in, told_of_taken, unless_taken, from_place, with_from, exports_of, from_module, with_imports, with_import}
 use Rattle.m2_types.specs.Compiled.{declared_in}
 use Rattle.m2_blocks.specs.declared.heading.Standing.{Standing}
 use Rattle.m2_blocks.specs.declared.heading.Standing.TheVariants.{Free, Awaited, Taken}
-use Rattle.m2_blocks.specs.Headings.{name_standing, nested_meaning, headed, module_procedure, new_procedure, with_new, headed_as, with_heading}
+use Rattle.m2_blocks.specs.Headings.{name_standing, nested_meaning, headed, module_procedure, headed_as, with_heading}
 use Rattle.m2_blocks.specs.Naming.{marked_layer, marked_decl, with_marks, all_marked}
 use Rattle.m2_blocks.specs.Declarations.{local_meaning, finished_local, with_locals, Course, decl_layer, with_decl, declared_block, declared_module}
 use Rattle.m2_formed.specs.Formed.{Holds, fine, broken}
 use Rattle.m2_formed.proofs.Basics.{then_holds, holds_weaker, where_holds, both_holds, any_holds}
 use Rattle.m2_formed_ranges.proofs.Declarations.{meant_holds}
 use Rattle.m2_formed_scopes.proofs.Names.{get_last}
-use Rattle.m2_typing.specs.Carried.{ShapeIndexed, MeaningPlaced, ExportsElsewhere, TablesElsewhere, Carries}
-use Rattle.m2_typing.proofs.Carrying.{IsScalar, scalar_stays, carries_refl, carries_then, free_carries, unless_carries, begun_carries, finished_carries, known_carries, marked_carries, shape_carries, made_carries, variable_type_carries, procedure_type_carries}
+use Rattle.m2_formed_scopes.proofs.Declarations.{same_home}
+use Rattle.m2_typing.specs.Carried.{ShapeIndexed, MeaningPlaced, IsElsewhere, ExportsElsewhere, TablesElsewhere, MeaningWord, ExportsWords, TablesWords, ScopeWords, slots_from, slots_in, StandsIn, MeaningSlot, Carries}
+use Rattle.m2_typing.specs.Scopes.{formal_slot, variable_slot}
+use Rattle.m2_typing.proofs.Carrying.{Slots, slots_behind, IsScalar, scalar_stays, carries_refl, carries_then, free_carries, unless_carries, begun_carries, finished_carries, known_carries, marked_carries, shape_carries, made_carries, variable_type_carries, procedure_type_carries, then_finished}
+use Rattle.m2_typing.proofs.Denoting.{constants_words}
 use Rattle.m2_typing.proofs.Operators.{where_not}
 
 -- ---- marks
 
 later_all : {T : Type 0} (names : List Ident) (s : Scope T) → Carries s (fold marked_later s names)
 later_all [] s = carries_refl s
-later_all (x ∷ xs) s = carries_then (marked_carries s x Later tt) (later_all xs (marked_later s x))
+later_all (x ∷ xs) s = carries_then (marked_carries s x Later tt (λ q. tt) (λ fs l. tt)) (later_all xs (marked_later s x))
 
 simple_marks : {T : Type 0} (t : Simple) (s : Scope T) → Carries s (marked_simple t s)
 simple_marks (simple.Named q) s = carries_refl s
@@ -137,7 +139,7 @@ module _ (T : Type 0) where
 module _ (g : Gathers) where
   listed_all : (t : TypeNo) (names : List Ident) (l : Scope g.Told × ℕ × Result (Unit {0}) g.Told) → Carries l.0 (fold (listed g t) l names).0
   listed_all t [] l = carries_refl l.0
-  listed_all t (x ∷ xs) l = carries_then (unless_carries g l.0 x (Declared Here (Ok (enumeration_constant t (pos l.1)))) (fine (enumeration_constant t (pos l.1)) tt)) (listed_all t xs (listed g t l x))
+  listed_all t (x ∷ xs) l = carries_then (unless_carries g l.0 x (Declared Here (Ok (enumeration_constant t (pos l.1)))) (fine (enumeration_constant t (pos l.1)) tt) (λ q. fine (enumeration_constant t (pos l.1)) tt) (λ fs k. fine (enumeration_constant t (pos l.1)) tt)) (listed_all t xs (listed g t l x))
 
   simple_carries : (s : Scope g.Told) (t : Simple) → Carries s (simple_type g s t).0
   simple_carries s (simple.Named q) = carries_refl s
@@ -239,7 +241,7 @@ module _ (g : Gathers) where
   constant_carries st c =
       let b : Scope g.Told = (begun g st.0 c.name).0 in
       let v : Result Value g.Told = constant g b (part g c.value) in
-      carries_then (begun_carries g st.0 c.name) (finished_carries b c.name (constant_meaning v) (meant_holds (λ u. meaning.Constant u) (λ u. tt) v))
+      carries_then (begun_carries g st.0 c.name) (finished_carries b c.name (constant_meaning v) (meant_holds (λ u. meaning.Constant u) (λ u. tt) v) (λ q. then_holds (constants_words g b q c.value) (λ u w. fine (meaning.Constant u) w)) (λ fs l. meant_holds (λ u. meaning.Constant u) (λ u. tt) v))
 
   constants_carry : (cs : List Constant) (st : State (Unit {0}) g.Told) → Goes st.0 (fold (with_constant g) st cs).0
   constants_carry [] st = carries_refl st.0
@@ -249,7 +251,7 @@ module _ (g : Gathers) where
   type_decl_carries st d =
       let b : Scope g.Told = (begun g st.0 d.name).0 in
       let t : State TypeNo g.Told = type_of g d.of b in
-      carries_then (begun_carries g st.0 d.name) (carries_then (type_of_carries d.of b) (finished_carries t.0 d.name (type_meaning t.1 (brings_with d.of)) (meant_holds (λ u. meaning.Type u (brings_with d.of)) (λ u. tt) t.1)))
+      carries_then (begun_carries g st.0 d.name) (carries_then (type_of_carries d.of b) (finished_carries t.0 d.name (type_meaning t.1 (brings_with d.of)) (meant_holds (λ u. meaning.Type u (brings_with d.of)) (λ u. tt) t.1) (λ q. meant_holds (λ u. meaning.Type u (brings_with d.of)) (λ u. tt) t.1) (λ fs l. meant_holds (λ u. meaning.Type u (brings_with d.of)) (λ u. tt) t.1)))
 
   types_carry : (ts : List TypeDecl) (st : State (Unit {0}) g.Told) → Goes st.0 (fold (with_type g) st ts).0
   types_carry [] st = carries_refl st.0
@@ -267,7 +269,7 @@ module _ (g : Gathers) where
 
   variables_all : (t : Result TypeNo g.Told) (names : List Ident) (s : Scope g.Told) → Goes s (fold (finished_variable t) s names)
   variables_all t [] s = carries_refl s
-  variables_all t (x ∷ xs) s = carries_then (carries_then (variable_type_carries s t) (finished_carries (with_variable_type s t) x (variable_meaning s.types.home (length s.variables) t) (variable_placed s t))) (variables_all t xs (finished_variable t s x))
+  variables_all t (x ∷ xs) s = carries_then (carries_then (variable_type_carries s t) (finished_carries (with_variable_type s t) x (variable_meaning s.types.home (length s.variables) t) (variable_placed s t) (λ q. meant_holds (λ u. meaning.Variable (record { home = s.types.home; number = length s.variables; of = u })) (λ u. tt) t) (λ fs l. meant_holds (λ u. meaning.Variable (record { home = s.types.home; number = length s.variables; of = u })) (λ u. tt) t))) (variables_all t xs (finished_variable t s x))
 
   variable_list : (st : State (Unit {0}) g.Told) (v : Variables) → Goes st.0 (with_variables g st v).0
   variable_list st v =
@@ -279,24 +281,58 @@ module _ (g : Gathers) where
   variables_carry [] st = carries_refl st.0
   variables_carry (v ∷ vs) st = carries_then (variable_list st v) (variables_carry vs (with_variables g st v))
 
-  locals_all : (t : Result TypeNo g.Told) (names : List Ident) (s : Scope g.Told) → Goes s (fold (finished_local t) s names)
-  locals_all t [] s = carries_refl s
-  locals_all t (x ∷ xs) s =
-      carries_then (carries_then (variable_type_carries s t) (finished_carries (with_variable_type s t) x (local_meaning s.level (length s.variables) t) (meant_holds (λ u. meaning.Local (record { level = s.level; number = length s.variables; kind = kind.Variable; of = u })) (λ u. tt) t))) (locals_all t xs (finished_local t s x))
+  -- the scope of a procedure
+  abbrev Nested : Scope g.Told → Type 0
+  Nested s = s.level ≡ 0 → ⊥
 
-  local_list : (st : State (Unit {0}) g.Told) (v : Variables) → Goes st.0 (with_locals g st v).0
-  local_list st v =
+  nested_on : {a b : Scope g.Told} → Carries a b → Nested a → Nested b
+  nested_on c deep e = deep (sym c.level ∙ e)
+
+  -- a variable stands behind all others
+  slot_last : (fs : List Formal) (vs : List TypeNo) (t : TypeNo) → length fs ≤ length vs → slice_get (slots_from fs (vs ++ t ∷ [])) (length vs) ≡ Some (variable_slot t)
+  slot_last fs vs t l =
+      let a = length-append (map formal_slot fs) (map variable_slot (drop (length fs) vs)) in
+      let b = length-map fs formal_slot in
+      let c = length-map (drop (length fs) vs) variable_slot in
+      let d = length-drop (length fs) vs in
+      let at : length vs ≡ length (slots_from fs vs) = omega (arith, a, b, c, d, l) in
+      ap (λ (n : ℕ). slice_get (slots_from fs (vs ++ t ∷ [])) n) at ∙ ap (λ (us : Slots). slice_get us (length (slots_from fs vs))) (slots_behind fs vs t l) ∙ get_last (slots_from fs vs) (variable_slot t)
+
+  local_slot : (s : Scope g.Told) (t : Result TypeNo g.Told) → Nested s → (o : Option (List Formal)) → StandsIn o s
+      → Holds (MeaningSlot (slots_in o (with_variable_type s t).variables) (with_variable_type s t).level) (local_meaning s.level (length s.variables) t)
+  local_slot s (Err e) deep o l = broken e
+  local_slot s (Ok t) deep None l = absurd (deep l)
+  local_slot s (Ok t) deep (Some fs) l = fine (meaning.Local (record { level = s.level; number = length s.variables; kind = kind.Variable; of = t })) (refl, slot_last fs s.variables t l)
+
+  local_placed : (s : Scope g.Told) (t : Result TypeNo g.Told) → Holds (MeaningPlaced (with_variable_type s t).types.home (with_variable_type s t).variables) (local_meaning s.level (length s.variables) t)
+  local_placed s t = meant_holds (λ u. meaning.Local (record { level = s.level; number = length s.variables; kind = kind.Variable; of = u })) (λ u. tt) t
+
+  local_word : (s : Scope g.Told) (t : Result TypeNo g.Told) → Holds MeaningWord (local_meaning s.level (length s.variables) t)
+  local_word s t = meant_holds (λ u. meaning.Local (record { level = s.level; number = length s.variables; kind = kind.Variable; of = u })) (λ u. tt) t
+
+  locals_all : (t : Result TypeNo g.Told) (names : List Ident) (s : Scope g.Told) → Nested s → Goes s (fold (finished_local t) s names)
+  locals_all t [] s deep = carries_refl s
+  locals_all t (x ∷ xs) s deep =
+      let c : Goes s (finished_local t s x) = then_finished s (with_variable_type s t) x (local_meaning s.level (length s.variables) t) (variable_type_carries s t) (local_placed s t) (λ q. local_word s t) (local_slot s t deep) in
+      carries_then c (locals_all t xs (finished_local t s x) (nested_on c deep))
+
+  local_list : (st : State (Unit {0}) g.Told) (v : Variables) → Nested st.0 → Goes st.0 (with_locals g st v).0
+  local_list st v deep =
       let b : State (Unit {0}) g.Told = fold (begun_name g) st v.names in
       let t : State TypeNo g.Told = type_of g v.of b.0 in
-      carries_then (begun_all v.names st) (carries_then (type_of_carries v.of b.0) (locals_all t.1 v.names t.0))
+      let c : Goes st.0 t.0 = carries_then (begun_all v.names st) (type_of_carries v.of b.0) in
+      carries_then c (locals_all t.1 v.names t.0 (nested_on c deep))
 
-  locals_carry : (vs : List Variables) (st : State (Unit {0}) g.Told) → Goes st.0 (fold (with_locals g) st vs).0
-  locals_carry [] st = carries_refl st.0
-  locals_carry (v ∷ vs) st = carries_then (local_list st v) (locals_carry vs (with_locals g st v))
+  locals_carry : (vs : List Variables) (st : State (Unit {0}) g.Told) → Nested st.0 → Goes st.0 (fold (with_locals g) st vs).0
+  locals_carry [] st deep = carries_refl st.0
+  locals_carry (v ∷ vs) st deep = let c : Goes st.0 (with_locals g st v).0 = local_list st v deep in carries_then c (locals_carry vs (with_locals g st v) (nested_on c deep))
 
-  variables_by : (b : Bool) (st : State (Unit {0}) g.Told) (vs : List Variables) → Goes st.0 (cond {A = State (Unit {0}) g.Told} b (fold (with_variables g) st vs) (fold (with_locals g) st vs)).0
-  variables_by true st vs = variables_carry vs st
-  variables_by false st vs = locals_carry vs st
+  nested_by : (s : Scope g.Told) → (s.level == 0) ≡ false → Nested s
+  nested_by s e z = let k : true ≡ false = sym (same_home s.level 0 z) ∙ e in cc
+
+  variables_by : (b : Bool) (st : State (Unit {0}) g.Told) → (st.0.level == 0) ≡ b → (vs : List Variables) → Goes st.0 (cond {A = State (Unit {0}) g.Told} b (fold (with_variables g) st vs) (fold (with_locals g) st vs)).0
+  variables_by true st e vs = variables_carry vs st
+  variables_by false st e vs = locals_carry vs st (nested_by st.0 e)
 
   -- ---- procedures
 
@@ -304,19 +340,19 @@ module _ (g : Gathers) where
   procedure_carries st h =
       let t : State TypeNo g.Told = with_made st.0 (heading_of g st.0 h) in
       carries_then (made_carries st.0 (heading_plain st.0 h)) (carries_then (procedure_type_carries t.0 t.1)
-      (unless_carries g (with_procedure_type t.0 t.1) h.name (Declared Here (procedure_meaning t.0.types.home (length t.0.procedures) t.1)) (meant_holds (λ u. meaning.Procedure (record { home = t.0.types.home; number = length t.0.procedures; heading = u })) (λ u. tt) t.1)))
+      (unless_carries g (with_procedure_type t.0 t.1) h.name (Declared Here (procedure_meaning t.0.types.home (length t.0.procedures) t.1)) (meant_holds (λ u. meaning.Procedure (record { home = t.0.types.home; number = length t.0.procedures; heading = u })) (λ u. tt) t.1) (λ q. meant_holds (λ u. meaning.Procedure (record { home = t.0.types.home; number = length t.0.procedures; heading = u })) (λ u. tt) t.1) (λ fs l. meant_holds (λ u. meaning.Procedure (record { home = t.0.types.home; number = length t.0.procedures; heading = u })) (λ u. tt) t.1)))
 
   new_by : (b : Bool) (s : Scope g.Told) (name : List ℕ) (n : ℕ) (t : Result TypeNo g.Told) → Goes s (cond b (module_procedure s name t) (headed name (nested_meaning s.level n t) s))
   new_by true s name n t =
       carries_then (procedure_type_carries s t)
-      (known_carries (with_procedure_type s t) name (Headed (procedure_meaning s.types.home (length s.procedures) t)) (meant_holds (λ u. meaning.Procedure (record { home = s.types.home; number = length s.procedures; heading = u })) (λ u. tt) t))
-  new_by false s name n t = known_carries s name (Headed (nested_meaning s.level n t)) (meant_holds (λ u. meaning.LocalProcedure (record { level = s.level; number = n; heading = u })) (λ u. tt) t)
+      (known_carries (with_procedure_type s t) name (Headed (procedure_meaning s.types.home (length s.procedures) t)) (meant_holds (λ u. meaning.Procedure (record { home = s.types.home; number = length s.procedures; heading = u })) (λ u. tt) t) (λ q. meant_holds (λ u. meaning.Procedure (record { home = s.types.home; number = length s.procedures; heading = u })) (λ u. tt) t) (λ fs l. meant_holds (λ u. meaning.Procedure (record { home = s.types.home; number = length s.procedures; heading = u })) (λ u. tt) t))
+  new_by false s name n t = known_carries s name (Headed (nested_meaning s.level n t)) (meant_holds (λ u. meaning.LocalProcedure (record { level = s.level; number = n; heading = u })) (λ u. tt) t) (λ q. meant_holds (λ u. meaning.LocalProcedure (record { level = s.level; number = n; heading = u })) (λ u. tt) t) (λ fs l. meant_holds (λ u. meaning.LocalProcedure (record { level = s.level; number = n; heading = u })) (λ u. tt) t)
 
   heading_by : (s : Scope g.Told) (h : Heading) (n : ℕ) (o : Standing) → Goes s (headed_as g s h n (heading_of g s h) o).0
   heading_by s h n Free =
       let t : State TypeNo g.Told = with_made s (heading_of g s h) in
       carries_then (made_carries s (heading_plain s h)) (new_by (t.0.level == 0) t.0 h.name.name n t.1)
-  heading_by s h n (Awaited p) = known_carries s h.name.name (Headed (Ok (meaning.Procedure p))) (fine (meaning.Procedure p) tt)
+  heading_by s h n (Awaited p) = known_carries s h.name.name (Headed (Ok (meaning.Procedure p))) (fine (meaning.Procedure p) tt) (λ q. fine (meaning.Procedure p) tt) (λ fs l. fine (meaning.Procedure p) tt)
   heading_by s h n Taken = carries_refl s
 
   heading_carries : (s : Scope g.Told) (h : Heading) (n : ℕ) → Goes s (with_heading g s n h).0
@@ -333,7 +369,7 @@ module _ (g : Gathers) where
   decl_by : {A B : Type 0} (ends : List ℕ) (c : Course g.Told) (y : Decl-F A B) → Goes c.0 (decl_layer g ends c y).0
   decl_by ends c (decl.Constants cs) = constants_carry cs (c.0, c.1)
   decl_by ends c (decl.Types ts) = types_carry ts (c.0, c.1)
-  decl_by ends c (decl.Variables vs) = variables_by (c.0.level == 0) (c.0, c.1) vs
+  decl_by ends c (decl.Variables vs) = variables_by (c.0.level == 0) (c.0, c.1) refl vs
   decl_by ends c (decl.Procedure h b) = heading_carries c.0 h c.2
 
   pub decl_carries : (ends : List ℕ) (c : Course g.Told) (d : Decl) → Goes c.0 (with_decl g ends c d).0
@@ -343,11 +379,11 @@ module _ (g : Gathers) where
 
   marked_constants : (cs : List Constant) (s : Scope g.Told) → Goes s (fold marked_constant s cs)
   marked_constants [] s = carries_refl s
-  marked_constants (c ∷ cs) s = carries_then (marked_carries s c.name Later tt) (marked_constants cs (marked_constant s c))
+  marked_constants (c ∷ cs) s = carries_then (marked_carries s c.name Later tt (λ q. tt) (λ fs l. tt)) (marked_constants cs (marked_constant s c))
 
   marked_types : (ts : List TypeDecl) (s : Scope g.Told) → Goes s (fold marked_type s ts)
   marked_types [] s = carries_refl s
-  marked_types (t ∷ ts) s = carries_then (carries_then (marked_carries s t.name Later tt) (marked_in_carries g.Told t.of _)) (marked_types ts (marked_type s t))
+  marked_types (t ∷ ts) s = carries_then (carries_then (marked_carries s t.name Later tt (λ q. tt) (λ fs l. tt)) (marked_in_carries g.Told t.of _)) (marked_types ts (marked_type s t))
 
   marked_lists : (vs : List Variables) (s : Scope g.Told) → Goes s (fold marked_variables s vs)
   marked_lists [] s = carries_refl s
@@ -357,7 +393,7 @@ module _ (g : Gathers) where
   def_marks (def.Constants cs) s = marked_constants cs s
   def_marks (def.Types ts) s = marked_types ts s
   def_marks (def.Variables vs) s = marked_lists vs s
-  def_marks (def.Procedure h) s = marked_carries s h.name Ahead tt
+  def_marks (def.Procedure h) s = marked_carries s h.name Ahead tt (λ q. tt) (λ fs l. tt)
 
   defs_marks : (ds : List Def) (s : Scope g.Told) → Goes s (fold marked_def s ds)
   defs_marks [] s = carries_refl s
@@ -367,13 +403,37 @@ module _ (g : Gathers) where
   layer_marks (decl.Constants cs) s = marked_constants cs s
   layer_marks (decl.Types ts) s = marked_types ts s
   layer_marks (decl.Variables vs) s = marked_lists vs s
-  layer_marks (decl.Procedure h b) s = marked_carries s h.name Ahead tt
+  layer_marks (decl.Procedure h b) s = marked_carries s h.name Ahead tt (λ q. tt) (λ fs l. tt)
 
   decls_marks : (ds : List Decl) (st : Scope g.Told × List ℕ) → Goes st.0 (fold (with_marks marked_decl) st ds).0
   decls_marks [] st = carries_refl st.0
   decls_marks (d ∷ ds) st = carries_then (layer_marks (out-Decl d) st.0) (decls_marks ds (with_marks marked_decl st d))
 
   -- ---- imports
+
+  elsewhere_placed : (home : ℕ) (vs : List TypeNo) (m : Meaning) → IsElsewhere home m → MeaningPlaced home vs m
+  elsewhere_placed home vs (meaning.Variable v) p = λ e. absurd (p e)
+  elsewhere_placed home vs (meaning.Constant v) p = tt
+  elsewhere_placed home vs (meaning.Type t n) p = tt
+  elsewhere_placed home vs (meaning.Local v) p = tt
+  elsewhere_placed home vs (meaning.Field f) p = tt
+  elsewhere_placed home vs (meaning.Procedure q) p = tt
+  elsewhere_placed home vs (meaning.LocalProcedure q) p = tt
+  elsewhere_placed home vs meaning.Ahead p = tt
+  elsewhere_placed home vs (meaning.Standard f) p = tt
+  elsewhere_placed home vs (meaning.Module k) p = tt
+
+  elsewhere_slot : (home : ℕ) (slots : Slots) (level : ℕ) (m : Meaning) → IsElsewhere home m → MeaningSlot slots level m
+  elsewhere_slot home slots level (meaning.Local v) p = absurd p
+  elsewhere_slot home slots level (meaning.Constant v) p = tt
+  elsewhere_slot home slots level (meaning.Type t n) p = tt
+  elsewhere_slot home slots level (meaning.Variable v) p = tt
+  elsewhere_slot home slots level (meaning.Field f) p = tt
+  elsewhere_slot home slots level (meaning.Procedure q) p = tt
+  elsewhere_slot home slots level (meaning.LocalProcedure q) p = tt
+  elsewhere_slot home slots level meaning.Ahead p = tt
+  elsewhere_slot home slots level (meaning.Standard f) p = tt
+  elsewhere_slot home slots level (meaning.Module k) p = tt
 
   take_elsewhere : (home n : ℕ) (es : List (List ℕ × Meaning)) → ExportsElsewhere home es → ExportsElsewhere home (take n es)
   take_elsewhere home zero es p = tt
@@ -394,39 +454,63 @@ module _ (g : Gathers) where
   again_by s true st p = carries_refl s
   again_by s false st p = p
 
-  imported_carries : (s : Scope g.Told) (at : Pos) (name : List ℕ) (o : Origin) (m : Meaning) → MeaningPlaced s.types.home s.variables m → Goes s (imported g s at name o (Ok m)).0
-  imported_carries s at name o m p = again_by s (is_again (found name s.own) o) _ (free_carries g s at name (Declared o (Ok m)) (is_free (found name s.own)) (fine m p))
+  imported_carries : (s : Scope g.Told) (at : Pos) (name : List ℕ) (o : Origin) (m : Meaning) → MeaningPlaced s.types.home s.variables m → (ScopeWords s → MeaningWord m) → ((slots : Slots) → MeaningSlot slots s.level m) → Goes s (imported g s at name o (Ok m)).0
+  imported_carries s at name o m p w z = again_by s (is_again (found name s.own) o) _ (free_carries g s at name (Declared o (Ok m)) (is_free (found name s.own)) (fine m p) (λ q. fine m (w q)) (λ fs l. fine m (z (slots_in fs s.variables))))
 
   module_carries : (s : Scope g.Told) (name : Ident) (r : Result ℕ g.Told) → Goes s (with_module_as g s name r).0
-  module_carries s name (Ok k) = imported_carries s name.pos name.name (origin.Module k) (meaning.Module k) tt
+  module_carries s name (Ok k) = imported_carries s name.pos name.name (origin.Module k) (meaning.Module k) tt (λ q. tt) (λ slots. tt)
   module_carries s name (Err e) = carries_refl s
 
   modules_carry : (modules : List (List ℕ × ℕ)) (names : List Ident) (st : State (Unit {0}) g.Told) → Goes st.0 (fold (with_module_name g modules) st names).0
   modules_carry modules [] st = carries_refl st.0
   modules_carry modules (x ∷ xs) st = carries_then (module_carries st.0 x (module_named g modules x)) (modules_carry modules xs (with_module_name g modules st x))
 
-  entries_carry : (at : Pos) (k : ℕ) (es : List (List ℕ × Meaning)) (st : State (Unit {0}) g.Told) → ExportsElsewhere st.0.types.home es → Goes st.0 (fold (with_entry g at k) st es).0
-  entries_carry at k [] st p = carries_refl st.0
-  entries_carry at k (e ∷ es) st p =
-      let one = imported_carries st.0 at e.0 (Export k) e.1 (p.0 st.0.variables) in
-      carries_then one (entries_carry at k es (with_entry g at k st e) (subst (λ (n : ℕ). ExportsElsewhere n es) (sym one.home) p.1))
+  -- the constants that a table of the scope exports
+  abbrev WordsOf : Scope g.Told → List (List ℕ × Meaning) → Type 0
+  WordsOf s es = TablesWords s.tables → ExportsWords es
 
-  unless_carry : (s : Scope g.Told) (at : Pos) (k : ℕ) (es : List (List ℕ × Meaning)) (i : ℕ) (o : Option (Result (Unit {0}) g.Told)) → ExportsElsewhere s.types.home es → Goes s (unless_taken g s at k es i o).0
-  unless_carry s at k es i (Some j) p = carries_refl s
-  unless_carry s at k es i None p = entries_carry at k (take (brings_in (slice_get es i)) (drop i es)) (s, Ok tt) (take_elsewhere s.types.home (brings_in (slice_get es i)) (drop i es) (drop_elsewhere s.types.home i es p))
+  words_same : (s s' : Scope g.Told) (es : List (List ℕ × Meaning)) → s'.tables ≡ s.tables → WordsOf s es → WordsOf s' es
+  words_same s s' es e w = λ q. w (subst (λ (ts : List Table). TablesWords ts) e q)
 
-  place_carries : (s : Scope g.Told) (name : Ident) (k : ℕ) (es : List (List ℕ × Meaning)) (o : Option ℕ) → ExportsElsewhere s.types.home es → Goes s (from_place g s name k es o).0
-  place_carries s name k es None p = carries_refl s
-  place_carries s name k es (Some i) p = unless_carry s name.pos k es i (told_of_taken g name.pos k (found name.name s.own)) p
+  take_words : (n : ℕ) (es : List (List ℕ × Meaning)) → ExportsWords es → ExportsWords (take n es)
+  take_words zero es p = tt
+  take_words (suc n) [] p = tt
+  take_words (suc n) (e ∷ es) p = (p.0, take_words n es p.1)
 
-  from_carries : (k : ℕ) (es : List (List ℕ × Meaning)) (names : List Ident) (st : State (Unit {0}) g.Told) → ExportsElsewhere st.0.types.home es → Goes st.0 (fold (with_from g k es) st names).0
-  from_carries k es [] st p = carries_refl st.0
-  from_carries k es (x ∷ xs) st p =
-      let one = place_carries st.0 x k es (place_of x.name es) p in
-      carries_then one (from_carries k es xs (with_from g k es st x) (subst (λ (n : ℕ). ExportsElsewhere n es) (sym one.home) p))
+  drop_words : (n : ℕ) (es : List (List ℕ × Meaning)) → ExportsWords es → ExportsWords (drop n es)
+  drop_words zero es p = p
+  drop_words (suc n) [] p = tt
+  drop_words (suc n) (e ∷ es) p = drop_words n es p.1
+
+  exports_words : (ts : List Table) (k : ℕ) → TablesWords ts → ExportsWords (exports_of (slice_get ts k))
+  exports_words [] k p = tt
+  exports_words (t ∷ ts) zero p = p.0
+  exports_words (t ∷ ts) (suc k) p = exports_words ts k p.1
+
+  entries_carry : (at : Pos) (k : ℕ) (es : List (List ℕ × Meaning)) (st : State (Unit {0}) g.Told) → ExportsElsewhere st.0.types.home es → WordsOf st.0 es → Goes st.0 (fold (with_entry g at k) st es).0
+  entries_carry at k [] st p w = carries_refl st.0
+  entries_carry at k (e ∷ es) st p w =
+      let one = imported_carries st.0 at e.0 (Export k) e.1 (elsewhere_placed st.0.types.home st.0.variables e.1 p.0) (λ q. (w q.tables).0) (λ slots. elsewhere_slot st.0.types.home slots st.0.level e.1 p.0) in
+      carries_then one (entries_carry at k es (with_entry g at k st e) (subst (λ (n : ℕ). ExportsElsewhere n es) (sym one.home) p.1) (words_same st.0 (with_entry g at k st e).0 es one.tables (λ q. (w q).1)))
+
+  unless_carry : (s : Scope g.Told) (at : Pos) (k : ℕ) (es : List (List ℕ × Meaning)) (i : ℕ) (o : Option (Result (Unit {0}) g.Told)) → ExportsElsewhere s.types.home es → WordsOf s es → Goes s (unless_taken g s at k es i o).0
+  unless_carry s at k es i (Some j) p w = carries_refl s
+  unless_carry s at k es i None p w =
+      entries_carry at k (take (brings_in (slice_get es i)) (drop i es)) (s, Ok tt) (take_elsewhere s.types.home (brings_in (slice_get es i)) (drop i es) (drop_elsewhere s.types.home i es p))
+      (λ q. take_words (brings_in (slice_get es i)) (drop i es) (drop_words i es (w q)))
+
+  place_carries : (s : Scope g.Told) (name : Ident) (k : ℕ) (es : List (List ℕ × Meaning)) (o : Option ℕ) → ExportsElsewhere s.types.home es → WordsOf s es → Goes s (from_place g s name k es o).0
+  place_carries s name k es None p w = carries_refl s
+  place_carries s name k es (Some i) p w = unless_carry s name.pos k es i (told_of_taken g name.pos k (found name.name s.own)) p w
+
+  from_carries : (k : ℕ) (es : List (List ℕ × Meaning)) (names : List Ident) (st : State (Unit {0}) g.Told) → ExportsElsewhere st.0.types.home es → WordsOf st.0 es → Goes st.0 (fold (with_from g k es) st names).0
+  from_carries k es [] st p w = carries_refl st.0
+  from_carries k es (x ∷ xs) st p w =
+      let one = place_carries st.0 x k es (place_of x.name es) p w in
+      carries_then one (from_carries k es xs (with_from g k es st x) (subst (λ (n : ℕ). ExportsElsewhere n es) (sym one.home) p) (words_same st.0 (with_from g k es st x).0 es one.tables w))
 
   from_module_carries : (r : Result ℕ g.Told) (st : State (Unit {0}) g.Told) (names : List Ident) → TablesElsewhere st.0.types.home st.0.tables → Goes st.0 (from_module g r st names).0
-  from_module_carries (Ok k) st names p = from_carries k (exports_of (slice_get st.0.tables k)) names st (exports_elsewhere st.0.types.home st.0.tables k p)
+  from_module_carries (Ok k) st names p = from_carries k (exports_of (slice_get st.0.tables k)) names st (exports_elsewhere st.0.types.home st.0.tables k p) (λ q. exports_words st.0.tables k q)
   from_module_carries (Err e) st names p = carries_refl st.0
 
   import_carries : (modules : List (List ℕ × ℕ)) (st : State (Unit {0}) g.Told) (o : Option Ident) (names : List Ident) → TablesElsewhere st.0.types.home st.0.tables → Goes st.0 (with_imports g modules st o names).0

@@ -5,5 +5,13 @@ pub mod Words
 pub mod Operators
 pub mod Calls
 pub mod Meanings
+pub mod Denoting
 pub mod Carrying
 pub mod Declaring
+pub mod Bounding
+pub mod Reaching
+pub mod Walking
+pub mod Scoping
+pub mod Entering
+pub mod Naming
+pub mod Exporting

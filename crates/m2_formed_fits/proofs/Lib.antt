@@ -1,0 +1,3 @@
+pub mod Folds
+pub mod Spelled
+pub mod Tokens
