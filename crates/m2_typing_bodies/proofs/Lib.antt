@@ -6,4 +6,5 @@ pub mod Nested
 pub mod Blocks
 pub mod Outermost
 pub mod Induction
+pub mod Agreeing
 pub mod Modules

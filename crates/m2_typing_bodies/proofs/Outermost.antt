@@ -277,8 +277,8 @@ module _ (g : Gathers) (judges : Judges g.Told) (base : Types) (words : WordsSta
         let own = subst (λ (es : List (List ℕ × Known g.Told)). NamesThere (stands z []) z.opens 0 es) (sym s.names) names in
         let old = hs k.0.number k.0.heading k.1.1.0.1 in
         let within : k.0.number < length w.bodies.procedures = is_within w.bodies.procedures k.0.number old.0 old.1 in (
-          outermost_adds g judges base words ends h block ks f b.1 seen w s.outermost s.single k.0 head numbers q known z staged serves own (agrees w.scope kept s.names) within (there k.0.number refl),
-          outermost_bodies g judges base words ends h block ks f b.1 seen w s.outermost s.single k.0 head numbers q known z staged serves own (agrees w.scope kept s.names) within (there k.0.number refl),
+          outermost_adds g judges base words ends h block ks f b.1 seen w s.outermost s.single k.0 head numbers q known z staged serves own (agrees w.scope kept s.names serves.withs) within (there k.0.number refl),
+          outermost_bodies g judges base words ends h block ks f b.1 seen w s.outermost s.single k.0 head numbers q known z staged serves own (agrees w.scope kept s.names serves.withs) within (there k.0.number refl),
         )
 
     -- ---- all of them

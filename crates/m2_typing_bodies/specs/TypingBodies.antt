@@ -64,7 +64,7 @@ use Rattle.m2_formed_ranges.specs.FormedRanges.{itself, fits_constant, fits_type
 use Rattle.m2_formed_order.specs.FormedOrder.{ScopeOrdered}
 use Rattle.m2_typing.specs.Typing.{TypesTyped, MeaningTyped, IsTyped}
 use Rattle.m2_typing_stmts.specs.TypingStmts.{fits_stmt, StmtsTyped, AreReturned}
-use Rattle.m2_typing_bodies.specs.Words.{ScopeWords, WordsStay}
+use Rattle.m2_typing.specs.Carried.{ScopeWords}
 
 -- ---- trees: all declarations and statements fit, those in procedures included
 
@@ -206,7 +206,7 @@ module _ (g : Gathers) where
   DeclAgrees a seen (layer.Constants cs) = Unit {0}
   DeclAgrees a seen (layer.Types ts) = Unit {0}
   DeclAgrees a seen (layer.Variables vs) = Unit {0}
-  DeclAgrees a seen (layer.Procedure h b) = (s : Scope g.Told) → Keeps a s → s.own ≡ a.own → HeadingAgrees s seen h
+  DeclAgrees a seen (layer.Procedure h b) = (s : Scope g.Told) → Keeps a s → s.own ≡ a.own → s.withs ≡ [] → HeadingAgrees s seen h
 
   -- of all declarations, with how many names stand before each, from the i-th on
   abbrev pub DeclsAgree : Scope g.Told → List ℕ → (i : ℕ) → List Decl → Type 0
@@ -279,7 +279,7 @@ pub record TypedBlock (g : Gathers) (base : Types) (ends : List ℕ) (block : Ch
 
 -- the bodies of the procedures in a procedure's block are typed, and so is its own
 abbrev pub BlocksAreTyped : Gathers → Type 0
-BlocksAreTyped g = WordsStay g → LocalsStay g → HeadingsAgree g → (base : Types) (ends : List ℕ) (b : Block) → fits_whole_block b ≡ true
+BlocksAreTyped g = LocalsStay g → (base : Types) (ends : List ℕ) (b : Block) → fits_whole_block b ≡ true
     → TypedBlock g base ends (checks_block g (judged g) ends b) (within b)
 
 -- ---- modules
@@ -338,8 +338,7 @@ pub record AreBodiesTyped (z : Stage) (ss : List TypedStmt) : Type 0 where
 
 -- The bodies of a module are typed, where its declarations and bodies break no rule.
 abbrev pub ModulesAreTyped : Gathers → Type 0
-ModulesAreTyped g = WordsStay g → LocalsStay g → HeadingsAgree g
-    → (base : Types) (modules : List (List ℕ × ℕ)) (s : Scope g.Told) (m : Module) (b : Block) → fits_whole_block b ≡ true
+ModulesAreTyped g = LocalsStay g → (base : Types) (modules : List (List ℕ × ℕ)) (s : Scope g.Told) (m : Module) (b : Block) → fits_whole_block b ≡ true
     → ModuleBegins (fold (with_import g modules) (s, Ok tt) m.imports).0
     → let ds = (out-Block b).decls in
     let d = declared_module g modules (procedure_ends ds) s m ds in
