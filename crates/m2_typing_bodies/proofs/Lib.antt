@@ -7,4 +7,5 @@ pub mod Blocks
 pub mod Outermost
 pub mod Induction
 pub mod Agreeing
+pub mod Locals
 pub mod Modules

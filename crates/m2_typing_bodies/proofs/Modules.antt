@@ -65,6 +65,7 @@ use Rattle.m2_typing_bodies.proofs.Shifting.{meaning_anywhere}
 use Rattle.m2_typing_bodies.proofs.Scopes.{scope_typed}
 use Rattle.m2_typing_bodies.proofs.Blocks.{AllTyped, StepsAgree, all_known}
 use Rattle.m2_typing_bodies.proofs.Outermost.{AllBodies, AllOther, AllApart, TypedTo, all_to}
+use Rattle.m2_typing_bodies.proofs.Locals.{locals_stay}
 use Rattle.m2_typing_bodies.proofs.Agreeing.{words_stay, headings_agree}
 use Rattle.m2_typing_bodies.proofs.Induction.{judged_typed, body_typed, declared_same, fits_at_block, decls_typed}
 
@@ -316,7 +317,8 @@ module _ (g : Gathers) (judges : Judges g.Told) (forms : FormsStatements g judge
       module_typed ss e = record { procedures = by_which; body = holds_at (statements_of judges end.scope None body) body_holds ss e }
 
 pub modules_typed : (g : Gathers) → ModulesAreTyped g
-modules_typed g keeps base modules s m b fit begins ok apart z staged has ss e =
+modules_typed g base modules s m b fit begins ok apart z staged has ss e =
+    let keeps = locals_stay g in
     let words = words_stay g in
     let headings = headings_agree g in
     let ds : List Decl = (out-Block b).decls in

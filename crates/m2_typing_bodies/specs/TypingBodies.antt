@@ -279,7 +279,7 @@ pub record TypedBlock (g : Gathers) (base : Types) (ends : List ℕ) (block : Ch
 
 -- the bodies of the procedures in a procedure's block are typed, and so is its own
 abbrev pub BlocksAreTyped : Gathers → Type 0
-BlocksAreTyped g = LocalsStay g → (base : Types) (ends : List ℕ) (b : Block) → fits_whole_block b ≡ true
+BlocksAreTyped g = (base : Types) (ends : List ℕ) (b : Block) → fits_whole_block b ≡ true
     → TypedBlock g base ends (checks_block g (judged g) ends b) (within b)
 
 -- ---- modules
@@ -338,7 +338,7 @@ pub record AreBodiesTyped (z : Stage) (ss : List TypedStmt) : Type 0 where
 
 -- The bodies of a module are typed, where its declarations and bodies break no rule.
 abbrev pub ModulesAreTyped : Gathers → Type 0
-ModulesAreTyped g = LocalsStay g → (base : Types) (modules : List (List ℕ × ℕ)) (s : Scope g.Told) (m : Module) (b : Block) → fits_whole_block b ≡ true
+ModulesAreTyped g = (base : Types) (modules : List (List ℕ × ℕ)) (s : Scope g.Told) (m : Module) (b : Block) → fits_whole_block b ≡ true
     → ModuleBegins (fold (with_import g modules) (s, Ok tt) m.imports).0
     → let ds = (out-Block b).decls in
     let d = declared_module g modules (procedure_ends ds) s m ds in
