@@ -57,7 +57,7 @@ module _ (g : Gathers) (judges : Judges g.Told) (base : Types) (ends : List ℕ)
   StepAgrees a seen (constants_step cs) = Unit {0}
   StepAgrees a seen (types_step ts) = Unit {0}
   StepAgrees a seen (variables_step vs) = Unit {0}
-  StepAgrees a seen (procedure_step h block ks f) = (s : Scope g.Told) → Keeps a s → s.own ≡ a.own → HeadingAgrees g s seen h
+  StepAgrees a seen (procedure_step h block ks f) = (s : Scope g.Told) → Keeps a s → s.own ≡ a.own → s.withs ≡ [] → HeadingAgrees g s seen h
 
   abbrev pub StepsAgree : Scope g.Told → List ℕ → (i : ℕ) → {xs : List (Steps g.Told)} {ls : List ℕ} → AreSteps g judges ends xs ls → Type 0
   StepsAgree a seen i no_steps = Unit {0}
@@ -89,7 +89,7 @@ module _ (g : Gathers) (judges : Judges g.Told) (base : Types) (ends : List ℕ)
   -- ---- one body
 
   module _ (words : WordsStay g) (around : Option Which) where
-    step_known : {x : Steps g.Told} {ks : List ℕ} (p : IsStep g judges ends x ks) → StepTyped p → (seen : ℕ) (w : Walk g.Told) → (checked_by x around seen w).so_far ≡ Ok tt → ScopeKnown base w.scope → ScopeKnown base (checked_by x around seen w).scope
+    pub step_known : {x : Steps g.Told} {ks : List ℕ} (p : IsStep g judges ends x ks) → StepTyped p → (seen : ℕ) (w : Walk g.Told) → (checked_by x around seen w).so_far ≡ Ok tt → ScopeKnown base w.scope → ScopeKnown base (checked_by x around seen w).scope
     step_known (constants_step cs) b seen w ok k = k
     step_known (types_step ts) b seen w ok k = k
     step_known (variables_step vs) b seen w ok k = k
@@ -179,7 +179,7 @@ module _ (g : Gathers) (judges : Judges g.Told) (base : Types) (ends : List ℕ)
         step_typed (procedure_step h block ks f) b seen w n here d kept k agrees q known u o =
             nested_typed g judges base words ends h block ks f b.1 around seen w here.nested here.deep d level k.0 (head_at h n (length w.bodies.locals) k.0 w.scope.own here.names here.count k.1.0)
             (subst (λ (i : ℕ). AreNumbered ends (i + 1) ks) here.count (numbered_inner ends n (length ks) ks here.numbers)) q
-            known z staged u (subst (λ (es : List (List ℕ × Known g.Told)). NamesThere (stands_in z w.scope.level around) z.opens w.scope.level es) (sym here.names) o) (agrees w.scope kept here.names)
+            known z staged u (subst (λ (es : List (List ℕ × Known g.Told)). NamesThere (stands_in z w.scope.level around) z.opens w.scope.level es) (sym here.names) o) (agrees w.scope kept here.names u.withs)
 
       -- ---- all of them
 

@@ -23,7 +23,7 @@ use Rattle.m2_formed_ranges.proofs.Blocks.{entered_ranged}
 use Rattle.m2_formed_order.proofs.Blocks.{entered_ordered}
 use Rattle.m2_formed_numbers.specs.FormedNumbers.{with_one, with_names, with_formals_of, all_formals}
 use Rattle.m2_typing_bodies.specs.Words.{WordsStay}
-use Rattle.m2_typing_bodies.specs.TypingBodies.{KnownLocal, NamesLocal, KnownDeclared, NamesDeclared, IsFresh, ScopeKnown}
+use Rattle.m2_typing_bodies.specs.TypingBodies.{KnownLocal, NamesLocal, IsFresh, ScopeKnown}
 
 -- ---- names
 
@@ -36,14 +36,6 @@ module _ {T : Type 0} where
   entered_local name k [] p h = (p, tt)
   entered_local name k (e ∷ es) p h = entered_local_by (same_name name e.0) name k e es p h (entered_local name k es p h.1)
 
-  entered_declared_by : (b : Bool) (name : List ℕ) (k : Known T) (e : List ℕ × Known T) (es : List (List ℕ × Known T)) → KnownDeclared k → NamesDeclared (e ∷ es) → NamesDeclared (entered name k es) → NamesDeclared (cond b ((e.0, k) ∷ es) (e ∷ entered name k es))
-  entered_declared_by true name k e es p h q = (p, h.1)
-  entered_declared_by false name k e es p h q = (h.0, q)
-
-  entered_declared : (name : List ℕ) (k : Known T) (es : List (List ℕ × Known T)) → KnownDeclared k → NamesDeclared es → NamesDeclared (entered name k es)
-  entered_declared name k [] p h = (p, tt)
-  entered_declared name k (e ∷ es) p h = entered_declared_by (same_name name e.0) name k e es p h (entered_declared name k es p h.1)
-
   -- ---- formals
 
   formal_local : (level n : ℕ) (f : Result Formal T) → KnownLocal (Declared Here (formal_meaning level n f))
@@ -52,10 +44,6 @@ module _ {T : Type 0} where
   unless_by : (b : Bool) (name : List ℕ) (k : Known T) (es : List (List ℕ × Known T)) → KnownLocal k → NamesLocal es → NamesLocal (cond b es (entered name k es))
   unless_by true name k es p q = q
   unless_by false name k es p q = entered_local name k es p q
-
-  unless_declared : (b : Bool) (name : List ℕ) (k : Known T) (es : List (List ℕ × Known T)) → KnownDeclared k → NamesDeclared es → NamesDeclared (cond b es (entered name k es))
-  unless_declared true name k es p q = q
-  unless_declared false name k es p q = entered_declared name k es p q
 
   one_counts : (f : Result Formal T) (level : ℕ) (x : Ident) (so : Formals T) (fs : List Formal) → length so.1 ≡ length fs → length (with_formal level f so x).1 ≡ length (with_one fs f)
   one_counts (Ok f) level x so fs e =
@@ -67,7 +55,6 @@ module _ {T : Type 0} where
   -- what is known of the formals so far
   record SoFar (so : Formals T) (fs : List Formal) : Type 0 where
     locals : NamesLocal so.0
-    declared : NamesDeclared so.0
     count : length so.1 ≡ length fs
 
   names_so : (level : ℕ) (f : Result Formal T) (xs : List Ident) (so : Formals T) (fs : List Formal) → SoFar so fs → SoFar (fold (with_formal level f) so xs) (with_names f fs xs)
@@ -75,7 +62,6 @@ module _ {T : Type 0} where
   names_so level f (x ∷ xs) so fs h =
       names_so level f xs (with_formal level f so x) (with_one fs f) (record {
         locals = unless_by (is_some (found x.name so.0)) x.name (Declared Here (formal_meaning level (length so.1) f)) so.0 (formal_local level (length so.1) f) h.locals;
-        declared = unless_declared (is_some (found x.name so.0)) x.name (Declared Here (formal_meaning level (length so.1) f)) so.0 tt h.declared;
         count = one_counts f level x so fs h.count;
       })
 
@@ -85,13 +71,13 @@ module _ (g : Gathers) where
   sections_so s (x ∷ xs) so fs h = sections_so s xs (with_section g s so x) (with_formals_of g s fs x) (names_so s.level (formal_of g s x.is_var x.of) x.names so fs h)
 
   formals_so : (s : Scope g.Told) (xs : List Section) → SoFar (formals_in g s xs) (all_formals g s xs)
-  formals_so s xs = sections_so s xs ([], []) [] (record { locals = tt; declared = tt; count = refl })
+  formals_so s xs = sections_so s xs ([], []) [] (record { locals = tt; count = refl })
 
   pub entered_locals : (s : Scope g.Told) (seen : ℕ) (h : Heading) → NamesLocal (entered_procedure g s seen h).0.own
   entered_locals s seen h = (formals_so (inwards s seen) h.formals).locals
 
   pub entered_fresh : (s : Scope g.Told) (seen : ℕ) (h : Heading) → s.withs ≡ [] → IsFresh (entered_procedure g s seen h).0
-  entered_fresh s seen h e = record { withs = e; names = (formals_so (inwards s seen) h.formals).declared }
+  entered_fresh s seen h e = record { withs = e }
 
   -- as many variables stand there as formals
   pub entered_count : (s : Scope g.Told) (seen : ℕ) (h : Heading) → length (entered_procedure g s seen h).0.variables ≡ length (all_formals g (inwards s seen) h.formals)

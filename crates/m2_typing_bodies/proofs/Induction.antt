@@ -28,6 +28,7 @@ use Rattle.m2_blocks.specs.Naming.{marked_layer, marked_decl, with_marks}
 use Rattle.m2_blocks.specs.Nesting as nesting
 use Rattle.m2_blocks.specs.Nesting.{joined, within_decl, within}
 use Rattle.m2_blocks.specs.Declarations.{Course, Declared, decl_layer, with_decl, all_declared, declared_block}
+use Rattle.m2_modules.specs.Routines.{numbered_known}
 use Rattle.m2_bodies.specs.declared.procedure.Walk.{Walk}
 use Rattle.m2_bodies.specs.Judging.{Judges, statements_of}
 use Rattle.m2_bodies.specs.Bodies.{ChecksBlock, Steps, marked_by, declared_by, steps_layer, block_layer, steps, checks_block}
@@ -45,6 +46,7 @@ use Rattle.m2_formed_bodies.proofs.Parts.{IsStep, constants_step, types_step, va
 use Rattle.m2_formed_bodies.proofs.Checks.{keeps_refl, keeps_then, leads_keeps, holds_at}
 use Rattle.m2_formed_bodies.proofs.Blocks.{from, Here, all_own, all_keep, checked_told}
 use Rattle.m2_formed_bodies.proofs.Induction.{judged_formed, blocks_formed}
+use Rattle.m2_formed_modules.proofs.Heads.{ModuleHeadOf}
 use Rattle.m2_formed_frames.proofs.Blocks.{blocks_nest}
 use Rattle.m2_formed_ranges.specs.FormedRanges.{itself, fits_decl, fits_decl_layer, ScopeRanged}
 use Rattle.m2_formed_ranges.proofs.Types.{both_left, both_right, names_kept}
@@ -60,10 +62,11 @@ use Rattle.m2_typing_stmts.specs.TypingStmts.{fits_stmt, StmtsTyped, AreReturned
 use Rattle.m2_typing_stmts.proofs.Constructs.{all_typed as row_typed}
 use Rattle.m2_typing_stmts.proofs.Statements.{statements_typed}
 use Rattle.m2_typing_bodies.specs.Words.{WordsStay}
-use Rattle.m2_typing_bodies.specs.TypingBodies.{fits_body, fits_inside_layer, fits_whole_layer, fits_inside, fits_whole_block, Stage, stands, stands_in, StageTyped, TypesStatements, MeaningThere, NamesThere, BlocksThere, NamesLocal, LocalsStay, IsFresh, DeclAgrees, DeclsAgree, HeadingsAgree, ScopeKnown, IsDeep, Serves, AddsTyped, HasFrame, Enters, TypedBlock}
+use Rattle.m2_typing_bodies.specs.TypingBodies.{number_in, number_of, fits_body, fits_inside_layer, fits_whole_layer, fits_inside, fits_whole_block, Stage, stands, stands_in, StageTyped, TypesStatements, MeaningThere, NamesThere, BlocksThere, NamesLocal, LocalsStay, IsFresh, DeclAgrees, DeclsAgree, HeadingsAgree, ScopeKnown, IsDeep, Serves, AddsTyped, HasFrame, Enters, TypedBlock}
 use Rattle.m2_typing_bodies.proofs.Shifting.{meaning_anywhere}
 use Rattle.m2_typing_bodies.proofs.Scopes.{scope_typed}
 use Rattle.m2_typing_bodies.proofs.Own.{NestedStands, names_there, tagged_module, tagged_nested, nested_tagged, nested_routine}
+use Rattle.m2_typing_bodies.proofs.Outermost.{number_at}
 use Rattle.m2_typing_bodies.proofs.Blocks.{StepTyped, AllTyped, StepAgrees, StepsAgree, marks_number, declared_number, AllStand, all_routines, all_known, all_variables, all_stand, serves_rest, all_typed}
 
 -- ---- the statements of a body
@@ -299,7 +302,7 @@ module _ (g : Gathers) (judges : Judges g.Told) (forms : FormsStatements g judge
   abbrev behind : Result (Unit {0}) g.Told → ℕ → List (Steps g.Told) → Scope g.Told × List ℕ → Declared g.Told
   behind so first xs m = let c = fold declared_by (m.0, so, first) xs in (c.0, c.1, m.1)
 
-  declared_same : (ds : List Decl) (st : State (Unit {0}) g.Told) (first : ℕ) → all_declared marked_by declared_by st first (map steps_of ds) ≡ declared_block g ends st first ds
+  pub declared_same : (ds : List Decl) (st : State (Unit {0}) g.Told) (first : ℕ) → all_declared marked_by declared_by st first (map steps_of ds) ≡ declared_block g ends st first ds
   declared_same ds st first =
       let m : Scope g.Told × List ℕ = fold (with_marks marked_decl) (st.0, []) ds in
       ap (behind st.1 first (map steps_of ds)) (marks_same ds (st.0, [])) ∙ ap (λ (c : Course g.Told). (c.0, c.1, m.1)) (declares_same ds (m.0, st.1, first))
@@ -331,6 +334,7 @@ module _ (g : Gathers) (judges : Judges g.Told) (forms : FormsStatements g judge
     pub step : IsStep g judges ends x ks
     pub typed : StepTyped g judges base ends step
     pub agrees : (a : Scope g.Told) (seen : ℕ) → DeclAgrees g {A = Decl} {B = Block} a seen (out-Decl d) → StepAgrees g judges base ends a seen step
+    pub numbered : (a : Scope g.Told) (k : ModuleHeadOf g judges ends a.own a.types a.procedures step) → number_of a.own {A = Decl} {B = Block} (out-Decl d) ≡ number_at g judges base words ends a step k
 
   module _ (keeps : LocalsStay g) (headings : HeadingsAgree g) where
     abbrev PD : Decl → Type 0
@@ -385,7 +389,7 @@ module _ (g : Gathers) (judges : Judges g.Told) (forms : FormsStatements g judge
     they_agree a seen i [] e h = tt
     they_agree a seen i (x ∷ xs) e h = ((x.1 (first_fits x xs e)).agrees a _ h.0, they_agree a seen (i + 1) xs (rest_fits x xs e) h.1)
 
-    known_declared : (ds : List Decl) → list_all itself (map fits_inside ds) ≡ true → (st : State (Unit {0}) g.Told) (first : ℕ) → (declared_block g ends st first ds).1 ≡ Ok tt → ScopeKnown base st.0 → ScopeKnown base (declared_block g ends st first ds).0
+    pub known_declared : (ds : List Decl) → list_all itself (map fits_inside ds) ≡ true → (st : State (Unit {0}) g.Told) (first : ℕ) → (declared_block g ends st first ds).1 ≡ Ok tt → ScopeKnown base st.0 → ScopeKnown base (declared_block g ends st first ds).0
     known_declared ds e st first ok k = record {
       ranged = holds_at (declared_block g ends st first ds).1 (block_ranged g ends st first ds (decls_fit ds e) (const_holds k.ranged st.1)) tt ok;
       ordered = holds_at (declared_block g ends st first ds).1 (block_ordered base g ends st first ds (const_holds k.ordered st.1)) tt ok;
@@ -404,13 +408,14 @@ module _ (g : Gathers) (judges : Judges g.Told) (forms : FormsStatements g judge
     }
 
     step_at : (d : Decl) (y : Decl-F SD SB) → out-Decl d ≡ bare y → fits_inside_layer (fitting (bare y)) ≡ true → IsBodied d (steps_layer g judges ends (opened (bare y))) (nesting.decl_layer (counted (bare y)))
-    step_at d (layer.Constants cs) is e = record { step = constants_step cs; typed = tt; agrees = λ a seen h. tt }
-    step_at d (layer.Types ts) is e = record { step = types_step ts; typed = tt; agrees = λ a seen h. tt }
-    step_at d (layer.Variables vs) is e = record { step = variables_step vs; typed = tt; agrees = λ a seen h. tt }
+    step_at d (layer.Constants cs) is e = record { step = constants_step cs; typed = tt; agrees = λ a seen h. tt; numbered = λ a k. ap (λ (x : Decl-F Decl Block). number_of a.own {A = Decl} {B = Block} x) is }
+    step_at d (layer.Types ts) is e = record { step = types_step ts; typed = tt; agrees = λ a seen h. tt; numbered = λ a k. ap (λ (x : Decl-F Decl Block). number_of a.own {A = Decl} {B = Block} x) is }
+    step_at d (layer.Variables vs) is e = record { step = variables_step vs; typed = tt; agrees = λ a seen h. tt; numbered = λ a k. ap (λ (x : Decl-F Decl Block). number_of a.own {A = Decl} {B = Block} x) is }
     step_at d (layer.Procedure h b) is e = record {
       step = procedure_step h (block_of b.0) (within b.0) (blocks_formed g judges forms ends b.0);
       typed = (blocks_nest g judges forms ends b.0, b.1 e);
       agrees = λ a seen q. subst (λ (x : Decl-F Decl Block). DeclAgrees g {A = Decl} {B = Block} a seen x) is q;
+      numbered = λ a k. ap (λ (x : Decl-F Decl Block). number_of a.own {A = Decl} {B = Block} x) is ∙ ap (λ (o : Option (Known g.Told)). number_in a.own (numbered_known o)) k.1.0;
     }
 
     block_at : (xs : List SD) (body : Option (List Stmt)) → Fit xs → fits_body body ≡ true

@@ -4,4 +4,8 @@ pub mod Own
 pub mod Entered
 pub mod Nested
 pub mod Blocks
+pub mod Outermost
 pub mod Induction
+pub mod Agreeing
+pub mod Locals
+pub mod Modules

@@ -32,7 +32,7 @@ use Rattle.m2_formed_numbers.specs.FormedNumbers.{Lists, IsFormal, IsBehind, Loc
 use Rattle.m2_formed_ranges.specs.FormedRanges.{MeaningRanged, NamesRanged}
 use Rattle.m2_typing.specs.Typing.{kind_of}
 use Rattle.m2_typing.proofs.Words.{holds_both}
-use Rattle.m2_typing_bodies.specs.Words.{MeaningWord, NamesWords}
+use Rattle.m2_typing.specs.Carried.{MeaningWord, NamesWords}
 use Rattle.m2_typing_bodies.specs.TypingBodies.{Stage, stands_in, WithinLevel, MeaningThere, KnownThere, NamesThere, MeaningLocal, NamesLocal, HasFrame}
 
 -- ---- what stands in a frame

@@ -1,23 +1,28 @@
 -- What the checker makes of the bodies of procedures is typed, where the module that it makes has them.
 use Rattle.std.specs.Prelude.{◌≡◌, ℕ, suc, ◌+◌, ◌≤◌, ◌<◌, ◌^◌, ◌==◌, Bool, true, false, ◌&&◌, List, [], ◌∷◌, ◌++◌, map, drop, length, Option, Some, None, Result, Ok, slice_get}
-use Rattle.std.specs.List.{list_all}
+use Rattle.std.specs.List.{fold, list_all}
 use Rattle.std.specs.Option.{unwrap_or}
 use Rattle.m2_tree.specs.declared.name.Ident.{Ident}
 use Rattle.m2_tree.specs.declared.stmt.Stmt.{Stmt}
 use Rattle.m2_tree.specs.declared.decl.Heading.{Heading}
 use Rattle.m2_tree.specs.declared.decl.Decl.{Decl, Decl-F, out-Decl, fold-Decl}
 use Rattle.m2_tree.specs.declared.decl.Decl.TheOpen as layer
-use Rattle.m2_tree.specs.declared.decl.Block.{Block, Block-F, fold-Block}
+use Rattle.m2_tree.specs.declared.decl.Block.{Block, Block-F, out-Block, fold-Block}
+use Rattle.m2_tree.specs.declared.decl.Module.{Module}
 use Rattle.m2_typed.specs.declared.known_types.Types.{Types}
 use Rattle.m2_typed.specs.declared.meaning.Meaning.{Meaning}
 use Rattle.m2_typed.specs.declared.meaning.Meaning.TheVariants as meaning
+use Rattle.m2_typed.specs.declared.meaning.Procedure.{Procedure}
 use Rattle.m2_typed.specs.declared.shape.Formal.{Formal}
 use Rattle.m2_typed.specs.declared.shape.Made.{Made}
+use Rattle.m2_typed.specs.declared.statement.TypedStmt.{TypedStmt}
 use Rattle.m2_typed.specs.declared.typed_module.Routine.{Routine}
 use Rattle.m2_typed.specs.declared.typed_module.TypedModule.{TypedModule}
 use Rattle.m2_typed.specs.declared.typed_module.Which.{Which}
+use Rattle.m2_typed.specs.declared.typed_module.Which.TheVariants as which
 use Rattle.m2_typed.specs.declared.types.TypeNo.{TypeNo}
 use Rattle.m2_typed.specs.Known.{made_at}
+use Rattle.m2_typed.specs.Names.{found}
 use Rattle.m2_judged.specs.Judged.{Gathers}
 use Rattle.m2_judged.specs.Scopes.{State}
 use Rattle.m2_judged.specs.declared.known.Known.{Known}
@@ -32,15 +37,20 @@ use Rattle.m2_layout.specs.Texts.{module_texts}
 use Rattle.m2_meaning.specs.Store.{Location}
 use Rattle.m2_meaning.specs.Around.{Modules}
 use Rattle.m2_scheme.specs.Modules.{all_characters}
-use Rattle.m2_blocks.specs.Nesting.{within}
-use Rattle.m2_blocks.specs.Declarations.{declared_block}
+use Rattle.m2_scheme.specs.Functions.{routine_of}
+use Rattle.m2_types.specs.Importing.{with_import}
+use Rattle.m2_blocks.specs.declared.heading.Standing.TheVariants.{Awaited}
+use Rattle.m2_blocks.specs.Headings.{name_standing}
+use Rattle.m2_blocks.specs.Nesting.{within, procedure_ends}
+use Rattle.m2_blocks.specs.Declarations.{declared_block, declared_module}
 use Rattle.m2_blocks.specs.Inner.{inwards, entered_procedure}
 use Rattle.m2_modules.specs.declared.routine.Numbered.{Numbered}
-use Rattle.m2_modules.specs.Routines.{procedure_named}
+use Rattle.m2_modules.specs.Routines.{numbered_known, procedure_named}
 use Rattle.m2_bodies.specs.declared.procedure.Walk.{Walk}
 use Rattle.m2_bodies.specs.Judging.{Judges}
 use Rattle.m2_bodies.specs.Inside.{returns_of}
 use Rattle.m2_bodies.specs.Bodies.{ChecksBlock, checks_block}
+use Rattle.m2_bodies.specs.Checked.{walked}
 use Rattle.m2_check.specs.Checks.{judged}
 use Rattle.m2_agree_calls.specs.Frames.{Kind, Kinds, Kept, formal_kind, kinds_of}
 use Rattle.m2_agree_calls.specs.Passing.{Result as Gives, result_of}
@@ -54,7 +64,7 @@ use Rattle.m2_formed_ranges.specs.FormedRanges.{itself, fits_constant, fits_type
 use Rattle.m2_formed_order.specs.FormedOrder.{ScopeOrdered}
 use Rattle.m2_typing.specs.Typing.{TypesTyped, MeaningTyped, IsTyped}
 use Rattle.m2_typing_stmts.specs.TypingStmts.{fits_stmt, StmtsTyped, AreReturned}
-use Rattle.m2_typing_bodies.specs.Words.{ScopeWords, WordsStay}
+use Rattle.m2_typing.specs.Carried.{ScopeWords}
 
 -- ---- trees: all declarations and statements fit, those in procedures included
 
@@ -178,21 +188,9 @@ LocalsStay g = (ends : List ℕ) (st : State (Unit {0}) g.Told) (first : ℕ) (d
 
 -- ---- headings
 
--- no WITH is open, and each name of the block is declared
-abbrev pub KnownDeclared : {T : Type 0} → Known T → Type 0
-KnownDeclared Later = ⊥
-KnownDeclared Ahead = ⊥
-KnownDeclared Begun = ⊥
-KnownDeclared (Headed r) = ⊥
-KnownDeclared (Declared o r) = Unit {0}
-
-abbrev pub NamesDeclared : {T : Type 0} → List (List ℕ × Known T) → Type 0
-NamesDeclared [] = Unit {0}
-NamesDeclared (e ∷ es) = KnownDeclared e.1 × NamesDeclared es
-
+-- no WITH is open
 pub record IsFresh {T : Type 0} (s : Scope T) : Type 0 where
   pub withs : s.withs ≡ []
-  pub names : NamesDeclared s.own
 
 module _ (g : Gathers) where
   -- In this scope, and in all later types, the heading's type has the formals that are computed where its block is entered,
@@ -208,7 +206,7 @@ module _ (g : Gathers) where
   DeclAgrees a seen (layer.Constants cs) = Unit {0}
   DeclAgrees a seen (layer.Types ts) = Unit {0}
   DeclAgrees a seen (layer.Variables vs) = Unit {0}
-  DeclAgrees a seen (layer.Procedure h b) = (s : Scope g.Told) → Keeps a s → s.own ≡ a.own → HeadingAgrees s seen h
+  DeclAgrees a seen (layer.Procedure h b) = (s : Scope g.Told) → Keeps a s → s.own ≡ a.own → s.withs ≡ [] → HeadingAgrees s seen h
 
   -- of all declarations, with how many names stand before each, from the i-th on
   abbrev pub DeclsAgree : Scope g.Told → List ℕ → (i : ℕ) → List Decl → Type 0
@@ -281,5 +279,69 @@ pub record TypedBlock (g : Gathers) (base : Types) (ends : List ℕ) (block : Ch
 
 -- the bodies of the procedures in a procedure's block are typed, and so is its own
 abbrev pub BlocksAreTyped : Gathers → Type 0
-BlocksAreTyped g = WordsStay g → LocalsStay g → HeadingsAgree g → (base : Types) (ends : List ℕ) (b : Block) → fits_whole_block b ≡ true
+BlocksAreTyped g = (base : Types) (ends : List ℕ) (b : Block) → fits_whole_block b ≡ true
     → TypedBlock g base ends (checks_block g (judged g) ends b) (within b)
+
+-- ---- modules
+
+abbrev pub number_by : Which → Option ℕ
+number_by (which.Module n) = Some n
+number_by (which.Local n) = None
+
+module _ {T : Type 0} (own : List (List ℕ × Known T)) where
+  abbrev pub number_in : Option Numbered → Option ℕ
+  number_in None = None
+  number_in (Some q) = number_by q.which
+
+  -- the number of the module's procedure that a declaration is
+  abbrev pub number_of : {A B : Type 0} → Decl-F A B → Option ℕ
+  number_of (layer.Constants cs) = None
+  number_of (layer.Types ts) = None
+  number_of (layer.Variables vs) = None
+  number_of (layer.Procedure h b) = number_in (numbered_known (found h.name.name own))
+
+  abbrev pub OtherThan : Option ℕ → List Decl → Type 0
+  OtherThan n [] = Unit {0}
+  OtherThan n (d ∷ ds) = ((k : ℕ) → n ≡ Some k → number_of (out-Decl d) ≡ Some k → ⊥) × OtherThan n ds
+
+  -- the procedures of a module have numbers of their own
+  abbrev pub NumbersApart : List Decl → Type 0
+  NumbersApart [] = Unit {0}
+  NumbersApart (d ∷ ds) = OtherThan (number_of (out-Decl d)) ds × NumbersApart ds
+
+-- procedures of the module's own definition that await their headings have its numbers
+abbrev pub AwaitsOwn : {T : Type 0} → Scope T → Type 0
+AwaitsOwn s = (name : List ℕ) (p : Procedure) → name_standing (found name s.own) ≡ Awaited p → (p.home ≡ s.types.home) × (slice_get s.procedures p.number ≡ Some p.heading)
+
+-- behind its imports, a module stands in no procedure and in no WITH
+pub record ModuleBegins {T : Type 0} (s : Scope T) : Type 0 where
+  pub level : (s.level == 0) ≡ true
+  pub single : length s.outer ≡ 1
+  pub withs : s.withs ≡ []
+  pub awaits : AwaitsOwn s
+
+-- The names of a module, of what stands around it, and of its open modules mean what is there, and it has what the walk over
+-- its bodies leads to.
+pub record HasModule (g : Gathers) (base : Types) (z : Stage) (d : Scope g.Told) (w : Walk g.Told) : Type 0 where
+  pub types : w.scope.types ≡ z.home.types
+  pub procedures : w.bodies.procedures ≡ z.home.procedures
+  pub locals : w.bodies.locals ≡ z.home.locals
+  pub known : ScopeKnown base d
+  pub names : NamesThere (stands z []) z.opens 0 d.own
+  pub outer : BlocksThere (stands z []) z.opens 0 d.outer
+  pub members : (k : ℕ) (name : Ident) → z.opens k ≡ true → Holds (MeaningThere (stands z []) z.opens 0) (member g d.tables k name)
+
+-- the bodies of all procedures of a module, and its own
+pub record AreBodiesTyped (z : Stage) (ss : List TypedStmt) : Type 0 where
+  pub procedures : (w : Which) (r : Routine) → routine_of z.home w ≡ Some r → BodyTyped z r
+  pub body : StmtsTyped (stands z []) None [] false ss
+
+-- The bodies of a module are typed, where its declarations and bodies break no rule.
+abbrev pub ModulesAreTyped : Gathers → Type 0
+ModulesAreTyped g = (base : Types) (modules : List (List ℕ × ℕ)) (s : Scope g.Told) (m : Module) (b : Block) → fits_whole_block b ≡ true
+    → ModuleBegins (fold (with_import g modules) (s, Ok tt) m.imports).0
+    → let ds = (out-Block b).decls in
+    let d = declared_module g modules (procedure_ends ds) s m ds in
+    let w = walked g (judged g) modules (procedure_ends ds) s m b in
+    w.0.so_far ≡ Ok tt → NumbersApart d.0.own ds
+    → (z : Stage) → StageTyped z → HasModule g base z d.0 w.0 → (body : List TypedStmt) → w.1 ≡ Ok body → AreBodiesTyped z body
