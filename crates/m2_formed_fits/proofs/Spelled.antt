@@ -33,10 +33,10 @@ use Rattle.m2_formed_fits.proofs.Folds.{and_both, all_true, number_fits, char_fi
 
 -- ---- what fits in a part of the grammar
 
-abbrev AllFit : {X : Type 0} → (X → Bool) → List X → Type 0
+abbrev pub AllFit : {X : Type 0} → (X → Bool) → List X → Type 0
 AllFit f xs = AllByRecursion (λ x. f x ≡ true) xs
 
-abbrev TreeFits : (r : Rule) → Ast r → Type 0
+abbrev pub TreeFits : (r : Rule) → Ast r → Type 0
 TreeFits module_rule x = fits_module x ≡ true
 TreeFits import_rule x = Unit {0}
 TreeFits idents_rule x = has_names x ≡ true
@@ -69,15 +69,15 @@ TreeFits term_rule x = fits x ≡ true
 TreeFits factor_rule x = fits x ≡ true
 TreeFits set_rule x = Unit {0}
 
-abbrev EitherFits : {A B : Type 0} → (A → Type 0) → (B → Type 0) → A ⊎ B → Type 0
+abbrev pub EitherFits : {A B : Type 0} → (A → Type 0) → (B → Type 0) → A ⊎ B → Type 0
 EitherFits P Q (inl x) = P x
 EitherFits P Q (inr y) = Q y
 
-abbrev MaybeFits : {A : Type 0} → (A → Type 0) → Option A → Type 0
+abbrev pub MaybeFits : {A : Type 0} → (A → Type 0) → Option A → Type 0
 MaybeFits P None = Unit {0}
 MaybeFits P (Some x) = P x
 
-abbrev PartFits : (a : Ty) → El a → Type 0
+abbrev pub PartFits : (a : Ty) → El a → Type 0
 PartFits token t = token_fits t ≡ true
 PartFits (ast r) x = TreeFits r x
 PartFits (both a b) p = PartFits a p.0 × PartFits b p.1
@@ -223,18 +223,18 @@ tree_fits set_rule x h = tt
 
 -- ---- the induction
 
-abbrev TokensFit : List Token → Type 0
+abbrev pub TokensFit : List Token → Type 0
 TokensFit ts = AllFit token_fits ts
 
-front_fits : (ts us : List Token) → TokensFit (ts ++ us) → TokensFit ts
+pub front_fits : (ts us : List Token) → TokensFit (ts ++ us) → TokensFit ts
 front_fits [] us h = tt
 front_fits (t ∷ ts) us h = (h.0, front_fits ts us h.1)
 
-rest_fits : (ts us : List Token) → TokensFit (ts ++ us) → TokensFit us
+pub rest_fits : (ts us : List Token) → TokensFit (ts ++ us) → TokensFit us
 rest_fits [] us h = h
 rest_fits (t ∷ ts) us h = rest_fits ts us h.1
 
-spelled_fits : {a : Ty} {g : Gr a} {x : El a} {ts : List Token} → Spells a g x ts → TokensFit ts → PartFits a x
+pub spelled_fits : {a : Ty} {g : Gr a} {x : El a} {ts : List Token} → Spells a g x ts → TokensFit ts → PartFits a x
 spelled_fits (one i) h = h.0
 spelled_fits (made {r = r} {x = x} d) h = tree_fits r x (spelled_fits d h)
 spelled_fits (pair {ts = ts} {us = us} d c) h = (spelled_fits d (front_fits ts us h), spelled_fits c (rest_fits ts us h))
@@ -249,7 +249,7 @@ spelled_fits (more {ts = ts} {us = us} d c) h = (spelled_fits d (front_fits ts u
 spelled_fits (nested d) h = spelled_fits d h
 spelled_fits (closed {ts = ts} t u k d l) h = (h.0, spelled_fits d (front_fits ts (u ∷ []) h.1))
 
-tokens_from : (ts : List Token) → list_all token_fits ts ≡ true → TokensFit ts
+pub tokens_from : (ts : List Token) → list_all token_fits ts ≡ true → TokensFit ts
 tokens_from [] e = tt
 tokens_from (t ∷ ts) e = (left_of (token_fits t) (list_all token_fits ts) e, tokens_from ts (right_of (token_fits t) (list_all token_fits ts) e)) where
   left_of : (a b : Bool) → (a && b) ≡ true → a ≡ true

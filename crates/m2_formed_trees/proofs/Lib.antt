@@ -1,0 +1,5 @@
+pub mod Fits
+pub mod Exprs
+pub mod Stmts
+pub mod Blocks
+pub mod Rules
