@@ -92,7 +92,7 @@ module _ (g : Gathers) where
   count_at [] s d rest = refl
   count_at (x ∷ before) s d rest = count_at before (marked_decl s x) d rest
 
-  all_told : (ends : List ℕ) (ds : List Decl) (c : Course g.Told) → (fold (with_decl g ends) c ds).1 ≡ Ok tt → c.1 ≡ Ok tt
+  pub all_told : (ends : List ℕ) (ds : List Decl) (c : Course g.Told) → (fold (with_decl g ends) c ds).1 ≡ Ok tt → c.1 ≡ Ok tt
   all_told ends [] c e = e
   all_told ends (d ∷ ds) c e = decl_told g {A = Decl} {B = Block} ends c (out-Decl d) (all_told ends ds (with_decl g ends c d) e)
 

@@ -8,4 +8,5 @@ pub mod Outermost
 pub mod Induction
 pub mod Agreeing
 pub mod Locals
+pub mod Apart
 pub mod Modules

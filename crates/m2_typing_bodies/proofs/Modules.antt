@@ -66,6 +66,7 @@ use Rattle.m2_typing_bodies.proofs.Scopes.{scope_typed}
 use Rattle.m2_typing_bodies.proofs.Blocks.{AllTyped, StepsAgree, all_known}
 use Rattle.m2_typing_bodies.proofs.Outermost.{AllBodies, AllOther, AllApart, TypedTo, all_to}
 use Rattle.m2_typing_bodies.proofs.Locals.{locals_stay}
+use Rattle.m2_typing_bodies.proofs.Apart.{numbers_apart}
 use Rattle.m2_typing_bodies.proofs.Agreeing.{words_stay, headings_agree}
 use Rattle.m2_typing_bodies.proofs.Induction.{judged_typed, body_typed, declared_same, fits_at_block, decls_typed}
 
@@ -268,7 +269,7 @@ module _ (g : Gathers) (judges : Judges g.Told) (forms : FormsStatements g judge
     end_keeps : Keeps d.0 end.scope
     end_keeps = all_keep g judges ends None d.2 ps (start, 0)
 
-    module _ (ok : end.so_far ≡ Ok tt) (apart : NumbersApart d.0.own ds) (z : Stage) (staged : StageTyped z) (has : HasModule g base z d.0 end) where
+    module _ (ok : end.so_far ≡ Ok tt) (z : Stage) (staged : StageTyped z) (has : HasModule g base z d.0 end) where
       declared_ok : d.1 ≡ Ok tt
       declared_ok = beside_left g d.1 (lack d.0) (checked_told g judges ends None d.2 ps (start, 0) ok)
 
@@ -287,7 +288,7 @@ module _ (g : Gathers) (judges : Judges g.Told) (forms : FormsStatements g judge
 
       all : TypedTo g judges base words ends d.0 z start end
       all = all_to g judges base words ends d.0 z staged has.names d.2 ps (they_are_typed ds fit) (start, 0) 0 standing (keeps_refl d.0) heads (numbers_from [] ds fit ended)
-          (they_agree d.0 d.2 0 ds fit (headings ends st 0 ds (record { withs = begins.withs }) declared_ok)) (they_are_apart d.0 ds fit heads apart) ok has.known serves (unfilled_headings d.0.procedures)
+          (they_agree d.0 d.2 0 ds fit (headings ends st 0 ds (record { withs = begins.withs }) declared_ok)) (they_are_apart d.0 ds fit heads (numbers_apart g ends st 0 ds begins.level begins.awaits begins.apart declared_ok)) ok has.known serves (unfilled_headings d.0.procedures)
           (λ i. ap (λ (rs : List Routine). slice_get rs i) (sym has.procedures))
 
       end_known : ScopeKnown base end.scope
@@ -317,7 +318,7 @@ module _ (g : Gathers) (judges : Judges g.Told) (forms : FormsStatements g judge
       module_typed ss e = record { procedures = by_which; body = holds_at (statements_of judges end.scope None body) body_holds ss e }
 
 pub modules_typed : (g : Gathers) → ModulesAreTyped g
-modules_typed g base modules s m b fit begins ok apart z staged has ss e =
+modules_typed g base modules s m b fit begins ok z staged has ss e =
     let keeps = locals_stay g in
     let words = words_stay g in
     let headings = headings_agree g in
@@ -331,5 +332,5 @@ modules_typed g base modules s m b fit begins ok apart z staged has ss e =
     subst (λ (w : Walk g.Told). w.so_far ≡ Ok tt → HasModule g base z d.0 w → statements_of (judged g) w.scope None (out-Block b).body ≡ Ok ss → AreBodiesTyped z ss)
     (sym (bodies_are g (judged g) (judged_formed g) ends None d.2 first ds))
     (λ o h q. module_typed g (judged g) (judged_formed g) (judged_typed g) base words ends keeps headings st (told_of_lack g m.name.pos) ds (both_left parts (fits_body (out-Block b).body) f) refl (out-Block b).body
-    (both_right parts (fits_body (out-Block b).body) f) begins o apart z staged h ss q)
+    (both_right parts (fits_body (out-Block b).body) f) begins o z staged h ss q)
     ok has e
