@@ -1,18 +1,15 @@
 -- The bodies of a module, typed.
-use Rattle.std.proofs.Common.{◌≡◌, ℕ, zero, suc, ◌+◌, ◌≤◌, ◌<◌, ◌==◌, Bool, true, false, List, [], ◌∷◌, ◌++◌, length, Option, Some, None, Result, Ok, refl, sym, ap, subst, ◌∙◌, append_assoc, arith}
+use Rattle.std.proofs.Common.{◌≡◌, ℕ, zero, suc, ◌+◌, ◌<◌, ◌==◌, true, false, List, [], ◌∷◌, ◌++◌, length, Option, Some, None, Result, Ok, refl, sym, ap, subst, ◌∙◌, append_assoc, arith}
 use Rattle.std.specs.Prelude.{map, slice_get}
 use Rattle.std.specs.List.{fold, list_all}
 use Rattle.std.proofs.lemmas.Bool.{eqb-true}
 use Rattle.std.proofs.lemmas.List.{append-nil, length-append}
 use Rattle.std.proofs.lemmas.Option.{same_Some}
-use Rattle.m2_tree.specs.declared.name.Ident.{Ident}
 use Rattle.m2_tree.specs.declared.stmt.Stmt.{Stmt}
-use Rattle.m2_tree.specs.declared.decl.Module.{Module}
 use Rattle.m2_tree.specs.declared.decl.Decl.{Decl, Decl-F, out-Decl, map-Decl, fold_out-Decl}
 use Rattle.m2_tree.specs.declared.decl.Decl.TheOpen as layer
 use Rattle.m2_tree.specs.declared.decl.Block.{Block, out-Block}
 use Rattle.m2_typed.specs.declared.known_types.Types.{Types}
-use Rattle.m2_typed.specs.declared.shape.Made.{Made}
 use Rattle.m2_typed.specs.declared.statement.TypedStmt.{TypedStmt}
 use Rattle.m2_typed.specs.declared.typed_module.Routine.{Routine}
 use Rattle.m2_typed.specs.declared.typed_module.TypedModule.{TypedModule}
@@ -34,12 +31,11 @@ use Rattle.m2_types.specs.Importing.{with_import}
 use Rattle.m2_blocks.specs.Naming.{with_marks}
 use Rattle.m2_blocks.specs.Nesting as nesting
 use Rattle.m2_blocks.specs.Nesting.{within_decl, within, ends_from, with_procedure_ends, with_decl_ends, procedure_ends}
-use Rattle.m2_blocks.specs.Declarations.{Course, Declared, all_declared, declared_block, told_of_lack}
+use Rattle.m2_blocks.specs.Declarations.{Declared, all_declared, declared_block, told_of_lack}
 use Rattle.m2_modules.specs.Routines.{unfilled, no_bodies}
 use Rattle.m2_bodies.specs.declared.procedure.Walk.{Walk}
 use Rattle.m2_bodies.specs.Judging.{Judges, statements_of}
-use Rattle.m2_bodies.specs.Bodies.{Steps, marked_by, declared_by, steps, bodies_checked}
-use Rattle.m2_bodies.specs.Checked.{walked}
+use Rattle.m2_bodies.specs.Bodies.{Steps, marked_by, declared_by, steps}
 use Rattle.m2_check.specs.Checks.{judged}
 use Rattle.m2_formed.specs.Formed.{Holds}
 use Rattle.m2_formed.proofs.Basics.{holds_weaker}
@@ -60,7 +56,7 @@ use Rattle.m2_typing.specs.Typing.{IsTyped}
 use Rattle.m2_typing_stmts.specs.TypingStmts.{StmtsTyped}
 use Rattle.m2_typing_stmts.proofs.Constructs.{all_typed as row_typed}
 use Rattle.m2_typing_bodies.specs.Words.{WordsStay}
-use Rattle.m2_typing_bodies.specs.TypingBodies.{fits_body, fits_inside, fits_whole_block, Stage, stands, stands_in, StageTyped, BodyTyped, TypesStatements, MeaningThere, NamesThere, BlocksThere, LocalsStay, DeclsAgree, HeadingsAgree, ScopeKnown, Serves, number_of, OtherThan, NumbersApart, ModuleBegins, HasModule, AreBodiesTyped, ModulesAreTyped}
+use Rattle.m2_typing_bodies.specs.TypingBodies.{fits_body, fits_inside, Stage, stands, stands_in, StageTyped, BodyTyped, TypesStatements, MeaningThere, NamesThere, BlocksThere, LocalsStay, DeclsAgree, HeadingsAgree, ScopeKnown, Serves, OtherThan, NumbersApart, ModuleBegins, HasModule, AreBodiesTyped, ModulesAreTyped}
 use Rattle.m2_typing_bodies.proofs.Shifting.{meaning_anywhere}
 use Rattle.m2_typing_bodies.proofs.Scopes.{scope_typed}
 use Rattle.m2_typing_bodies.proofs.Blocks.{AllTyped, StepsAgree, all_known}

@@ -52,7 +52,7 @@ use Rattle.m2_bodies.specs.Inside.{returns_of}
 use Rattle.m2_bodies.specs.Bodies.{ChecksBlock, checks_block}
 use Rattle.m2_bodies.specs.Checked.{walked}
 use Rattle.m2_check.specs.Checks.{judged}
-use Rattle.m2_agree_calls.specs.Frames.{Kind, Kinds, Kept, formal_kind, kinds_of}
+use Rattle.m2_agree_calls.specs.Frames.{Kinds, Kept, formal_kind, kinds_of}
 use Rattle.m2_agree_calls.specs.Passing.{Result as Gives, result_of}
 use Rattle.m2_agree_trees.specs.Typed.{Context, kinds_around}
 use Rattle.m2_agree_bodies.specs.Linked.{around_of, context}
