@@ -10,3 +10,4 @@ pub mod Agreeing
 pub mod Locals
 pub mod Apart
 pub mod Modules
+pub mod Outside
