@@ -1,5 +1,5 @@
 -- What is carried along a walk, and headings that agree with what is computed where their procedures' blocks begin.
-use Rattle.std.proofs.Common.{◌≡◌, ℕ, zero, suc, ◌+◌, List, [], ◌∷◌, ◌++◌, length, Option, Some, None, Result, Ok, refl, sym, ap, subst, ◌∙◌, append_assoc, arith}
+use Rattle.std.proofs.Common.{◌≡◌, ℕ, ◌+◌, List, [], ◌∷◌, ◌++◌, length, Option, Some, None, Result, Ok, refl, sym, ap, subst, ◌∙◌, append_assoc, arith}
 use Rattle.std.specs.Prelude.{slice_get}
 use Rattle.std.specs.List.{fold}
 use Rattle.std.specs.Option.{unwrap_or, option_map}
@@ -16,31 +16,26 @@ use Rattle.m2_typed.specs.declared.shape.Made.{Made}
 use Rattle.m2_typed.specs.declared.shape.Shape.{Shape}
 use Rattle.m2_typed.specs.declared.types.TypeNo.{TypeNo}
 use Rattle.m2_typed.specs.Known.{made_at, scalar_at}
-use Rattle.m2_typed.specs.Names.{found}
 use Rattle.m2_judged.specs.Judged.{Gathers}
-use Rattle.m2_judged.specs.Scopes.{State}
 use Rattle.m2_judged.specs.declared.known.Known.{Known}
 use Rattle.m2_judged.specs.declared.scope.Scope.{Scope}
-use Rattle.m2_layout.specs.Frames.{formals_in, formals_made, formals_of}
+use Rattle.m2_layout.specs.Frames.{formals_in, formals_made}
 use Rattle.m2_agree_calls.specs.Passing.{Result as Gives, result_in, result_made}
-use Rattle.m2_agree_calls.specs.Passing as passing
 use Rattle.m2_made.specs.Headings.{result_of}
 use Rattle.m2_blocks.specs.Inner.{inwards}
 use Rattle.m2_blocks.specs.Naming.{marked_decl, with_marks}
 use Rattle.m2_blocks.specs.Declarations.{Course, Declared, with_decl, declared_block}
 use Rattle.m2_modules.specs.declared.routine.Numbered.{Numbered}
-use Rattle.m2_modules.specs.Routines.{numbered_by, numbered_known, procedure_named}
+use Rattle.m2_modules.specs.Routines.{numbered_by, numbered_known}
 use Rattle.m2_bodies.specs.Inside.{returns_of}
-use Rattle.m2_formed_bodies.specs.FormedBodies.{Keeps}
 use Rattle.m2_formed_scopes.proofs.Declarations.{decl_told}
 use Rattle.m2_formed_headings.specs.FormedHeadings.{heading_in, HeadingStands}
 use Rattle.m2_formed_headings.proofs.Headings.{headings_stay}
-use Rattle.m2_formed_numbers.specs.FormedNumbers.{all_formals}
 use Rattle.m2_typing.proofs.Bounding.{left_words, entered_words}
 use Rattle.m2_typing.proofs.Declaring.{block_carries}
 use Rattle.m2_typing_stmts.specs.TypingStmts.{AreReturned}
 use Rattle.m2_typing_bodies.specs.Words.{WordsStay}
-use Rattle.m2_typing_bodies.specs.TypingBodies.{IsFresh, HeadingAgrees, DeclAgrees, DeclsAgree, HeadingsAgree}
+use Rattle.m2_typing_bodies.specs.TypingBodies.{HeadingAgrees, DeclAgrees, DeclsAgree, HeadingsAgree}
 
 heading_same : (m : Meaning) (q : Numbered) (t : TypeNo) → numbered_by m ≡ Some q → heading_in m ≡ Some t → q.heading ≡ t
 heading_same (meaning.Procedure p) q t e k = sym (ap (λ (n : Numbered). n.heading) (same_Some _ q e)) ∙ same_Some p.heading t k
@@ -92,7 +87,7 @@ module _ (g : Gathers) where
   count_at [] s d rest = refl
   count_at (x ∷ before) s d rest = count_at before (marked_decl s x) d rest
 
-  all_told : (ends : List ℕ) (ds : List Decl) (c : Course g.Told) → (fold (with_decl g ends) c ds).1 ≡ Ok tt → c.1 ≡ Ok tt
+  pub all_told : (ends : List ℕ) (ds : List Decl) (c : Course g.Told) → (fold (with_decl g ends) c ds).1 ≡ Ok tt → c.1 ≡ Ok tt
   all_told ends [] c e = e
   all_told ends (d ∷ ds) c e = decl_told g {A = Decl} {B = Block} ends c (out-Decl d) (all_told ends ds (with_decl g ends c d) e)
 

@@ -1,5 +1,5 @@
 -- The bodies in a block, one after another.
-use Rattle.std.proofs.Common.{◌≡◌, ℕ, suc, ◌+◌, ◌<◌, ◌≤◌, ◌==◌, Bool, false, List, [], ◌∷◌, ◌++◌, length, Option, Some, Result, Ok, refl, sym, ap, subst, ◌∙◌, arith}
+use Rattle.std.proofs.Common.{◌≡◌, ℕ, suc, ◌+◌, ◌<◌, ◌≤◌, ◌==◌, false, List, [], ◌∷◌, ◌++◌, length, Option, Some, Ok, refl, sym, ap, subst, ◌∙◌, arith}
 use Rattle.std.specs.Prelude.{slice_get}
 use Rattle.std.specs.List.{fold}
 use Rattle.std.specs.Option.{unwrap_or}
@@ -26,11 +26,11 @@ use Rattle.m2_bodies.specs.declared.procedure.Walk.{Walk}
 use Rattle.m2_bodies.specs.Judging.{Judges}
 use Rattle.m2_bodies.specs.Bodies.{ChecksBlock, Steps, marked_by, declared_by, checked_by, with_body}
 use Rattle.m2_formed.specs.Formed.{Holds}
-use Rattle.m2_formed_bodies.specs.FormedBodies.{AreNumbered, Keeps, Adds, FormedBlock}
+use Rattle.m2_formed_bodies.specs.FormedBodies.{AreNumbered, Keeps, Adds}
 use Rattle.m2_formed_bodies.proofs.Places.{is_within}
 use Rattle.m2_formed_bodies.proofs.Parts.{IsStep, constants_step, types_step, variables_step, procedure_step, AreSteps, no_steps, more_steps, numbered_first, numbered_rest, numbered_inner, HeadOf, HeadsIn, RoutineOf, RoutinesIn}
 use Rattle.m2_formed_bodies.proofs.Checks.{keeps_then, nested_count, ended}
-use Rattle.m2_formed_bodies.proofs.Blocks.{Order, at_least, less, nat_order, step_own, step_keeps, Here, HeadAt, HeadsAt, from, checked_told, all_keep, all_count, all_add}
+use Rattle.m2_formed_bodies.proofs.Blocks.{Order, at_least, less, nat_order, step_own, step_keeps, Here, from, checked_told, all_keep, all_count, all_add}
 use Rattle.m2_formed_numbers.specs.FormedNumbers.{IsNumbered}
 use Rattle.m2_formed_numbers.proofs.Declarations.{decl_grows, layer_marks}
 use Rattle.m2_formed_frames.proofs.Nested.{NestedBlock, nested_there}

@@ -1,5 +1,5 @@
 -- Where the block of a procedure begins.
-use Rattle.std.proofs.Common.{◌≡◌, ℕ, suc, ◌+◌, ◌<◌, ◌==◌, Bool, true, false, cond, List, [], ◌∷◌, ◌++◌, length, Option, Some, None, Result, Ok, Err, refl, sym, ap, subst, ◌∙◌, arith}
+use Rattle.std.proofs.Common.{◌≡◌, ℕ, ◌+◌, Bool, true, false, cond, List, [], ◌∷◌, ◌++◌, length, Result, Ok, Err, refl, arith}
 use Rattle.std.specs.List.{fold}
 use Rattle.std.specs.Option.{is_some}
 use Rattle.std.proofs.lemmas.List.{length-append}
@@ -17,7 +17,7 @@ use Rattle.m2_judged.specs.declared.known.Origin.TheVariants.{Here}
 use Rattle.m2_judged.specs.declared.scope.Scope.{Scope}
 use Rattle.m2_made.specs.Headings.{formal_of}
 use Rattle.m2_blocks.specs.Inner.{inwards, formal_kind, formal_meaning, Formals, with_formal, with_section, formals_in, entered_procedure}
-use Rattle.m2_formed.specs.Formed.{Holds, fine}
+use Rattle.m2_formed.specs.Formed.{fine}
 use Rattle.m2_formed.proofs.Basics.{then_holds, any_holds}
 use Rattle.m2_formed_ranges.proofs.Blocks.{entered_ranged}
 use Rattle.m2_formed_order.proofs.Blocks.{entered_ordered}

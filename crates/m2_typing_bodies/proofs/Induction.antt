@@ -3,7 +3,6 @@ use Rattle.std.proofs.Common.{◌≡◌, ℕ, suc, ◌+◌, ◌<◌, ◌≤◌, 
 use Rattle.std.specs.Prelude.{map, slice_get}
 use Rattle.std.specs.List.{fold, list_all}
 use Rattle.std.proofs.lemmas.List.{append-nil}
-use Rattle.m2_tree.specs.declared.name.Ident.{Ident}
 use Rattle.m2_tree.specs.declared.stmt.Stmt.{Stmt}
 use Rattle.m2_tree.specs.declared.decl.Decl.{Decl, Decl-F, out-Decl, roll-Decl, out-roll-Decl, map-Decl, fold_out-Decl, ind-Decl}
 use Rattle.m2_tree.specs.declared.decl.Decl.TheOpen as layer
@@ -23,7 +22,6 @@ use Rattle.m2_judged.specs.declared.known.Known.{Known}
 use Rattle.m2_judged.specs.declared.scope.Block.{Block as Around}
 use Rattle.m2_judged.specs.declared.scope.Scope.{Scope}
 use Rattle.m2_constants.specs.Denote.{member}
-use Rattle.m2_layout.specs.Shapes.{tree}
 use Rattle.m2_blocks.specs.Naming.{marked_layer, marked_decl, with_marks}
 use Rattle.m2_blocks.specs.Nesting as nesting
 use Rattle.m2_blocks.specs.Nesting.{joined, within_decl, within}
@@ -33,32 +31,29 @@ use Rattle.m2_bodies.specs.declared.procedure.Walk.{Walk}
 use Rattle.m2_bodies.specs.Judging.{Judges, statements_of}
 use Rattle.m2_bodies.specs.Bodies.{ChecksBlock, Steps, marked_by, declared_by, steps_layer, block_layer, steps, checks_block}
 use Rattle.m2_check.specs.Checks.{judged}
-use Rattle.m2_valid.specs.WellFormed.{IsRoutine}
-use Rattle.m2_agree_calls.specs.Frames.{Kinds, Kept, formal_kind}
 use Rattle.m2_agree_calls.specs.Passing.{Result as Gives}
 use Rattle.m2_agree_trees.specs.Typed.{Context}
 use Rattle.m2_formed.specs.Formed.{Holds, fine}
 use Rattle.m2_formed.proofs.Basics.{holds_weaker}
 use Rattle.m2_formed_scopes.specs.FormedScopes.{AreFormedNames, Leads}
-use Rattle.m2_formed_bodies.specs.FormedBodies.{FormsStatements, Keeps, Begins}
+use Rattle.m2_formed_bodies.specs.FormedBodies.{FormsStatements, Keeps}
 use Rattle.m2_formed_bodies.proofs.Places.{is_within}
 use Rattle.m2_formed_bodies.proofs.Parts.{IsStep, constants_step, types_step, variables_step, procedure_step, AreSteps, no_steps, more_steps, nothing_at, no_home, nothing_open, all_marks, all_lead, HeadsIn, heads_in, RoutinesIn, all_formed}
 use Rattle.m2_formed_bodies.proofs.Checks.{keeps_refl, keeps_then, leads_keeps, holds_at}
 use Rattle.m2_formed_bodies.proofs.Blocks.{from, Here, all_own, all_keep, checked_told}
-use Rattle.m2_formed_bodies.proofs.Induction.{judged_formed, blocks_formed}
+use Rattle.m2_formed_bodies.proofs.Induction.{blocks_formed}
 use Rattle.m2_formed_modules.proofs.Heads.{ModuleHeadOf}
 use Rattle.m2_formed_frames.proofs.Blocks.{blocks_nest}
 use Rattle.m2_formed_ranges.specs.FormedRanges.{itself, fits_decl, fits_decl_layer, ScopeRanged}
 use Rattle.m2_formed_ranges.proofs.Types.{both_left, both_right, names_kept}
 use Rattle.m2_formed_ranges.proofs.Made.{const_holds}
 use Rattle.m2_formed_ranges.proofs.Blocks.{block_ranged}
-use Rattle.m2_formed_order.specs.FormedOrder.{ScopeOrdered}
 use Rattle.m2_formed_order.proofs.Blocks.{block_ordered}
 use Rattle.m2_formed_numbers.specs.FormedNumbers.{IsNumbered}
 use Rattle.m2_typing.specs.Typing.{IsTyped}
 use Rattle.m2_typing.proofs.Known.{scalar_known}
 use Rattle.m2_typing.proofs.Meanings.{meant_typed, head_typed}
-use Rattle.m2_typing_stmts.specs.TypingStmts.{fits_stmt, StmtsTyped, AreReturned}
+use Rattle.m2_typing_stmts.specs.TypingStmts.{StmtsTyped, AreReturned}
 use Rattle.m2_typing_stmts.proofs.Constructs.{all_typed as row_typed}
 use Rattle.m2_typing_stmts.proofs.Statements.{statements_typed}
 use Rattle.m2_typing_bodies.specs.Words.{WordsStay}

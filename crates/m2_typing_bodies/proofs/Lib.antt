@@ -8,4 +8,6 @@ pub mod Outermost
 pub mod Induction
 pub mod Agreeing
 pub mod Locals
+pub mod Apart
 pub mod Modules
+pub mod Outside

@@ -41,7 +41,7 @@ use Rattle.m2_made.specs.Headings.{heading_of}
 use Rattle.m2_types.specs.Declare.{constant_meaning, with_constant, brings_with, type_meaning, with_type, begun_name, with_variable_type, with_variables}
 use Rattle.m2_blocks.specs.declared.heading.Standing.{Standing}
 use Rattle.m2_blocks.specs.declared.heading.Standing.TheVariants.{Free, Awaited, Taken}
-use Rattle.m2_blocks.specs.Headings.{standing_of, standing_judged, name_standing, nested_meaning, headed, module_procedure, with_new, headed_as, with_heading}
+use Rattle.m2_blocks.specs.Headings.{standing_of, standing_judged, name_standing, nested_meaning, headed, module_procedure, with_new, headed_as}
 use Rattle.m2_blocks.specs.Naming.{marked_layer, marked_decl, with_marks}
 use Rattle.m2_blocks.specs.Declarations.{local_meaning, finished_local, with_locals, Course, decl_layer, with_decl}
 use Rattle.m2_formed_numbers.proofs.Declarations.{decl_grows, layer_marks}

@@ -1,18 +1,15 @@
 -- The bodies of a module, typed.
-use Rattle.std.proofs.Common.{◌≡◌, ℕ, zero, suc, ◌+◌, ◌≤◌, ◌<◌, ◌==◌, Bool, true, false, List, [], ◌∷◌, ◌++◌, length, Option, Some, None, Result, Ok, refl, sym, ap, subst, ◌∙◌, append_assoc, arith}
+use Rattle.std.proofs.Common.{◌≡◌, ℕ, zero, suc, ◌+◌, ◌<◌, ◌==◌, true, false, List, [], ◌∷◌, ◌++◌, length, Option, Some, None, Result, Ok, refl, sym, ap, subst, ◌∙◌, append_assoc, arith}
 use Rattle.std.specs.Prelude.{map, slice_get}
 use Rattle.std.specs.List.{fold, list_all}
 use Rattle.std.proofs.lemmas.Bool.{eqb-true}
 use Rattle.std.proofs.lemmas.List.{append-nil, length-append}
 use Rattle.std.proofs.lemmas.Option.{same_Some}
-use Rattle.m2_tree.specs.declared.name.Ident.{Ident}
 use Rattle.m2_tree.specs.declared.stmt.Stmt.{Stmt}
-use Rattle.m2_tree.specs.declared.decl.Module.{Module}
 use Rattle.m2_tree.specs.declared.decl.Decl.{Decl, Decl-F, out-Decl, map-Decl, fold_out-Decl}
 use Rattle.m2_tree.specs.declared.decl.Decl.TheOpen as layer
 use Rattle.m2_tree.specs.declared.decl.Block.{Block, out-Block}
 use Rattle.m2_typed.specs.declared.known_types.Types.{Types}
-use Rattle.m2_typed.specs.declared.shape.Made.{Made}
 use Rattle.m2_typed.specs.declared.statement.TypedStmt.{TypedStmt}
 use Rattle.m2_typed.specs.declared.typed_module.Routine.{Routine}
 use Rattle.m2_typed.specs.declared.typed_module.TypedModule.{TypedModule}
@@ -34,12 +31,11 @@ use Rattle.m2_types.specs.Importing.{with_import}
 use Rattle.m2_blocks.specs.Naming.{with_marks}
 use Rattle.m2_blocks.specs.Nesting as nesting
 use Rattle.m2_blocks.specs.Nesting.{within_decl, within, ends_from, with_procedure_ends, with_decl_ends, procedure_ends}
-use Rattle.m2_blocks.specs.Declarations.{Course, Declared, all_declared, declared_block, told_of_lack}
+use Rattle.m2_blocks.specs.Declarations.{Declared, all_declared, declared_block, told_of_lack}
 use Rattle.m2_modules.specs.Routines.{unfilled, no_bodies}
 use Rattle.m2_bodies.specs.declared.procedure.Walk.{Walk}
 use Rattle.m2_bodies.specs.Judging.{Judges, statements_of}
-use Rattle.m2_bodies.specs.Bodies.{Steps, marked_by, declared_by, steps, bodies_checked}
-use Rattle.m2_bodies.specs.Checked.{walked}
+use Rattle.m2_bodies.specs.Bodies.{Steps, marked_by, declared_by, steps}
 use Rattle.m2_check.specs.Checks.{judged}
 use Rattle.m2_formed.specs.Formed.{Holds}
 use Rattle.m2_formed.proofs.Basics.{holds_weaker}
@@ -60,12 +56,13 @@ use Rattle.m2_typing.specs.Typing.{IsTyped}
 use Rattle.m2_typing_stmts.specs.TypingStmts.{StmtsTyped}
 use Rattle.m2_typing_stmts.proofs.Constructs.{all_typed as row_typed}
 use Rattle.m2_typing_bodies.specs.Words.{WordsStay}
-use Rattle.m2_typing_bodies.specs.TypingBodies.{fits_body, fits_inside, fits_whole_block, Stage, stands, stands_in, StageTyped, BodyTyped, TypesStatements, MeaningThere, NamesThere, BlocksThere, LocalsStay, DeclsAgree, HeadingsAgree, ScopeKnown, Serves, number_of, OtherThan, NumbersApart, ModuleBegins, HasModule, AreBodiesTyped, ModulesAreTyped}
+use Rattle.m2_typing_bodies.specs.TypingBodies.{fits_body, fits_inside, Stage, stands, stands_in, StageTyped, BodyTyped, TypesStatements, MeaningThere, NamesThere, BlocksThere, LocalsStay, DeclsAgree, HeadingsAgree, ScopeKnown, Serves, OtherThan, NumbersApart, ModuleBegins, HasModule, AreBodiesTyped, ModulesAreTyped}
 use Rattle.m2_typing_bodies.proofs.Shifting.{meaning_anywhere}
 use Rattle.m2_typing_bodies.proofs.Scopes.{scope_typed}
 use Rattle.m2_typing_bodies.proofs.Blocks.{AllTyped, StepsAgree, all_known}
 use Rattle.m2_typing_bodies.proofs.Outermost.{AllBodies, AllOther, AllApart, TypedTo, all_to}
 use Rattle.m2_typing_bodies.proofs.Locals.{locals_stay}
+use Rattle.m2_typing_bodies.proofs.Apart.{numbers_apart}
 use Rattle.m2_typing_bodies.proofs.Agreeing.{words_stay, headings_agree}
 use Rattle.m2_typing_bodies.proofs.Induction.{judged_typed, body_typed, declared_same, fits_at_block, decls_typed}
 
@@ -268,7 +265,7 @@ module _ (g : Gathers) (judges : Judges g.Told) (forms : FormsStatements g judge
     end_keeps : Keeps d.0 end.scope
     end_keeps = all_keep g judges ends None d.2 ps (start, 0)
 
-    module _ (ok : end.so_far ≡ Ok tt) (apart : NumbersApart d.0.own ds) (z : Stage) (staged : StageTyped z) (has : HasModule g base z d.0 end) where
+    module _ (ok : end.so_far ≡ Ok tt) (z : Stage) (staged : StageTyped z) (has : HasModule g base z d.0 end) where
       declared_ok : d.1 ≡ Ok tt
       declared_ok = beside_left g d.1 (lack d.0) (checked_told g judges ends None d.2 ps (start, 0) ok)
 
@@ -287,7 +284,7 @@ module _ (g : Gathers) (judges : Judges g.Told) (forms : FormsStatements g judge
 
       all : TypedTo g judges base words ends d.0 z start end
       all = all_to g judges base words ends d.0 z staged has.names d.2 ps (they_are_typed ds fit) (start, 0) 0 standing (keeps_refl d.0) heads (numbers_from [] ds fit ended)
-          (they_agree d.0 d.2 0 ds fit (headings ends st 0 ds (record { withs = begins.withs }) declared_ok)) (they_are_apart d.0 ds fit heads apart) ok has.known serves (unfilled_headings d.0.procedures)
+          (they_agree d.0 d.2 0 ds fit (headings ends st 0 ds (record { withs = begins.withs }) declared_ok)) (they_are_apart d.0 ds fit heads (numbers_apart g ends st 0 ds begins.level begins.awaits begins.apart declared_ok)) ok has.known serves (unfilled_headings d.0.procedures)
           (λ i. ap (λ (rs : List Routine). slice_get rs i) (sym has.procedures))
 
       end_known : ScopeKnown base end.scope
@@ -317,7 +314,7 @@ module _ (g : Gathers) (judges : Judges g.Told) (forms : FormsStatements g judge
       module_typed ss e = record { procedures = by_which; body = holds_at (statements_of judges end.scope None body) body_holds ss e }
 
 pub modules_typed : (g : Gathers) → ModulesAreTyped g
-modules_typed g base modules s m b fit begins ok apart z staged has ss e =
+modules_typed g base modules s m b fit begins ok z staged has ss e =
     let keeps = locals_stay g in
     let words = words_stay g in
     let headings = headings_agree g in
@@ -331,5 +328,5 @@ modules_typed g base modules s m b fit begins ok apart z staged has ss e =
     subst (λ (w : Walk g.Told). w.so_far ≡ Ok tt → HasModule g base z d.0 w → statements_of (judged g) w.scope None (out-Block b).body ≡ Ok ss → AreBodiesTyped z ss)
     (sym (bodies_are g (judged g) (judged_formed g) ends None d.2 first ds))
     (λ o h q. module_typed g (judged g) (judged_formed g) (judged_typed g) base words ends keeps headings st (told_of_lack g m.name.pos) ds (both_left parts (fits_body (out-Block b).body) f) refl (out-Block b).body
-    (both_right parts (fits_body (out-Block b).body) f) begins o apart z staged h ss q)
+    (both_right parts (fits_body (out-Block b).body) f) begins o z staged h ss q)
     ok has e

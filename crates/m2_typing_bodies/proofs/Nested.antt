@@ -1,5 +1,5 @@
 -- The body of one procedure in a procedure, typed.
-use Rattle.std.proofs.Common.{◌≡◌, ℕ, suc, ◌+◌, ◌<◌, ◌≤◌, ◌==◌, Bool, false, List, [], ◌∷◌, ◌++◌, map, length, Option, Some, Result, Ok, refl, sym, ap, subst, ◌∙◌, arith}
+use Rattle.std.proofs.Common.{◌≡◌, ℕ, suc, ◌+◌, ◌<◌, ◌==◌, false, List, [], ◌∷◌, ◌++◌, map, length, Option, Some, Result, Ok, sym, ap, subst, ◌∙◌, arith}
 use Rattle.std.specs.Prelude.{drop, slice_get, slice_set}
 use Rattle.std.proofs.lemmas.List.{length-append}
 use Rattle.std.proofs.lemmas.Option.{same_Some}
@@ -17,11 +17,9 @@ use Rattle.m2_typed.specs.Types.{integer}
 use Rattle.m2_judged.specs.Judged.{Gathers}
 use Rattle.m2_judged.specs.declared.known.Known.{Known}
 use Rattle.m2_judged.specs.declared.known.Known.TheVariants.{Headed}
-use Rattle.m2_judged.specs.declared.scope.Block.{Block}
-use Rattle.m2_judged.specs.declared.scope.Scope.{Scope}
 use Rattle.m2_layout.specs.Frames.{formals_of}
 use Rattle.m2_layout.specs.Shapes.{tree}
-use Rattle.m2_blocks.specs.Inner.{inwards, left_procedure}
+use Rattle.m2_blocks.specs.Inner.{inwards}
 use Rattle.m2_modules.specs.declared.routine.Bodies.{Bodies}
 use Rattle.m2_modules.specs.declared.routine.Numbered.{Numbered}
 use Rattle.m2_modules.specs.Routines.{numbered_known, unfilled, routine}
@@ -32,7 +30,6 @@ use Rattle.m2_bodies.specs.Bodies.{ChecksBlock}
 use Rattle.m2_agree_calls.specs.Frames.{Kinds, Kept, formal_kind, kinds_of}
 use Rattle.m2_agree_calls.specs.Passing.{result_of}
 use Rattle.m2_agree_trees.specs.Typed.{own_kinds, kinds_around}
-use Rattle.m2_agree_bodies.specs.Linked.{around_of}
 use Rattle.m2_scheme.specs.Functions.{around_in}
 use Rattle.m2_formed.specs.Formed.{Holds}
 use Rattle.m2_formed_bodies.specs.FormedBodies.{AreNumbered, Keeps, Begins, FormedBlock}
@@ -45,7 +42,7 @@ use Rattle.m2_formed_numbers.specs.FormedNumbers.{all_formals}
 use Rattle.m2_formed_numbers.proofs.Entered.{procedure_entered}
 use Rattle.m2_typing_stmts.specs.TypingStmts.{StmtsTyped, AreReturned}
 use Rattle.m2_typing_bodies.specs.Words.{WordsStay}
-use Rattle.m2_typing_bodies.specs.TypingBodies.{Stage, stands, stands_in, StageTyped, BodyTyped, NamesThere, BlocksThere, DeclAgrees, HeadingAgrees, ScopeKnown, IsDeep, Serves, AddsTyped, HasFrame, Enters, TypedBlock}
+use Rattle.m2_typing_bodies.specs.TypingBodies.{Stage, stands, stands_in, StageTyped, BodyTyped, NamesThere, BlocksThere, HeadingAgrees, ScopeKnown, IsDeep, Serves, AddsTyped, HasFrame, Enters, TypedBlock}
 use Rattle.m2_typing_bodies.proofs.Shifting.{names_deeper, blocks_deeper}
 use Rattle.m2_typing_bodies.proofs.Scopes.{blocks_more}
 use Rattle.m2_typing_bodies.proofs.Entered.{entered_locals, entered_fresh, entered_count, entered_known}

@@ -1,5 +1,5 @@
 -- The bodies of the procedures of a module, typed.
-use Rattle.std.proofs.Common.{◌≡◌, ℕ, zero, suc, ◌+◌, ◌<◌, ◌≤◌, ◌==◌, Bool, true, false, List, [], ◌∷◌, ◌++◌, map, length, Option, Some, None, Result, Ok, refl, sym, ap, subst, ◌∙◌, arith}
+use Rattle.std.proofs.Common.{◌≡◌, ℕ, zero, suc, ◌+◌, ◌<◌, ◌≤◌, ◌==◌, true, false, List, [], ◌∷◌, ◌++◌, map, length, Option, Some, None, Result, Ok, refl, sym, ap, subst, ◌∙◌, arith}
 use Rattle.std.specs.Prelude.{drop, slice_get, slice_set}
 use Rattle.std.specs.Option.{unwrap_or}
 use Rattle.std.proofs.lemmas.Bool.{eqb-true}
@@ -16,7 +16,6 @@ use Rattle.m2_typed.specs.declared.typed_module.Which.{Which}
 use Rattle.m2_typed.specs.declared.typed_module.Which.TheVariants as which
 use Rattle.m2_typed.specs.declared.types.TypeNo.{TypeNo}
 use Rattle.m2_typed.specs.Names.{found}
-use Rattle.m2_typed.specs.Types.{integer}
 use Rattle.m2_judged.specs.Judged.{Gathers}
 use Rattle.m2_judged.specs.declared.known.Known.{Known}
 use Rattle.m2_judged.specs.declared.known.Known.TheVariants.{Headed}
@@ -24,7 +23,7 @@ use Rattle.m2_judged.specs.declared.scope.Block.{Block}
 use Rattle.m2_judged.specs.declared.scope.Scope.{Scope}
 use Rattle.m2_layout.specs.Frames.{formals_of}
 use Rattle.m2_layout.specs.Shapes.{tree}
-use Rattle.m2_blocks.specs.Inner.{inwards, left_procedure}
+use Rattle.m2_blocks.specs.Inner.{inwards}
 use Rattle.m2_modules.specs.declared.routine.Bodies.{Bodies}
 use Rattle.m2_modules.specs.declared.routine.Numbered.{Numbered}
 use Rattle.m2_modules.specs.Routines.{numbered_known, filled, routine}
@@ -35,7 +34,6 @@ use Rattle.m2_bodies.specs.Bodies.{ChecksBlock, Steps, checked_by, with_body}
 use Rattle.m2_agree_calls.specs.Frames.{Kinds, Kept, formal_kind, kinds_of}
 use Rattle.m2_agree_calls.specs.Passing.{result_of}
 use Rattle.m2_agree_trees.specs.Typed.{own_kinds, kinds_around}
-use Rattle.m2_agree_bodies.specs.Linked.{around_of}
 use Rattle.m2_scheme.specs.Functions.{around_in}
 use Rattle.m2_formed.specs.Formed.{Holds}
 use Rattle.m2_formed_bodies.specs.FormedBodies.{AreNumbered, Adds, Begins, Keeps, FormedBlock}
@@ -45,14 +43,12 @@ use Rattle.m2_formed_bodies.proofs.Checks.{nonzero, holds_at, begun_module_local
 use Rattle.m2_formed_bodies.proofs.Parts.{IsStep, constants_step, types_step, variables_step, procedure_step, AreSteps, no_steps, more_steps}
 use Rattle.m2_formed_bodies.proofs.Blocks.{Order, at_least, less, nat_order, from, step_own, step_keeps, all_keep, checked_told}
 use Rattle.m2_formed_modules.proofs.Heads.{ModuleHeadOf, ModuleHeadsIn}
-use Rattle.m2_formed_modules.proofs.Procedures.{AddsNested, Headings, module_count, NumbersOf, count_of, NumbersIn, Stands, Goes, all_go}
-use Rattle.m2_formed_ranges.proofs.Blocks.{left_ranged}
-use Rattle.m2_formed_order.proofs.Blocks.{left_ordered}
+use Rattle.m2_formed_modules.proofs.Procedures.{AddsNested, Headings, module_count, NumbersOf, count_of, NumbersIn, Stands, all_go}
 use Rattle.m2_formed_numbers.specs.FormedNumbers.{all_formals}
 use Rattle.m2_formed_numbers.proofs.Entered.{procedure_entered}
 use Rattle.m2_typing_stmts.specs.TypingStmts.{StmtsTyped, AreReturned}
 use Rattle.m2_typing_bodies.specs.Words.{WordsStay}
-use Rattle.m2_typing_bodies.specs.TypingBodies.{Stage, stands, stands_in, StageTyped, BodyTyped, NamesThere, BlocksThere, DeclAgrees, HeadingAgrees, ScopeKnown, IsDeep, Serves, AddsTyped, HasFrame, Enters, TypedBlock}
+use Rattle.m2_typing_bodies.specs.TypingBodies.{Stage, stands, stands_in, StageTyped, BodyTyped, NamesThere, BlocksThere, HeadingAgrees, ScopeKnown, Serves, AddsTyped, HasFrame, Enters, TypedBlock}
 use Rattle.m2_typing_bodies.proofs.Shifting.{names_deeper, blocks_deeper}
 use Rattle.m2_typing_bodies.proofs.Scopes.{blocks_more}
 use Rattle.m2_typing_bodies.proofs.Blocks.{StepTyped, AllTyped, StepAgrees, StepsAgree, step_known, serves_rest}

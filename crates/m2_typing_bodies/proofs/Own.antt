@@ -1,5 +1,5 @@
 -- The own names of a procedure's block mean what is there, at the end of its declarations.
-use Rattle.std.proofs.Common.{◌≡◌, ℕ, zero, suc, ◌≤◌, ◌<◌, ◌==◌, Bool, true, false, cond, ◌&&◌, ◌⊎◌, inl, inr, List, [], ◌∷◌, ◌++◌, length, Option, Some, None, Result, Ok, Err, refl, sym, ap, subst, ◌∙◌, arith}
+use Rattle.std.proofs.Common.{◌≡◌, ℕ, zero, suc, ◌≤◌, ◌==◌, Bool, true, false, cond, ◌&&◌, ◌⊎◌, inl, inr, List, [], ◌∷◌, ◌++◌, length, Option, Some, None, Result, refl, sym, ap, subst, ◌∙◌, arith}
 use Rattle.std.specs.Prelude.{◌-◌, map, drop, slice_get, if◌then◌else◌}
 use Rattle.std.proofs.lemmas.Bool.{eqb-true, eq-eqb}
 use Rattle.std.proofs.lemmas.Option.{same_Some}
@@ -27,13 +27,13 @@ use Rattle.m2_agree_trees.specs.Typed.{Context, IsInner, kinds_around}
 use Rattle.m2_valid.specs.WellFormed.{IsRoutine}
 use Rattle.m2_formed.specs.Formed.{Holds, FormedMeaning}
 use Rattle.m2_formed.proofs.Basics.{holds_weaker}
-use Rattle.m2_formed_scopes.specs.FormedScopes.{FormedOwn, AreFormedNames}
+use Rattle.m2_formed_scopes.specs.FormedScopes.{AreFormedNames}
 use Rattle.m2_formed_numbers.specs.FormedNumbers.{Lists, IsFormal, IsBehind, LocalNumbered, MeaningNumbered, NamesNumbered}
 use Rattle.m2_formed_ranges.specs.FormedRanges.{MeaningRanged, NamesRanged}
 use Rattle.m2_typing.specs.Typing.{kind_of}
 use Rattle.m2_typing.proofs.Words.{holds_both}
 use Rattle.m2_typing.specs.Carried.{MeaningWord, NamesWords}
-use Rattle.m2_typing_bodies.specs.TypingBodies.{Stage, stands_in, WithinLevel, MeaningThere, KnownThere, NamesThere, MeaningLocal, NamesLocal, HasFrame}
+use Rattle.m2_typing_bodies.specs.TypingBodies.{Stage, stands_in, MeaningThere, KnownThere, NamesThere, MeaningLocal, NamesLocal, HasFrame}
 
 -- ---- what stands in a frame
 

@@ -34,7 +34,7 @@ use Rattle.m2_formed.proofs.Basics.{holds_weaker, told_holds}
 use Rattle.m2_formed_types.specs.Ordered.{named_by, result_named, AreKnown, AreOrdered}
 use Rattle.m2_formed_types.specs.Ordered as ordered
 use Rattle.m2_formed_types.proofs.Shaped.{named_known}
-use Rattle.m2_typing.specs.Typing.{is_known, is_known_from, FormalsKnown, TypesTyped, MeaningTyped, IsTyped}
+use Rattle.m2_typing.specs.Typing.{is_known_from, FormalsKnown, TypesTyped, MeaningTyped, IsTyped}
 use Rattle.m2_typing_bodies.specs.TypingBodies.{MeaningThere, KnownThere, NamesThere, BlocksThere}
 
 -- ---- formals are of types that are known

@@ -1,7 +1,6 @@
 -- One frame more in front: what names mean is there still, one procedure deeper.
 use Rattle.std.proofs.Common.{◌≡◌, ℕ, suc, ◌≤◌, Bool, List, [], ◌∷◌, Some, sym, subst, arith}
 use Rattle.std.specs.Prelude.{◌-◌}
-use Rattle.m2_typed.specs.declared.computed.LocalProcedure.{LocalProcedure}
 use Rattle.m2_typed.specs.declared.meaning.Meaning.{Meaning}
 use Rattle.m2_typed.specs.declared.meaning.Meaning.TheVariants as meaning
 use Rattle.m2_typed.specs.declared.meaning.Procedure.{Procedure}
@@ -15,7 +14,7 @@ use Rattle.m2_agree_calls.specs.Frames.{Kinds, kind_at}
 use Rattle.m2_agree_trees.specs.Typed.{Context, IsVariable, IsNamed, IsInner}
 use Rattle.m2_formed.proofs.Basics.{holds_weaker}
 use Rattle.m2_typing.specs.Typing.{kind_of}
-use Rattle.m2_typing_bodies.specs.TypingBodies.{Stage, stands, WithinLevel, MeaningThere, KnownThere, NamesThere, BlocksThere}
+use Rattle.m2_typing_bodies.specs.TypingBodies.{Stage, stands, MeaningThere, KnownThere, NamesThere, BlocksThere}
 
 deeper : (l n : ℕ) → l ≤ n → suc n - l ≡ suc (n - l)
 deeper l n h = omega (arith, h)

@@ -52,7 +52,7 @@ use Rattle.m2_bodies.specs.Inside.{returns_of}
 use Rattle.m2_bodies.specs.Bodies.{ChecksBlock, checks_block}
 use Rattle.m2_bodies.specs.Checked.{walked}
 use Rattle.m2_check.specs.Checks.{judged}
-use Rattle.m2_agree_calls.specs.Frames.{Kind, Kinds, Kept, formal_kind, kinds_of}
+use Rattle.m2_agree_calls.specs.Frames.{Kinds, Kept, formal_kind, kinds_of}
 use Rattle.m2_agree_calls.specs.Passing.{Result as Gives, result_of}
 use Rattle.m2_agree_trees.specs.Typed.{Context, kinds_around}
 use Rattle.m2_agree_bodies.specs.Linked.{around_of, context}
@@ -313,12 +313,17 @@ module _ {T : Type 0} (own : List (List ℕ × Known T)) where
 abbrev pub AwaitsOwn : {T : Type 0} → Scope T → Type 0
 AwaitsOwn s = (name : List ℕ) (p : Procedure) → name_standing (found name s.own) ≡ Awaited p → (p.home ≡ s.types.home) × (slice_get s.procedures p.number ≡ Some p.heading)
 
--- behind its imports, a module stands in no procedure and in no WITH
+-- and each has another number
+abbrev pub AwaitsApart : {T : Type 0} → Scope T → Type 0
+AwaitsApart s = (a b : List ℕ) (p q : Procedure) → name_standing (found a s.own) ≡ Awaited p → name_standing (found b s.own) ≡ Awaited q → p.number ≡ q.number → a ≡ b
+
+-- Behind its imports, a module stands in no procedure and in no WITH, and procedures of its definition have its numbers.
 pub record ModuleBegins {T : Type 0} (s : Scope T) : Type 0 where
   pub level : (s.level == 0) ≡ true
   pub single : length s.outer ≡ 1
   pub withs : s.withs ≡ []
   pub awaits : AwaitsOwn s
+  pub apart : AwaitsApart s
 
 -- The names of a module, of what stands around it, and of its open modules mean what is there, and it has what the walk over
 -- its bodies leads to.
@@ -343,5 +348,4 @@ ModulesAreTyped g = (base : Types) (modules : List (List ℕ × ℕ)) (s : Scope
     → let ds = (out-Block b).decls in
     let d = declared_module g modules (procedure_ends ds) s m ds in
     let w = walked g (judged g) modules (procedure_ends ds) s m b in
-    w.0.so_far ≡ Ok tt → NumbersApart d.0.own ds
-    → (z : Stage) → StageTyped z → HasModule g base z d.0 w.0 → (body : List TypedStmt) → w.1 ≡ Ok body → AreBodiesTyped z body
+    w.0.so_far ≡ Ok tt → (z : Stage) → StageTyped z → HasModule g base z d.0 w.0 → (body : List TypedStmt) → w.1 ≡ Ok body → AreBodiesTyped z body

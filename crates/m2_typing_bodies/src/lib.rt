@@ -9,7 +9,8 @@
 //!   block, and `proofs/Induction` blocks in blocks.
 //! - `proofs/Locals` has that a procedure's block declares no names but local ones, and `proofs/Agreeing` that headings agree
 //!   with what is computed where their blocks begin.
-//! - `proofs/Outermost` has the procedures of a module, and `proofs/Modules` whole modules.
+//! - `proofs/Outermost` has the procedures of a module, `proofs/Apart` that they have different numbers, and `proofs/Modules`
+//!   whole modules.
 #![tactic(auto)]
 
 ghost use Rattle.m2_judged.specs.Judged.{least, every};
