@@ -281,12 +281,18 @@ module _ (fs : List (List ℕ × Module)) (files : List ℕ) (jobs : List (List 
     body_for ps m ts all k (contents.Implementation b) = own_for ps m ts all k
     body_for ps m ts all k (contents.Program b) = program_for ps m ts all
 
-  pub programs_formed : (m : Module) (job : ℕ) → Holds IsWellFormed (typed_body m job (tables_of (needed_of (trees_of fs) files jobs job)))
-  programs_formed m job =
+  -- the tables by which a job checks the body of a module
+  pub tables_for : (m : Module) (job : ℕ) → AreFor job (own_table m (tables_of (needed_of (trees_of fs) files jobs job)))
+      (tables_behind (own_table m (tables_of (needed_of (trees_of fs) files jobs job))) (tables_of (needed_of (trees_of fs) files jobs job))) m.contents
+  tables_for m job =
       let row : Once (prerequisites_of jobs job) = rows_once (trees graph.0) graph.2.is_jobs.order graph.2.is_jobs.order jobs graph.2.is_jobs.needs job in
       let k = picked_stand job (prerequisites_of jobs job) row in
+      body_for job (prerequisites_of jobs job) m (tables_of (needed_of (trees_of fs) files jobs job)) k.0 k.1 m.contents
+
+  pub programs_formed : (m : Module) (job : ℕ) → Holds IsWellFormed (typed_body m job (tables_of (needed_of (trees_of fs) files jobs job)))
+  programs_formed m job =
       let ts : List Table = tables_of (needed_of (trees_of fs) files jobs job) in
-      modules_formed least job m (own_table m ts) (tables_behind (own_table m ts) ts) (body_for job (prerequisites_of jobs job) m ts k.0 k.1 m.contents)
+      modules_formed least job m (own_table m ts) (tables_behind (own_table m ts) ts) (tables_for m job)
 
   pub programs_valid : (m : Module) (job : ℕ) → Holds (λ t. IsValid (typed_module t)) (typed_body m job (tables_of (needed_of (trees_of fs) files jobs job)))
   programs_valid m job = holds_weaker (λ t w. typed_module_valid t w) (programs_formed m job)
