@@ -6,6 +6,7 @@ pub mod Unrefused
 pub mod Programs
 pub mod Linked
 pub mod Valid
+pub mod Fitting
 pub mod Graphs
 pub mod Borrowed
 pub mod Same

@@ -1,7 +1,7 @@
 -- The program of a graph: the typed bodies of the modules that start.
 use Rattle.std.proofs.Common.{◌≡◌, ℕ, ◌<◌, ◌≤◌, false, true, List, [], ◌∷◌, ◌++◌, length, map, Option, Some, None, Result, Ok, Err, refl, sym, ap, subst, ◌∙◌, arith}
 use Rattle.std.specs.Prelude.{All, slice_get, slice_index_or}
-use Rattle.std.specs.List.{list_all}
+use Rattle.std.specs.List.{AllByRecursion, list_all}
 use Rattle.std.proofs.lemmas.Bool.{false≢true}
 use Rattle.std.proofs.lemmas.List.{length-map}
 use Rattle.std.proofs.lemmas.Option.{slice_get_within, get_or_from_slice_get}
@@ -46,6 +46,7 @@ use Rattle.m2_compile.specs.Compiling.{is_sound, tables_of, of_fit, of_checked, 
 use Rattle.m2_compile.specs.Spelled.{IsSpelled, fit_spelled, checked_spelled, contents_spelled}
 use Rattle.m2_jobs.specs.Jobs.{compiled_in}
 use Rattle.m2_jobs.specs.Spelled.{spelled_in, AreSpelled}
+use Rattle.m2_formed_graphs.specs.FormedGraphs.{IsFit}
 use Rattle.m2c.specs.Modules.{module_in, modules_at, IsTyped, AreTyped}
 use Rattle.m2c.specs.Build.{modules, refused_by, result_at}
 use Rattle.m2c.proofs.EachOnce.{all_within, file_job, job_of}
@@ -82,15 +83,16 @@ typed_name n m ts t e = contents_name n m (own_table m ts) _ m.contents t e
 record IsBody (m : Module) (n : ℕ) (ts : List Table) (c : Compiled) : Type 0 where
   typed : TypedModule
   is : typed_body m n ts ≡ Ok typed
+  small : too_large typed ≡ None
   fits : module_fits (typed_module typed) ≡ true
   becomes : c ≡ Built (emitted typed)
 
-from_fit : (m : Module) (n : ℕ) (ts : List Table) (t : TypedModule) → typed_body m n ts ≡ Ok t → (o : Option Pos) → fit_spelled t o → IsUnrefused (of_fit t o) → IsBody m n ts (of_fit t o)
-from_fit m n ts t e None s h = record { typed = t; is = e; fits = s; becomes = refl }
-from_fit m n ts t e (Some at) s h = absurd (h _ refl)
+from_fit : (m : Module) (n : ℕ) (ts : List Table) (t : TypedModule) → typed_body m n ts ≡ Ok t → (o : Option Pos) → too_large t ≡ o → fit_spelled t o → IsUnrefused (of_fit t o) → IsBody m n ts (of_fit t o)
+from_fit m n ts t e None small s h = record { typed = t; is = e; small = small; fits = s; becomes = refl }
+from_fit m n ts t e (Some at) small s h = absurd (h _ refl)
 
 from_checked : (m : Module) (n : ℕ) (ts : List Table) (r : Result TypedModule Fault) → typed_body m n ts ≡ r → checked_spelled r → IsUnrefused (of_checked r) → IsBody m n ts (of_checked r)
-from_checked m n ts (Ok t) e s h = from_fit m n ts t e (too_large t) s h
+from_checked m n ts (Ok t) e s h = from_fit m n ts t e (too_large t) refl s h
 from_checked m n ts (Err f) e s h = absurd (h f refl)
 
 from_contents : (m : Module) (n : ℕ) (ts : List Table) (c : Contents) → is_definition_part c ≡ false → contents_spelled m n ts c → IsUnrefused (of_contents m n ts c) → IsBody m n ts (of_contents m n ts c)
@@ -125,6 +127,7 @@ module _ (fs : List (List ℕ × Module)) (numbers : List ℕ) (jobs : List (Lis
     typed : TypedModule
     is : IsTyped (modules fs) numbers jobs s typed
     name : typed.name ≡ m.name.name
+    small : too_large typed ≡ None
     fits : module_fits (typed_module typed) ≡ true
     becomes : result s ≡ Some (Built (emitted typed))
 
@@ -143,6 +146,7 @@ module _ (fs : List (List ℕ × Module)) (numbers : List ℕ) (jobs : List (Lis
         typed = b.typed;
         is = record { tree = m; is_tree = is; job = j.0; is_job = job_of fs numbers each j.0 s j.1; typed = b.is };
         name = typed_name j.0 m (tables_of (needed fs numbers jobs j.0)) b.typed b.is;
+        small = b.small;
         fits = b.fits;
         becomes = result_is fs numbers jobs each same j.0 s j.1 ∙ ap (λ (c : Compiled). Some c) (its ∙ b.becomes);
       }
@@ -155,10 +159,11 @@ module _ (fs : List (List ℕ × Module)) (numbers : List ℕ) (jobs : List (Lis
     pub typed : AreTyped (modules fs) numbers jobs starts program
     pub names : proved.names program ≡ names_of (at_places (modules fs) starts)
     pub fit : AreFit program
+    pub small : AllByRecursion IsFit program
     pub are : modules_at result starts ≡ map emitted program
 
   pub built_all : (starts : List ℕ) → All Within starts → All (λ m. is_definition m ≡ false) (at_places (modules fs) starts) → AreBuilt starts
-  built_all [] lt bodies = record { program = []; typed = tt; names = refl; fit = tt; are = refl }
+  built_all [] lt bodies = record { program = []; typed = tt; names = refl; fit = tt; small = tt; are = refl }
   built_all (s ∷ ss) lt bodies =
       let t = some_at (modules fs) s (All-head Within s ss lt) in
       let m : Module = t.0 in
@@ -170,6 +175,7 @@ module _ (fs : List (List ℕ × Module)) (numbers : List ℕ) (jobs : List (Lis
         program = b.typed ∷ rest.program;
         typed = (b.is, rest.typed);
         fit = (b.fits, rest.fit);
+        small = (record { small = b.small; spelled = b.fits }, rest.small);
         names = ap (λ (n : List ℕ). n ∷ proved.names rest.program) b.name ∙ ap (λ (ns : List (List ℕ)). m.name.name ∷ ns) rest.names ∙ sym (ap (λ (ms : List Module). names_of ms) here);
         are = ap (λ (o : Option Compiled). module_in o ++ modules_at result ss) b.becomes ∙ ap (λ (ms : List ModuleBytes). emitted b.typed ∷ ms) rest.are;
       }

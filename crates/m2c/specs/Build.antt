@@ -20,7 +20,7 @@ use Rattle.m2_meaning.specs.Runs.{run}
 use Rattle.m2_scheme.specs.Modules.{typed_module, typed_link, part_of, stack_begin}
 use Rattle.m2_emit.specs.declared.emitted.ModuleBytes.{ModuleBytes}
 use Rattle.m2_agree_runs.specs.Behaves.{Behaves}
-use Rattle.m2_agree_linked.specs.Modules.{AreModules, AreTypedModules}
+use Rattle.m2_agree_linked.specs.Modules.{AreTypedModules}
 use Rattle.m2_headline.specs.Headline.{AreSpelled, Keeps}
 use Rattle.m2_headline.specs.Proved.{AreProved}
 use Rattle.m2_read.specs.declared.file.SourceFile.{SourceFile}
@@ -206,7 +206,7 @@ pub record IsProgram (files : List SourceFile) (pages : ℕ) (link : List ℕ) (
   pub code : IsCode program pages link built
   pub links : (c : Config) × (linked (typed_link program pages ∷ map typed_module program) ≡ Ok c)
   pub valid : All IsValid (typed_link program pages ∷ map typed_module program)
-  pub behaves : AreModules program → AreTypedModules program pages
+  pub behaves : AreTypedModules program pages
       → (c : Config) × (linked (typed_link program pages ∷ map typed_module program) ≡ Ok c) × Behaves (typed_link program pages ∷ map typed_module program) c (run program pages)
   pub keeps : AreProved program → Keeps program pages link (map (λ m. m.1) built)
 

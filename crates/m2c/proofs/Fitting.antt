@@ -1,0 +1,36 @@
+-- The trees of a build fit, and the bodies of its program are those of its graph.
+use Rattle.std.proofs.Common.{◌≡◌, ℕ, Bool, true, false, List, [], ◌∷◌, refl, sym, subst}
+use Rattle.std.specs.List.{list_all}
+use Rattle.std.specs.Arc.{arc_value}
+use Rattle.m2_tree.specs.declared.decl.Module.{Module}
+use Rattle.m2_meaning.specs.Around.{Modules}
+use Rattle.m2_formed_known.specs.FormedKnown.{fits_module}
+use Rattle.m2_formed_fits.proofs.Folds.{and_both}
+use Rattle.m2_formed_fits.proofs.Spelled.{module_fits}
+use Rattle.m2_formed_fits.proofs.Tokens.{tokens_fit}
+use Rattle.m2_formed_coherent.specs.FormedCoherent.{IsBodyIn, AreBodiesIn}
+use Rattle.m2_read.specs.declared.file.SourceFile.{SourceFile}
+use Rattle.m2_read.specs.declared.reading.Read.{Read}
+use Rattle.m2_read.specs.declared.reading.Read.TheVariants as read
+use Rattle.m2_read.specs.Reading.{HasTree, AreRead}
+use Rattle.m2c.specs.Modules.{IsTyped, AreTyped}
+use Rattle.m2c.specs.Build.{modules, trees_of, AreTrees}
+
+one_fits : (text : List ℕ) (m : Module) → HasTree text m → fits_module m ≡ true
+one_fits text m h = module_fits h.tokens m (tokens_fit text h.tokens h.divides.divides) h.is_tree.0
+
+all_fit : (files : List SourceFile) (reads : List Read) → AreRead files reads → list_all fits_module (modules (trees_of files reads)) ≡ true
+all_fit [] reads h = refl
+all_fit (f ∷ fs) [] h = refl
+all_fit (f ∷ fs) (read.Refused pos number ∷ rs) h = all_fit fs rs h.1
+all_fit (f ∷ fs) (read.Parsed tree ∷ rs) h = and_both (fits_module (arc_value tree)) (list_all fits_module (modules (trees_of fs rs))) (one_fits _ (arc_value tree) h.0) (all_fit fs rs h.1)
+
+pub trees_fit : (files : List SourceFile) (fs : List (List ℕ × Module)) → AreTrees files fs → list_all fits_module (modules fs) ≡ true
+trees_fit files fs are = subst (λ (xs : List (List ℕ × Module)). list_all fits_module (modules xs) ≡ true) (sym are.all) (all_fit files are.reads are.are_read)
+
+module _ (fs : List (List ℕ × Module)) (numbers : List ℕ) (jobs : List (List ℕ)) where
+  pub bodies_in : (starts : List ℕ) (p : Modules) → AreTyped (modules fs) numbers jobs starts p → AreBodiesIn (modules fs) numbers jobs starts p
+  bodies_in [] [] h = tt
+  bodies_in [] (t ∷ ts) h = absurd h
+  bodies_in (s ∷ ss) [] h = absurd h
+  bodies_in (s ∷ ss) (t ∷ ts) h = (record { tree = h.0.tree; is_tree = h.0.is_tree; job = h.0.job; is_job = h.0.is_job; typed = h.0.typed }, bodies_in ss ts h.1)
