@@ -98,13 +98,14 @@ fn is_name_of(file: &str, name: &str) -> bool {
     file.len() == name.len() + 5 && file.starts_with(name)
 }
 
-/// The pieces that are to stand in a module, and do not.
+fn stands_in(piece: &[u8], bytes: &[u8]) -> bool {
+    piece.is_empty() || bytes.windows(piece.len()).any(|it| it == piece)
+}
+
+/// The first piece that is to stand in a module, and does not.
 fn lacking(alloc: Global, pieces: &[Expected], name: &str, bytes: &[u8]) -> Result<Option<String>> {
     for piece in pieces {
-        let wanted = piece.bytes.as_slice();
-        if is_name_of(piece.name.as_str(), name)
-            && !bytes.windows(wanted.len()).any(|it| it == wanted)
-        {
+        if is_name_of(piece.name.as_str(), name) && !stands_in(piece.bytes.as_slice(), bytes) {
             return Ok(Some(format!(in alloc; "{name}.wasm lacks a piece")?));
         }
     }
