@@ -1,5 +1,5 @@
 -- The order of bodies: each procedure stands in it, or its body is empty.
-use Rattle.std.proofs.Common.{◌≡◌, ◌⊎◌, inl, inr, ℕ, zero, suc, ◌+◌, ◌==◌, Bool, true, false, ◌||◌, cond, List, [], ◌∷◌, ◌++◌, map, Option, Some, None, Result, Ok, Err, refl, sym, ap, subst, ◌∙◌}
+use Rattle.std.proofs.Common.{◌≡◌, ◌⊎◌, inl, inr, ℕ, zero, suc, ◌==◌, Bool, true, false, ◌||◌, cond, List, [], ◌∷◌, ◌++◌, map, Option, Some, None, Result, Ok, Err, refl, sym, ap, subst, ◌∙◌}
 use Rattle.std.specs.Prelude.{slice_get, slice_set}
 use Rattle.std.specs.List.{fold, list_any}
 use Rattle.std.proofs.lemmas.Bool.{or_left, or_right, eq-eqb}
@@ -10,7 +10,7 @@ use Rattle.m2_tree.specs.declared.stmt.Stmt.{Stmt}
 use Rattle.m2_tree.specs.declared.decl.Heading.{Heading}
 use Rattle.m2_tree.specs.declared.decl.Decl.{Decl, Decl-F, out-Decl, roll-Decl, out-roll-Decl, map-Decl, fold_out-Decl, ind-Decl}
 use Rattle.m2_tree.specs.declared.decl.Decl.TheOpen as layer
-use Rattle.m2_tree.specs.declared.decl.Block.{Block, Block-F, out-Block, roll-Block, out-roll-Block, map-Block, fold_out-Block, ind-Block}
+use Rattle.m2_tree.specs.declared.decl.Block.{Block, Block-F, out-Block, roll-Block, out-roll-Block, map-Block, fold_out-Block}
 use Rattle.m2_tree.specs.declared.decl.Contents.{Contents}
 use Rattle.m2_tree.specs.declared.decl.Contents.TheVariants as contents
 use Rattle.m2_tree.specs.declared.decl.Module.{Module}
@@ -31,11 +31,11 @@ use Rattle.m2_blocks.specs.Nesting.{procedure_ends}
 use Rattle.m2_modules.specs.declared.routine.Bodies.{Bodies}
 use Rattle.m2_modules.specs.declared.routine.Numbered.{Numbered}
 use Rattle.m2_modules.specs.Own.{implementation_scope}
-use Rattle.m2_modules.specs.Routines.{unfilled, no_bodies, begun_at, filled, routine, typed_module}
+use Rattle.m2_modules.specs.Routines.{unfilled, no_bodies, filled, routine, typed_module}
 use Rattle.m2_bodies.specs.declared.procedure.Walk.{Walk}
 use Rattle.m2_bodies.specs.Judging.{Judges}
-use Rattle.m2_bodies.specs.Inside.{which_of, begun_procedure, with_routine, ended_procedure}
-use Rattle.m2_bodies.specs.Bodies.{Checked, Checks, ChecksBlock, Steps, checked_by, with_body, with_bodies, procedure_checked, steps_layer, block_layer, steps, checks_block, checks_decl}
+use Rattle.m2_bodies.specs.Inside.{which_of, begun_procedure, with_routine}
+use Rattle.m2_bodies.specs.Bodies.{Checked, Checks, ChecksBlock, Steps, checked_by, with_body, procedure_checked, steps_layer, block_layer, steps, checks_block, checks_decl}
 use Rattle.m2_bodies.specs.Checked.{begun_module, module_or, walked, of_body, of_implementation, of_contents}
 use Rattle.m2_check.specs.Checks.{judged, checked}
 use Rattle.m2_formed.specs.Formed.{Holds, fine, broken}

@@ -1,5 +1,5 @@
 -- What the bodies of a module ask for is there.
-use Rattle.std.proofs.Common.{◌≡◌, ◌⊎◌, inl, inr, ℕ, zero, suc, ◌+◌, ◌<◌, ◌≤◌, ◌==◌, ◌&&◌, ◌||◌, Bool, true, false, if◌then◌else◌, List, [], ◌∷◌, ◌++◌, length, get_or, Option, Some, None, refl, sym, ap, subst, ◌∙◌, append_assoc, arith}
+use Rattle.std.proofs.Common.{◌≡◌, ◌⊎◌, inl, inr, ℕ, zero, suc, ◌+◌, ◌<◌, ◌==◌, ◌||◌, Bool, true, false, if◌then◌else◌, List, [], ◌∷◌, ◌++◌, length, get_or, Some, refl, sym, ap, subst, ◌∙◌, append_assoc, arith}
 use Rattle.std.specs.Prelude.{slice_get, All}
 use Rattle.std.specs.List.{list_any, flat_map, AllByRecursion}
 use Rattle.std.proofs.lemmas.Bool.{and_from, or_parts, or_left, or_right, eqb-true, eq-eqb}
@@ -15,7 +15,7 @@ use Rattle.m2_typed.specs.declared.typed_module.Which.TheVariants as which
 use Rattle.m2_layout.specs.Texts.{Texts, characters, body_texts, routine_texts, which_texts, routines_texts, module_texts, is_which, texts_before}
 use Rattle.m2_scheme.specs.Functions.{routine_of}
 use Rattle.m2_scheme.specs.Modules.{all_characters}
-use Rattle.m2_scheme.specs.Signatures.{Signature, Signatures, needed, same_result, is_same, is_among, of_step, of_routine, signature}
+use Rattle.m2_scheme.specs.Signatures.{Signature, Signatures, needed, same_result, is_same, is_among, of_step, of_routine}
 use Rattle.m2_links.specs.Linked.{Program, text}
 use Rattle.m2_links.proofs.Stores.{text_length}
 use Rattle.m2_agree_calls.specs.Frames.{Kinds, kinds_of}
@@ -23,9 +23,9 @@ use Rattle.m2_agree_trees.specs.Typed.{Context, HasText}
 use Rattle.m2_agree_bodies.specs.Linked.{text_of, around_of}
 use Rattle.m2_agree_linked.specs.Modules.{IsTypedModule}
 use Rattle.m2_typing.specs.Wanted.{TextsStand, AreNeeded, Has}
-use Rattle.m2_typing_stmts.specs.Asked.{held_in, wanted_by}
+use Rattle.m2_typing_stmts.specs.Asked.{wanted_by}
 use Rattle.m2_typing_bodies.specs.TypingBodies.{Stage, stands, AreBodiesTyped}
-use Rattle.m2_typing_wants.specs.TypingWants.{calls_variable, one_calls_variable, CallsNoVariable, AreOrdered, IsProvided, AreProvided, placed}
+use Rattle.m2_typing_wants.specs.TypingWants.{calls_variable, CallsNoVariable, AreOrdered, IsProvided, AreProvided, placed}
 
 -- ---- lists
 
@@ -73,11 +73,10 @@ module _ (x : Context) where
   texts_stand : (before : List ℕ) (ts : Texts) (rest : List ℕ) → x.characters ≡ before ++ (all_characters ts ++ rest) → AreBytes (all_characters ts) → TextsStand x (length before) ts
   texts_stand before [] rest q bytes = tt
   texts_stand before (t ∷ ts) rest q bytes =
-      let e : x.characters ≡ before ++ (t ++ (all_characters ts ++ rest)) = q ∙ ap (λ (cs : List ℕ). before ++ cs) (append_assoc t (all_characters ts) rest) in
-      (
+      let e : x.characters ≡ before ++ (t ++ (all_characters ts ++ rest)) = q ∙ ap (λ (cs : List ℕ). before ++ cs) (append_assoc t (all_characters ts) rest) in (
         has_text before t (all_characters ts ++ rest) e (bytes_first t (all_characters ts) bytes),
         subst (λ (n : ℕ). TextsStand x n ts) (length-append before t)
-        (texts_stand (before ++ t) ts rest (e ∙ sym (append_assoc before t (all_characters ts ++ rest))) (bytes_second t (all_characters ts) bytes)),
+            (texts_stand (before ++ t) ts rest (e ∙ sym (append_assoc before t (all_characters ts ++ rest))) (bytes_second t (all_characters ts) bytes)),
       )
 
 -- texts among those of a module stand behind those before them
@@ -85,9 +84,9 @@ module _ (z : Stage) (kinds : List Kinds) (bytes : AreBytes (text z.home)) where
   part_stands : (before ts behind : Texts) → module_texts z.home ≡ before ++ (ts ++ behind) → TextsStand (stands z kinds) (characters before) ts
   part_stands before ts behind q =
       let e : text z.home ≡ all_characters before ++ (all_characters ts ++ all_characters behind)
-          = ap all_characters q ∙ characters_append before (ts ++ behind) ∙ ap (λ (cs : List ℕ). all_characters before ++ cs) (characters_append ts behind) in
+      = ap all_characters q ∙ characters_append before (ts ++ behind) ∙ ap (λ (cs : List ℕ). all_characters before ++ cs) (characters_append ts behind) in
       let own : AreBytes (all_characters ts)
-          = bytes_first (all_characters ts) (all_characters behind) (bytes_second (all_characters before) (all_characters ts ++ all_characters behind) (subst AreBytes e bytes)) in
+      = bytes_first (all_characters ts) (all_characters behind) (bytes_second (all_characters before) (all_characters ts ++ all_characters behind) (subst AreBytes e bytes)) in
       subst (λ (n : ℕ). TextsStand (stands z kinds) n ts) (text_length before) (texts_stand (stands z kinds) (all_characters before) ts (all_characters behind) e own)
 
 which_is : (w v : Which) → is_which w v ≡ true → w ≡ v

@@ -1,4 +1,5 @@
--- What the bodies of a module ask for is there, so a module whose bodies are typed wherever it is there is typed.
+-- When what the bodies of a module ask for is there: their texts, the types of their calls through the table, and no call
+-- of a procedure variable. Then a module is typed whose bodies are typed wherever that is there.
 use Rattle.std.specs.Prelude.{◌≡◌, ◌⊎◌, ℕ, ◌<◌, Bool, true, false, List, [], Option, Some, All}
 use Rattle.std.specs.List.{list_any}
 use Rattle.m2_tree.specs.declared.decl.Module.{Module}
