@@ -349,3 +349,17 @@ modules_keep g modules s m b fit begins =
     subst (λ (w : Walk g.Told). Keeps d.0 w.scope) (sym (bodies_are g (judged g) (judged_formed g) ends None d.2 first ds))
     (end_keeps g (judged g) (judged_formed g) (judged_typed g) base words ends (locals_stay g) (headings_agree g) st (told_of_lack g m.name.pos) ds (both_left parts (fits_body (out-Block b).body) f) refl (out-Block b).body
     (both_right parts (fits_body (out-Block b).body) f) begins)
+
+-- and that scope stands in no procedure
+pub modules_outermost : (g : Gathers) (modules : List (List ℕ × ℕ)) (s : Scope g.Told) (m : Module) (b : Block) → fits_whole_block b ≡ true → ModuleBegins (fold (with_import g modules) (s, Ok tt) m.imports).0
+    → (declared_module g modules (procedure_ends (out-Block b).decls) s m (out-Block b).decls).0.level ≡ 0
+modules_outermost g modules s m b fit begins =
+    let base : Types = s.types in
+    let words = words_stay g in
+    let ds : List Decl = (out-Block b).decls in
+    let ends : List ℕ = procedure_ends ds in
+    let st : State (Unit {0}) g.Told = fold (with_import g modules) (s, Ok tt) m.imports in
+    let f = sym (fits_at_block g (judged g) (judged_formed g) (judged_typed g) base words ends b (out-Block b) refl) ∙ fit in
+    let parts = list_all itself (map fits_inside ds) in
+    level g (judged g) (judged_formed g) (judged_typed g) base words ends (locals_stay g) (headings_agree g) st (told_of_lack g m.name.pos) ds (both_left parts (fits_body (out-Block b).body) f) refl (out-Block b).body
+    (both_right parts (fits_body (out-Block b).body) f) begins
