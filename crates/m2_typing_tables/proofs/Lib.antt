@@ -5,3 +5,4 @@ pub mod Definitions
 pub mod Exported
 pub mod Reached
 pub mod Tables
+pub mod Begins
