@@ -6,3 +6,4 @@ pub mod Exported
 pub mod Reached
 pub mod Tables
 pub mod Begins
+pub mod Walked
