@@ -7,3 +7,4 @@ pub mod Reached
 pub mod Tables
 pub mod Begins
 pub mod Walked
+pub mod Bodies

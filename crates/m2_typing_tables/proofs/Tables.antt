@@ -22,7 +22,7 @@ use Rattle.m2_types.specs.Compiled as types
 use Rattle.m2_types.specs.Export.{exports, reached_of}
 use Rattle.m2_types.specs.Importing.{numbered_modules}
 use Rattle.m2_types.specs.Predeclared.{console, first_scope}
-use Rattle.m2_modules.specs.Own.{exported_headings}
+use Rattle.m2_modules.specs.Own.{exported_headings, types_made_in}
 use Rattle.m2_formed_ranges.specs.FormedRanges.{first_types}
 use Rattle.m2_formed_tables.specs.FormedTables.{AreExports, AreNumberedBy}
 use Rattle.m2_formed_tables.proofs.Exports.{tables_export}
@@ -116,12 +116,13 @@ module _ (trees : List Module) (files : List ℕ) (jobs : List (List ℕ)) (fit 
   pub record Needed (n : ℕ) (t : Table) : Type 0 where
     pub formed : TableFormed made_of n t
     pub own : TableStands t.number t
+    pub made : types_made_in t.number t.reached ≡ made_of t.number
     pub before : t.number < n
 
   module _ (n : ℕ) (known : (p : ℕ) → p < n → Fact p) where
     all_needed : (ts : List Table) → AllByRecursion (IsNeeded trees files jobs fit n (known_below trees files jobs fit n)) ts → AllByRecursion (Needed n) ts
     all_needed [] h = tt
-    all_needed (t ∷ ts) h = (record { formed = h.0.formed; own = known t.number h.0.before t h.0.made; before = h.0.before }, all_needed ts h.1)
+    all_needed (t ∷ ts) h = (record { formed = h.0.formed; own = known t.number h.0.before t h.0.made; made = h.0.own; before = h.0.before }, all_needed ts h.1)
 
     abbrev needed : List Table
     needed = tables_of (needed_of trees files jobs n)
