@@ -1,0 +1,10 @@
+pub mod Done
+pub mod Counting
+pub mod Steps
+pub mod Definitions
+pub mod Exported
+pub mod Reached
+pub mod Tables
+pub mod Begins
+pub mod Walked
+pub mod Bodies
