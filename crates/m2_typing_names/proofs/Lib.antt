@@ -1,0 +1,3 @@
+pub mod Preserved
+pub mod Brought
+pub mod Begun
