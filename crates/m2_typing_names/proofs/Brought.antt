@@ -72,8 +72,8 @@ module _ (F : Meaning → Type 0) where
   own_from home [] so p k = k
   own_from home (e ∷ es) so p k = own_from home es (with_own_name so e) p.1 (names_more e.0 (Declared Here (Ok e.1)) so (fine e.1 (outer_export home e.1 p.0)) k)
 
-  pub own_brought : {T : Type 0} (home : ℕ) (es : List (List ℕ × Meaning)) → AreExports home es → NamesBrought F {T = T} (own_names es)
-  own_brought home es p = own_from home es [] p tt
+  pub own_brought : (T : Type 0) (home : ℕ) (es : List (List ℕ × Meaning)) → AreExports home es → NamesBrought F {T = T} (own_names es)
+  own_brought T home es p = own_from home es [] p tt
 
   -- ---- what is exported
 

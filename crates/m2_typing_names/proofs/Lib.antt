@@ -1,3 +1,6 @@
 pub mod Preserved
 pub mod Brought
 pub mod Begun
+pub mod Agree
+pub mod Imported
+pub mod Around
