@@ -56,11 +56,11 @@ module _ (types_of : ℕ → List Made) (below : ℕ) (t : Table) (f : TableForm
     by true i = let same : k ≡ below = eqb-true k below i in absurd (omega (arith, less, same))
     by false i = ap (λ (o : Option (List Made)). in_list n o) e ∙ g
 
-  only_from : (ms : List ModuleTypes) (before : List (ℕ × List Made)) (es : List (ℕ × List Made)) → before ++ entries_of ms ≡ es → OthersOrdered before (entries_of ms) → AllByRecursion (λ m. (m.number < below) × (m.made ≡ types_of m.number)) ms → HasReached (made_by below [] es) ms
-  only_from [] before es e o r = tt
-  only_from (m ∷ ms) before es e o r = (
-    λ n x g. only_at n m.number x es m.made r.0.0 (ap (λ (xs : List (ℕ × List Made)). at m.number xs) (sym e) ∙ at_placed m.number before m.made (entries_of ms) o.0) g,
-    only_from ms (before ++ (m.number, m.made) ∷ []) es (append_more before (m.number, m.made) (entries_of ms) ∙ e) o.1.1 r.1,
+  only_from : (ms : List ModuleTypes) (before : List (ℕ × List Made)) (all : List (ℕ × List Made)) → before ++ entries_of ms ≡ all → OthersOrdered before (entries_of ms) → AllByRecursion (λ m. (m.number < below) × (m.made ≡ types_of m.number)) ms → HasReached (made_by below [] all) ms
+  only_from [] before all e o r = tt
+  only_from (m ∷ ms) before all e o r = (
+    λ n x g. only_at n m.number x all m.made r.0.0 (ap (λ (xs : List (ℕ × List Made)). at m.number xs) (sym e) ∙ at_placed m.number before m.made (entries_of ms) o.0) g,
+    only_from ms (before ++ (m.number, m.made) ∷ []) all (append_more before (m.number, m.made) (entries_of ms) ∙ e) o.1.1 r.1,
   )
 
   pub only_has : HasReached only t.reached

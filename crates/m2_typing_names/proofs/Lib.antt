@@ -4,3 +4,4 @@ pub mod Begun
 pub mod Agree
 pub mod Imported
 pub mod Around
+pub mod Whole
