@@ -56,7 +56,7 @@ use Rattle.m2_typing.specs.Names.{MeaningElse}
 use Rattle.m2_typing_bodies.specs.TypingBodies.{MeaningThere}
 use Rattle.m2_typing_names.specs.TypingNames.{IsPlaced, ArePlaced, TableStands, TablesStand, is_open_table, tables_for, placed_at}
 use Rattle.m2_typing_names.proofs.Agree.{only, only_has, same_heading}
-use Rattle.m2_typing_names.proofs.Imported.{IsAs, made_of_table}
+use Rattle.m2_typing_names.proofs.Imported.{IsAs, IsWithin, made_of_table}
 use Rattle.m2_typing_names.proofs.Whole.{got, its_types, IsMade, IsPart, part_of, one_table, coherent_at, HasHome, home_of}
 
 -- ---- components
@@ -134,7 +134,7 @@ module _ (fs : List (List ℕ × Module)) (files : List ℕ) (jobs : List (List 
     home = subst (λ (w : Table). HasHome fs files jobs starts graph each fit p bodies w) its_table (home_of fs files jobs starts graph each fit p bodies place m there (import_place m u.number) import.import import.there of_import)
 
     import_as : IsAs ts import.import
-    import_as = made_of_table ts import.import (got _ m.imports part.within (import_place m u.number) import.import import.there) k u its_place (sym of_import.name_is ∙ ap (λ (w : Table). w.name) its_table)
+    import_as = made_of_table ts import.import (got (IsWithin ts) m.imports part.within (import_place m u.number) import.import import.there) k u its_place (sym of_import.name_is ∙ ap (λ (w : Table). w.name) its_table)
 
     variables_are : import.import.variables ≡ exported_variables u.exported
     variables_are =

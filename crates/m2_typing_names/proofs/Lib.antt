@@ -5,3 +5,4 @@ pub mod Agree
 pub mod Imported
 pub mod Around
 pub mod Whole
+pub mod Exports
