@@ -54,7 +54,7 @@ use Rattle.m2_formed_coherent.proofs.Programs.{if_ok, IsDefined, defined_by}
 use Rattle.m2_typing.specs.Carried.{MeaningWord, ExportsWords}
 use Rattle.m2_typing.specs.Names.{MeaningElse}
 use Rattle.m2_typing_bodies.specs.TypingBodies.{MeaningThere}
-use Rattle.m2_typing_names.specs.TypingNames.{IsPlaced, ArePlaced, TableStands, TablesStand, is_open_table, tables_for, placed_at}
+use Rattle.m2_typing_names.specs.TypingNames.{IsPlaced, ArePlaced, TablePlaced, TablesPlaced, is_open_table, tables_for, placed_at}
 use Rattle.m2_typing_names.proofs.Agree.{only, only_has, same_heading}
 use Rattle.m2_typing_names.proofs.Imported.{IsAs, IsWithin, made_of_table}
 use Rattle.m2_typing_names.proofs.Whole.{got, its_types, IsMade, IsPart, part_of, one_table, coherent_at, HasHome, home_of}
@@ -84,7 +84,7 @@ none_around m level w e = ap (λ (o : Option Which). kinds_around m level o) e �
   by (suc k) = by k
 
 module _ (fs : List (List ℕ × Module)) (files : List ℕ) (jobs : List (List ℕ)) (starts : List ℕ) (graph : IsGraph (numbered 0 fs) files jobs starts) (each : CompileEach (numbered 0 fs) files) (fit : list_all fits_module (trees_of fs) ≡ true)
-    (stands : TablesStand (trees_of fs) files jobs) (p : Program) (bodies : AreBodiesIn (trees_of fs) files jobs starts p) (pages place : ℕ) (m : TypedModule) (there : slice_get p place ≡ Some m) (b : IsBodyOf (trees_of fs) files jobs m) where
+    (stands : TablesPlaced (trees_of fs) files jobs) (p : Program) (bodies : AreBodiesIn (trees_of fs) files jobs starts p) (pages place : ℕ) (m : TypedModule) (there : slice_get p place ≡ Some m) (b : IsBodyOf (trees_of fs) files jobs m) where
   abbrev trees : List Module
   trees = trees_of fs
 
@@ -165,12 +165,12 @@ module _ (fs : List (List ℕ × Module)) (files : List ℕ) (jobs : List (List 
           known = subst (λ (n : ℕ). IsKnown m n) (sym e) known;
           type =
               ap (λ (n : ℕ). component (variables_row m n) (v.number ∷ [])) e
-                  ∙ (ap (λ (c : Bool). component (cond c (module_row m) (imported_row m.types (slice_get m.imports (import_place m u.number)))) (v.number ∷ [])) not_own
-                  ∙ (ap (λ (o : Option Imported). component (imported_row m.types o) (v.number ∷ [])) import.there ∙ component_row (map (tree m.types) import.import.variables) v.number (tree m.types v.of) mine));
+              ∙ (ap (λ (c : Bool). component (cond c (module_row m) (imported_row m.types (slice_get m.imports (import_place m u.number)))) (v.number ∷ [])) not_own
+              ∙ (ap (λ (o : Option Imported). component (imported_row m.types o) (v.number ∷ [])) import.there ∙ component_row (map (tree m.types) import.import.variables) v.number (tree m.types v.of) mine));
           there =
               component_there (map module_type p) (module_place p v.home) (module_type knows.home) (v.number ∷ []) base
-                  ∙ component_row (map (tree knows.home.types) knows.home.variables ++ Hidden (characters (module_texts knows.home)) ∷ []) v.number (tree m.types v.of)
-                  (get_more (map (tree knows.home.types) knows.home.variables) (Hidden (characters (module_texts knows.home)) ∷ []) v.number (tree m.types v.of) its);
+              ∙ component_row (map (tree knows.home.types) knows.home.variables ++ Hidden (characters (module_texts knows.home)) ∷ []) v.number (tree m.types v.of)
+              (get_more (map (tree knows.home.types) knows.home.variables) (Hidden (characters (module_texts knows.home)) ∷ []) v.number (tree m.types v.of) its);
         }
 
     -- ---- procedures
@@ -221,7 +221,7 @@ module _ (fs : List (List ℕ × Module)) (files : List ℕ) (jobs : List (List 
       pub table_stands : AllByRecursion (λ e. ExportStands e.1) u.exported
       table_stands =
           let d : IsDefined trees files jobs fit u.number u = defined_by trees files jobs fit u.number u made.1 in
-          let stand : TableStands u = stands u.number u made.0 made.1 in
+          let stand : TablePlaced u = stands u.number u made.0 made.1 in
           exports_stand u.exported table.exports
           (if_ok (λ (t : Table). AreNumberedBy (exported_headings t.exported) t.exported) (types.compiled least u.number d.tree (tables_of (needed_of trees files jobs u.number))) u (tables_number least u.number d.tree (tables_of (needed_of trees files jobs u.number))) d.compiled_to)
           stand.variables (formed.exports alone (only_has (its_types fs files jobs starts graph each fit) (suc u.number) u formed)).0 (formed.exports m.types has).1 stand.words

@@ -6,3 +6,4 @@ pub mod Imported
 pub mod Around
 pub mod Whole
 pub mod Exports
+pub mod Names

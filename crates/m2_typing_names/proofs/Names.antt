@@ -59,7 +59,7 @@ use Rattle.m2_compile.specs.Own.{tables_behind}
 use Rattle.m2_formed_coherent.specs.FormedCoherent.{trees_of, IsBodyOf, AreBodiesIn}
 use Rattle.m2_typing.specs.Names.{MeaningElse, KnownElse, NamesElse}
 use Rattle.m2_typing_bodies.specs.TypingBodies.{MeaningThere, BlocksThere}
-use Rattle.m2_typing_names.specs.TypingNames.{TablesStand, is_open_table, is_open, HasInstance, declared_of, NamesStand, NamesFrom, needed_tables, own_of, tables_for, BodyNamed, placed_at}
+use Rattle.m2_typing_names.specs.TypingNames.{TablesPlaced, is_open_table, is_open, HasInstance, declared_of, NamesStand, needed_tables, own_of, tables_for, BodyNamed, placed_at}
 use Rattle.m2_typing_names.proofs.Preserved.{IsOuter, BroughtFrom, KnownBrought, NamesBrought}
 use Rattle.m2_typing_names.proofs.Brought.{own_brought, IsBrought, module_brought}
 use Rattle.m2_typing_names.proofs.Begun.{HasBegun, BegunAt}
@@ -80,7 +80,7 @@ imported_if true b e h = absurd cc
 imported_if false b e h = h
 
 module _ (fs : List (List ℕ × Tree)) (files : List ℕ) (jobs : List (List ℕ)) (starts : List ℕ) (graph : IsGraph (numbered 0 fs) files jobs starts) (each : CompileEach (numbered 0 fs) files) (fit : list_all fits_module (trees_of fs) ≡ true)
-    (stands : TablesStand (trees_of fs) files jobs) (p : Program) (bodies : AreBodiesIn (trees_of fs) files jobs starts p) (pages place : ℕ) (m : TypedModule) (there : slice_get p place ≡ Some m) (b : IsBodyOf (trees_of fs) files jobs m) where
+    (stands : TablesPlaced (trees_of fs) files jobs) (p : Program) (bodies : AreBodiesIn (trees_of fs) files jobs starts p) (pages place : ℕ) (m : TypedModule) (there : slice_get p place ≡ Some m) (b : IsBodyOf (trees_of fs) files jobs m) where
   abbrev trees : List Tree
   trees = trees_of fs
 
@@ -224,15 +224,22 @@ module _ (fs : List (List ℕ × Tree)) (files : List ℕ) (jobs : List (List �
           members = λ k name g. subst (λ (us : List Table). Holds (MeaningThere x opens 0) (member least us k name)) (sym all.tables_are) (member_there k name g);
         }
 
-  names_by : (c : Contents) → AreFor b.job own imported c → BegunAt least (judged least) (judged_formed least) b.job b.tree own ts m c → NamesFrom x opens b.job b.tree own ts c
-  names_by (contents.Definition defs) k h = tt
-  names_by (contents.Program body) k h =
-      names_stand (subst (λ (n : ℕ). AreTables n imported) h.home k) (first_scope b.job ts) body [] refl (record { tables_are = refl; outermost = refl; names = tt }) h
-  names_by (contents.Implementation body) k h =
-      let for_own : AreForOwn (Some h.0) imported = subst (λ (o : Option Table). AreForOwn o imported) h.1 k in
-      subst (λ (o : Option Table). NamesFrom x opens b.job b.tree o ts (contents.Implementation body)) (sym h.1)
-      (names_stand (subst (λ (n : ℕ). AreTables n imported) h.2.home for_own.1) (implementation_scope h.0 ts) body h.0.exported refl
-      (record { tables_are = refl; outermost = refl; names = own_brought (MeaningElse x opens 0 []) Fault h.0.number h.0.exported for_own.0.exports }) h.2)
+  program_named : (block : Block) → b.tree.contents ≡ contents.Program block → NamesStand x opens (first_scope b.job ts) b.tree block
+  program_named block e =
+      let h : HasBegun least (first_scope b.job ts) b.tree block [] m
+      = subst (λ (c : Contents). BegunAt least (judged least) (judged_formed least) b.job b.tree own ts m c) e (begun fs files jobs starts graph each fit m b) in
+      let k : AreTables b.job imported = subst (λ (c : Contents). AreFor b.job own imported c) e (for_it fs files jobs starts graph each fit m b) in
+      names_stand (subst (λ (n : ℕ). AreTables n imported) h.home k) (first_scope b.job ts) block [] refl (record { tables_are = refl; outermost = refl; names = tt }) h
+
+  implementation_named : (o : Table) (block : Block) → own ≡ Some o → b.tree.contents ≡ contents.Implementation block → NamesStand x opens (implementation_scope o ts) b.tree block
+  implementation_named o block q e =
+      let found = subst (λ (c : Contents). BegunAt least (judged least) (judged_formed least) b.job b.tree own ts m c) e (begun fs files jobs starts graph each fit m b) in
+      let h : HasBegun least (implementation_scope o ts) b.tree block o.exported m
+      = subst (λ (u : Table). HasBegun least (implementation_scope u ts) b.tree block u.exported m) (same_Some found.0 o (sym found.1 ∙ q)) found.2 in
+      let k : AreForOwn (Some o) imported
+      = subst (λ (w : Option Table). AreForOwn w imported) q (subst (λ (c : Contents). AreFor b.job own imported c) e (for_it fs files jobs starts graph each fit m b)) in
+      names_stand (subst (λ (n : ℕ). AreTables n imported) h.home k.1) (implementation_scope o ts) block o.exported refl
+      (record { tables_are = refl; outermost = refl; names = own_brought (MeaningElse x opens 0 []) Fault o.number o.exported k.0.exports }) h
 
   pub body_named : BodyNamed trees files jobs b x
-  body_named = record { own = instance; names = names_by b.tree.contents (for_it fs files jobs starts graph each fit m b) (begun fs files jobs starts graph each fit m b) }
+  body_named = record { own = instance; program = program_named; implementation = implementation_named }

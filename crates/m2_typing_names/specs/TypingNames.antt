@@ -62,13 +62,13 @@ abbrev pub ArePlaced : List TypeNo → List (List ℕ × Meaning) → Type 0
 ArePlaced ts es = AllByRecursion (λ e. IsPlaced ts e.1) es
 
 -- variables stand where their names say, and sets that are constants have 32 bits
-pub record TableStands (t : Table) : Type 0 where
+pub record TablePlaced (t : Table) : Type 0 where
   pub variables : ArePlaced (exported_variables t.exported) t.exported
   pub words : ExportsWords t.exported
 
 -- so it is of all tables that jobs make
-abbrev pub TablesStand : (trees : List Module) (files : List ℕ) (jobs : List (List ℕ)) → Type 0
-TablesStand trees files jobs = (job : ℕ) (t : Table) → job < length files → result_of trees files jobs job ≡ Defined t → TableStands t
+abbrev pub TablesPlaced : (trees : List Module) (files : List ℕ) (jobs : List (List ℕ)) → Type 0
+TablesPlaced trees files jobs = (job : ℕ) (t : Table) → job < length files → result_of trees files jobs job ≡ Defined t → TablePlaced t
 
 -- ---- open modules: Console, and those that are imported
 
@@ -97,13 +97,6 @@ module _ (x : Context) (opens : ℕ → Bool) where
     pub outer : BlocksThere x opens 0 (declared_of s m b).outer
     pub members : (k : ℕ) (name : Ident) → opens k ≡ true → Holds (MeaningThere x opens 0) (member least (declared_of s m b).tables k name)
 
-  -- where a program begins, or the implementation of a definition
-  abbrev pub NamesFrom : (number : ℕ) → Module → Option Table → List Table → Contents → Type 0
-  NamesFrom number m own tables (contents.Definition ds) = Unit {0}
-  NamesFrom number m None tables (contents.Implementation b) = Unit {0}
-  NamesFrom number m (Some o) tables (contents.Implementation b) = NamesStand (implementation_scope o tables) m b
-  NamesFrom number m own tables (contents.Program b) = NamesStand (first_scope number tables) m b
-
 -- ---- bodies
 
 module _ (trees : List Module) (files : List ℕ) (jobs : List (List ℕ)) {t : TypedModule} (b : IsBodyOf trees files jobs t) where
@@ -117,10 +110,13 @@ module _ (trees : List Module) (files : List ℕ) (jobs : List (List ℕ)) {t : 
   abbrev pub tables_for : List Table
   tables_for = tables_behind own_of needed_tables ++ console ∷ []
 
-  -- The instance of its module has its variables, and its names mean what is there.
+  -- The instance of its module has its variables. Its names mean what is there, where a program begins, and where the
+  -- implementation of a definition does.
   pub record BodyNamed (x : Context) : Type 0 where
     pub own : HasInstance x
-    pub names : NamesFrom x (is_open tables_for t.imports) b.job b.tree own_of tables_for b.tree.contents
+    pub program : (block : Block) → b.tree.contents ≡ contents.Program block → NamesStand x (is_open tables_for t.imports) (first_scope b.job tables_for) b.tree block
+    pub implementation : (o : Table) (block : Block) → own_of ≡ Some o → b.tree.contents ≡ contents.Implementation block
+        → NamesStand x (is_open tables_for t.imports) (implementation_scope o tables_for) b.tree block
 
 -- ---- the law
 
@@ -130,5 +126,5 @@ placed_at p pages place m = context p (ground p pages).base (ground p pages).tex
 
 abbrev pub NamesAreThere : Type 0
 NamesAreThere = (fs : List (List ℕ × Module)) (files : List ℕ) (jobs : List (List ℕ)) (starts : List ℕ) → IsGraph (numbered 0 fs) files jobs starts → CompileEach (numbered 0 fs) files
-    → list_all fits_module (trees_of fs) ≡ true → TablesStand (trees_of fs) files jobs → (p : Program) → AreBodiesIn (trees_of fs) files jobs starts p
+    → list_all fits_module (trees_of fs) ≡ true → TablesPlaced (trees_of fs) files jobs → (p : Program) → AreBodiesIn (trees_of fs) files jobs starts p
     → (pages place : ℕ) (m : TypedModule) → slice_get p place ≡ Some m → (b : IsBodyOf (trees_of fs) files jobs m) → BodyNamed (trees_of fs) files jobs b (placed_at p pages place m)
