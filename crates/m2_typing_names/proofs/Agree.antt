@@ -1,5 +1,5 @@
 -- Modules that know the types that a table reaches know the same types, formals and results of what it exports.
-use Rattle.std.proofs.Common.{◌≡◌, ℕ, zero, suc, ◌+◌, ◌<◌, ◌==◌, Bool, true, false, cond, List, [], ◌∷◌, ◌++◌, Option, Some, None, refl, sym, ap, subst, ◌∙◌, arith}
+use Rattle.std.proofs.Common.{◌≡◌, ℕ, ◌<◌, ◌==◌, Bool, true, false, cond, List, [], ◌∷◌, ◌++◌, Option, Some, None, refl, sym, ap, subst, ◌∙◌, arith}
 use Rattle.std.proofs.lemmas.Bool.{eqb-true}
 use Rattle.std.specs.Prelude.{slice_get, nat_eq, map, if◌then◌else◌}
 use Rattle.std.specs.List.{AllByRecursion}
@@ -19,7 +19,7 @@ use Rattle.m2_typed.specs.Known.{in_list, made_in, made_from, made_at, scalar_at
 use Rattle.m2_layout.specs.Types.{Ty}
 use Rattle.m2_layout.specs.Frames.{formals_in, formals_made}
 use Rattle.m2_layout.specs.Shapes.{tree}
-use Rattle.m2_agree_calls.specs.Passing.{Form, ByName, ByArray, value_form, form_of, forms_of, Result, result_in, result_made, result_of}
+use Rattle.m2_agree_calls.specs.Passing.{Form, ByName, ByArray, value_form, form_of, forms_of, result_in, result_made, result_of}
 use Rattle.m2_formed_types.specs.Ordered.{result_named, named_by, is_known_from, is_known, AreKnown, OthersOrdered, BeginsWith, AreOrdered}
 use Rattle.m2_formed_types.proofs.Trees.{at, at_placed, append_more, some_of, made_by, is_among_from, is_among}
 use Rattle.m2_formed_types.proofs.Shaped.{named_known}

@@ -1,11 +1,10 @@
 -- The predeclared names, which stand around every module, mean what is there.
-use Rattle.std.proofs.Common.{◌≡◌, ℕ, pos, Bool, true, false, cond, List, [], ◌∷◌, Ok, refl, arith}
+use Rattle.std.proofs.Common.{ℕ, pos, Bool, true, false, cond, List, [], ◌∷◌, Ok, refl, arith}
 use Rattle.std.specs.Prelude.{codes}
 use Rattle.std.proofs.lemmas.Int.{ints}
 use Rattle.m2_typed.specs.declared.meaning.Meaning.{Meaning}
 use Rattle.m2_typed.specs.declared.meaning.Meaning.TheVariants as meaning
 use Rattle.m2_typed.specs.declared.meaning.Standard.TheVariants.{Abs, Cap, Chr, High, Max, Min, Odd, Ord, Val, Inc, Dec, Incl, Excl, Halt}
-use Rattle.m2_typed.specs.declared.known_types.Types.{Types}
 use Rattle.m2_typed.specs.Known.{range}
 use Rattle.m2_typed.specs.Types.{integer, cardinal, boolean, char, bitset}
 use Rattle.m2_typed.specs.Names.{same_name, entered}
@@ -14,7 +13,7 @@ use Rattle.m2_judged.specs.declared.known.Known.TheVariants.{Declared}
 use Rattle.m2_judged.specs.declared.known.Origin.TheVariants.{Here}
 use Rattle.m2_types.specs.Predeclared.{predeclared_as, with_types, truth, with_truth, with_functions, with_bounds, with_procedures, predeclared, predeclared_block}
 use Rattle.m2_agree_trees.specs.Typed.{Context}
-use Rattle.m2_formed.specs.Formed.{Holds, fine}
+use Rattle.m2_formed.specs.Formed.{fine}
 use Rattle.m2_formed_ranges.specs.FormedRanges.{IsNumber}
 use Rattle.m2_typing_bodies.specs.TypingBodies.{MeaningThere, KnownThere, NamesThere, BlocksThere}
 

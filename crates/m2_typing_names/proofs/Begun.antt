@@ -1,5 +1,5 @@
 -- The names of a module's block mean what is there, and the module has the procedures that its definition exports.
-use Rattle.std.proofs.Common.{◌≡◌, ℕ, zero, suc, ◌+◌, ◌<◌, ◌==◌, Bool, true, false, List, [], ◌∷◌, ◌++◌, length, Option, Some, None, Result, Ok, Err, refl, sym, ap, subst, ◌∙◌, arith}
+use Rattle.std.proofs.Common.{◌≡◌, ℕ, zero, suc, ◌==◌, Bool, List, [], ◌∷◌, ◌++◌, length, Option, Some, None, Result, Ok, Err, refl, sym, ap, subst, ◌∙◌}
 use Rattle.std.specs.Prelude.{map, slice_get}
 use Rattle.std.specs.List.{fold}
 use Rattle.std.proofs.lemmas.Option.{same_Some}
@@ -24,10 +24,10 @@ use Rattle.m2_types.specs.Predeclared.{predeclared_block, console, first_scope}
 use Rattle.m2_types.specs.Importing.{numbered_modules, with_import}
 use Rattle.m2_blocks.specs.Nesting.{procedure_ends}
 use Rattle.m2_blocks.specs.Naming.{with_marks}
-use Rattle.m2_blocks.specs.Declarations.{Course, Declared, declared_block, declared_module, told_of_lack}
+use Rattle.m2_blocks.specs.Declarations.{Course, Declared, declared_module, told_of_lack}
 use Rattle.m2_blocks.specs.Headings.{name_standing}
 use Rattle.m2_modules.specs.Imports.{all_imports, typed_imports}
-use Rattle.m2_modules.specs.Own.{own_names, exported_headings, implementation_scope}
+use Rattle.m2_modules.specs.Own.{exported_headings, implementation_scope}
 use Rattle.m2_modules.specs.Routines.{unfilled, no_bodies, typed_module}
 use Rattle.m2_bodies.specs.declared.procedure.Walk.{Walk}
 use Rattle.m2_bodies.specs.Judging.{Judges, statements_of}

@@ -1,5 +1,5 @@
 -- What imports bring into the block of a module: from open modules, and declarations keep it.
-use Rattle.std.proofs.Common.{◌≡◌, ℕ, zero, suc, ◌==◌, Bool, true, false, cond, List, [], ◌∷◌, take, drop, Option, Some, None, Result, Ok, Err, refl, sym, ap, subst}
+use Rattle.std.proofs.Common.{◌≡◌, ℕ, zero, suc, ◌==◌, Bool, true, false, cond, List, [], ◌∷◌, take, drop, Option, Some, None, Result, Ok, Err, sym, subst}
 use Rattle.std.specs.Prelude.{slice_get}
 use Rattle.std.specs.List.{AllByRecursion, fold}
 use Rattle.m2_tree.specs.declared.pos.Pos.{Pos}
@@ -9,7 +9,6 @@ use Rattle.m2_tree.specs.declared.decl.Import.{Import}
 use Rattle.m2_tree.specs.declared.decl.Module.{Module as Tree}
 use Rattle.m2_typed.specs.declared.meaning.Meaning.{Meaning}
 use Rattle.m2_typed.specs.declared.meaning.Meaning.TheVariants as meaning
-use Rattle.m2_typed.specs.declared.shape.Made.{Made}
 use Rattle.m2_typed.specs.declared.table.Table.{Table}
 use Rattle.m2_typed.specs.declared.typed_module.TypedModule.{TypedModule}
 use Rattle.m2_typed.specs.declared.types.TypeNo.{TypeNo}
@@ -21,12 +20,11 @@ use Rattle.m2_judged.specs.declared.known.Known.TheVariants.{Later, Ahead, Begun
 use Rattle.m2_judged.specs.declared.known.Origin.{Origin}
 use Rattle.m2_judged.specs.declared.known.Origin.TheVariants.{Here, Module, Export}
 use Rattle.m2_judged.specs.declared.scope.Scope.{Scope}
-use Rattle.m2_made.specs.Made.{with_shape}
 use Rattle.m2_types.specs.Importing.{module_found, with_module_as, with_module_name, with_entry, brings_in, told_of_taken, unless_taken, from_place, with_from, exports_of, from_module, with_imports, with_import}
 use Rattle.m2_types.specs.Declare.{with_variable_type, with_procedure_type}
 use Rattle.m2_blocks.specs.Declarations.{declared_module}
 use Rattle.m2_modules.specs.Own.{with_own_name, own_names}
-use Rattle.m2_formed.specs.Formed.{Holds, fine, broken}
+use Rattle.m2_formed.specs.Formed.{fine}
 use Rattle.m2_formed.proofs.Basics.{holds_weaker}
 use Rattle.m2_formed_scopes.specs.FormedScopes.{OpensNames, OpensImports}
 use Rattle.m2_formed_scopes.proofs.Imports.{OpensImport, OpensAll}

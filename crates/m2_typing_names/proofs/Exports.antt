@@ -1,6 +1,6 @@
 -- What the table of an open module exports is there, for the module that is checked with it.
-use Rattle.std.proofs.Common.{◌≡◌, ◌⊎◌, inl, inr, ℕ, zero, suc, ◌==◌, Bool, true, false, ◌||◌, cond, List, [], ◌∷◌, ◌++◌, length, Option, Some, None, refl, sym, ap, subst, ◌∙◌}
-use Rattle.std.specs.Prelude.{slice_get, slice_index_or, map, codes, All, IfOk}
+use Rattle.std.proofs.Common.{◌≡◌, ◌⊎◌, inl, inr, ℕ, zero, suc, ◌==◌, Bool, true, false, cond, List, [], ◌∷◌, ◌++◌, Option, Some, None, refl, sym, ap, subst, ◌∙◌}
+use Rattle.std.specs.Prelude.{slice_get, map, codes}
 use Rattle.std.specs.List.{AllByRecursion, list_any, list_all}
 use Rattle.m2_tree.specs.declared.decl.Module.{Module}
 use Rattle.m2_graph.specs.Files.{numbered}
@@ -22,25 +22,20 @@ use Rattle.m2_layout.specs.Types.{Ty, Hidden, row, component}
 use Rattle.m2_layout.specs.Frames.{module_row}
 use Rattle.m2_layout.specs.Shapes.{tree}
 use Rattle.m2_layout.specs.Texts.{characters, module_texts}
-use Rattle.m2_types.specs.Predeclared.{console}
 use Rattle.m2_types.specs.Compiled as types
-use Rattle.m2_modules.specs.Imports.{imported_as}
 use Rattle.m2_modules.specs.Own.{exported_variables, exported_headings}
 use Rattle.m2_meaning.specs.Around.{module_place}
 use Rattle.m2_scheme.specs.Exprs.{is_own, import_place, imported_row, variables_row}
 use Rattle.m2_links.specs.Linked.{Program}
-use Rattle.m2_agree_calls.specs.Frames.{Kinds}
-use Rattle.m2_agree_calls.specs.Passing.{Forms, Result, forms_of, result_of}
-use Rattle.m2_agree_runs.specs.Programs.{module_type, ground}
+use Rattle.m2_agree_calls.specs.Passing.{forms_of, result_of}
+use Rattle.m2_agree_runs.specs.Programs.{module_type}
 use Rattle.m2_agree_trees.specs.Typed.{Context, IsKnown, IsVariable, IsNamed, kinds_around}
-use Rattle.m2_agree_bodies.specs.Linked.{context}
 use Rattle.m2_agree_linked.specs.Knows.{Knows, IsCoherent}
 use Rattle.m2_agree_linked.proofs.Globals.{each_at, Import, import_of}
 use Rattle.m2_valid.proofs.Numbers.{mapped_at}
 use Rattle.m2_formed_imports.proofs.Lists.{or_right}
 use Rattle.m2_formed_order.specs.FormedOrder.{MeaningOrdered, ExportsOrdered}
 use Rattle.m2_formed_ranges.specs.FormedRanges.{MeaningRanged, ExportsRanged}
-use Rattle.m2_formed_scopes.proofs.Declarations.{same_home}
 use Rattle.m2_formed_tables.specs.FormedTables.{IsExport, AreExports, IsNumbered, AreNumberedBy}
 use Rattle.m2_formed_tables.proofs.Definitions.{tables_number}
 use Rattle.m2_formed_modules.specs.FormedModules.{IsTable}
@@ -54,7 +49,7 @@ use Rattle.m2_formed_coherent.proofs.Programs.{if_ok, IsDefined, defined_by}
 use Rattle.m2_typing.specs.Carried.{MeaningWord, ExportsWords}
 use Rattle.m2_typing.specs.Names.{MeaningElse}
 use Rattle.m2_typing_bodies.specs.TypingBodies.{MeaningThere}
-use Rattle.m2_typing_names.specs.TypingNames.{IsPlaced, ArePlaced, TablePlaced, TablesPlaced, is_open_table, tables_for, placed_at}
+use Rattle.m2_typing_names.specs.TypingNames.{IsPlaced, ArePlaced, TablePlaced, TablesPlaced, tables_for, placed_at}
 use Rattle.m2_typing_names.proofs.Agree.{only, only_has, same_heading}
 use Rattle.m2_typing_names.proofs.Imported.{IsAs, IsWithin, made_of_table}
 use Rattle.m2_typing_names.proofs.Whole.{got, its_types, IsMade, IsPart, part_of, one_table, coherent_at, HasHome, home_of}

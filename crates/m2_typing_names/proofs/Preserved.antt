@@ -1,14 +1,12 @@
 -- What imports bring into the block of a module: declarations keep it.
 use Rattle.std.proofs.Common.{◌≡◌, ℕ, ◌==◌, pos, Bool, true, false, cond, List, [], ◌∷◌, length, Option, Some, None, Result, Ok, Err, sym, ap, subst, ◌∙◌}
-use Rattle.std.specs.Prelude.{map, take, drop, slice_get}
+use Rattle.std.specs.Prelude.{map}
 use Rattle.std.specs.List.{fold}
-use Rattle.m2_tree.specs.declared.pos.Pos.{Pos}
 use Rattle.m2_tree.specs.declared.name.Ident.{Ident}
 use Rattle.m2_tree.specs.declared.decl.Constant.{Constant}
 use Rattle.m2_tree.specs.declared.decl.TypeDecl.{TypeDecl}
 use Rattle.m2_tree.specs.declared.decl.Variables.{Variables}
 use Rattle.m2_tree.specs.declared.decl.Heading.{Heading}
-use Rattle.m2_tree.specs.declared.decl.Import.{Import}
 use Rattle.m2_tree.specs.declared.decl.Decl.{Decl, Decl-F, out-Decl}
 use Rattle.m2_tree.specs.declared.decl.Decl.TheOpen as dlayer
 use Rattle.m2_tree.specs.declared.decl.Simple.{Simple}

@@ -1,5 +1,5 @@
 -- What the modules of a graph are by the tables that they are checked with, and where the modules of these tables stand.
-use Rattle.std.proofs.Common.{◌≡◌, ◌⊎◌, inl, inr, ℕ, zero, suc, ◌+◌, ◌<◌, ◌==◌, Bool, true, false, cond, List, [], ◌∷◌, ◌++◌, length, Option, Some, None, Result, Ok, Err, refl, sym, ap, subst, ◌∙◌, arith}
+use Rattle.std.proofs.Common.{◌≡◌, ◌⊎◌, inl, inr, ℕ, zero, suc, ◌<◌, true, List, [], ◌∷◌, ◌++◌, length, Option, Some, None, Ok, refl, sym, ap, subst, ◌∙◌, arith}
 use Rattle.std.specs.Prelude.{slice_get, slice_index_or, codes, All}
 use Rattle.std.specs.List.{AllByRecursion, fold, list_all}
 use Rattle.std.proofs.lemmas.Option.{same_Some}
@@ -14,9 +14,7 @@ use Rattle.m2_typed.specs.declared.shape.Made.{Made}
 use Rattle.m2_typed.specs.declared.table.Table.{Table}
 use Rattle.m2_typed.specs.declared.types.TypeNo.{TypeNo}
 use Rattle.m2_typed.specs.declared.typed_module.Imported.{Imported}
-use Rattle.m2_typed.specs.declared.typed_module.Routine.{Routine}
 use Rattle.m2_typed.specs.declared.typed_module.TypedModule.{TypedModule}
-use Rattle.m2_typed.specs.Names.{same_name}
 use Rattle.m2_judged.specs.Judged.{Gathers, least}
 use Rattle.m2_judged.specs.Scopes.{State}
 use Rattle.m2_judged.specs.declared.scope.Scope.{Scope}
@@ -33,9 +31,9 @@ use Rattle.m2_meaning.specs.Around.{module_place}
 use Rattle.m2_valid.specs.WellFormed.{IsRoutine}
 use Rattle.m2_links.specs.Linked.{Program}
 use Rattle.m2_agree_linked.specs.Knows.{IsCoherent}
-use Rattle.m2_formed.specs.Formed.{Holds, fine, broken}
+use Rattle.m2_formed.specs.Formed.{Holds, fine}
 use Rattle.m2_formed.proofs.Basics.{then_holds, any_holds, told_holds}
-use Rattle.m2_formed_imports.proofs.Lists.{same_refl, same_is}
+use Rattle.m2_formed_imports.proofs.Lists.{same_refl}
 use Rattle.m2_formed_imports.proofs.Tables.{fold_keeps, def_marks, def_keeps, import_keeps}
 use Rattle.m2_formed_types.specs.Ordered.{AreOrdered}
 use Rattle.m2_formed_bodies.proofs.Induction.{judged_formed}
@@ -46,8 +44,8 @@ use Rattle.m2_formed_known.specs.FormedKnown.{fits_module, HasReached}
 use Rattle.m2_formed_known.proofs.Gathered.{each_more}
 use Rattle.m2_compile.specs.declared.outcome.Compiled.{Compiled}
 use Rattle.m2_compile.specs.declared.outcome.Compiled.TheVariants.{Defined}
-use Rattle.m2_compile.specs.Own.{own_table, tables_behind}
-use Rattle.m2_compile.specs.Compiling.{tables_of, typed_body}
+use Rattle.m2_compile.specs.Own.{tables_behind}
+use Rattle.m2_compile.specs.Compiling.{tables_of}
 use Rattle.m2_jobs.specs.Spelled.{needed_of}
 use Rattle.m2_formed_programs.proofs.Programs.{tables_for as for_body}
 use Rattle.m2_formed_reach.specs.FormedReach.{result_of, types_of}
@@ -58,7 +56,7 @@ use Rattle.m2_formed_coherent.proofs.Imports.{is_console, AreListed, AreMade, Ow
 use Rattle.m2_formed_coherent.proofs.Programs.{holds_ok, IsDefined, defined_by, own_is, coherent}
 use Rattle.m2_formed_coherent.proofs.Graphs.{graphs_whole}
 use Rattle.m2_typing_names.specs.TypingNames.{own_of, tables_for}
-use Rattle.m2_typing_names.proofs.Begun.{HasBegun, BegunAt, module_begun}
+use Rattle.m2_typing_names.proofs.Begun.{BegunAt, module_begun}
 use Rattle.m2_typing_names.proofs.Imported.{IsWithin, typed_within}
 
 -- ---- lists
