@@ -175,61 +175,77 @@ module _ (fs : List (List ℕ × Tree)) (files : List ℕ) (jobs : List (List �
   all_else [] h = tt
   all_else (e ∷ es) h = (h.0.1, all_else es h.1)
 
-  module _ (tables : AreTables m.types.home imported) where
-    table_at : (n : ℕ) (u : Table) → slice_get ts n ≡ Some u → is_open_table m.imports (Some u) ≡ true → AllStand u.exported
-    table_at n u e h = elim (behind_or_console imported console n u e) [
-      | inl k ↦ (let t : IsTable m.types.home u = got (IsTable m.types.home) imported tables n u k in
-          table_stands fs files jobs starts graph each fit stands p bodies pages place m there b u n e t (imported_if (same_name u.name (codes "Console")) (list_any (λ (i : Imported). i.number == u.number) m.imports) t.named h) opens)
-      | inr c ↦ subst (λ (w : Table). AllStand w.exported) (sym c) console_stands
-    ]
+  -- the tables of its imports are those of other modules
+  tables_by : (c : Contents) → AreFor b.job own imported c → BegunAt least (judged least) (judged_formed least) b.job b.tree own ts m c → AreTables m.types.home imported
+  tables_by (contents.Definition defs) k h = absurd h
+  tables_by (contents.Program block) k h = subst (λ (n : ℕ). AreTables n imported) h.home k
+  tables_by (contents.Implementation block) k h =
+      let for_own : AreForOwn (Some h.0) imported = subst (λ (o : Option Table). AreForOwn o imported) h.1 k in
+      subst (λ (n : ℕ). AreTables n imported) h.2.home for_own.1
 
-    exports_by : (n : ℕ) (o : Option Table) → slice_get ts n ≡ o → is_open_table m.imports o ≡ true → AllStand (exports_of o)
-    exports_by n None e h = tt
-    exports_by n (Some u) e h = table_at n u e h
+  tables : AreTables m.types.home imported
+  tables = tables_by b.tree.contents (for_it fs files jobs starts graph each fit m b) (begun fs files jobs starts graph each fit m b)
 
-    exports_at : (n : ℕ) → opens n ≡ true → AllStand (exports_of (slice_get ts n))
-    exports_at n h = exports_by n (slice_get ts n) refl h
+  table_at : (n : ℕ) (u : Table) → slice_get ts n ≡ Some u → is_open_table m.imports (Some u) ≡ true → AllStand u.exported
+  table_at n u e h = elim (behind_or_console imported console n u e) [
+    | inl k ↦ (let t : IsTable m.types.home u = got (IsTable m.types.home) imported tables n u k in
+        table_stands fs files jobs starts graph each fit stands p bodies pages place m there b u n e t (imported_if (same_name u.name (codes "Console")) (list_any (λ (i : Imported). i.number == u.number) m.imports) t.named h) opens)
+    | inr c ↦ subst (λ (w : Table). AllStand w.exported) (sym c) console_stands
+  ]
 
-    found_by : (at : Pos) (c : Bool) (v : Meaning) (o : Option Meaning) → MeaningThere x opens 0 v → Holds (MeaningThere x opens 0) (exported least at o) → Holds (MeaningThere x opens 0) (exported least at (cond c (Some v) o))
-    found_by at true v o h k = fine v h
-    found_by at false v o h k = k
+  exports_by : (n : ℕ) (o : Option Table) → slice_get ts n ≡ o → is_open_table m.imports o ≡ true → AllStand (exports_of o)
+  exports_by n None e h = tt
+  exports_by n (Some u) e h = table_at n u e h
 
-    found_there : (at : Pos) (name : List ℕ) (es : List (List ℕ × Meaning)) → AllStand es → Holds (MeaningThere x opens 0) (exported least at (found name es))
-    found_there at name [] k = told_holds least at 32
-    found_there at name (e ∷ es) k = found_by at (same_name name e.0) e.1 (found name es) k.0.0 (found_there at name es k.1)
+  exports_at : (n : ℕ) → opens n ≡ true → AllStand (exports_of (slice_get ts n))
+  exports_at n h = exports_by n (slice_get ts n) refl h
 
-    member_by : (name : Ident) (o : Option Table) → AllStand (exports_of o) → Holds (MeaningThere x opens 0) (exported least name.pos (exported_by name.name o))
-    member_by name None k = told_holds least name.pos 32
-    member_by name (Some u) k = found_there name.pos name.name u.exported k
+  found_by : (at : Pos) (c : Bool) (v : Meaning) (o : Option Meaning) → MeaningThere x opens 0 v → Holds (MeaningThere x opens 0) (exported least at o) → Holds (MeaningThere x opens 0) (exported least at (cond c (Some v) o))
+  found_by at true v o h k = fine v h
+  found_by at false v o h k = k
 
-    member_there : (k : ℕ) (name : Ident) → opens k ≡ true → Holds (MeaningThere x opens 0) (member least ts k name)
-    member_there k name h = member_by name (slice_get ts k) (exports_at k h)
+  found_there : (at : Pos) (name : List ℕ) (es : List (List ℕ × Meaning)) → AllStand es → Holds (MeaningThere x opens 0) (exported least at (found name es))
+  found_there at name [] k = told_holds least at 32
+  found_there at name (e ∷ es) k = found_by at (same_name name e.0) e.1 (found name es) k.0.0 (found_there at name es k.1)
 
-    -- ---- the names of the module
+  member_by : (name : Ident) (o : Option Table) → AllStand (exports_of o) → Holds (MeaningThere x opens 0) (exported least name.pos (exported_by name.name o))
+  member_by name None k = told_holds least name.pos 32
+  member_by name (Some u) k = found_there name.pos name.name u.exported k
 
-    abbrev Brought : Scope Fault → Type 0
-    Brought s = IsBrought (MeaningElse x opens 0 []) least opens ts (λ n h. h) (λ n h. all_else (exports_of (slice_get ts n)) (exports_at n h)) s
+  member_there : (k : ℕ) (name : Ident) → opens k ≡ true → Holds (MeaningThere x opens 0) (member least ts k name)
+  member_there k name h = member_by name (slice_get ts k) (exports_at k h)
 
-    names_stand : (s : Scope Fault) (body : Block) (es : List (List ℕ × Meaning)) → s.tables ≡ ts → Brought s → HasBegun least s b.tree body es m → NamesStand x opens s b.tree body
-    names_stand s body es e q h =
-        let ds : List Decl = (out-Block body).decls in
-        let modules : List (List ℕ × ℕ) = (numbered_modules s.tables).0 in
-        let opened : OpensAll m opens least modules b.tree.imports = subst (λ (us : List Table). OpensAll m (open_in us m.imports) least modules b.tree.imports) e h.opened in
-        let formed : AreFormedNames m opens (declared_of s b.tree body).own = subst (λ (us : List Table). AreFormedNames m (open_in us m.imports) (declared_of s b.tree body).own) e h.names in
-        let all : Brought (declared_of s b.tree body)
-        = module_brought (MeaningElse x opens 0 []) least opens ts (λ n h. h) (λ n h. all_else (exports_of (slice_get ts n)) (exports_at n h)) m modules (procedure_ends ds) s b.tree ds opened q in
-        record {
-          others = names_else (declared_of s b.tree body).own formed all.names;
-          outer = subst (λ (bs : List (Around Fault)). BlocksThere x opens 0 bs) (sym h.outer) (around_there x opens Fault);
-          members = λ k name g. subst (λ (us : List Table). Holds (MeaningThere x opens 0) (member least us k name)) (sym all.tables_are) (member_there k name g);
-        }
+  -- ---- the names of the module
+
+  abbrev Brought : Scope Fault → Type 0
+  Brought s = IsBrought (MeaningElse x opens 0 []) least opens ts (λ n h. h) (λ n h. all_else (exports_of (slice_get ts n)) (exports_at n h)) s
+
+  names_stand : (s : Scope Fault) (body : Block) (es : List (List ℕ × Meaning)) → s.tables ≡ ts → Brought s → HasBegun least s b.tree body es m → NamesStand x opens s b.tree body
+  names_stand s body es e q h =
+      let ds : List Decl = (out-Block body).decls in
+      let modules : List (List ℕ × ℕ) = (numbered_modules s.tables).0 in
+      let opened : OpensAll m opens least modules b.tree.imports = subst (λ (us : List Table). OpensAll m (open_in us m.imports) least modules b.tree.imports) e h.opened in
+      let formed : AreFormedNames m opens (declared_of s b.tree body).own = subst (λ (us : List Table). AreFormedNames m (open_in us m.imports) (declared_of s b.tree body).own) e h.names in
+      let all : Brought (declared_of s b.tree body)
+      = module_brought (MeaningElse x opens 0 []) least opens ts (λ n h. h) (λ n h. all_else (exports_of (slice_get ts n)) (exports_at n h)) m modules (procedure_ends ds) s b.tree ds opened q in
+      record {
+        others = names_else (declared_of s b.tree body).own formed all.names;
+        outer = subst (λ (bs : List (Around Fault)). BlocksThere x opens 0 bs) (sym h.outer) (around_there x opens Fault);
+        members = λ k name g. subst (λ (us : List Table). Holds (MeaningThere x opens 0) (member least us k name)) (sym all.tables_are) (member_there k name g);
+      }
+
+  all_there : (es : List (List ℕ × Meaning)) → AllStand es → AllByRecursion (λ e. MeaningThere x opens 0 e.1) es
+  all_there [] h = tt
+  all_there (e ∷ es) h = (h.0.0, all_there es h.1)
+
+  exports_there : (k : ℕ) (u : Table) → slice_get ts k ≡ Some u → opens k ≡ true → AllByRecursion (λ e. MeaningThere x opens 0 e.1) u.exported
+  exports_there k u e h = all_there u.exported (table_at k u e (ap (λ (o : Option Table). is_open_table m.imports o) (sym e) ∙ h))
 
   program_named : (block : Block) → b.tree.contents ≡ contents.Program block → NamesStand x opens (first_scope b.job ts) b.tree block
   program_named block e =
       let h : HasBegun least (first_scope b.job ts) b.tree block [] m
       = subst (λ (c : Contents). BegunAt least (judged least) (judged_formed least) b.job b.tree own ts m c) e (begun fs files jobs starts graph each fit m b) in
-      let k : AreTables b.job imported = subst (λ (c : Contents). AreFor b.job own imported c) e (for_it fs files jobs starts graph each fit m b) in
-      names_stand (subst (λ (n : ℕ). AreTables n imported) h.home k) (first_scope b.job ts) block [] refl (record { tables_are = refl; outermost = refl; names = tt }) h
+      names_stand (first_scope b.job ts) block [] refl (record { tables_are = refl; outermost = refl; names = tt }) h
 
   implementation_named : (o : Table) (block : Block) → own ≡ Some o → b.tree.contents ≡ contents.Implementation block → NamesStand x opens (implementation_scope o ts) b.tree block
   implementation_named o block q e =
@@ -238,8 +254,8 @@ module _ (fs : List (List ℕ × Tree)) (files : List ℕ) (jobs : List (List �
       = subst (λ (u : Table). HasBegun least (implementation_scope u ts) b.tree block u.exported m) (same_Some found.0 o (sym found.1 ∙ q)) found.2 in
       let k : AreForOwn (Some o) imported
       = subst (λ (w : Option Table). AreForOwn w imported) q (subst (λ (c : Contents). AreFor b.job own imported c) e (for_it fs files jobs starts graph each fit m b)) in
-      names_stand (subst (λ (n : ℕ). AreTables n imported) h.home k.1) (implementation_scope o ts) block o.exported refl
+      names_stand (implementation_scope o ts) block o.exported refl
       (record { tables_are = refl; outermost = refl; names = own_brought (MeaningElse x opens 0 []) Fault o.number o.exported k.0.exports }) h
 
   pub body_named : BodyNamed trees files jobs b x
-  body_named = record { own = instance; program = program_named; implementation = implementation_named }
+  body_named = record { own = instance; exports = exports_there; program = program_named; implementation = implementation_named }

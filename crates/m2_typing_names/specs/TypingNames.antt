@@ -109,13 +109,17 @@ module _ (trees : List Module) (files : List ℕ) (jobs : List (List ℕ)) {t : 
   abbrev pub tables_for : List Table
   tables_for = tables_behind own_of needed_tables ++ console ∷ []
 
-  -- The instance of its module has its variables. Its names mean what is there, where a program begins, and where the
-  -- implementation of a definition does.
+  -- the modules that are open to it
+  abbrev pub opens_for : ℕ → Bool
+  opens_for = is_open tables_for t.imports
+
+  -- The instance of its module has its variables. What open modules export is there, and so are its names: where a program
+  -- begins, and where the implementation of a definition does.
   pub record BodyNamed (x : Context) : Type 0 where
     pub own : HasInstance x
-    pub program : (block : Block) → b.tree.contents ≡ contents.Program block → NamesStand x (is_open tables_for t.imports) (first_scope b.job tables_for) b.tree block
-    pub implementation : (o : Table) (block : Block) → own_of ≡ Some o → b.tree.contents ≡ contents.Implementation block
-        → NamesStand x (is_open tables_for t.imports) (implementation_scope o tables_for) b.tree block
+    pub exports : (k : ℕ) (u : Table) → slice_get tables_for k ≡ Some u → opens_for k ≡ true → AllByRecursion (λ e. MeaningThere x opens_for 0 e.1) u.exported
+    pub program : (block : Block) → b.tree.contents ≡ contents.Program block → NamesStand x opens_for (first_scope b.job tables_for) b.tree block
+    pub implementation : (o : Table) (block : Block) → own_of ≡ Some o → b.tree.contents ≡ contents.Implementation block → NamesStand x opens_for (implementation_scope o tables_for) b.tree block
 
 -- ---- the law
 
