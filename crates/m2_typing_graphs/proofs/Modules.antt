@@ -23,8 +23,6 @@ use Rattle.m2_layout.specs.Texts.{characters, module_texts}
 use Rattle.m2_scheme.specs.Modules.{all_characters}
 use Rattle.m2_links.specs.Linked.{Program, text, bytes_in}
 use Rattle.m2_links.proofs.Stores.{text_length}
-use Rattle.m2_types.specs.Predeclared.{first_scope}
-use Rattle.m2_modules.specs.Own.{implementation_scope}
 use Rattle.m2_formed.specs.Formed.{Holds, fine, broken}
 use Rattle.m2_formed_bodies.specs.FormedBodies.{Keeps}
 use Rattle.m2_formed_known.specs.FormedKnown.{fits_module}
@@ -46,8 +44,10 @@ use Rattle.m2_typing_bodies.proofs.Modules.{modules_typed, modules_keep, modules
 use Rattle.m2_typing_wants.specs.TypingWants.{CallsNoVariable, AreOrdered, placed}
 use Rattle.m2_typing_wants.proofs.Orders.{bodies_ordered}
 use Rattle.m2_typing_wants.proofs.Provided.{bodies_provided, module_typed}
-use Rattle.m2_typing_tables.specs.TypingTables.{BeginsIn, program, implementation, tables_by, modules_in, declared_in, walked_in, BodyStands, BodiesStand}
-use Rattle.m2_typing_names.specs.TypingNames.{is_open, NamesStand, NamesFrom, BodyNamed, placed_at, NamesAreThere}
+use Rattle.m2_typing_tables.specs.TypingTables.{BeginsIn, program, implementation, tables_by, modules_in, declared_in, walked_in, BodyStands}
+use Rattle.m2_typing_tables.proofs.Bodies.{bodies_stand}
+use Rattle.m2_typing_names.specs.TypingNames.{is_open, NamesStand, BodyNamed, placed_at}
+use Rattle.m2_typing_names.proofs.Names.{body_named}
 use Rattle.m2_typing_graphs.proofs.Names.{module_names}
 
 -- ---- lists
@@ -100,19 +100,6 @@ block_fits : (m : Module) (job : ℕ) (ts : List Table) (s : Scope least.Told) (
 block_fits m job ts _ _ (program b e) h = ap fits_contents (sym e) ∙ h
 block_fits m job ts _ _ (implementation own b o e) h = ap fits_contents (sym e) ∙ h
 
-module _ (x : Context) (opens : ℕ → Bool) where
-  by_program : (job : ℕ) (m : Module) (own : Option Table) (tables : List Table) (b : Block) → NamesFrom x opens job m own tables (contents.Program b) → NamesStand x opens (first_scope job tables) m b
-  by_program job m None tables b n = n
-  by_program job m (Some o) tables b n = n
-
-  by_implementation : (job : ℕ) (m : Module) (own : Option Table) (tables : List Table) (o : Table) (b : Block) → own ≡ Some o → NamesFrom x opens job m own tables (contents.Implementation b) → NamesStand x opens (implementation_scope o tables) m b
-  by_implementation job m own tables o b e n = subst (λ (q : Option Table). NamesFrom x opens job m q tables (contents.Implementation b)) e n
-
-  names_begun : (m : Module) (job : ℕ) (ts : List Table) (s : Scope least.Told) (b : Block) → BeginsIn m job ts s b → NamesFrom x opens job m (own_table m ts) (tables_by m ts) m.contents → NamesStand x opens s m b
-  names_begun m job ts _ _ (program b e) n = by_program job m (own_table m ts) (tables_by m ts) b (subst (λ (c : Contents). NamesFrom x opens job m (own_table m ts) (tables_by m ts) c) e n)
-  names_begun m job ts _ _ (implementation own b o e) n =
-      by_implementation job m (own_table m ts) (tables_by m ts) own b o (subst (λ (c : Contents). NamesFrom x opens job m (own_table m ts) (tables_by m ts) c) e n)
-
 -- ---- one module
 
 module _ (p : Program) (pages place : ℕ) (m : TypedModule) (there : slice_get p place ≡ Some m) (tree : Module) (job : ℕ) (ts : List Table) (st : BodyStands tree job ts m) where
@@ -125,7 +112,7 @@ module _ (p : Program) (pages place : ℕ) (m : TypedModule) (there : slice_get 
   abbrev z : Stage
   z = placed p pages place m opens
 
-  module _ (own : HasInstance x) (names : NamesFrom x opens job tree (own_table tree ts) (tables_by tree ts) tree.contents) (fits : fits_contents tree.contents ≡ true) where
+  module _ (own : HasInstance x) (stand : NamesStand x opens st.scope tree st.block) (fits : fits_contents tree.contents ≡ true) where
     abbrev behind : Scope least.Told
     behind = (declared_in st.scope tree st.block).0
 
@@ -140,9 +127,6 @@ module _ (p : Program) (pages place : ℕ) (m : TypedModule) (there : slice_get 
 
     outermost : behind.level ≡ 0
     outermost = modules_outermost least (modules_in st.scope tree st.block) st.scope tree st.block fits_block st.begins
-
-    stand : NamesStand x opens st.scope tree st.block
-    stand = names_begun x opens tree job ts st.scope st.block st.begun names
 
     grows : (t : TypeNo) (y : Made) → made_at behind.types t ≡ Some y → made_at m.types t ≡ Some y
     grows t y e = subst (λ (types : Types). made_at types t ≡ Some y) (sym st.types) (keeps.types t y e)
@@ -190,12 +174,17 @@ module _ (fs : List (List ℕ × Module)) (files : List ℕ) (jobs : List (List 
         let ts : List Table = tables o in
         held AreOrdered (typed_body o.tree o.job ts) m (bodies_ordered least o.job o.tree (own_table o.tree ts) (tables_behind (own_table o.tree ts) ts)) o.typed
 
+    names_begun : (m : TypedModule) (o : Body m) {x : Context} → BodyNamed (trees_of fs) files jobs o x → (s : Scope least.Told) (b : Block) → BeginsIn o.tree o.job (tables o) s b → NamesStand x (is_open (tables_by o.tree (tables o)) m.imports) s o.tree b
+    names_begun m o named _ _ (program b e) = named.program b e
+    names_begun m o named _ _ (implementation own b k e) = named.implementation own b k e
+
     pub are_typed : AreTypedModules p pages
     are_typed place m e =
         let o : Body m = body_of place m e in
-        let named = names_are_there fs files jobs starts graph each fit p b pages place m e o in
+        let named : BodyNamed (trees_of fs) files jobs o (placed_at p pages place m) = body_named fs files jobs starts graph each fit p b pages place m e o in
         let st : BodyStands o.tree o.job (tables o) m = bodies_stand fs files jobs starts graph fit o.tree o.job m (passes_at fits_module (trees_of fs) fit (slice_index_or files o.job 0) o.tree o.is_tree) o.typed in
-        let typed = bodies_typed p pages place m e o.tree o.job (tables o) st named.own named.names (passes_at (λ (t : Module). fits_contents t.contents) (trees_of fs) whole (slice_index_or files o.job 0) o.tree o.is_tree) (texts_room p pages place m e room most) in
+        let stand : NamesStand (placed_at p pages place m) (is_open (tables_by o.tree (tables o)) m.imports) st.scope o.tree st.block = names_begun m o named st.scope st.block st.begun in
+        let typed = bodies_typed p pages place m e o.tree o.job (tables o) st named.own stand (passes_at (λ (t : Module). fits_contents t.contents) (trees_of fs) whole (slice_index_or files o.job 0) o.tree o.is_tree) (texts_room p pages place m e room most) in
         let bytes = texts_are_bytes m (each_at IsFit p fits place m e).spelled in
         module_typed p pages place m (opens p pages place m e o.tree o.job (tables o) st) typed
         (bodies_provided (placed p pages place m (opens p pages place m e o.tree o.job (tables o) st)) (all_at CallsNoVariable p calls place m e) (ordered m o) bytes)

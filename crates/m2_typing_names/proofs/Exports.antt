@@ -49,7 +49,9 @@ use Rattle.m2_formed_coherent.proofs.Programs.{if_ok, IsDefined, defined_by}
 use Rattle.m2_typing.specs.Carried.{MeaningWord, ExportsWords}
 use Rattle.m2_typing.specs.Names.{MeaningElse}
 use Rattle.m2_typing_bodies.specs.TypingBodies.{MeaningThere}
-use Rattle.m2_typing_names.specs.TypingNames.{IsPlaced, ArePlaced, TablePlaced, TablesPlaced, tables_for, placed_at}
+use Rattle.m2_typing_tables.specs.TypingTables.{IsPlaced, ArePlacedBy, ExportsStand}
+use Rattle.m2_typing_tables.proofs.Tables.{tables_stand}
+use Rattle.m2_typing_names.specs.TypingNames.{tables_for, placed_at}
 use Rattle.m2_typing_names.proofs.Agree.{only, only_has, same_heading}
 use Rattle.m2_typing_names.proofs.Imported.{IsAs, IsWithin, made_of_table}
 use Rattle.m2_typing_names.proofs.Whole.{got, its_types, IsMade, IsPart, part_of, one_table, coherent_at, HasHome, home_of}
@@ -79,7 +81,7 @@ none_around m level w e = ap (λ (o : Option Which). kinds_around m level o) e �
   by (suc k) = by k
 
 module _ (fs : List (List ℕ × Module)) (files : List ℕ) (jobs : List (List ℕ)) (starts : List ℕ) (graph : IsGraph (numbered 0 fs) files jobs starts) (each : CompileEach (numbered 0 fs) files) (fit : list_all fits_module (trees_of fs) ≡ true)
-    (stands : TablesPlaced (trees_of fs) files jobs) (p : Program) (bodies : AreBodiesIn (trees_of fs) files jobs starts p) (pages place : ℕ) (m : TypedModule) (there : slice_get p place ≡ Some m) (b : IsBodyOf (trees_of fs) files jobs m) where
+    (p : Program) (bodies : AreBodiesIn (trees_of fs) files jobs starts p) (pages place : ℕ) (m : TypedModule) (there : slice_get p place ≡ Some m) (b : IsBodyOf (trees_of fs) files jobs m) where
   abbrev trees : List Module
   trees = trees_of fs
 
@@ -208,7 +210,7 @@ module _ (fs : List (List ℕ × Module)) (files : List ℕ) (jobs : List (List 
       export_stands (meaning.Standard f) e n s o r w = ((tt, tt), tt)
       export_stands (meaning.Module j) e n s o r w = absurd e
 
-      exports_stand : (es : List (List ℕ × Meaning)) → AreExports u.number es → AreNumberedBy (exported_headings u.exported) es → ArePlaced (exported_variables u.exported) es → ExportsOrdered alone es → ExportsRanged m.types es → ExportsWords es
+      exports_stand : (es : List (List ℕ × Meaning)) → AreExports u.number es → AreNumberedBy (exported_headings u.exported) es → ArePlacedBy (exported_variables u.exported) es → ExportsOrdered alone es → ExportsRanged m.types es → ExportsWords es
           → AllByRecursion (λ e. ExportStands e.1) es
       exports_stand [] e n s o r w = tt
       exports_stand (v ∷ es) e n s o r w = (export_stands v.1 e.0 n.0 s.0 o.0 r.0 w.0, exports_stand es e.1 n.1 s.1 o.1 r.1 w.1)
@@ -216,7 +218,7 @@ module _ (fs : List (List ℕ × Module)) (files : List ℕ) (jobs : List (List 
       pub table_stands : AllByRecursion (λ e. ExportStands e.1) u.exported
       table_stands =
           let d : IsDefined trees files jobs fit u.number u = defined_by trees files jobs fit u.number u made.1 in
-          let stand : TablePlaced u = stands u.number u made.0 made.1 in
+          let stand : ExportsStand u.number u.exported = (tables_stand trees files jobs fit u.number u made.1).exports in
           exports_stand u.exported table.exports
           (if_ok (λ (t : Table). AreNumberedBy (exported_headings t.exported) t.exported) (types.compiled least u.number d.tree (tables_of (needed_of trees files jobs u.number))) u (tables_number least u.number d.tree (tables_of (needed_of trees files jobs u.number))) d.compiled_to)
           stand.variables (formed.exports alone (only_has (its_types fs files jobs starts graph each fit) (suc u.number) u formed)).0 (formed.exports m.types has).1 stand.words

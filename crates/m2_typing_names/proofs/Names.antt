@@ -57,9 +57,9 @@ use Rattle.m2_formed_modules.proofs.Opens.{open_in}
 use Rattle.m2_formed_known.specs.FormedKnown.{fits_module}
 use Rattle.m2_compile.specs.Own.{tables_behind}
 use Rattle.m2_formed_coherent.specs.FormedCoherent.{trees_of, IsBodyOf, AreBodiesIn}
-use Rattle.m2_typing.specs.Names.{MeaningElse, KnownElse, NamesElse}
+use Rattle.m2_typing.specs.Names.{HasInstance, MeaningElse, KnownElse, NamesElse}
 use Rattle.m2_typing_bodies.specs.TypingBodies.{MeaningThere, BlocksThere}
-use Rattle.m2_typing_names.specs.TypingNames.{TablesPlaced, is_open_table, is_open, HasInstance, declared_of, NamesStand, needed_tables, own_of, tables_for, BodyNamed, placed_at}
+use Rattle.m2_typing_names.specs.TypingNames.{is_open_table, is_open, declared_of, NamesStand, needed_tables, own_of, tables_for, BodyNamed, placed_at}
 use Rattle.m2_typing_names.proofs.Preserved.{IsOuter, BroughtFrom, KnownBrought, NamesBrought}
 use Rattle.m2_typing_names.proofs.Brought.{own_brought, IsBrought, module_brought}
 use Rattle.m2_typing_names.proofs.Begun.{HasBegun, BegunAt}
@@ -80,7 +80,7 @@ imported_if true b e h = absurd cc
 imported_if false b e h = h
 
 module _ (fs : List (List ℕ × Tree)) (files : List ℕ) (jobs : List (List ℕ)) (starts : List ℕ) (graph : IsGraph (numbered 0 fs) files jobs starts) (each : CompileEach (numbered 0 fs) files) (fit : list_all fits_module (trees_of fs) ≡ true)
-    (stands : TablesPlaced (trees_of fs) files jobs) (p : Program) (bodies : AreBodiesIn (trees_of fs) files jobs starts p) (pages place : ℕ) (m : TypedModule) (there : slice_get p place ≡ Some m) (b : IsBodyOf (trees_of fs) files jobs m) where
+    (p : Program) (bodies : AreBodiesIn (trees_of fs) files jobs starts p) (pages place : ℕ) (m : TypedModule) (there : slice_get p place ≡ Some m) (b : IsBodyOf (trees_of fs) files jobs m) where
   abbrev trees : List Tree
   trees = trees_of fs
 
@@ -189,7 +189,7 @@ module _ (fs : List (List ℕ × Tree)) (files : List ℕ) (jobs : List (List �
   table_at : (n : ℕ) (u : Table) → slice_get ts n ≡ Some u → is_open_table m.imports (Some u) ≡ true → AllStand u.exported
   table_at n u e h = elim (behind_or_console imported console n u e) [
     | inl k ↦ (let t : IsTable m.types.home u = got (IsTable m.types.home) imported tables n u k in
-        table_stands fs files jobs starts graph each fit stands p bodies pages place m there b u n e t (imported_if (same_name u.name (codes "Console")) (list_any (λ (i : Imported). i.number == u.number) m.imports) t.named h) opens)
+        table_stands fs files jobs starts graph each fit p bodies pages place m there b u n e t (imported_if (same_name u.name (codes "Console")) (list_any (λ (i : Imported). i.number == u.number) m.imports) t.named h) opens)
     | inr c ↦ subst (λ (w : Table). AllStand w.exported) (sym c) console_stands
   ]
 

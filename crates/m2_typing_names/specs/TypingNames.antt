@@ -38,36 +38,9 @@ use Rattle.m2_compile.specs.Compiling.{tables_of}
 use Rattle.m2_jobs.specs.Spelled.{needed_of}
 use Rattle.m2_formed_reach.specs.FormedReach.{result_of}
 use Rattle.m2_formed_coherent.specs.FormedCoherent.{trees_of, IsBodyOf, AreBodiesIn}
-use Rattle.m2_typing.specs.Names.{NamesElse}
+use Rattle.m2_typing.specs.Names.{HasInstance, NamesElse}
 use Rattle.m2_typing.specs.Carried.{ExportsWords}
 use Rattle.m2_typing_bodies.specs.TypingBodies.{MeaningThere, BlocksThere}
-
--- ---- tables
-
--- a variable that is exported has its place among those that are exported
-abbrev pub IsPlaced : List TypeNo → Meaning → Type 0
-IsPlaced ts (meaning.Variable v) = slice_get ts v.number ≡ Some v.of
-IsPlaced ts (meaning.Constant v) = Unit {0}
-IsPlaced ts (meaning.Type t n) = Unit {0}
-IsPlaced ts (meaning.Local v) = Unit {0}
-IsPlaced ts (meaning.Field f) = Unit {0}
-IsPlaced ts (meaning.Procedure p) = Unit {0}
-IsPlaced ts (meaning.LocalProcedure p) = Unit {0}
-IsPlaced ts meaning.Ahead = Unit {0}
-IsPlaced ts (meaning.Standard f) = Unit {0}
-IsPlaced ts (meaning.Module k) = Unit {0}
-
-abbrev pub ArePlaced : List TypeNo → List (List ℕ × Meaning) → Type 0
-ArePlaced ts es = AllByRecursion (λ e. IsPlaced ts e.1) es
-
--- variables stand where their names say, and sets that are constants have 32 bits
-pub record TablePlaced (t : Table) : Type 0 where
-  pub variables : ArePlaced (exported_variables t.exported) t.exported
-  pub words : ExportsWords t.exported
-
--- so it is of all tables that jobs make
-abbrev pub TablesPlaced : (trees : List Module) (files : List ℕ) (jobs : List (List ℕ)) → Type 0
-TablesPlaced trees files jobs = (job : ℕ) (t : Table) → job < length files → result_of trees files jobs job ≡ Defined t → TablePlaced t
 
 -- ---- open modules: Console, and those that are imported
 
@@ -79,11 +52,6 @@ abbrev pub is_open : List Table → List Imported → ℕ → Bool
 is_open tables is k = is_open_table is (slice_get tables k)
 
 -- ---- modules
-
--- the instance of a module: its variables, and what stands behind them
-pub record HasInstance (x : Context) : Type 0 where
-  pub behind : List Ty
-  pub there : slice_get x.base (module_place x.p x.home.types.home) ≡ Some (row (map (tree x.home.types) x.home.variables ++ behind))
 
 -- behind the declarations of a module that begins in this scope
 abbrev pub declared_of : Scope Fault → Module → Block → Scope Fault
@@ -129,5 +97,5 @@ placed_at p pages place m = context p (ground p pages).base (ground p pages).tex
 
 abbrev pub NamesAreThere : Type 0
 NamesAreThere = (fs : List (List ℕ × Module)) (files : List ℕ) (jobs : List (List ℕ)) (starts : List ℕ) → IsGraph (numbered 0 fs) files jobs starts → CompileEach (numbered 0 fs) files
-    → list_all fits_module (trees_of fs) ≡ true → TablesPlaced (trees_of fs) files jobs → (p : Program) → AreBodiesIn (trees_of fs) files jobs starts p
+    → list_all fits_module (trees_of fs) ≡ true → (p : Program) → AreBodiesIn (trees_of fs) files jobs starts p
     → (pages place : ℕ) (m : TypedModule) → slice_get p place ≡ Some m → (b : IsBodyOf (trees_of fs) files jobs m) → BodyNamed (trees_of fs) files jobs b (placed_at p pages place m)

@@ -1,7 +1,7 @@
 //! Why the names of a module of a graph mean what is there, also where they stand for what other modules export. There is no
 //! code here but what names the law.
 //!
-//! - `specs/TypingNames` says what is asked of tables, and which names of a module are meant.
+//! - `specs/TypingNames` says which names of a module are meant.
 //! - `proofs/Brought` has what imports bring into the block of a module, and `proofs/Preserved` that declarations keep it.
 //!   `proofs/Begun` has the names of that block, and `proofs/Around` the predeclared names around it.
 //! - `proofs/Agree` has that two modules know the same formals and results of a heading that a table exports, and

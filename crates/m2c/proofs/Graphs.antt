@@ -38,7 +38,8 @@ use Rattle.m2_links.proofs.Placed.{modules_link}
 use Rattle.m2_formed_programs.proofs.Links.{slots_few, link_valid}
 use Rattle.m2_formed_graphs.proofs.Modules.{are_modules}
 use Rattle.m2c.proofs.Linked.{all_modules}
-use Rattle.m2c.proofs.Fitting.{trees_fit, bodies_in}
+use Rattle.m2_typing_graphs.proofs.Modules.{are_typed}
+use Rattle.m2c.proofs.Fitting.{trees_fit, trees_whole, bodies_in}
 use Rattle.m2c.proofs.Valid.{all_valid}
 use Rattle.m2c.proofs.Programs.{AreFit, AreBuilt, all_built, distinct_all, count_all}
 
@@ -177,8 +178,9 @@ module _ (files : List SourceFile) (fs : List (List ℕ × Module)) (numbers : L
           spelled = subst (λ (bs : List (List ℕ)). headline.AreSpelled bs (map typed_module p)) (sym codes) (all_spelled p whole.fit);
         };
         links = (_, modules_link p pages linkable);
-        behaves = typed_behave p pages linkable fits_all most (slots_few p pages link_spelled.fits)
-            (are_modules fs numbers jobs starts have.is_graph have.each (trees_fit files fs have.are_trees) p (bodies_in fs numbers jobs starts p whole.typed) whole.small);
+        behaves = λ calls. typed_behave p pages linkable fits_all most (slots_few p pages link_spelled.fits)
+            (are_modules fs numbers jobs starts have.is_graph have.each (trees_fit files fs have.are_trees) p (bodies_in fs numbers jobs starts p whole.typed) whole.small)
+            (are_typed fs numbers jobs starts have.is_graph have.each (trees_fit files fs have.are_trees) (trees_whole files fs have.are_trees) p (bodies_in fs numbers jobs starts p whole.typed) whole.small pages fits_all most calls);
         valid = All-cons IsValid (typed_link p pages) (map typed_module p)
             (link_valid p pages (omega (arith, most)) link_spelled.fits (distinct_all fs numbers jobs have.each as_many none spelled starts are))
             (all_valid fs numbers jobs starts have.is_graph starts p whole.typed);

@@ -20,7 +20,7 @@ use Rattle.m2_meaning.specs.Runs.{run}
 use Rattle.m2_scheme.specs.Modules.{typed_module, typed_link, part_of, stack_begin}
 use Rattle.m2_emit.specs.declared.emitted.ModuleBytes.{ModuleBytes}
 use Rattle.m2_agree_runs.specs.Behaves.{Behaves}
-use Rattle.m2_agree_linked.specs.Modules.{AreTypedModules}
+use Rattle.m2_typing_wants.specs.TypingWants.{CallsNoVariable}
 use Rattle.m2_headline.specs.Headline.{AreSpelled, Keeps}
 use Rattle.m2_headline.specs.Proved.{AreProved}
 use Rattle.m2_read.specs.declared.file.SourceFile.{SourceFile}
@@ -191,8 +191,8 @@ pub record IsTooLarge (files : List SourceFile) (pages : ℕ) (refusals : List R
   pub too_large : 65536 * pages < data_and_stack program
   pub told : AreTold (told_at (program_file trees) 1 1 61 ∷ []) refusals
 
--- No module breaks a rule. Those that are reached are compiled to valid modules and link. Where the typed trees of the
--- modules are as the code looks for, they do what the program does, in runs that go on too.
+-- No module breaks a rule. Those that are reached are compiled to valid modules and link. Where no body calls a procedure
+-- variable, they do what the program does, in runs that go on too.
 pub record IsProgram (files : List SourceFile) (pages : ℕ) (link : List ℕ) (built : List (List ℕ × List ℕ)) : Type 0 where
   pub trees : List (List ℕ × Module)
   pub numbers : List ℕ
@@ -206,7 +206,7 @@ pub record IsProgram (files : List SourceFile) (pages : ℕ) (link : List ℕ) (
   pub code : IsCode program pages link built
   pub links : (c : Config) × (linked (typed_link program pages ∷ map typed_module program) ≡ Ok c)
   pub valid : All IsValid (typed_link program pages ∷ map typed_module program)
-  pub behaves : AreTypedModules program pages
+  pub behaves : All CallsNoVariable program
       → (c : Config) × (linked (typed_link program pages ∷ map typed_module program) ≡ Ok c) × Behaves (typed_link program pages ∷ map typed_module program) c (run program pages)
   pub keeps : AreProved program → Keeps program pages link (map (λ m. m.1) built)
 
