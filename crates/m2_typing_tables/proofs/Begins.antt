@@ -20,8 +20,7 @@ use Rattle.m2_judged.specs.declared.scope.Block.{Block as Around}
 use Rattle.m2_judged.specs.declared.scope.Scope.{Scope}
 use Rattle.m2_types.specs.Importing.{module_named, with_module_as, with_module_name, with_entry, brings_in, told_of_taken, unless_taken, from_place, with_from, exports_of, from_module, with_imports, with_import}
 use Rattle.m2_types.specs.Predeclared.{predeclared_block}
-use Rattle.m2_blocks.specs.declared.heading.Standing.{Standing}
-use Rattle.m2_blocks.specs.declared.heading.Standing.TheVariants.{Free, Awaited, Taken}
+use Rattle.m2_blocks.specs.declared.heading.Standing.TheVariants.{Awaited, Taken}
 use Rattle.m2_blocks.specs.Headings.{standing_of, standing_known, name_standing}
 use Rattle.m2_modules.specs.Own.{with_own_name, own_names, exported_headings}
 use Rattle.m2_formed_imports.proofs.Lists.{same_is}
@@ -31,8 +30,7 @@ use Rattle.m2_formed_tables.specs.FormedTables.{AreExports, AreNumberedBy}
 use Rattle.m2_formed_tables.proofs.Order.{has, keys, Distinct}
 use Rattle.m2_formed_modules.proofs.Begins.{own_await}
 use Rattle.m2_typing_bodies.specs.TypingBodies.{AwaitsOwn, AwaitsApart, ModuleBegins}
-use Rattle.m2_typing_tables.specs.TypingTables.{ProceduresApart, ExportsStand}
-use Rattle.m2_typing_tables.proofs.Exported.{distinct_by}
+use Rattle.m2_typing_tables.specs.TypingTables.{ProceduresApart}
 
 -- ---- what imports leave as it was
 

@@ -1,6 +1,6 @@
 -- The bodies that the jobs of a graph make.
-use Rattle.std.proofs.Common.{◌≡◌, ℕ, ◌<◌, ◌==◌, Bool, true, false, cond, List, [], ◌∷◌, ◌++◌, Option, Some, None, Result, Ok, refl, sym, ap, subst, ◌∙◌, arith}
-use Rattle.std.specs.Prelude.{slice_get}
+use Rattle.std.proofs.Common.{◌≡◌, ℕ, ◌==◌, Bool, true, false, cond, List, [], ◌∷◌, ◌++◌, Option, Some, None, Ok, refl, ap, ◌∙◌}
+use Rattle.std.specs.Prelude.{slice_get, slice_index_or}
 use Rattle.std.specs.List.{AllByRecursion, fold, list_all}
 use Rattle.std.specs.Option.{is_some}
 use Rattle.m2_tree.specs.declared.decl.Block.{Block}
@@ -26,7 +26,7 @@ use Rattle.m2_judged.specs.declared.known.Known.TheVariants.{Declared}
 use Rattle.m2_judged.specs.declared.known.Origin.TheVariants.{Here}
 use Rattle.m2_judged.specs.declared.scope.Scope.{Scope}
 use Rattle.m2_types.specs.Predeclared.{console, first_scope}
-use Rattle.m2_modules.specs.Own.{with_own_name, own_names, exported_variables, types_made_in, implementation_scope}
+use Rattle.m2_modules.specs.Own.{with_own_name, exported_variables, implementation_scope}
 use Rattle.m2_bodies.specs.Checked.{of_implementation, of_contents}
 use Rattle.m2_check.specs.Checks.{judged}
 use Rattle.m2_compile.specs.Own.{own_table, tables_behind}
@@ -45,12 +45,13 @@ use Rattle.m2_formed_known.proofs.Begins.{ScopeFormed, console_formed, first_for
 use Rattle.m2_formed_programs.specs.FormedPrograms.{trees_of}
 use Rattle.m2_formed_programs.proofs.Programs.{tables_for}
 use Rattle.m2_formed_reach.specs.FormedReach.{types_of}
+use Rattle.m2_formed_reach.proofs.Reach.{tree_fits}
 use Rattle.m2_typing.specs.Carried.{MeaningPlaced, KnownPlaced, NamesPlaced, TypesIndexed, BodyBegins, implementation_types}
 use Rattle.m2_typing.proofs.Bounding.{first_words}
 use Rattle.m2_typing.proofs.Exporting.{implementation_slots, implementation_words}
 use Rattle.m2_typing.proofs.Reaching.{first_indexed}
 use Rattle.m2_typing.proofs.Walking.{checked_indexed, implementation_indexed}
-use Rattle.m2_typing_tables.specs.TypingTables.{IsPlaced, ArePlacedBy, TableStands, tables_by, BeginsIn, program, implementation, BodyStands}
+use Rattle.m2_typing_tables.specs.TypingTables.{IsPlaced, ArePlacedBy, program, implementation, BodyStands}
 use Rattle.m2_typing_tables.proofs.Exported.{distinct_by}
 use Rattle.m2_typing_tables.proofs.Reached.{IsOther, other_of, console_other, all_are_elsewhere, all_words, all_indexed}
 use Rattle.m2_typing_tables.proofs.Tables.{Needed, tables_before}
@@ -252,8 +253,9 @@ module _ (fs : List (List ℕ × Module)) (files : List ℕ) (jobs : List (List 
     contents_stand (contents.Program b) q e f r =
         body_stands (first_scope job (us ++ console ∷ [])) m b (first_types job (us ++ console ∷ [])) [] (first_ready trees files jobs fit job us imports_needed f) e job ts None t (program b q) r indexed
 
-  pub bodies_stand : (t : TypedModule) → fits_module m ≡ true → typed_body m job ts ≡ Ok t → BodyStands m job ts t
-  bodies_stand t e r =
+  pub bodies_stand : (t : TypedModule) → slice_get trees (slice_index_or files job 0) ≡ Some m → typed_body m job ts ≡ Ok t → BodyStands m job ts t
+  bodies_stand t there r =
+      let e : fits_module m ≡ true = tree_fits trees fit (slice_index_or files job 0) m there in
       let f : AreFor job (own_table m ts) us m.contents = tables_for fs files jobs starts graph m job in
       let i : TypesIndexed t.types = holds_at (typed_body m job ts) (checked_indexed least (judged least) job m (own_table m ts) us (begins_with m.contents f)) t r in
       contents_stand t i m.contents refl e f r

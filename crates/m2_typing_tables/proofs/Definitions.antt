@@ -1,7 +1,7 @@
 -- Behind the declarations of a definition its variables and procedures stand in the order of their numbers.
 use Rattle.std.proofs.Common.{◌≡◌, ℕ, Bool, true, false, ◌||◌, cond, List, [], ◌∷◌, ◌++◌, length, Option, Some, None, Result, Ok, Err, refl, sym, ap, subst, ◌∙◌}
 use Rattle.std.specs.Prelude.{map}
-use Rattle.std.specs.List.{fold, list_any, AllByRecursion}
+use Rattle.std.specs.List.{fold, AllByRecursion}
 use Rattle.std.proofs.lemmas.List.{append-nil, append_assoc}
 use Rattle.std.proofs.lemmas.List.Folds.{list_any-append}
 use Rattle.m2_tree.specs.declared.name.Ident.{Ident}
@@ -10,7 +10,6 @@ use Rattle.m2_tree.specs.declared.decl.Def.TheVariants as def
 use Rattle.m2_tree.specs.declared.decl.Heading.{Heading}
 use Rattle.m2_tree.specs.declared.decl.Module.{Module}
 use Rattle.m2_tree.specs.declared.decl.Variables.{Variables}
-use Rattle.m2_typed.specs.declared.meaning.Meaning.{Meaning}
 use Rattle.m2_typed.specs.declared.meaning.Meaning.TheVariants as meaning
 use Rattle.m2_typed.specs.declared.table.Table.{Table}
 use Rattle.m2_typed.specs.declared.types.TypeNo.{TypeNo}
@@ -26,7 +25,7 @@ use Rattle.m2_made.specs.Made.{nothing_of, with_made, type_of}
 use Rattle.m2_types.specs.Compiled.{declared_in}
 use Rattle.m2_types.specs.Declare.{begun_name, with_variable_type, finished_variable, with_constant, with_type, with_variables, procedure_meaning, with_procedure_type, declared_procedure, with_procedure, with_def}
 use Rattle.m2_types.specs.Importing.{with_import}
-use Rattle.m2_types.specs.Marking.{marked_later, marked_in, marked_constant, marked_type, marked_variables, marked_def}
+use Rattle.m2_types.specs.Marking.{marked_later, marked_constant, marked_type, marked_variables, marked_def}
 use Rattle.m2_types.specs.Predeclared.{first_scope}
 use Rattle.m2_formed_imports.proofs.Lists.{same_refl, same_is, or_left, or_right}
 use Rattle.m2_formed_scopes.specs.FormedScopes.{picked}
@@ -35,11 +34,10 @@ use Rattle.m2_formed_headings.proofs.Lists.{found_other}
 use Rattle.m2_formed_tables.proofs.Order.{has, mark_key, has_more, keys, keys_entered, Distinct, distinct_entered, is_taken, taken_entered, now_taken, AllTaken}
 use Rattle.m2_formed_tables.proofs.Order as order
 use Rattle.m2_formed_tables.proofs.Steps.{mark_more, Goes, ◌⨾◌, fold_goes, made_goes, type_of_goes, constant_goes, type_decl_goes, begun_all_go, variables_go, import_goes}
-use Rattle.m2_formed_tables.proofs.Takes.{beside_left, beside_right, then_ok, marked_keys, Covers, name_covers, Keeps, keeps_then, def_keeps, defs_keep, constants_all, types_all, variables_all, def_told, defs_told}
+use Rattle.m2_formed_tables.proofs.Takes.{beside_left, beside_right, then_ok, marked_keys, name_covers, Keeps, keeps_then, def_keeps, defs_keep, constants_all, types_all, variables_all, def_told, defs_told}
 use Rattle.m2_typing_tables.proofs.Done.{is_settled, SettledIn, AllSettled, free_unsettled, begun_unsettled, settled_kept, behind_at}
 use Rattle.m2_typing_tables.proofs.Counting.{Counts, counts_kept, variable_counts, procedure_counts}
-use Rattle.m2_typing_tables.proofs.Steps.{Stays, same_stays, stays_for, made_stays, all_marks, begun_stays, type_of_stays, NoneBegun, Ends, stays_end, constants_end, types_end, import_stays}
-use Rattle.m2_typing_tables.proofs.Steps as steps
+use Rattle.m2_typing_tables.proofs.Steps.{Stays, same_stays, made_stays, all_marks, begun_stays, type_of_stays, NoneBegun, Ends, stays_end, constants_end, types_end, import_stays}
 
 -- ---- lists
 
@@ -297,16 +295,16 @@ module _ (g : Gathers) where
       all_typed [] k p = tt
       all_typed (x ∷ xs) k p = (k.begun x.name refl ∙ p.0, all_typed xs k p.1)
 
-  finished_by : (end : Scope g.Told) (st : State (Unit {0}) g.Told) (s0 : Scope g.Told) (v : Variables) (t : TypeNo) (r : Result TypeNo g.Told) (s : Scope g.Told) → r ≡ Ok t → Finishing s (keys s0.own) v.names
+  finished_by : (s0 : Scope g.Told) (v : Variables) (t : TypeNo) (r : Result TypeNo g.Told) (s : Scope g.Told) → r ≡ Ok t → Finishing s (keys s0.own) v.names
       → NoneBegun g (fold (finished_variable r) s v.names) × Counts (fold (finished_variable r) s v.names)
-  finished_by end st s0 v t r s q f = subst (λ (r : Result TypeNo g.Told). NoneBegun g (fold (finished_variable r) s v.names) × Counts (fold (finished_variable r) s v.names)) (sym q) (finish_all t v.names s (keys s0.own) f)
+  finished_by s0 v t r s q f = subst (λ (r : Result TypeNo g.Told). NoneBegun g (fold (finished_variable r) s v.names) × Counts (fold (finished_variable r) s v.names)) (sym q) (finish_all t v.names s (keys s0.own) f)
 
   variables_one : (end : Scope g.Told) (st : State (Unit {0}) g.Told) (s0 : Scope g.Told) (v : Variables) → Keeps (marked_variables s0 v) end → (with_variables g st v).1 ≡ Ok tt → Begins end st.0 s0 → Begins end (with_variables g st v).0 (marked_variables s0 v)
   variables_one end st s0 v k e b =
       let bs : State (Unit {0}) g.Told = fold (begun_name g) st v.names in
       let ts : State TypeNo g.Told = type_of g v.of bs.0 in
       let ok = then_ok ts.1 (λ x. Ok tt) tt (beside_right g bs.1 (nothing_of ts.1) e) in
-      let last = finished_by end st s0 v ok.0 ts.1 ts.0 ok.1 (type_finish end st s0 v k (beside_left g bs.1 (nothing_of ts.1) e) b) in
+      let last = finished_by s0 v ok.0 ts.1 ts.0 ok.1 (type_finish end st s0 v k (beside_left g bs.1 (nothing_of ts.1) e) b) in
       let going : Goes st.0 (with_variables g st v).0 = variables_go g st v in
       record {
         all = variables_all g (v ∷ []) st e (with_variables g st v).0.own (λ y h. h) s0 (λ y h. going.taken y (b.all y h));

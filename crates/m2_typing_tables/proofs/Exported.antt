@@ -1,6 +1,5 @@
 -- What a definition exports of its variables and procedures stands under their numbers.
-use Rattle.std.proofs.Common.{◌≡◌, ℕ, suc, ◌≤◌, Bool, true, false, ◌||◌, cond, List, [], ◌∷◌, ◌++◌, length, Option, Some, None, Result, Ok, Err, refl, sym, ap, subst, ◌∙◌, arith}
-use Rattle.std.specs.Prelude.{map, slice_get}
+use Rattle.std.proofs.Common.{◌≡◌, ℕ, suc, ◌≤◌, Bool, true, false, ◌||◌, cond, List, [], ◌∷◌, ◌++◌, length, Option, Some, Ok, Err, refl, sym, ap, subst, ◌∙◌, arith}
 use Rattle.std.specs.List.{fold, AllByRecursion}
 use Rattle.std.proofs.lemmas.List.{append-nil, append_assoc}
 use Rattle.m2_typed.specs.declared.meaning.Meaning.{Meaning}
@@ -14,7 +13,7 @@ use Rattle.m2_judged.specs.declared.known.Known.TheVariants.{Later, Ahead, Begun
 use Rattle.m2_judged.specs.declared.scope.Scope.{Scope}
 use Rattle.m2_types.specs.Export.{with_known, with_export, exports}
 use Rattle.m2_modules.specs.Own.{with_variable_of, with_exported_variable, exported_variables}
-use Rattle.m2_formed.specs.Formed.{Holds, fine, broken}
+use Rattle.m2_formed.specs.Formed.{Holds, fine}
 use Rattle.m2_formed_imports.proofs.Lists.{same_is, each_entered}
 use Rattle.m2_formed_tables.specs.FormedTables.{IsExport, AreExports}
 use Rattle.m2_formed_tables.proofs.Order.{other_way, has, still_apart, keys, keys_entered, Distinct, distinct_entered}

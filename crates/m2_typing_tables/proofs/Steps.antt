@@ -8,13 +8,12 @@ use Rattle.m2_tree.specs.declared.decl.Constant.{Constant}
 use Rattle.m2_tree.specs.declared.decl.Def.{Def}
 use Rattle.m2_tree.specs.declared.decl.Def.TheVariants as def
 use Rattle.m2_tree.specs.declared.decl.TypeDecl.{TypeDecl}
-use Rattle.m2_tree.specs.declared.decl.Variables.{Variables}
 use Rattle.m2_tree.specs.declared.decl.Import.{Import}
 use Rattle.m2_tree.specs.declared.decl.Simple.{Simple}
 use Rattle.m2_tree.specs.declared.decl.Simple.TheVariants as simple
-use Rattle.m2_tree.specs.declared.decl.TypeExpr.{TypeExpr, TypeExpr-F, out-TypeExpr, roll-TypeExpr, out-roll-TypeExpr, map-TypeExpr, ind-TypeExpr}
+use Rattle.m2_tree.specs.declared.decl.TypeExpr.{TypeExpr, TypeExpr-F, roll-TypeExpr, out-roll-TypeExpr, map-TypeExpr, ind-TypeExpr}
 use Rattle.m2_tree.specs.declared.decl.TypeExpr.TheOpen as layer
-use Rattle.m2_tree.specs.declared.decl.Field.{Field, Field-F, out-Field, roll-Field, out-roll-Field, map-Field}
+use Rattle.m2_tree.specs.declared.decl.Field.{Field, Field-F, roll-Field, out-roll-Field, map-Field}
 use Rattle.m2_typed.specs.declared.meaning.Meaning.{Meaning}
 use Rattle.m2_typed.specs.declared.meaning.Value.{Value}
 use Rattle.m2_typed.specs.declared.shape.Made.{Made}
@@ -30,7 +29,7 @@ use Rattle.m2_judged.specs.declared.scope.Scope.{Scope}
 use Rattle.m2_constants.specs.Parts.{part, constant}
 use Rattle.m2_made.specs.declared.field.Fields.{Fields}
 use Rattle.m2_made.specs.Fields.{no_fields}
-use Rattle.m2_made.specs.Made.{next_type, with_shape, with_made, enumeration_scalar, too_many, listed, simple_type, index_type, Makes, MakesFields, then_fields, type_layer, field_layer, type_of, field_list}
+use Rattle.m2_made.specs.Made.{next_type, with_shape, with_made, enumeration_scalar, too_many, listed, simple_type, index_type, Makes, MakesFields, then_fields, type_layer, type_of, field_list}
 use Rattle.m2_types.specs.Declare.{constant_meaning, with_constant, type_meaning, brings_with, with_type}
 use Rattle.m2_types.specs.Importing.{module_named, with_module_as, with_module_name, with_entry, brings_in, told_of_taken, unless_taken, from_place, with_from, exports_of, from_module, with_imports, with_import}
 use Rattle.m2_types.specs.Marking.{Marks, marked_later, marked_simple, then_marks, marked_in, marked_field, marked_constant, marked_type, marked_variables, marked_def}

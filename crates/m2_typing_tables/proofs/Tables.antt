@@ -1,5 +1,5 @@
 -- The tables that jobs make.
-use Rattle.std.proofs.Common.{◌≡◌, ℕ, zero, suc, ◌<◌, Bool, true, false, cond, List, [], ◌∷◌, ◌++◌, Option, Some, None, Result, Ok, Err, refl, sym, ap, subst, ◌∙◌, arith, inl, inr}
+use Rattle.std.proofs.Common.{◌≡◌, ℕ, zero, suc, ◌<◌, Bool, true, false, cond, List, [], ◌∷◌, ◌++◌, Option, Some, None, Result, Ok, Err, refl, sym, subst, arith, inl, inr}
 use Rattle.std.specs.Prelude.{slice_get, slice_index_or, IfOk}
 use Rattle.std.specs.List.{AllByRecursion, list_all}
 use Rattle.std.proofs.lemmas.Bool.{cases_lt}
@@ -8,14 +8,13 @@ use Rattle.m2_tree.specs.declared.decl.Contents.{Contents}
 use Rattle.m2_tree.specs.declared.decl.Contents.TheVariants as contents
 use Rattle.m2_tree.specs.declared.decl.Def.{Def}
 use Rattle.m2_tree.specs.declared.decl.Module.{Module}
-use Rattle.m2_typed.specs.declared.meaning.Meaning.{Meaning}
 use Rattle.m2_typed.specs.declared.shape.Made.{Made}
 use Rattle.m2_typed.specs.declared.table.Table.{Table}
 use Rattle.m2_typed.specs.declared.typed_module.TypedModule.{TypedModule}
 use Rattle.m2_typed.specs.declared.types.TypeNo.{TypeNo}
 use Rattle.m2_judged.specs.declared.fault.Fault.{Fault}
 use Rattle.m2_judged.specs.declared.scope.Scope.{Scope}
-use Rattle.m2_judged.specs.Judged.{Gathers, least, ◌▷◌}
+use Rattle.m2_judged.specs.Judged.{Gathers, least}
 use Rattle.m2_layout.specs.Layouts.{too_large}
 use Rattle.m2_types.specs.Compiled.{table_of, table_or, declared_in}
 use Rattle.m2_types.specs.Compiled as types
@@ -31,7 +30,7 @@ use Rattle.m2_formed_known.specs.FormedKnown.{fits_module, TableFormed, TablesFo
 use Rattle.m2_formed_known.proofs.Gathered.{each_more}
 use Rattle.m2_formed_known.proofs.Begins.{console_formed, first_has}
 use Rattle.m2_compile.specs.declared.outcome.Compiled.{Compiled}
-use Rattle.m2_compile.specs.declared.outcome.Compiled.TheVariants.{Defined, Built, Refused, Blocked}
+use Rattle.m2_compile.specs.declared.outcome.Compiled.TheVariants.{Defined, Blocked}
 use Rattle.m2_compile.specs.Compiling.{is_sound, tables_of, of_definition, of_fit, of_checked, of_contents, typed_body, compiled}
 use Rattle.m2_jobs.specs.Jobs.{compiled_in}
 use Rattle.m2_jobs.specs.Spelled.{needed_of}

@@ -28,9 +28,10 @@ use Rattle.m2_bodies.specs.Checked.{of_body}
 use Rattle.m2_check.specs.Checks.{judged}
 use Rattle.m2_formed_scopes.specs.FormedScopes.{Leads}
 use Rattle.m2_formed_imports.proofs.Walks.{walk_keeps}
+use Rattle.m2_formed_bodies.specs.FormedBodies.{Keeps}
 use Rattle.m2_formed_bodies.proofs.Parts.{AreSteps, nothing_at, no_home, nothing_open, all_marks, all_lead}
 use Rattle.m2_formed_bodies.proofs.Checks.{holds_at}
-use Rattle.m2_formed_bodies.proofs.Blocks.{checked_told}
+use Rattle.m2_formed_bodies.proofs.Blocks.{all_keep, checked_told}
 use Rattle.m2_formed_bodies.proofs.Induction.{judged_formed}
 use Rattle.m2_formed_modules.proofs.Steps.{declared_is, bodies_are, total, are_steps}
 use Rattle.m2_formed_ranges.specs.FormedRanges.{itself, fits_decl, fits_decl_layer}
@@ -124,7 +125,7 @@ pub record Ready (base : Types) (es : List (List ℕ × Meaning)) (s : Scope lea
 
 module _ (s : Scope least.Told) (m : Module) (b : Block) where
   abbrev ends : List ℕ
-  ends = procedure_ends (decls_in s m b)
+  ends = procedure_ends (decls_in b)
 
   abbrev d : Declared least.Told
   d = declared_in s m b
@@ -135,30 +136,34 @@ module _ (s : Scope least.Told) (m : Module) (b : Block) where
   abbrev start : Walk least.Told
   start = begun_from d (no_bodies d.0.procedures)
 
-  abbrev ps : AreSteps least (judged least) ends (map (steps least (judged least) ends) (decls_in s m b)) (total least (judged least) (judged_formed least) ends (decls_in s m b))
-  ps = are_steps least (judged least) (judged_formed least) ends (decls_in s m b)
+  abbrev ps : AreSteps least (judged least) ends (map (steps least (judged least) ends) (decls_in b)) (total least (judged least) (judged_formed least) ends (decls_in b))
+  ps = are_steps least (judged least) (judged_formed least) ends (decls_in b)
 
   declared_ok : w.0.so_far ≡ Ok tt → d.1 ≡ Ok tt
   declared_ok e =
-      checked_told least (judged least) ends None d.2 ps (start, 0) (sym (ap (λ (w : Walk least.Told). w.so_far) (bodies_are least (judged least) (judged_formed least) ends None d.2 start (decls_in s m b))) ∙ e)
+      checked_told least (judged least) ends None d.2 ps (start, 0) (sym (ap (λ (w : Walk least.Told). w.so_far) (bodies_are least (judged least) (judged_formed least) ends None d.2 start (decls_in b))) ∙ e)
 
-  block_outer : (st : State (Unit {0}) least.Told) → (declared_block least ends st 0 (decls_in s m b)).0.outer ≡ st.0.outer
+  walk_grows : Keeps d.0 w.0.scope
+  walk_grows =
+      subst (λ (w : Walk least.Told). Keeps d.0 w.scope) (sym (bodies_are least (judged least) (judged_formed least) ends None d.2 start (decls_in b))) (all_keep least (judged least) ends None d.2 ps (start, 0))
+
+  block_outer : (st : State (Unit {0}) least.Told) → (declared_block least ends st 0 (decls_in b)).0.outer ≡ st.0.outer
   block_outer st =
-      let marks : Scope least.Told × List ℕ = fold (with_marks marked_by) (st.0, []) (map (steps least (judged least) ends) (decls_in s m b)) in
+      let marks : Scope least.Told × List ℕ = fold (with_marks marked_by) (st.0, []) (map (steps least (judged least) ends) (decls_in b)) in
       let other : TypedModule = nothing_at marks.0.types.home in
       let one : Leads other nothing_open st.0 marks.0 = all_marks least (judged least) ends other nothing_open ps (st.0, []) in
       let two = all_lead least (judged least) ends other nothing_open ps (marks.0, st.1, 0) (no_home marks.0.types.home) in
-      ap (λ (d : Declared least.Told). d.0.outer) (declared_is least (judged least) (judged_formed least) ends st 0 (decls_in s m b)) ∙ (two.outer ∙ one.outer)
+      ap (λ (d : Declared least.Told). d.0.outer) (declared_is least (judged least) (judged_formed least) ends st 0 (decls_in b)) ∙ (two.outer ∙ one.outer)
 
   module _ (base : Types) (es : List (List ℕ × Meaning)) (ready : Ready base es s) (fit : fits_block b ≡ true) where
     carried : Carries s d.0
-    carried = module_carries_on least (modules_in s m b) ends s m (decls_in s m b) ready.elsewhere
+    carried = module_carries_on least (modules_in s) ends s m (decls_in b) ready.elsewhere
 
     outer_is : d.0.outer ≡ s.outer
-    outer_is = let k : Stays s (imported_in s m b) = import_stays least (modules_in s m b) m.imports (s, Ok tt) in block_outer (fold (with_import least (modules_in s m b)) (s, Ok tt) m.imports) ∙ k.outer
+    outer_is = let k : Stays s (imported_in s m) = import_stays least (modules_in s) m.imports (s, Ok tt) in block_outer (fold (with_import least (modules_in s)) (s, Ok tt) m.imports) ∙ k.outer
 
     walk_formed : w.0.so_far ≡ Ok tt → ScopeFormed base w.0.scope
-    walk_formed e = holds_at w.0.so_far (walked_formed least (judged least) ends base (modules_in s m b) s m b fit ready.formed) tt e
+    walk_formed e = holds_at w.0.so_far (walked_formed least (judged least) ends base (modules_in s) s m b fit ready.formed) tt e
 
     types_typed : w.0.so_far ≡ Ok tt → TypesIndexed w.0.scope.types → TypesTyped w.0.scope.types
     types_typed e i =
@@ -171,7 +176,7 @@ module _ (s : Scope least.Told) (m : Module) (b : Block) where
           indexed = indexed_known w.0.scope.types i;
         }
 
-    walk_stands : (job : ℕ) (ts : List Table) (own : Option Table) (ys : List TypedStmt) → BeginsIn m job ts s b → w.0.so_far ≡ Ok tt → w.1 ≡ Ok ys → TypesIndexed w.0.scope.types → BodyStands m job ts (typed_module w.0.scope (modules_in s m b) own m w.0.bodies ys)
+    walk_stands : (job : ℕ) (ts : List Table) (own : Option Table) (ys : List TypedStmt) → BeginsIn m job ts s b → w.0.so_far ≡ Ok tt → w.1 ≡ Ok ys → TypesIndexed w.0.scope.types → BodyStands m job ts (typed_module w.0.scope (modules_in s) own m w.0.bodies ys)
     walk_stands job ts own ys begun e q i =
         let ok : d.1 ≡ Ok tt = declared_ok e in
         record {
@@ -179,20 +184,23 @@ module _ (s : Scope least.Told) (m : Module) (b : Block) where
           block = b;
           base = base;
           begun = begun;
-          begins = module_begins least (modules_in s m b) m.imports s es ready.starts;
+          begins = module_begins least (modules_in s) m.imports s es ready.starts;
           told = e;
           body = q;
           types = refl;
-          variables = bodies_variables least (judged least) ends d.2 (decls_in s m b) (start, 0);
+          variables = bodies_variables least (judged least) ends d.2 (decls_in b) (start, 0);
           procedures = refl;
           locals = refl;
           order = refl;
-          home = ap (λ (p : List Table × ℕ). p.1) (walk_keeps least (judged least) ends (modules_in s m b) s m b);
+          home = ap (λ (p : List Table × ℕ). p.1) (walk_keeps least (judged least) ends (modules_in s) s m b);
+          same_home = carried.home;
+          grows = λ u x q. walk_grows.types u x q;
+          level = carried.level ∙ ready.starts.level;
           tables = carried.tables;
           outer = outer_is ∙ ready.starts.outer;
           known = record {
-            ranged = holds_at d.1 (module_ranged least (modules_in s m b) ends s m (decls_in s m b) (block_fits b fit) ready.formed.ranged) tt ok;
-            ordered = holds_at d.1 (module_ordered base least (modules_in s m b) ends s m (decls_in s m b) ready.formed.ordered) tt ok;
+            ranged = holds_at d.1 (module_ranged least (modules_in s) ends s m (decls_in b) (block_fits b fit) ready.formed.ranged) tt ok;
+            ordered = holds_at d.1 (module_ordered base least (modules_in s) ends s m (decls_in b) ready.formed.ordered) tt ok;
             words = carried.words ready.words;
           };
           placed = carried.placed ready.placed;
@@ -203,6 +211,6 @@ module _ (s : Scope least.Told) (m : Module) (b : Block) where
 
     pub body_stands : (job : ℕ) (ts : List Table) (own : Option Table) (t : TypedModule) → BeginsIn m job ts s b → of_body least (judged least) s own m b ≡ Ok t → TypesIndexed t.types → BodyStands m job ts t
     body_stands job ts own t begun e i =
-        let k = parts_of least w.0.so_far w.1 (λ ys. typed_module w.0.scope (modules_in s m b) own m w.0.bodies ys) t e in
+        let k = parts_of least w.0.so_far w.1 (λ ys. typed_module w.0.scope (modules_in s) own m w.0.bodies ys) t e in
         subst (λ (t : TypedModule). BodyStands m job ts t) k.1.1.1
         (walk_stands job ts own k.1.0 begun k.0 k.1.1.0 (subst (λ (t : TypedModule). TypesIndexed t.types) (sym k.1.1.1) i))

@@ -1,5 +1,5 @@
 -- What the modules of a build begin with: the tables that jobs make, and where their bodies begin.
-use Rattle.std.specs.Prelude.{◌≡◌, ℕ, ◌<◌, true, List, ◌∷◌, [], ◌++◌, length, map, Option, Some, None, Ok, slice_get}
+use Rattle.std.specs.Prelude.{◌≡◌, ℕ, true, List, ◌∷◌, [], ◌++◌, Some, None, Ok, slice_get, slice_index_or}
 use Rattle.std.specs.List.{AllByRecursion, fold, list_all}
 use Rattle.m2_tree.specs.declared.decl.Block.{Block, out-Block}
 use Rattle.m2_tree.specs.declared.decl.Contents.TheVariants as contents
@@ -8,12 +8,14 @@ use Rattle.m2_tree.specs.declared.decl.Module.{Module}
 use Rattle.m2_graph.specs.Files.{numbered}
 use Rattle.m2_graph.specs.Graph.{IsGraph}
 use Rattle.m2_typed.specs.declared.known_types.Types.{Types}
+use Rattle.m2_typed.specs.declared.shape.Made.{Made}
 use Rattle.m2_typed.specs.declared.meaning.Meaning.{Meaning}
 use Rattle.m2_typed.specs.declared.meaning.Meaning.TheVariants as meaning
 use Rattle.m2_typed.specs.declared.meaning.Procedure.{Procedure}
 use Rattle.m2_typed.specs.declared.table.Table.{Table}
 use Rattle.m2_typed.specs.declared.typed_module.TypedModule.{TypedModule}
 use Rattle.m2_typed.specs.declared.types.TypeNo.{TypeNo}
+use Rattle.m2_typed.specs.Known.{made_at}
 use Rattle.m2_typed.specs.Names.{found}
 use Rattle.m2_judged.specs.Judged.{least}
 use Rattle.m2_judged.specs.declared.scope.Scope.{Scope}
@@ -88,33 +90,32 @@ pub data BeginsIn (m : Module) (job : ℕ) (ts : List Table) : Scope least.Told 
   program : (b : Block) → m.contents ≡ contents.Program b → BeginsIn m job ts (first_scope job (tables_by m ts)) b
   implementation : (own : Table) (b : Block) → own_table m ts ≡ Some own → m.contents ≡ contents.Implementation b → BeginsIn m job ts (implementation_scope own (tables_by m ts)) b
 
-module _ (s : Scope least.Told) (m : Module) (b : Block) where
-  abbrev pub modules_in : List (List ℕ × ℕ)
-  modules_in = (numbered_modules s.tables).0
+abbrev pub modules_in : Scope least.Told → List (List ℕ × ℕ)
+modules_in s = (numbered_modules s.tables).0
 
-  abbrev pub decls_in : List Decl
-  decls_in = (out-Block b).decls
+abbrev pub decls_in : Block → List Decl
+decls_in b = (out-Block b).decls
 
-  -- the scope behind the imports,
-  abbrev pub imported_in : Scope least.Told
-  imported_in = (fold (with_import least modules_in) (s, Ok tt) m.imports).0
+-- the scope behind the imports,
+abbrev pub imported_in : Scope least.Told → Module → Scope least.Told
+imported_in s m = (fold (with_import least (modules_in s)) (s, Ok tt) m.imports).0
 
-  -- what the declarations of the block come to,
-  abbrev pub declared_in : Declared least.Told
-  declared_in = declared_module least modules_in (procedure_ends decls_in) s m decls_in
+-- what the declarations of the block come to,
+abbrev pub declared_in : Scope least.Told → Module → Block → Declared least.Told
+declared_in s m b = declared_module least (modules_in s) (procedure_ends (decls_in b)) s m (decls_in b)
 
-  -- and the bodies
-  abbrev pub walked_in : Checked least.Told
-  walked_in = walked least (judged least) modules_in (procedure_ends decls_in) s m b
+-- and the bodies
+abbrev pub walked_in : Scope least.Told → Module → Block → Checked least.Told
+walked_in s m b = walked least (judged least) (modules_in s) (procedure_ends (decls_in b)) s m b
 
--- A body begins in this scope, with this block, and comes to this module. Its names stand under their numbers, and its types
--- are as the language has them.
+-- A body begins in this scope, with this block, and comes to this module. No rule is broken. The types of the block's end are
+-- those of the module. The block's names stand under their numbers, and the module's types are as the language has them.
 pub record BodyStands (m : Module) (job : ℕ) (ts : List Table) (t : TypedModule) : Type 0 where
   pub scope : Scope least.Told
   pub block : Block
   pub base : Types
   pub begun : BeginsIn m job ts scope block
-  pub begins : ModuleBegins (imported_in scope m block)
+  pub begins : ModuleBegins (imported_in scope m)
   pub told : (walked_in scope m block).0.so_far ≡ Ok tt
   pub body : (walked_in scope m block).1 ≡ Ok t.body
   pub types : t.types ≡ (walked_in scope m block).0.scope.types
@@ -123,6 +124,9 @@ pub record BodyStands (m : Module) (job : ℕ) (ts : List Table) (t : TypedModul
   pub locals : t.locals ≡ (walked_in scope m block).0.bodies.locals
   pub order : t.order ≡ (walked_in scope m block).0.bodies.order
   pub home : t.types.home ≡ scope.types.home
+  pub same_home : (declared_in scope m block).0.types.home ≡ scope.types.home
+  pub grows : (u : TypeNo) (x : Made) → made_at (declared_in scope m block).0.types u ≡ Some x → made_at t.types u ≡ Some x
+  pub level : (declared_in scope m block).0.level ≡ 0
   pub tables : (declared_in scope m block).0.tables ≡ scope.tables
   pub outer : (declared_in scope m block).0.outer ≡ predeclared_block ∷ []
   pub known : ScopeKnown base (declared_in scope m block).0
@@ -141,5 +145,5 @@ TablesStand = (trees : List Module) (files : List ℕ) (jobs : List (List ℕ)) 
 -- So do the bodies that the jobs of a graph make.
 abbrev pub BodiesStand : Type 0
 BodiesStand = (fs : List (List ℕ × Module)) (files : List ℕ) (jobs : List (List ℕ)) (starts : List ℕ) → IsGraph (numbered 0 fs) files jobs starts → list_all fits_module (trees_of fs) ≡ true
-    → (m : Module) (job : ℕ) (t : TypedModule) → fits_module m ≡ true
+    → (m : Module) (job : ℕ) (t : TypedModule) → slice_get (trees_of fs) (slice_index_or files job 0) ≡ Some m
     → let ts = tables_of (needed_of (trees_of fs) files jobs job) in typed_body m job ts ≡ Ok t → BodyStands m job ts t
