@@ -24,7 +24,6 @@ use Rattle.m2_scheme.specs.Modules.{all_characters}
 use Rattle.m2_links.specs.Linked.{Program, text, bytes_in}
 use Rattle.m2_links.proofs.Stores.{text_length}
 use Rattle.m2_formed.specs.Formed.{Holds, fine, broken}
-use Rattle.m2_formed_bodies.specs.FormedBodies.{Keeps}
 use Rattle.m2_formed_known.specs.FormedKnown.{fits_module}
 use Rattle.m2_formed_frames.proofs.Bytes.{texts_are_bytes}
 use Rattle.m2_formed_trees.specs.FormedTrees.{fits_contents}
@@ -40,7 +39,7 @@ use Rattle.m2_agree_linked.specs.Modules.{IsTypedModule, AreTypedModules}
 use Rattle.m2_typing.specs.Carried.{NamesPlaced, NamesSlots}
 use Rattle.m2_typing.specs.Names.{HasInstance}
 use Rattle.m2_typing_bodies.specs.TypingBodies.{fits_whole_block, Stage, stands, StageTyped, HasModule, NamesThere, AreBodiesTyped}
-use Rattle.m2_typing_bodies.proofs.Modules.{modules_typed, modules_keep, modules_outermost}
+use Rattle.m2_typing_bodies.proofs.Modules.{modules_typed}
 use Rattle.m2_typing_wants.specs.TypingWants.{CallsNoVariable, AreOrdered, placed}
 use Rattle.m2_typing_wants.proofs.Orders.{bodies_ordered}
 use Rattle.m2_typing_wants.proofs.Provided.{bodies_provided, module_typed}
@@ -116,29 +115,14 @@ module _ (p : Program) (pages place : ℕ) (m : TypedModule) (there : slice_get 
     abbrev behind : Scope least.Told
     behind = (declared_in st.scope tree st.block).0
 
-    abbrev after : Scope least.Told
-    after = (walked_in st.scope tree st.block).0.scope
-
     fits_block : fits_whole_block st.block ≡ true
     fits_block = block_fits tree job ts st.scope st.block st.begun fits
 
-    keeps : Keeps behind after
-    keeps = modules_keep least (modules_in st.scope tree st.block) st.scope tree st.block fits_block st.begins
-
-    outermost : behind.level ≡ 0
-    outermost = modules_outermost least (modules_in st.scope tree st.block) st.scope tree st.block fits_block st.begins
-
-    grows : (t : TypeNo) (y : Made) → made_at behind.types t ≡ Some y → made_at m.types t ≡ Some y
-    grows t y e = subst (λ (types : Types). made_at types t ≡ Some y) (sym st.types) (keeps.types t y e)
-
-    home : behind.types.home ≡ m.types.home
-    home = sym keeps.home ∙ ap (λ (types : Types). types.home) (sym st.types)
-
     names_are : NamesThere x opens 0 behind.own
     names_are =
-        module_names x opens refl behind.types behind.variables behind.own grows (sym st.variables) own st.known.ranged.names st.known.words.names
-        (subst (λ (n : ℕ). NamesPlaced n behind.variables behind.own) home st.placed)
-        (subst (λ (n : ℕ). NamesSlots [] n behind.own) outermost st.slots) stand.others
+        module_names x opens refl behind.types behind.variables behind.own st.grows (sym st.variables) own st.known.ranged.names st.known.words.names
+        (subst (λ (n : ℕ). NamesPlaced n behind.variables behind.own) (st.same_home ∙ sym st.home) st.placed)
+        (subst (λ (n : ℕ). NamesSlots [] n behind.own) st.level st.slots) stand.others
 
     has : HasModule least st.base z behind (walked_in st.scope tree st.block).0
     has = record {
@@ -153,7 +137,7 @@ module _ (p : Program) (pages place : ℕ) (m : TypedModule) (there : slice_get 
 
     pub bodies_typed : length (all_characters (module_texts m)) ≤ 2 ^ 32 → AreBodiesTyped z m.body
     bodies_typed room =
-        modules_typed least st.base (modules_in st.scope tree st.block) st.scope tree st.block fits_block st.begins st.told z
+        modules_typed least st.base (modules_in st.scope) st.scope tree st.block fits_block st.begins st.told z
         (record { there = there; all = st.typed; room = room }) has m.body st.body
 
 -- ---- the modules of a graph
@@ -182,7 +166,7 @@ module _ (fs : List (List ℕ × Module)) (files : List ℕ) (jobs : List (List 
     are_typed place m e =
         let o : Body m = body_of place m e in
         let named : BodyNamed (trees_of fs) files jobs o (placed_at p pages place m) = body_named fs files jobs starts graph each fit p b pages place m e o in
-        let st : BodyStands o.tree o.job (tables o) m = bodies_stand fs files jobs starts graph fit o.tree o.job m (passes_at fits_module (trees_of fs) fit (slice_index_or files o.job 0) o.tree o.is_tree) o.typed in
+        let st : BodyStands o.tree o.job (tables o) m = bodies_stand fs files jobs starts graph fit o.tree o.job m o.is_tree o.typed in
         let stand : NamesStand (placed_at p pages place m) (is_open (tables_by o.tree (tables o)) m.imports) st.scope o.tree st.block = names_begun m o named st.scope st.block st.begun in
         let typed = bodies_typed p pages place m e o.tree o.job (tables o) st named.own stand (passes_at (λ (t : Module). fits_contents t.contents) (trees_of fs) whole (slice_index_or files o.job 0) o.tree o.is_tree) (texts_room p pages place m e room most) in
         let bytes = texts_are_bytes m (each_at IsFit p fits place m e).spelled in
