@@ -35,10 +35,12 @@ pub struct Program {
     pub modules: Vec<Expected>,
     /// Bytes that stand together somewhere in a module.
     pub pieces: Vec<Expected>,
-    /// The bytes that it prints.
+    /// The bytes that it prints, or that it prints again and again, if it goes on.
     pub printed: Vec<u8>,
     /// The number with which it ends.
     pub end: u8,
+    /// The reductions after which it still runs; 0 for a program that ends.
+    pub goes_on: u64,
 }
 
 /// A program of which nothing is known.
@@ -50,6 +52,7 @@ pub fn no_program(alloc: Global) -> Program {
         pieces: Vec::new(alloc),
         printed: Vec::new(alloc),
         end: 0,
+        goes_on: 0,
     }
 }
 
@@ -145,6 +148,34 @@ fn last_words(alloc: Global, end: u8) -> Result<String> {
     Ok(format!(in alloc; "fault {end}: {words}\n")?)
 }
 
+/// Whether these are the bytes of the piece, once or several times; none are for the empty piece alone.
+fn is_repeated(bytes: &[u8], piece: &[u8]) -> bool {
+    if piece.is_empty() {
+        return bytes.is_empty();
+    }
+    !bytes.is_empty() && bytes.chunks(piece.len()).all(|it| piece.starts_with(it))
+}
+
+/// What is wrong with modules that are to go on, if something is.
+fn executed_on(
+    alloc: Global,
+    program: &Program,
+    link: &[u8],
+    modules: &[(String, Vec<u8>)],
+) -> Result<Option<String>> {
+    let mut folder = Folder { link, modules };
+    let mut out = Screen::new(alloc);
+    let mut err = Screen::new(alloc);
+    let status = execute(alloc, &mut folder, program.goes_on, &mut out, &mut err);
+    if status != 4 || !err.bytes.is_empty() {
+        return Ok(Some(format!(in alloc; "it does not go on, with status {status}")?));
+    }
+    if !is_repeated(out.bytes.as_slice(), program.printed.as_slice()) {
+        return Ok(Some(format!(in alloc; "it prints something else")?));
+    }
+    Ok(None)
+}
+
 /// What is wrong with what modules do, if something is.
 fn executed(
     alloc: Global,
@@ -187,6 +218,7 @@ pub fn judged<R: Threads + Sync>(
             Some(wrong) => Ok(Some(wrong)),
             None => match lacking_all(alloc, program, &link, &modules)? {
                 Some(wrong) => Ok(Some(wrong)),
+                None if program.goes_on > 0 => executed_on(alloc, program, &link, &modules),
                 None => executed(alloc, program, &link, &modules),
             },
         },

@@ -86,6 +86,7 @@ fn with_sign(alloc: Global, reading: &mut Reading, sign: &str, rest: &str) -> Re
         "%c" => reading.program.pieces.push(expected_in(alloc, rest)?)?,
         "%p" => reading.program.printed = bytes_of(alloc, rest)?,
         "%e" => reading.program.end = rest.parse()?,
+        "%r" => reading.program.goes_on = rest.parse()?,
         _ => bail!("an unknown sign"),
     }
     Ok(())
