@@ -1,10 +1,11 @@
 -- Cells of numbers, and which procedure a number as a value is.
 use Rattle.std.proofs.Common.{◌≡◌, ℕ, zero, suc, ◌+◌, ℤ, pos, List, [], ◌∷◌, ◌++◌, length, Some, refl, ap, ◌∙◌, arith}
 use Rattle.std.specs.Prelude.{slice_get}
+use Rattle.std.proofs.lemmas.Int.{ints}
 use Rattle.std.proofs.lemmas.Option.{none-some}
 use Rattle.m2_typed.specs.declared.typed_module.Routine.{Routine}
 use Rattle.m2_typed.specs.declared.typed_module.TypedModule.{TypedModule}
-use Rattle.m2_layout.specs.Types.{Scalar, Natural, Integer, Between, Callable}
+use Rattle.m2_layout.specs.Types.{Scalar, Natural, Integer, Between, Callable, Heading, IsScalar}
 use Rattle.m2_meaning.specs.Around.{Modules, Entry, Procedure, numbered_from, entries_from, entries_before, entry_of}
 use Rattle.m2_cells.specs.Relation.{Means, IsNumber, value_number}
 
@@ -14,6 +15,10 @@ number_means program (Natural g) v is = tt
 number_means program Integer v is = tt
 number_means program (Between l g) v is = tt
 number_means program (Callable h) v is = absurd is
+
+-- cells of procedure types are those of a scalar type
+pub callable_scalar : (h : Heading) → IsScalar (Callable h)
+callable_scalar h = record { low = omega (arith, ints); high = omega (arith, ints); some = omega (arith, ints); narrow = omega (arith, ints) }
 
 -- ---- the entries of all modules
 
