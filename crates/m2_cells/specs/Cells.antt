@@ -7,7 +7,7 @@ use Rattle.wasm_tree.specs.declared.instr.StoreWidth.TheVariants as width
 use Rattle.wasm_tree.specs.Numbers.{load_size, loaded, stored}
 use Rattle.wasm_tree.specs.Machine.{bytes_at, pasted}
 use Rattle.wasm_effect.specs.Bytes.{byte}
-use Rattle.m2_layout.specs.Types.{Scalar, Natural, Integer, Between}
+use Rattle.m2_layout.specs.Types.{Scalar, Natural, Integer, Between, Callable}
 use Rattle.m2_layout.specs.Sizes.{Room, One, Two, Four, room_of}
 
 -- the number in k bytes from place a on
@@ -34,17 +34,20 @@ abbrev pub load_of : Scalar → Load
 load_of (Natural g) = unsigned_load (room_of (Natural g))
 load_of Integer = load.I64From32S
 load_of (Between l g) = unsigned_load (room_of (Between l g))
+load_of (Callable h) = unsigned_load (room_of (Callable h))
 
 -- the lower bound is added behind the load and taken off before the store
 abbrev pub raised : Scalar → ℕ → ℕ
 raised (Natural g) n = n
 raised Integer n = n
 raised (Between l g) n = (n + word l) % 2 ^ 64
+raised (Callable h) n = n
 
 abbrev pub lowered : Scalar → ℕ → ℕ
 lowered (Natural g) n = n
 lowered Integer n = n
 lowered (Between l g) n = (n + (2 ^ 64 - word l)) % 2 ^ 64
+lowered (Callable h) n = n
 
 -- the operand that is loaded from place a, if it is there
 abbrev pub fetched : Scalar → ℕ → List ℕ → Option ℕ

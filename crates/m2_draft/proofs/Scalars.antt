@@ -4,7 +4,7 @@ use Rattle.m2_typed.specs.declared.types.TypeNo.{TypeNo}
 use Rattle.m2_typed.specs.declared.known_types.Types.{Types}
 use Rattle.m2_layout.specs.declared.kind.Kind.{Kind}
 use Rattle.m2_layout.specs.declared.kind.Kind.TheVariants as kind
-use Rattle.m2_layout.specs.Types.{Ty, Scalar, Natural, Integer, Between, Cell, Hidden, Array, Nothing, Field}
+use Rattle.m2_layout.specs.Types.{Ty, Scalar, Natural, Integer, Between, Callable, Cell, Hidden, Array, Nothing, Field}
 use Rattle.m2_layout.specs.Sizes.{Room, One, Two, Four, room_of}
 use Rattle.m2_layout.specs.Shapes.{tree}
 use Rattle.m2_layout.specs.Extents.{scalar_of, kind_of, width_of, kind_of_tree}
@@ -26,20 +26,27 @@ store_is One = refl
 store_is Two = refl
 store_is Four = refl
 
-back : (c : Scalar) → scalar_of (kind_of c) ≡ c
-back (Natural g) = refl
-back Integer = refl
-back (Between l g) = refl
+load_back : (c : Scalar) → load_scalar (scalar_of (kind_of c)) ≡ load_scalar c
+load_back (Natural g) = refl
+load_back Integer = refl
+load_back (Between l g) = refl
+load_back (Callable h) = refl
+
+store_back : (c : Scalar) → store_scalar (scalar_of (kind_of c)) ≡ store_scalar c
+store_back (Natural g) = refl
+store_back Integer = refl
+store_back (Between l g) = refl
+store_back (Callable h) = refl
 
 load_tree_is : (t : Ty) → load_kind (kind_of_tree t) ≡ load_tree t
-load_tree_is (Cell c) = ap load_scalar (back c)
+load_tree_is (Cell c) = load_back c
 load_tree_is (Hidden n) = refl
 load_tree_is (Array n t) = refl
 load_tree_is Nothing = refl
 load_tree_is (Field t others) = refl
 
 store_tree_is : (t : Ty) → store_kind (kind_of_tree t) ≡ store_tree t
-store_tree_is (Cell c) = ap store_scalar (back c)
+store_tree_is (Cell c) = store_back c
 store_tree_is (Hidden n) = refl
 store_tree_is (Array n t) = refl
 store_tree_is Nothing = refl

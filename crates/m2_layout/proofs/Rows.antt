@@ -6,7 +6,7 @@ use Rattle.std.proofs.lemmas.List.{append-nil}
 use Rattle.std.proofs.Math.Nat.{add_assoc, add-zero}
 use Rattle.m2_layout.specs.declared.row.Row.{Row}
 use Rattle.m2_layout.specs.Capped.{capped}
-use Rattle.m2_layout.specs.Types.{Ty, Scalar, Natural, Integer, Between, Cell, Hidden, Array, Nothing, Field, row}
+use Rattle.m2_layout.specs.Types.{Ty, Scalar, Natural, Integer, Between, Callable, Cell, Hidden, Array, Nothing, Field, row}
 use Rattle.m2_layout.specs.Sizes.{Room, One, Two, Four, room_of, bytes_in, width, size, offset}
 use Rattle.m2_layout.specs.Extents.{kind_of, scalar_of, starts, total, row_of, with_part, or_end, start_in, fields, extent_of, size_in, element_in, field_in, kind_in, element_tree, kind_of_tree, IsRecord, IsMade}
 use Rattle.m2_layout.proofs.Capping.{sum_both, product_both, from_nought}
@@ -68,14 +68,15 @@ width_small One = refl
 width_small Two = refl
 width_small Four = refl
 
-back : (c : Scalar) → scalar_of (kind_of c) ≡ c
-back (Natural g) = refl
-back Integer = refl
-back (Between l g) = refl
+same_width : (c : Scalar) → width (scalar_of (kind_of c)) ≡ width c
+same_width (Natural g) = refl
+same_width Integer = refl
+same_width (Between l g) = refl
+same_width (Callable h) = refl
 
 pub size_is : (t : Ty) → IsMade t → size_in (extent_of t) ≡ capped (size t)
 unfolding size
-size_is (Cell c) h = ap width (back c) ∙ width_small (room_of c)
+size_is (Cell c) h = same_width c ∙ width_small (room_of c)
 size_is (Hidden n) h = refl
 size_is (Array n t) h = refl
 size_is Nothing h = refl

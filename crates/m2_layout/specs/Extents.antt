@@ -15,7 +15,7 @@ use Rattle.m2_layout.specs.declared.row.Row.{Row}
 use Rattle.m2_layout.specs.declared.extent.Extent.{Extent}
 use Rattle.m2_layout.specs.declared.extent.Extent.TheVariants as extent
 use Rattle.m2_layout.specs.Capped.{capped}
-use Rattle.m2_layout.specs.Types.{Ty, Scalar, Natural, Integer, Between, Cell, Hidden, Array, Nothing, Field}
+use Rattle.m2_layout.specs.Types.{Ty, Scalar, Natural, Integer, Between, Callable, Cell, Hidden, Array, Nothing, Field}
 use Rattle.m2_layout.specs.Sizes.{Room, One, Two, Four, width, size}
 use Rattle.m2_layout.specs.Shapes.{scalar_kind, tree}
 
@@ -25,6 +25,7 @@ abbrev pub kind_of : Scalar → Kind
 kind_of (Natural g) = kind.Natural g
 kind_of Integer = kind.Integer
 kind_of (Between l g) = kind.Between l g
+kind_of (Callable h) = kind.Natural 4294967295
 
 abbrev pub scalar_of : Kind → Scalar
 scalar_of (kind.Natural g) = Natural g

@@ -6,15 +6,16 @@ use Rattle.m2_typed.specs.declared.types.Home.{Home}
 use Rattle.m2_typed.specs.declared.types.Home.TheVariants.{Predeclared, Module}
 use Rattle.m2_typed.specs.declared.types.TypeNo.{TypeNo}
 use Rattle.m2_typed.specs.declared.shape.Scalar.{Scalar as Range}
+use Rattle.m2_typed.specs.declared.shape.Formal.{Formal}
 use Rattle.m2_typed.specs.declared.shape.Shape.{Shape}
 use Rattle.m2_typed.specs.declared.shape.Shape.TheVariants as shape
 use Rattle.m2_typed.specs.declared.shape.Made.{Made}
 use Rattle.m2_typed.specs.declared.known_types.Types.{Types}
 use Rattle.m2_typed.specs.Types.{are_same, is_integer}
 use Rattle.m2_typed.specs.Known.{predeclared_scalar, scalar_at}
-use Rattle.m2_layout.specs.Types.{Ty, Scalar, Natural, Integer, Between, Cell, Array, Nothing, row}
+use Rattle.m2_layout.specs.Types.{Passing, ByValue, ByName, AsOpen, Ty, Scalar, Natural, Integer, Between, Callable, Cell, Array, Nothing, Heading, Proper, Function, Takes, row}
 
--- BITSET and procedure types: numbers of 32 bits
+-- BITSET: numbers of 32 bits
 abbrev pub word : Ty
 word = Cell (Natural 4294967295)
 
@@ -50,12 +51,25 @@ tree_from before t (Module home) = in_module (lookup (nat_eq home) before) t.num
 abbrev pub tree_in : Trees → TypeNo → Ty
 tree_in before t = tree_from before t t.home
 
+-- how a formal is passed
+abbrev pub passing_of : Formal → Passing
+passing_of f = if f.is_open then AsOpen f.is_var else (if f.is_var then ByName else ByValue)
+
+abbrev pub result_tree : Trees → Option TypeNo → Heading
+result_tree before None = Proper
+result_tree before (Some t) = Function (tree_in before t)
+
+-- the heading of these formals and this result
+abbrev pub heading_tree : Trees → List Formal → Option TypeNo → Heading
+heading_tree before [] result = result_tree before result
+heading_tree before (f ∷ fs) result = Takes (passing_of f) (tree_in before f.of) (heading_tree before fs result)
+
 abbrev pub shape_tree : Types → Trees → TypeNo → Shape → Ty
 shape_tree types before t (shape.Scalar s) = Cell (scalar_kind t s)
 shape_tree types before t shape.Set = word
 shape_tree types before t (shape.Array i e) = Array (elements_of (scalar_at types i)) (tree_in before e)
 shape_tree types before t (shape.Record fs) = row (map (λ f. tree_in before f.1) fs)
-shape_tree types before t (shape.Procedure p) = word
+shape_tree types before t (shape.Procedure p) = Cell (Callable (heading_tree before p.formals p.result))
 shape_tree types before t (shape.Open e) = Nothing
 
 -- the types of a module, each from those before it

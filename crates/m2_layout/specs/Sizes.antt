@@ -1,7 +1,7 @@
 -- The sizes of types, and the offsets of their components.
 use Rattle.std.specs.Prelude.{ℕ, zero, suc, ◌+◌, ◌*◌, ◌^◌, ℤ, pos, ◌+ℤ◌, ◌-ℤ◌, unsigned_abs, nat_lt, List, [], ◌∷◌, if◌then◌else◌}
 use Rattle.std.specs.Int.{w32, cast_signed}
-use Rattle.m2_layout.specs.Types.{Ty, Scalar, Natural, Integer, Between, Cell, Hidden, Array, Nothing, Field}
+use Rattle.m2_layout.specs.Types.{Ty, Scalar, Natural, Integer, Between, Callable, Cell, Hidden, Array, Nothing, Field}
 
 pub data Room : Type 0 where
   One : Room
@@ -22,6 +22,7 @@ abbrev pub room_of : Scalar → Room
 room_of (Natural g) = room_for g
 room_of Integer = Four
 room_of (Between l g) = room_for (unsigned_abs (g -ℤ l))
+room_of (Callable h) = Four
 
 abbrev pub width : Scalar → ℕ
 width c = bytes_in (room_of c)
@@ -31,6 +32,7 @@ abbrev pub value_of : Scalar → ℕ → ℤ
 value_of (Natural g) n = pos n
 value_of Integer n = cast_signed w32 n
 value_of (Between l g) n = l +ℤ pos n
+value_of (Callable h) n = pos n
 
 unfoldable pub size : Ty → ℕ
 size (Cell c) = width c

@@ -1,20 +1,36 @@
 -- The types of variables, and of their components.
-use Rattle.std.specs.Prelude.{◌≡◌, ℕ, zero, suc, ℤ, pos, negsuc, ◌-ℤ◌, ◌≤ℤ◌, nat_lt, List, [], ◌∷◌, Option, Some, None, if◌then◌else◌}
+use Rattle.std.specs.Prelude.{◌≡◌, ℕ, zero, suc, Bool, ℤ, pos, negsuc, ◌-ℤ◌, ◌≤ℤ◌, nat_lt, List, [], ◌∷◌, Option, Some, None, if◌then◌else◌}
 
--- numbers from 0 to a greatest one (CARDINAL, CHAR, enumerations, BITSET, procedures), INTEGER, and subranges
-pub data Scalar : Type 0 where
-  Natural : (greatest : ℕ) → Scalar
-  Integer : Scalar
-  Between : (least greatest : ℤ) → Scalar
+-- how an argument is passed: by its value, as another name of a variable behind VAR, or as an array of any length
+pub data Passing : Type 0 where
+  ByValue : Passing
+  ByName : Passing
+  AsOpen : (is_var : Bool) → Passing
 
--- a type: a scalar, n of one type, or a record, which is a field and then the others. Hidden is room in a frame in which
--- no variable stands
-pub data Ty : Type 0 where
-  Cell : Scalar → Ty
-  Hidden : (n : ℕ) → Ty
-  Array : (n : ℕ) → (element : Ty) → Ty
-  Nothing : Ty
-  Field : (field others : Ty) → Ty
+mutual
+  -- numbers from 0 to a greatest one (CARDINAL, CHAR, enumerations, BITSET), INTEGER, subranges, and the procedures with a
+  -- heading
+  pub data Scalar : Type 0 where
+    Natural : (greatest : ℕ) → Scalar
+    Integer : Scalar
+    Between : (least greatest : ℤ) → Scalar
+    Callable : (heading : Heading) → Scalar
+
+  -- a type: a scalar, n of one type, or a record, which is a field and then the others. Hidden is room in a frame in which
+  -- no variable stands
+  pub data Ty : Type 0 where
+    Cell : Scalar → Ty
+    Hidden : (n : ℕ) → Ty
+    Array : (n : ℕ) → (element : Ty) → Ty
+    Nothing : Ty
+    Field : (field others : Ty) → Ty
+
+  -- the heading of a procedure: its formals, each with how it is passed and its type or that of its elements, and at the
+  -- end the type of the result, if there is one
+  pub data Heading : Type 0 where
+    Proper : Heading
+    Function : (result : Ty) → Heading
+    Takes : (passing : Passing) → (formal : Ty) → (others : Heading) → Heading
 
 -- the record of these fields
 abbrev pub row : List Ty → Ty
@@ -39,11 +55,13 @@ abbrev pub least : Scalar → ℤ
 least (Natural g) = pos 0
 least Integer = negsuc 2147483647
 least (Between l g) = l
+least (Callable h) = pos 0
 
 abbrev pub greatest : Scalar → ℤ
 greatest (Natural g) = pos g
 greatest Integer = pos 2147483647
 greatest (Between l g) = g
+greatest (Callable h) = pos 4294967295
 
 -- the number is one of the type
 pub record IsOf (c : Scalar) (v : ℤ) : Type 0 where
@@ -62,6 +80,7 @@ abbrev pub first : Scalar → ℤ
 first (Natural g) = pos 0
 first Integer = pos 0
 first (Between l g) = l
+first (Callable h) = pos 0
 
 -- ---- types of variables
 

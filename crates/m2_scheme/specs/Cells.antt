@@ -12,7 +12,7 @@ use Rattle.m2_typed.specs.declared.shape.Scalar.{Scalar as Range}
 use Rattle.m2_typed.specs.declared.known_types.Types.{Types}
 use Rattle.m2_typed.specs.Types.{are_same, integer}
 use Rattle.m2_typed.specs.Known.{scalar_at}
-use Rattle.m2_layout.specs.Types.{Ty, Scalar, Natural, Integer, Between, Cell, Hidden, Array, Nothing, Field}
+use Rattle.m2_layout.specs.Types.{Ty, Scalar, Natural, Integer, Between, Callable, Cell, Hidden, Array, Nothing, Field}
 use Rattle.m2_layout.specs.Sizes.{Room, One, Two, Four, room_of}
 use Rattle.m2_layout.specs.Shapes.{tree}
 use Rattle.m2_scheme.specs.Coded.{number, operation, checked}
@@ -29,6 +29,7 @@ abbrev pub load_of : Scalar → Loads
 load_of (Natural g) = load_room (room_of (Natural g))
 load_of Integer = I64From32S
 load_of (Between l g) = load_room (room_of (Between l g))
+load_of (Callable h) = load_room (room_of (Callable h))
 
 abbrev pub width_room : Room → StoreWidth
 width_room One = width.One
@@ -40,6 +41,7 @@ abbrev pub lower : Scalar → ℤ
 lower (Natural g) = pos 0
 lower Integer = pos 0
 lower (Between l g) = l
+lower (Callable h) = pos 0
 
 abbrev pub is_nought : ℤ → Bool
 is_nought n = int_le n (pos 0) && int_le (pos 0) n

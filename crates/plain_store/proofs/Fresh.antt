@@ -17,9 +17,9 @@ use Rattle.m2_typed.specs.declared.shape.Made.{Made}
 use Rattle.m2_typed.specs.declared.known_types.Types.{Types}
 use Rattle.m2_typed.specs.declared.typed_module.Routine.{Routine}
 use Rattle.m2_typed.specs.Known.{predeclared_scalar, scalar_at}
-use Rattle.m2_layout.specs.Types.{Ty, Scalar, Natural, Cell, Hidden, Array, Nothing, Field, row, component, first}
+use Rattle.m2_layout.specs.Types.{Ty, Scalar, Natural, Callable, Cell, Hidden, Array, Nothing, Field, row, component, first}
 use Rattle.m2_layout.specs.Sizes.{size, width}
-use Rattle.m2_layout.specs.Shapes.{Trees, or_nothing, in_module, scalar_kind, scalar_tree, tree_from, tree_in, shape_tree, module_trees, other_trees, known_trees, tree, elements_of}
+use Rattle.m2_layout.specs.Shapes.{heading_tree, Trees, or_nothing, in_module, scalar_kind, scalar_tree, tree_from, tree_in, shape_tree, module_trees, other_trees, known_trees, tree, elements_of}
 use Rattle.m2_layout.specs.Shapes.{with_made as with_tree, with_module as with_trees}
 use Rattle.m2_typed.specs.declared.typed_module.TypedModule.{TypedModule}
 use Rattle.m2_layout.specs.Frames.{formals_of, formal_tree, variable_trees, frame, module_row}
@@ -211,7 +211,7 @@ shape_says types known before p t (shape.Scalar s) = cell_says (scalar_kind t s)
 shape_says types known before p t shape.Set = cell_says (Natural 4294967295)
 shape_says types known before p t (shape.Array i e) = array_says (elements_of (scalar_at types i)) (blank_in known e) (tree_in before e) (part_says known before p e)
 shape_says types known before p t (shape.Record fs) = row_says (map (field_blank known) fs) (map (λ f. tree_in before f.1) fs) (fields_say known before p fs)
-shape_says types known before p t (shape.Procedure h) = cell_says (Natural 4294967295)
+shape_says types known before p t (shape.Procedure h) = cell_says (Callable (heading_tree before h.formals h.result))
 shape_says types known before p t (shape.Open e) = row_says [] [] refl
 
 -- ---- the types of modules
