@@ -47,7 +47,7 @@ module _ (k : Scene) (has : HasHelpers k) (small : AreSmall k.setting.home.types
 
   module _ (function : Bool) where
     -- an address first
-    ends_at : (exit : ℕ) (stack : List Value) (on : Target → Effect) (t : Ty) (go : Effects) (r : Effect) (a : Answer Location) (next : Location → Source → Outcome) → Into (GivesPlace k t go stack) r a
+    pub ends_at : (exit : ℕ) (stack : List Value) (on : Target → Effect) (t : Ty) (go : Effects) (r : Effect) (a : Answer Location) (next : Location → Source → Outcome) → Into (GivesPlace k t go stack) r a
         → ((l : Location) → component (row k.world) l ≡ Some t → (s : Source) (st : Target) → Stands k s st → Ends k function exit stack on (go st (stack ++ I32 (place k l) ∷ [])) (next l s)) → Ends k function exit stack on r (with_answer a next)
     ends_at exit stack on t go r (Gave l s) next p h = subst (λ (e : Effect). Ends k function exit stack on e (next l s)) (sym p.run) (h l p.type s p.st p.stands)
     ends_at exit stack on t go r (Ended j out) next p h = p

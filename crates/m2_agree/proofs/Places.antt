@@ -15,8 +15,9 @@ use Rattle.wasm_effect.specs.Effect.{State as Target}
 use Rattle.wasm_effect.proofs.Steps.{i32_runs, i64_runs, number_runs, load_runs, global_runs, two_32}
 use Rattle.m2_typed.specs.declared.types.TypeNo.{TypeNo}
 use Rattle.m2_typed.specs.declared.meaning.Variable.{Variable}
-use Rattle.m2_layout.specs.Types.{Ty, Scalar, Natural, Integer, Between, Cell, row, component, IsScalar}
+use Rattle.m2_layout.specs.Types.{Ty, Scalar, Natural, Integer, Between, Callable, Cell, row, component, IsScalar}
 use Rattle.m2_layout.specs.Sizes.{size, offset, width, bytes_in, room_for}
+use Rattle.m2_layout.specs.Shapes.{tree}
 use Rattle.m2_meaning.specs.Store.{Location}
 use Rattle.m2_meaning.specs.Answer.{State as Source}
 use Rattle.m2_cells.specs.Cells as cells
@@ -60,7 +61,7 @@ module _ (k : Scene) (has : HasHelpers k) (small : AreSmall k.setting.home.types
   FetchedPlain c a v st = (bytes : List ℕ) × (bytes_at (load_size (load_of c)) a st.bytes ≡ Some bytes) × (loads (load_of c) bytes ≡ word v)
 
   -- a cell of numbers from 0 is one of numbers without a lower bound
-  fetch_nought : (g v : ℤ) (a : ℕ) (st : Target) → IsScalar (Between (pos 0) g) → ((b : ℕ) → byte b st.bytes < 256) → a + width (Between (pos 0) g) ≤ length st.bytes → Says (Between (pos 0) g) a v st.bytes → FetchedPlain (Between (pos 0) g) a v st
+  fetch_nought : (g v : ℤ) (a : ℕ) (st : Target) → IsScalar (Between (pos 0) g) → ((b : ℕ) → byte b st.bytes < 256) → a + width (Between (pos 0) g) ≤ length st.bytes → Says k.program (Between (pos 0) g) a v st.bytes → FetchedPlain (Between (pos 0) g) a v st
   fetch_nought (negsuc g) v a st ok bytes fits says = let some = ok.some in absurd (omega (arith, ints))
   fetch_nought (pos g) v a st ok bytes fits says =
       let same : unsigned_abs (pos g -ℤ pos 0) ≡ g = omega (arith, ints) in
@@ -70,7 +71,7 @@ module _ (k : Scene) (has : HasHelpers k) (small : AreSmall k.setting.home.types
       let value : pos (cells.number (width (Natural g)) a st.bytes) ≡ v =
       ap (λ (n : ℕ). pos (cells.number n a st.bytes)) (sym width_is) ∙ plus_nought (cells.number (width (Between (pos 0) (pos g))) a st.bytes) ∙ says.value
       in
-      let p = fetch_parts (Natural g) a v st.bytes plain bytes (omega (arith, fits, width_is)) (record { value = value; within = record { low = says.within.low; high = says.within.high } }) in
+      let p = fetch_parts k.program (Natural g) a v st.bytes plain bytes (omega (arith, fits, width_is)) (record { value = value; within = record { low = says.within.low; high = says.within.high }; means = tt }) in
       (p.0, ap (λ (n : ℕ). bytes_at (load_size (load_room (room_for n))) a st.bytes) same ∙ p.1, ap (λ (n : ℕ). loads (load_room (room_for n)) p.0) same ∙ p.2)
     where
       plus_nought : (n : ℕ) → pos n ≡ pos 0 +ℤ pos n
@@ -87,33 +88,39 @@ module _ (k : Scene) (has : HasHelpers k) (small : AreSmall k.setting.home.types
       ∙ i64_runs k.modules k.fixed k.turns (calls k) k.own (operation Add ∷ rest) st (word l) (stack ++ I64 n ∷ [])
       ∙ operation_runs k has small Add n (word l) (word v) rest st stack (ap Some p.2)
 
-  scalar_runs : (c : Scalar) (a : ℕ) (v : ℤ) (rest : List Instr) (st : Target) (stack : List Value) → IsScalar c → ((b : ℕ) → byte b st.bytes < 256) → a + width c ≤ length st.bytes → Says c a v st.bytes
+  scalar_runs : (c : Scalar) (a : ℕ) (v : ℤ) (rest : List Instr) (st : Target) (stack : List Value) → IsScalar c → ((b : ℕ) → byte b st.bytes < 256) → a + width c ≤ length st.bytes → Says k.program c a v st.bytes
       → runs k (load_scalar c ++ rest) st (stack ++ I32 a ∷ []) ≡ runs k rest st (stack ++ I64 (word v) ∷ [])
   scalar_runs (Natural g) a v rest st stack ok bytes fits says =
-      let p = fetch_parts (Natural g) a v st.bytes ok bytes fits says in load_one (Natural g) a p.0 rest st stack p.1 ∙ ap (λ (i : ℕ). runs k rest st (stack ++ I64 i ∷ [])) p.2
+      let p = fetch_parts k.program (Natural g) a v st.bytes ok bytes fits says in load_one (Natural g) a p.0 rest st stack p.1 ∙ ap (λ (i : ℕ). runs k rest st (stack ++ I64 i ∷ [])) p.2
   scalar_runs Integer a v rest st stack ok bytes fits says =
-      let p = fetch_parts Integer a v st.bytes ok bytes fits says in load_one Integer a p.0 rest st stack p.1 ∙ ap (λ (i : ℕ). runs k rest st (stack ++ I64 i ∷ [])) p.2
+      let p = fetch_parts k.program Integer a v st.bytes ok bytes fits says in load_one Integer a p.0 rest st stack p.1 ∙ ap (λ (i : ℕ). runs k rest st (stack ++ I64 i ∷ [])) p.2
   scalar_runs (Between l g) a v rest st stack ok bytes fits says =
-      between_runs l g v a rest st stack (fetch_parts (Between l g) a v st.bytes ok bytes fits says)
+      between_runs l g v a rest st stack (fetch_parts k.program (Between l g) a v st.bytes ok bytes fits says)
       (λ e. plain l e ok fits says) (is_nought l) refl
     where
-      plain : (l : ℤ) → l ≡ pos 0 → IsScalar (Between l g) → a + width (Between l g) ≤ length st.bytes → Says (Between l g) a v st.bytes → FetchedPlain (Between l g) a v st
-      plain l e = subst (λ (l : ℤ). IsScalar (Between l g) → a + width (Between l g) ≤ length st.bytes → Says (Between l g) a v st.bytes → FetchedPlain (Between l g) a v st) (sym e)
+      plain : (l : ℤ) → l ≡ pos 0 → IsScalar (Between l g) → a + width (Between l g) ≤ length st.bytes → Says k.program (Between l g) a v st.bytes → FetchedPlain (Between l g) a v st
+      plain l e = subst (λ (l : ℤ). IsScalar (Between l g) → a + width (Between l g) ≤ length st.bytes → Says k.program (Between l g) a v st.bytes → FetchedPlain (Between l g) a v st) (sym e)
           (λ ok fits says. fetch_nought g v a st ok bytes fits says)
+  scalar_runs (Callable h) a v rest st stack ok bytes fits says =
+      let p = fetch_parts k.program (Callable h) a v st.bytes ok bytes fits says in load_one (Callable h) a p.0 rest st stack p.1 ∙ ap (λ (i : ℕ). runs k rest st (stack ++ I64 i ∷ [])) p.2
 
   -- a scalar variable is loaded
+  pub cell_runs : (t : TypeNo) (c : Scalar) → tree k.setting.home.types t ≡ Cell c → IsScalar c → (l : Location) (s : Source) (st : Target) → Stands k s st → component (row k.world) l ≡ Some (Cell c)
+      → (rest : List Instr) (stack : List Value) → runs k (loaded k.setting.home.types t ++ rest) st (stack ++ I32 (place k l) ∷ []) ≡ runs k rest st (stack ++ I64 (word (s.store l)) ∷ [])
+  unfolding size
+  cell_runs t c is scalar l s st h type rest stack =
+      let says = h.holds.cells l c type in
+      ap (λ (u : Ty). runs k (load_tree u ++ rest) st (stack ++ I32 (place k l) ∷ [])) is
+      ∙ scalar_runs c (place k l) (s.store l) rest st stack scalar h.holds.bytes (lies k.program k.world k.hidden s.store st.bytes h.holds l (Cell c) type) (subst (λ (a : ℕ). Says k.program c a (s.store l) st.bytes) (omega arith) says)
+
   pub loaded_gives : (t : TypeNo) (c : Scalar) → IsCell k.setting.home.types t c → (l : Location) (s : Source) (st : Target) → Stands k s st → component (row k.world) l ≡ Some (Cell c)
       → (rest : List Instr) (stack : List Value) → GivesNumber k t (runs k rest) stack (s.store l) s (runs k (loaded k.setting.home.types t ++ rest) st (stack ++ I32 (place k l) ∷ []))
-  unfolding size
-  loaded_gives t c cell l s st h type rest stack =
-      let says = h.holds.cells l c type in
-      record {
-        st = st;
-        stands = h;
-        is = cell.values (s.store l) says.within;
-        run = ap (λ (u : Ty). runs k (load_tree u ++ rest) st (stack ++ I32 (place k l) ∷ [])) cell.is
-            ∙ scalar_runs c (place k l) (s.store l) rest st stack cell.scalar h.holds.bytes (lies k.world k.hidden s.store st.bytes h.holds l (Cell c) type) (subst (λ (a : ℕ). Says c a (s.store l) st.bytes) (omega arith) says);
-      }
+  loaded_gives t c cell l s st h type rest stack = record {
+    st = st;
+    stands = h;
+    is = cell.values (s.store l) (h.holds.cells l c type).within;
+    run = cell_runs t c cell.is cell.scalar l s st h type rest stack;
+  }
 
   -- ---- a variable of a module
 

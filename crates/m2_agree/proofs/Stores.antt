@@ -10,13 +10,16 @@ use Rattle.wasm_tree.specs.Machine.{pasted}
 use Rattle.wasm_effect.specs.Effect.{State as Target, Effect}
 use Rattle.wasm_effect.proofs.Steps.{i64_runs, store_runs}
 use Rattle.m2_typed.specs.declared.types.TypeNo.{TypeNo}
-use Rattle.m2_layout.specs.Types.{Ty, Scalar, Natural, Integer, Between, Cell, row, component}
+use Rattle.m2_layout.specs.Types.{Ty, Scalar, Natural, Integer, Between, Callable, Cell, row, component, IsScalar, IsOf}
 use Rattle.m2_layout.specs.Sizes.{Room, One, Two, Four, room_of, bytes_in, size, width}
+use Rattle.m2_layout.specs.Shapes.{tree}
 use Rattle.m2_meaning.specs.Store.{Location}
 use Rattle.m2_meaning.specs.Answer.{State as Source}
 use Rattle.m2_meaning.specs.Statements.{stored as stores}
 use Rattle.m2_cells.specs.Cells as cells
+use Rattle.m2_cells.specs.Relation.{Means}
 use Rattle.m2_cells.proofs.Cells.{length-put}
+use Rattle.m2_cells.proofs.Procedures.{number_means}
 use Rattle.m2_cells.proofs.Worlds.{lies, holds_assigned}
 use Rattle.m2_scheme.specs.Coded.{number, operation}
 use Rattle.m2_scheme.specs.Cells.{store_scalar, width_room, is_nought, stored, store_tree}
@@ -58,6 +61,7 @@ module _ (k : Scene) (has : HasHelpers k) (small : AreSmall k.setting.home.types
   scalar_stores (Natural g) v a rest st stack w fits = store_one (room_of (Natural g)) a (word v) rest st stack fits
   scalar_stores Integer v a rest st stack w fits = store_one (room_of Integer) a (word v) rest st stack fits
   scalar_stores (Between l g) v a rest st stack w fits = between_stores l g v a rest st stack w fits (is_nought l) refl
+  scalar_stores (Callable h) v a rest st stack w fits = store_one (room_of (Callable h)) a (word v) rest st stack fits
 
   -- a number of a type is stored in a variable of the type
   pub record IsStored (rest : List Instr) (stack : List Value) (s : Source) (r : Effect) : Type 0 where
@@ -65,20 +69,25 @@ module _ (k : Scene) (has : HasHelpers k) (small : AreSmall k.setting.home.types
     pub stands : Stands k s st
     pub run : r ≡ runs k rest st stack
 
-  pub stored_goes : (t : TypeNo) (c : Scalar) → IsCell k.setting.home.types t c → (l : Location) (v : ℤ) → IsValue k.setting.home.types t v → component (row k.world) l ≡ Some (Cell c)
+  pub cell_stores : (t : TypeNo) (c : Scalar) → tree k.setting.home.types t ≡ Cell c → IsScalar c → (l : Location) (v : ℤ) → IsOf c v → Means k.program c v → IsWide v → component (row k.world) l ≡ Some (Cell c)
       → (s : Source) (st : Target) → Stands k s st → (rest : List Instr) (stack : List Value)
       → IsStored rest stack (stores l v s) (runs k (stored k.setting.home.types t ++ rest) st ((stack ++ I32 (place k l) ∷ []) ++ I64 (word v) ∷ []))
   unfolding size
-  stored_goes t c cell l v is type s st h rest stack =
-      let fits = lies k.world k.hidden s.store st.bytes h.holds l (Cell c) type in
+  cell_stores t c is scalar l v within means w type s st h rest stack =
+      let fits = lies k.program k.world k.hidden s.store st.bytes h.holds l (Cell c) type in
       record {
         st = put c (place k l) v st;
         stands = record {
-          holds = holds_assigned k.world k.hidden s.store st.bytes h.holds l c v cell.scalar (cell.bounds v is) type;
+          holds = holds_assigned k.program k.world k.hidden s.store st.bytes h.holds l c v scalar within means type;
           long = length-put c (place k l) (word v) st.bytes fits ∙ h.long;
           count = h.count;
           kept = h.kept;
           out = h.out;
         };
-        run = ap (λ (u : Ty). runs k (store_tree u ++ rest) st ((stack ++ I32 (place k l) ∷ []) ++ I64 (word v) ∷ [])) cell.is ∙ scalar_stores c v (place k l) rest st stack (wide v (narrow k has small t v is)) fits;
+        run = ap (λ (u : Ty). runs k (store_tree u ++ rest) st ((stack ++ I32 (place k l) ∷ []) ++ I64 (word v) ∷ [])) is ∙ scalar_stores c v (place k l) rest st stack w fits;
       }
+
+  pub stored_goes : (t : TypeNo) (c : Scalar) → IsCell k.setting.home.types t c → (l : Location) (v : ℤ) → IsValue k.setting.home.types t v → component (row k.world) l ≡ Some (Cell c)
+      → (s : Source) (st : Target) → Stands k s st → (rest : List Instr) (stack : List Value)
+      → IsStored rest stack (stores l v s) (runs k (stored k.setting.home.types t ++ rest) st ((stack ++ I32 (place k l) ∷ []) ++ I64 (word v) ∷ []))
+  stored_goes t c cell l v is type = cell_stores t c cell.is cell.scalar l v (cell.bounds v is) (number_means k.program c v cell.number) (wide v (narrow k has small t v is)) type

@@ -21,10 +21,10 @@ use Rattle.m2_layout.specs.Sizes.{offset}
 use Rattle.m2_layout.specs.Shapes.{tree}
 use Rattle.m2_meaning.specs.Store.{Location}
 use Rattle.m2_meaning.specs.Answer.{State as Source, Answer, Gave, Ended, Running, Outcome, Went, Left, Came, Stopped, Unfinished}
-use Rattle.m2_meaning.specs.Around.{Around, named, location_of}
+use Rattle.m2_meaning.specs.Around.{Modules, Around, named, location_of}
 use Rattle.m2_meaning.specs.Expressions.{Gives}
 use Rattle.m2_meaning.specs.Statements.{Does}
-use Rattle.m2_cells.specs.Relation.{Holds}
+use Rattle.m2_cells.specs.Relation.{Means, IsNumber, Holds}
 use Rattle.m2_scheme.specs.Coded.{Coded, Counts, Setting, address_local, number_local}
 use Rattle.m2_scheme.specs.Exprs.{base_global, variables_row, slot_path}
 use Rattle.m2_scheme.specs.Helpers.{copy_code, fill_code, check_typed, divisor_checked, div_rest, mod_typed, helper}
@@ -39,7 +39,8 @@ pub record Scene : Type 0 where
   pub extra : (k f : ℕ) → ℕ
   pub turns : ℕ
   pub functions : Calling  -- what calls of functions do
-  pub result : Option Range  -- the range of the function's values
+  pub program : Modules
+  pub result : Option Ty  -- the type of the function's values
   pub around : Around
   pub setting : Setting
   pub world : List Ty  -- the types of the instances that live
@@ -122,12 +123,18 @@ pub record IsSet (k : Scene) : Type 0 where
 abbrev pub word : ℤ → ℕ
 word v = cast_unsigned w64 v
 
--- variables of the type have one cell, whose numbers are values of the type
+-- variables of the type have one cell, whose numbers are values of the type and stand for themselves
 pub record IsCell (types : Types) (t : TypeNo) (c : Scalar) : Type 0 where
   pub is : tree types t ≡ Cell c
+  pub number : IsNumber c
   pub scalar : IsScalar c
   pub values : (v : ℤ) → IsOf c v → IsValue types t v
   pub bounds : (v : ℤ) → IsValue types t v → IsOf c v
+
+-- a value of a function: a number of its type, and what it stands for is there
+abbrev pub IsResult : Modules → Option Ty → ℤ → Type 0
+IsResult p None v = Unit {0}
+IsResult p (Some t) v = (c : Scalar) → t ≡ Cell c → IsOf c v × Means p c v
 
 -- ---- variables of modules
 
@@ -160,7 +167,7 @@ pub record IsWith (k : Scene) (j : ℕ) (l : Location) (t : Ty) : Type 0 where
 -- ---- what stands on both sides
 
 pub record Stands (k : Scene) (s : Source) (st : Target) : Type 0 where
-  pub holds : Holds k.world k.hidden s.store st.bytes
+  pub holds : Holds k.program k.world k.hidden s.store st.bytes
   pub long : length st.bytes ≡ k.limit
   pub count : length st.locals ≡ k.locals
   pub kept : (w : ℕ) (v : Value) → k.kept w ≡ Some v → slice_get st.locals w ≡ Some v
@@ -292,7 +299,7 @@ returned false below v = below
 pub record Returns (k : Scene) (function : Bool) (v : ℤ) (s : Source) (r : Effect) : Type 0 where
   pub below : List Value
   pub st : Target
-  pub stands : Stands k s st × (function ≡ true → IsIn k.result v)
+  pub stands : Stands k s st × (function ≡ true → IsResult k.program k.result v)
   pub run : r ≡ does.Returned st (returned function below v)
 
 -- What is on goes on, EXIT branches to its label, RETURN returns, and all else ends alike.

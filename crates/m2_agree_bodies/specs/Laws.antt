@@ -2,6 +2,7 @@
 use Rattle.std.specs.Prelude.{◌≡◌, ℕ, suc, ◌+◌, ◌-◌, Bool, false, List, [], ◌∷◌, length, None, Some, slice_get}
 use Rattle.wasm_tree.specs.declared.module.WModule.{WModule}
 use Rattle.wasm_effect.specs.Effect.{Fixed, nested}
+use Rattle.m2_typed.specs.declared.typed_module.Which.TheVariants as which
 use Rattle.m2_typed.specs.declared.typed_module.TypedModule.{TypedModule}
 use Rattle.m2_layout.specs.Types.{Ty, row}
 use Rattle.m2_layout.specs.Sizes.{size}
@@ -33,6 +34,8 @@ module _ (modules : List WModule) (fx : Fixed) (serves : (k f : ℕ) → Bool) (
   -- a procedure whose body is typed. Its code keeps as many addresses as were counted.
   pub record IsTypedRoutine (o : Spot p) : Type 0 where
     pub procedure : (d : ℕ) → IsProcedure (core modules fx serves extra n limit p base texts (suc o.place) o.place o.home d) o.home o.routine (frames_around o.home o.routine.level o.routine.around) (around_of o.home o.routine)
+    -- a procedure of the module itself stands in no other
+    pub outermost : (number : ℕ) → o.at ≡ which.Module number → around_of o.home o.routine ≡ []
     pub addresses : (coded_body (numbered o.home) o.home o.routine (frames_around o.home o.routine.level o.routine.around) (text_of o.home o.at)).1.addresses ≡ addresses_in o.routine.body
     pub ours : serves (suc o.place) (function_of o.home o.at) ≡ false
     pub bound : extra (suc o.place) (function_of o.home o.at) ≡ 0
@@ -74,4 +77,4 @@ TypedBodies =
     → length base ≡ length p → size (row base) + ((storage p pages - body_frame) + body_frame) ≡ limit
     → AreLinked modules fx serves extra n limit p base texts → AreTyped modules fx serves extra n limit p base texts
     → (place : ℕ) (m : TypedModule) → IsTypedMain modules fx serves extra n limit p base texts place m → serves (suc place) 5 ≡ false → extra (suc place) 5 ≡ 0
-    → BodyDoes (record { base = base; texts = texts; limit = limit }) (nested modules fx serves extra n (suc n)) (statements_do p pages n place m) (suc place) 5 (body_typed m)
+    → BodyDoes (record { program = p; base = base; texts = texts; limit = limit }) (nested modules fx serves extra n (suc n)) (statements_do p pages n place m) (suc place) 5 (body_typed m)

@@ -16,6 +16,7 @@ use Rattle.m2_layout.specs.Sizes.{offset}
 use Rattle.m2_layout.specs.Texts.{characters, module_texts, texts_before}
 use Rattle.m2_meaning.specs.Store.{Location}
 use Rattle.m2_meaning.specs.Around.{Modules, module_place, procedure_value}
+use Rattle.m2_cells.specs.Relation.{value_number}
 use Rattle.m2_scheme.specs.Coded.{body_index}
 use Rattle.m2_scheme.specs.Exprs.{base_global, slots_global, text_global, variables_row, slot_number, has_result}
 use Rattle.m2_scheme.specs.Functions.{routine_of, frames_around, numbers_of, routine_function}
@@ -96,6 +97,11 @@ module _ (p : Modules) (base : List Ty) (texts : Location → ℕ → ℕ) where
       pub small : slot + slot_number f < 2 ^ 32
       pub filled : (bytes : List ℕ) → callee_in (store_of fx bytes) (suc place) (slot + slot_number f) ≡ Some (Own (suc (module_place p f.home)) (6 + f.number))
 
+    -- the slot of a procedure's value has its function
+    pub record HasEntry (to number : ℕ) : Type 0 where
+      pub small : value_number p to number < 2 ^ 32
+      pub filled : (bytes : List ℕ) → callee_in (store_of fx bytes) (suc place) (value_number p to number) ≡ Some (Own (suc to) (6 + number))
+
     -- a global has the place of its texts, which stand behind one another
     pub record HasTexts : Type 0 where
       pub address : ℕ
@@ -113,6 +119,8 @@ module _ (p : Modules) (base : List Ty) (texts : Location → ℕ → ℕ) where
       pub own : module_place p m.types.home ≡ place
       pub variables : (v : Variable) (t : Ty) → IsVariable (context place m []) v t → HasVariable v
       pub procedures : (f : Procedure) → IsNamed (context place m []) f → HasProcedure f
+      -- the procedures of all modules stand in the table
+      pub entries : (to : ℕ) (home : TypedModule) (number : ℕ) (r : Routine) → slice_get p to ≡ Some home → slice_get home.procedures number ≡ Some r → HasEntry to number
       pub characters : HasTexts
       -- the types of the functions that it calls stand under their numbers
       pub types : (s : Signature) → is_among (needed m) s ≡ true → type_at modules (suc place) (numbered m s.arguments s.result) ≡ Some (type_of s)

@@ -11,7 +11,7 @@ use Rattle.m2_typed.specs.declared.computed.Root.TheVariants as root
 use Rattle.m2_typed.specs.declared.computed.Slot.{Slot}
 use Rattle.m2_typed.specs.Types.{cardinal}
 use Rattle.m2_typed.specs.Known.{scalar_at}
-use Rattle.m2_layout.specs.Types.{Ty, Natural, Cell, Hidden, Array, row, component, IsPlain}
+use Rattle.m2_layout.specs.Types.{Ty, Scalar, Natural, Cell, Hidden, Array, row, component, IsPlain}
 use Rattle.m2_layout.specs.Sizes.{size}
 use Rattle.m2_layout.specs.Shapes.{tree}
 use Rattle.m2_meaning.specs.Store.{Location, copied, placed}
@@ -25,7 +25,7 @@ use Rattle.m2_scheme.specs.Cells.{is_free, check_taken}
 use Rattle.m2_scheme.specs.Exprs as code
 use Rattle.m2_scheme.specs.Exprs.{Part, behind, slots_global, slot_number}
 use Rattle.m2_scheme.specs.Steps.{text_copied}
-use Rattle.m2_agree.specs.Scene.{Scene, IsSet, AreAmong, place, Agrees, Locates, Reaches, Executes}
+use Rattle.m2_agree.specs.Scene.{Scene, IsSet, IsCell, AreAmong, place, Agrees, Locates, Reaches, Executes}
 use Rattle.m2_agree_calls.specs.Frames.{Kinds, Kept, Alias, Open, kind_at, HasFrames}
 
 -- a value that is taken as one of another type: where no check is made, it is one
@@ -77,7 +77,7 @@ Strings =
 -- RETURN with a value
 abbrev pub Gives : Type 0
 Gives =
-    (k : Scene) (t : TypeNo) (e : Coded) (value : Given ℤ) → scalar_at k.setting.home.types t ≡ k.result → Agrees k t e value
+    (k : Scene) (t : TypeNo) (c : Scalar) (e : Coded) (value : Given ℤ) → k.result ≡ Some (tree k.setting.home.types t) → IsCell k.setting.home.types t c → Agrees k t e value
     → Executes k true (e ⨾ plain (instr.Return ∷ [])) (λ a s. with_answer (value a s) (λ v s. Came v s))
 
 -- ---- formals and variables of the procedure, and of those around it

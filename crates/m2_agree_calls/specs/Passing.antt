@@ -8,24 +8,24 @@ use Rattle.wasm_tree.specs.Machine.{Typed}
 use Rattle.wasm_effect.specs.Effect.{State as Target, Effect, FellThrough, Does as Effects, Calling, back, then_run}
 use Rattle.m2_typed.specs.declared.shape.Formal.{Formal}
 use Rattle.m2_typed.specs.declared.shape.Made.{Made}
-use Rattle.m2_typed.specs.declared.shape.Scalar.{Scalar as Range}
 use Rattle.m2_typed.specs.declared.shape.Shape.{Shape}
 use Rattle.m2_typed.specs.declared.shape.Shape.TheVariants as shape
 use Rattle.m2_typed.specs.declared.types.TypeNo.{TypeNo}
 use Rattle.m2_typed.specs.declared.known_types.Types.{Types}
-use Rattle.m2_typed.specs.Known.{made_at, scalar_at}
-use Rattle.m2_layout.specs.Types.{Ty, Scalar, Natural, Cell, Hidden, Array, Nothing, Field, row, component, IsOf}
+use Rattle.m2_typed.specs.Known.{made_at}
+use Rattle.m2_layout.specs.Types as layout
+use Rattle.m2_layout.specs.Types.{Passing, Ty, Scalar, Natural, Cell, Hidden, Array, Nothing, Field, Heading, row, component, IsOf}
 use Rattle.m2_layout.specs.Sizes.{size, offset}
 use Rattle.m2_layout.specs.Shapes.{tree}
 use Rattle.m2_layout.specs.Frames.{formals_of}
 use Rattle.m2_layout.specs.Texts.{passed}
 use Rattle.m2_meaning.specs.Store.{Location}
 use Rattle.m2_meaning.specs.Answer.{State as Source}
-use Rattle.m2_meaning.specs.Around.{Callee, Passed, Number, Variable, Array as Whole, Text}
+use Rattle.m2_meaning.specs.Around.{Modules, Callee, Passed, Number, Variable, Array as Whole, Text}
 use Rattle.m2_meaning.specs.Expressions.{Asks, Gives}
-use Rattle.m2_cells.specs.Relation.{Holds}
+use Rattle.m2_cells.specs.Relation.{Means, Holds}
 use Rattle.m2_scheme.specs.Coded.{Coded, Counts, top_local}
-use Rattle.m2_agree.specs.Scene.{Scene, runs, calls, IsIn, word, Stands, Into, Grows, IsFree, HasLocals, inside}
+use Rattle.m2_agree.specs.Scene.{Scene, IsResult, runs, calls, word, Stands, Into, Grows, IsFree, HasLocals, inside}
 use Rattle.m2_agree_calls.specs.Frames.{Kinds, IsChain}
 
 -- ---- formals
@@ -54,13 +54,35 @@ Forms = List Form
 abbrev pub forms_of : Types → TypeNo → Forms
 forms_of types heading = map (form_of types) (formals_of types heading)
 
--- ---- results: the range of a function's values, none for a set or a procedure
+-- the formals of a heading
+abbrev pub form_in : Passing → Ty → Form
+form_in layout.ByValue t = value_form t
+form_in layout.ByName t = ByName t
+form_in (layout.AsOpen is_var) t = ByArray is_var t
+
+abbrev pub forms_in : Heading → Forms
+forms_in layout.Proper = []
+forms_in (layout.Function result) = []
+forms_in (layout.Takes passing t others) = form_in passing t ∷ forms_in others
+
+-- how many operands an argument has, and all of them
+abbrev pub operands_of : Form → ℕ
+operands_of (ByNumber c) = 1
+operands_of (ByCopy t) = 1
+operands_of (ByName t) = 1
+operands_of (ByArray is_var t) = 2
+
+abbrev pub all_operands : Forms → ℕ
+all_operands [] = 0
+all_operands (f ∷ fs) = operands_of f + all_operands fs
+
+-- ---- results: the type of a function's values
 
 abbrev pub Result : Type 0
-Result = Option (Option Range)
+Result = Option Ty
 
 abbrev pub result_in : Types → Shape → Result
-result_in types (shape.Procedure h) = option_map (scalar_at types) h.result
+result_in types (shape.Procedure h) = option_map (tree types) h.result
 result_in types (shape.Scalar s) = None
 result_in types shape.Set = None
 result_in types (shape.Array i e) = None
@@ -74,9 +96,11 @@ result_made types (Some m) = result_in types m.shape
 abbrev pub result_of : Types → TypeNo → Result
 result_of types heading = result_made types (made_at types heading)
 
-abbrev pub IsResult : Result → ℤ → Type 0
-IsResult None v = Unit {0}
-IsResult (Some r) v = IsIn r v
+-- the result of a heading
+abbrev pub heading_result : Heading → Result
+heading_result layout.Proper = None
+heading_result (layout.Function result) = Some result
+heading_result (layout.Takes passing t others) = heading_result others
 
 abbrev pub result_values : Result → ℤ → List Value
 result_values None v = []
@@ -96,10 +120,10 @@ pub record IsPlaced (world : List Ty) (x : Location → ℕ → ℕ) (text : Lis
   pub small : (j : ℕ) → get_or text j 0 < 256
   pub below : length text ≤ 2 ^ 32
 
-module _ (world : List Ty) (x : Location → ℕ → ℕ) where
+module _ (p : Modules) (world : List Ty) (x : Location → ℕ → ℕ) where
   -- these operands stand for the argument
   abbrev pub IsPassed : Form → Passed → List Value → Type 0
-  IsPassed (ByNumber c) (Number v) vs = IsOf c v × (vs ≡ I64 (word v) ∷ [])
+  IsPassed (ByNumber c) (Number v) vs = IsOf c v × Means p c v × (vs ≡ I64 (word v) ∷ [])
   IsPassed (ByNumber c) (Variable l) vs = ⊥
   IsPassed (ByNumber c) (Whole l high) vs = ⊥
   IsPassed (ByNumber c) (Text text) vs = ⊥
@@ -119,14 +143,14 @@ module _ (world : List Ty) (x : Location → ℕ → ℕ) where
 
   pub data ArePassed : Forms → List Passed → List Value → Type 0 where
     none_passed : ArePassed [] [] []
-    more_passed : (f : Form) (fs : Forms) (p : Passed) (ps : List Passed) (vs ws : List Value) → IsPassed f p vs → ArePassed fs ps ws → ArePassed (f ∷ fs) (p ∷ ps) (vs ++ ws)
+    more_passed : (f : Form) (fs : Forms) (a : Passed) (others : List Passed) (vs ws : List Value) → IsPassed f a vs → ArePassed fs others ws → ArePassed (f ∷ fs) (a ∷ others) (vs ++ ws)
 
 -- the code of an argument leaves its operands
 pub record GivesPassed (k : Scene) (f : Form) (go : Effects) (stack : List Value) (p : Passed) (s : Source) (r : Effect) : Type 0 where
   pub st : Target
   pub stands : Stands k s st
   pub values : List Value
-  pub is : IsPassed k.world k.hidden f p values
+  pub is : IsPassed k.program k.world k.hidden f p values
   pub run : r ≡ go st (stack ++ values)
 
 pub record Passes (k : Scene) (f : Form) (code : Coded) (arg : Gives Passed) : Type 0 where
@@ -144,7 +168,7 @@ pub record GivesAll (k : Scene) (fs : Forms) (go : Effects) (stack : List Value)
   pub st : Target
   pub stands : Stands k s st
   pub values : List Value
-  pub are : ArePassed k.world k.hidden fs ps values
+  pub are : ArePassed k.program k.world k.hidden fs ps values
   pub run : r ≡ go st (stack ++ values)
 
 -- ---- what functions do
@@ -156,11 +180,11 @@ pub record IsBased (base : List Ty) (texts : Location → ℕ → ℕ) (world : 
   pub same : (i : ℕ) (p : Location) (k : ℕ) → i < length base → x (i ∷ p) k ≡ texts (i ∷ p) k
 
 -- the function is back in its caller, which had these locals and operands, with a result where there is one
-pub record CallGives (world : List Ty) (x : Location → ℕ → ℕ) (limit : ℕ) (result : Result) (locals below : List Value) (v : ℤ) (s : Source) (r : Effect) : Type 0 where
+pub record CallGives (p : Modules) (world : List Ty) (x : Location → ℕ → ℕ) (limit : ℕ) (result : Result) (locals below : List Value) (v : ℤ) (s : Source) (r : Effect) : Type 0 where
   pub bytes : List ℕ
-  pub holds : Holds world x s.store bytes
+  pub holds : Holds p world x s.store bytes
   pub long : length bytes ≡ limit
-  pub is : IsResult result v
+  pub is : IsResult p result v
   pub run : r ≡ FellThrough (record { locals = locals; bytes = bytes; out = s.out }) (below ++ result_values result v)
 
 -- a nested procedure gets the address of the frame around it
@@ -169,12 +193,12 @@ links world [] = []
 links world (r ∷ rs) = I64 (offset (row world) (r ∷ [])) ∷ []
 
 -- the function f of the module j does what is asked of a procedure inside of these frames
-abbrev pub DoesAsked : (base : List Ty) (texts : Location → ℕ → ℕ) (limit : ℕ) → Calling → Asks → Callee → List Kinds → Forms → Result → (j f : ℕ) → Typed → Type 0
-DoesAsked base texts limit calls ask c kss forms result j f t =
+abbrev pub DoesAsked : Modules → (base : List Ty) (texts : Location → ℕ → ℕ) (limit : ℕ) → Calling → Asks → Callee → List Kinds → Forms → Result → (j f : ℕ) → Typed → Type 0
+DoesAsked p base texts limit calls ask c kss forms result j f t =
     (world : List Ty) (x : Location → ℕ → ℕ) → IsBased base texts world x → (roots : List ℕ) → IsChain world x kss c.frames roots
-    → (s : Source) (bytes : List ℕ) → Holds world x s.store bytes → length bytes ≡ limit
-    → (vs : List Passed) (values : List Value) → ArePassed world x forms vs values → (left : ℕ) → size (row world) + left ≡ limit → (locals below : List Value)
-    → Into (CallGives world x limit result locals below) (back (length t.type.results) locals below (calls j f t (I32 (size (row world)) ∷ (links world roots ++ values)) bytes s.out))
+    → (s : Source) (bytes : List ℕ) → Holds p world x s.store bytes → length bytes ≡ limit
+    → (vs : List Passed) (values : List Value) → ArePassed p world x forms vs values → (left : ℕ) → size (row world) + left ≡ limit → (locals below : List Value)
+    → Into (CallGives p world x limit result locals below) (back (length t.type.results) locals below (calls j f t (I32 (size (row world)) ∷ (links world roots ++ values)) bytes s.out))
     (ask (Some c) vs (length world) left s)
 
 -- ---- calls
@@ -183,7 +207,7 @@ DoesAsked base texts limit calls ask c kss forms result j f t =
 pub record GivesResult (k : Scene) (result : Result) (go : Effects) (stack : List Value) (v : ℤ) (s : Source) (r : Effect) : Type 0 where
   pub st : Target
   pub stands : Stands k s st
-  pub is : IsResult result v
+  pub is : IsResult k.program result v
   pub run : r ≡ go st (stack ++ result_values result v)
 
 pub record Calls (k : Scene) (result : Result) (code : Coded) (value : Gives ℤ) : Type 0 where

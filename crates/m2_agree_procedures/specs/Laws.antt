@@ -6,7 +6,6 @@ use Rattle.wasm_tree.specs.declared.store.Value.{Value}
 use Rattle.wasm_tree.specs.declared.store.Value.TheVariants.{I32}
 use Rattle.wasm_tree.specs.Machine.{Typed, zeros}
 use Rattle.wasm_effect.specs.Effect.{State as Target, Calling}
-use Rattle.m2_typed.specs.declared.shape.Scalar.{Scalar as Range}
 use Rattle.m2_typed.specs.declared.typed_module.Routine.{Routine}
 use Rattle.m2_typed.specs.declared.typed_module.Which.{Which}
 use Rattle.m2_typed.specs.declared.typed_module.TypedModule.{TypedModule}
@@ -24,7 +23,7 @@ use Rattle.m2_scheme.specs.Addresses.{addresses_in}
 use Rattle.m2_scheme.specs.Functions.{numbers_of, prologue, setting, from_text, locals_of, coded, end_code}
 use Rattle.m2_agree.specs.Scene.{Scene, HasHelpers, AreSmall, IsSet, Executes, runs}
 use Rattle.m2_agree_calls.specs.Frames.{Kinds, kinds_of, AreFrames, HasFrames}
-use Rattle.m2_agree_calls.specs.Passing.{Result, forms_of, result_of, HasTop, DoesAsked}
+use Rattle.m2_agree_calls.specs.Passing.{forms_of, result_of, HasTop, DoesAsked}
 use Rattle.m2_agree_procedures.specs.Stage.{AreForms, HasLimit}
 
 -- ---- where a body runs
@@ -32,10 +31,6 @@ use Rattle.m2_agree_procedures.specs.Stage.{AreForms, HasLimit}
 -- what is kept: the frame's address, and the end of the instances that live
 abbrev pub kept_in : (frame free top : ℕ) → ℕ → Option Value
 kept_in frame free top w = if nat_eq w 0 then Some (I32 frame) else (if nat_eq w top then Some (I32 free) else None)
-
-abbrev pub or_unranged : Result → Option Range
-or_unranged None = None
-or_unranged (Some r) = r
 
 abbrev pub top_of : TypedModule → Routine → ℕ
 top_of m r = suc (numbers_of m.types r)
@@ -48,7 +43,7 @@ module _ (k : Scene) (m : TypedModule) (r : Routine) (outer : List Ty) (locals :
     world = world;
     hidden = x;
     locals = locals;
-    result = or_unranged (result_of m.types r.heading);
+    result = result_of m.types r.heading;
     kept = kept_in (offset (row world) (root ∷ [])) (size (row world)) (top_of m r);
   }
 
@@ -107,4 +102,4 @@ RoutineDoes =
     → ((args : List Value) (bytes out : List ℕ) → calls k.own f t args bytes out ≡ runs k t.function.body.code (record { locals = args ++ flat_map zeros t.function.body.locals; bytes = bytes; out = out }) [])
     → (nss : Frames)
     → ((vs : List Passed) (next left : ℕ) (s : Source) → asks (Some (callee_of place m r nss)) vs next left s ≡ asked_runs p k.turns ask (callee_of place m r nss) vs next left s)
-    → DoesAsked base texts k.limit calls asks (callee_of place m r nss) kss (forms_of m.types r.heading) (result_of m.types r.heading) k.own f t
+    → DoesAsked k.program base texts k.limit calls asks (callee_of place m r nss) kss (forms_of m.types r.heading) (result_of m.types r.heading) k.own f t

@@ -90,7 +90,7 @@ pub record HasLimit (k : Scene) : Type 0 where
 
 -- the frame with this number is there, local `top` has the end of the instances that live, and the arguments are as given
 pub record Stage (k : Scene) (root top : ℕ) (frame : Ty) (given : List Value) (out : List ℕ) (world : List Ty) (x : Location → ℕ → ℕ) (s : Store) (st : Target) : Type 0 where
-  pub holds : Holds world x s st.bytes
+  pub holds : Holds k.program world x s st.bytes
   pub long : length st.bytes ≡ k.limit
   pub own : component (row world) (root ∷ []) ≡ Some frame
   pub below : root < length world

@@ -41,6 +41,7 @@ module _ (modules : List WModule) (fx : Fixed) (serves : (k f : ℕ) → Bool) (
     extra = extra;
     turns = n;
     functions = nested modules fx serves extra n d;
+    program = p;
     result = None;
     around = nowhere place m;
     setting = setting m [] 0 0;
@@ -54,7 +55,7 @@ module _ (modules : List WModule) (fx : Fixed) (serves : (k f : ℕ) → Bool) (
   abbrev pub PartDoes : (d : ℕ) → Part → Type 0
   PartDoes d o =
       (nss : Frames)
-      → DoesAsked base texts limit (nested modules fx serves extra n d) (calling p n d) (callee_of o.place o.home o.routine nss) o.kinds (forms_of o.home.types o.routine.heading) (result_of o.home.types o.routine.heading) o.own o.function o.typed
+      → DoesAsked p base texts limit (nested modules fx serves extra n d) (calling p n d) (callee_of o.place o.home o.routine nss) o.kinds (forms_of o.home.types o.routine.heading) (result_of o.home.types o.routine.heading) o.own o.function o.typed
 
   module _ (Index : Type 0) (part : Index → Part) where
     abbrev pub AllDo : (d : ℕ) → Type 0

@@ -74,4 +74,4 @@ MainDoes =
     (modules : List WModule) (fx : Fixed) (serves : (k f : ℕ) → Bool) (extra : (k f : ℕ) → ℕ) (limit : ℕ) (p : Modules) (pages : ℕ) (base : List Ty) (texts : Location → ℕ → ℕ) (n own place text f : ℕ) (m : TypedModule) (t : Typed)
     → length base ≡ length p → size (row base) + ((storage p pages - body_frame) + body_frame) ≡ limit → serves own f ≡ false → extra own f ≡ 0
     → IsMain (core modules fx serves extra n limit p base texts own place m n) p (calling p n n) m place text base texts (storage p pages - body_frame) t
-    → BodyDoes (record { base = base; texts = texts; limit = limit }) (nested modules fx serves extra n (suc n)) (statements_do p pages n place m) own f t
+    → BodyDoes (record { program = p; base = base; texts = texts; limit = limit }) (nested modules fx serves extra n (suc n)) (statements_do p pages n place m) own f t

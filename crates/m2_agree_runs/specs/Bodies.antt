@@ -20,15 +20,16 @@ use Rattle.m2_agree_runs.specs.Behaves.{Behaves}
 
 -- ---- one body
 
--- The instances of the modules are these, and their texts. The memory has so many bytes.
+-- The instances of the modules of a program are these, and their texts. The memory has so many bytes.
 pub record Ground : Type 0 where
+  pub program : Modules
   pub base : List Ty
   pub texts : Location → ℕ → ℕ
   pub limit : ℕ
 
 -- the memory holds the store of the modules
 pub record IsHeld (g : Ground) (s : Source) (bytes : List ℕ) : Type 0 where
-  pub holds : Holds g.base g.texts s.store bytes
+  pub holds : Holds g.program g.base g.texts s.store bytes
   pub long : length bytes ≡ g.limit
 
 -- the function is back in its caller, which had these locals and operands

@@ -31,6 +31,7 @@ first_bytes p pages = image p ++ replicate (65536 * pages - bytes_in p) 0
 -- the instances of all modules, with the texts that stand there when the program begins
 abbrev pub ground : Program → (pages : ℕ) → Ground
 ground p pages = record {
+  program = p;
   base = map module_type p;
   texts = λ l k. byte (offset (row (map module_type p)) l + k) (first_bytes p pages);
   limit = 65536 * pages;

@@ -1,6 +1,5 @@
 -- What is proved of typed statements: their code does what they do, and EXIT does not leave a body.
-use Rattle.std.specs.Prelude.{◌≡◌, ℕ, false, List, [], Option, Some}
-use Rattle.m2_typed.specs.declared.shape.Scalar.{Scalar as Range}
+use Rattle.std.specs.Prelude.{◌≡◌, ℕ, false, List, []}
 use Rattle.m2_typed.specs.declared.statement.TypedStmt.{TypedStmt}
 use Rattle.m2_layout.specs.Types.{Ty}
 use Rattle.m2_meaning.specs.Answer.{State, Left}
@@ -21,7 +20,7 @@ use Rattle.m2_agree_stmts.specs.Typed.{AreStmts}
 pub record Suits (x : Context) (ask : Asks) (result : Result) (n : ℕ) (ws : List Ty) (k : Scene) : Type 0 where
   pub fits : Fits x ask ws k
   pub turns : k.turns ≡ n
-  pub ranged : (r : Option Range) → result ≡ Some r → k.result ≡ r
+  pub typed : k.result ≡ result
 
 -- in every such scene
 abbrev pub Bodies : Type 0

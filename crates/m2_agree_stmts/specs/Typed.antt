@@ -15,13 +15,13 @@ use Rattle.m2_typed.specs.declared.types.TypeNo.{TypeNo}
 use Rattle.m2_typed.specs.declared.known_types.Types.{Types}
 use Rattle.m2_typed.specs.Types.{boolean, char, bitset}
 use Rattle.m2_typed.specs.Known.{scalar_at}
-use Rattle.m2_layout.specs.Types.{Ty, Scalar, Natural, Cell, Array, IsPlain}
+use Rattle.m2_layout.specs.Types.{Ty, Scalar, Natural, Callable, Cell, Array, Heading, IsPlain}
 use Rattle.m2_layout.specs.Shapes.{tree}
 use Rattle.m2_scheme.specs.Cells.{base_of}
 use Rattle.m2_agree.specs.Scene.{AreAmong, IsCell, AreLabels}
 use Rattle.m2_agree_calls.specs.Frames.{Kept, kind_at}
 use Rattle.m2_agree_calls.specs.Passing.{Result}
-use Rattle.m2_agree_trees.specs.Typed.{Context, IsVariable, HasText, IsTaken, IsExpr, IsPlace, IsCall}
+use Rattle.m2_agree_trees.specs.Typed.{Context, IsVariable, HasText, IsTaken, IsExpr, IsProcedureExpr, IsPlace, IsCall}
 
 -- the control variable of a FOR: an entire variable of a module, or of the procedure itself or one around it
 pub data IsControl (x : Context) : Place → Ty → Type 0 where
@@ -53,6 +53,8 @@ module _ (x : Context) (result : Result) where
     -- a statement within WITHs of records of these types, and within a LOOP or not, whose texts stand from one offset to another
     pub data IsStmt : (ws : List Ty) (looped : Bool) (from to : ℕ) → TypedStmt → Type 0 where
       Assign : (ws : List Ty) (l : Bool) (a b c : ℕ) (d : Place) (t : TypeNo) (r : Scalar) (e : TypedExpr) → IsCell types t r → IsPlace x ws a b d (Cell r) → IsGiven ws b c e t → IsStmt ws l a c (stmt.Assign d t e)
+      AssignProcedure : (ws : List Ty) (l : Bool) (a b c : ℕ) (d : Place) (t : TypeNo) (h : Heading) (e : TypedExpr) → tree types t ≡ Cell (Callable h) → scalar_at types t ≡ None → IsPlace x ws a b d (Cell (Callable h))
+          → IsProcedureExpr x ws b c e h → IsStmt ws l a c (stmt.Assign d t e)
       Copy : (ws : List Ty) (l : Bool) (a b c : ℕ) (d e : Place) (t : TypeNo) → IsPlain (tree types t) → IsPlace x ws a b d (tree types t) → IsPlace x ws b c e (tree types t) → IsStmt ws l a c (stmt.Copy d e t)
       CopyText : (ws : List Ty) (l : Bool) (a b n : ℕ) (d : Place) (t : TypeNo) (text : List ℕ) → tree types t ≡ Array n (Cell (Natural 255)) → length text ≤ n → HasText x b text → IsPlace x ws a b d (tree types t)
           → IsStmt ws l a (b + length text) (stmt.CopyText d t text)
@@ -75,7 +77,8 @@ module _ (x : Context) (result : Result) where
       -- within a LOOP alone
       Exit : (ws : List Ty) (a : ℕ) → IsStmt ws true a a stmt.Exit
       Return : (ws : List Ty) (l : Bool) (a : ℕ) → result ≡ None → IsStmt ws l a a stmt.Return
-      Give : (ws : List Ty) (l : Bool) (a b : ℕ) (t : TypeNo) (e : TypedExpr) → result ≡ Some (scalar_at types t) → IsGiven ws a b e t → IsStmt ws l a b (stmt.Give t e)
+      Give : (ws : List Ty) (l : Bool) (a b : ℕ) (t : TypeNo) (r : Scalar) (e : TypedExpr) → result ≡ Some (tree types t) → IsCell types t r → IsGiven ws a b e t → IsStmt ws l a b (stmt.Give t e)
+      GiveProcedure : (ws : List Ty) (l : Bool) (a b : ℕ) (t : TypeNo) (h : Heading) (e : TypedExpr) → result ≡ Some (Cell (Callable h)) → scalar_at types t ≡ None → IsProcedureExpr x ws a b e h → IsStmt ws l a b (stmt.Give t e)
       -- the step is a constant of 32 bits
       For : (ws : List Ty) (l : Bool) (a b c z : ℕ) (d : Place) (t u : TypeNo) (r : Scalar) (start limit : TypedExpr) (by : ℤ) (body : List TypedStmt) → IsCell types t r → IsRanged t → IsControl x d (Cell r)
           → negsuc 2147483647 ≤ℤ by → by ≤ℤ pos 4294967295 → IsGiven ws a b start t → IsExpr x ws b c limit u → AreStmts ws l c z body → IsStmt ws l a z (stmt.For d t start limit by body)

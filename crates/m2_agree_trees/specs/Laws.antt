@@ -4,15 +4,16 @@ use Rattle.m2_typed.specs.declared.computed.Call.{Call}
 use Rattle.m2_typed.specs.declared.computed.Place.{Place}
 use Rattle.m2_typed.specs.declared.computed.TypedExpr.{TypedExpr}
 use Rattle.m2_typed.specs.declared.types.TypeNo.{TypeNo}
-use Rattle.m2_layout.specs.Types.{Ty}
+use Rattle.m2_layout.specs.Types.{Ty, Heading}
 use Rattle.m2_meaning.specs.Expressions.{Asks, value, locate, called}
 use Rattle.m2_scheme.specs.Coded.{Coded}
 use Rattle.m2_scheme.specs.Exprs.{expr_part, place_code, call_code}
 use Rattle.m2_scheme.specs.Modules.{numbered}
 use Rattle.m2_agree.specs.Scene.{Scene, Agrees, Locates}
+use Rattle.m2_agree_calls.specs.Held.{AgreesHeld}
 use Rattle.m2_agree_calls.specs.Passing.{Result, Calls}
 use Rattle.m2_agree_trees.specs.Placed.{Pins}
-use Rattle.m2_agree_trees.specs.Typed.{Context, IsExpr, IsPlace, IsCall}
+use Rattle.m2_agree_trees.specs.Typed.{Context, IsExpr, IsProcedureExpr, IsPlace, IsCall}
 use Rattle.m2_agree_trees.specs.Fitting.{Fits}
 
 -- in every scene of the context
@@ -20,6 +21,12 @@ abbrev pub Exprs : Type 0
 Exprs =
     (x : Context) (ask : Asks) (ws : List Ty) (a b : ℕ) (e : TypedExpr) (t : TypeNo) → IsExpr x ws a b e t
     → (placed : Coded) × Pins a b (expr_part (numbered x.home) e).code placed × ((k : Scene) → Fits x ask ws k → Agrees k t placed (value x.p ask e))
+
+-- one of a procedure type
+abbrev pub ProcedureExprs : Type 0
+ProcedureExprs =
+    (x : Context) (ask : Asks) (ws : List Ty) (a b : ℕ) (e : TypedExpr) (h : Heading) → IsProcedureExpr x ws a b e h
+    → (placed : Coded) × Pins a b (expr_part (numbered x.home) e).code placed × ((k : Scene) → Fits x ask ws k → AgreesHeld k h placed (value x.p ask e))
 
 abbrev pub Places : Type 0
 Places =

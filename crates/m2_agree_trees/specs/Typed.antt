@@ -30,11 +30,12 @@ use Rattle.m2_typed.specs.declared.types.TypeNo.{TypeNo}
 use Rattle.m2_typed.specs.declared.known_types.Types.{Types}
 use Rattle.m2_typed.specs.Types.{are_same, integer, cardinal, boolean, char, bitset}
 use Rattle.m2_typed.specs.Known.{scalar_at}
-use Rattle.m2_layout.specs.Types.{Ty, Scalar, Natural, Cell, Array, row, component}
+use Rattle.m2_layout.specs.Types.{Ty, Scalar, Natural, Callable, Cell, Array, Heading, row, component}
 use Rattle.m2_layout.specs.Shapes.{tree, elements_of}
 use Rattle.m2_layout.specs.Texts.{passed}
 use Rattle.m2_meaning.specs.Store.{Location}
 use Rattle.m2_meaning.specs.Around.{Modules, module_place}
+use Rattle.m2_cells.specs.Relation.{heading_at}
 use Rattle.m2_scheme.specs.Cells.{base_of, is_free}
 use Rattle.m2_scheme.specs.Exprs.{is_own, variables_row, index_of, expr_part}
 use Rattle.m2_scheme.specs.Functions.{routine_at, around_in}
@@ -73,7 +74,7 @@ abbrev pub kinds_around : TypedModule → (level : ℕ) → Option Which → Lis
 kinds_around m zero w = []
 kinds_around m (suc k) w = own_kinds m (routine_at m w) ++ kinds_around m k (around_in (routine_at m w))
 
--- a procedure of a module, whose heading has the same forms and result there
+-- a procedure of a module, whose heading is the same there
 pub record IsNamed (x : Context) (f : Procedure) : Type 0 where
   pub known : IsKnown x.home f.home
   pub home : TypedModule
@@ -83,6 +84,7 @@ pub record IsNamed (x : Context) (f : Procedure) : Type 0 where
   pub outermost : kinds_around home routine.level routine.around ≡ []
   pub forms : forms_of home.types routine.heading ≡ forms_of x.home.types f.heading
   pub result : result_of home.types routine.heading ≡ result_of x.home.types f.heading
+  pub heading : heading_at home.types routine.heading ≡ heading_at x.home.types f.heading
 
 -- one that the module calls: through the table where it is another module's, and then the module has the type of its function
 pub record IsCallable (x : Context) (f : Procedure) : Type 0 where
@@ -126,7 +128,7 @@ module _ (x : Context) where
     pub data IsExpr (ws : List Ty) : (from to : ℕ) → TypedExpr → TypeNo → Type 0 where
       Constant : (a : ℕ) (t : TypeNo) (n : ℤ) → IsValue types t n → IsExpr ws a a (expr.Constant t n) t
       Load : (a b : ℕ) (t : TypeNo) (c : Scalar) (d : Place) → IsCell types t c → IsPlace ws a b d (Cell c) → IsExpr ws a b (expr.Load t d) t
-      ProcedureValue : (a : ℕ) (f : Procedure) → IsNamed x f → scalar_at types f.heading ≡ None → IsExpr ws a a (expr.Procedure f) f.heading
+      ProcedureValue : (a b : ℕ) (t : TypeNo) (h : Heading) (e : TypedExpr) → IsProcedureExpr ws a b e h → scalar_at types t ≡ None → IsExpr ws a b e t
       Plus : (a b : ℕ) (t u : TypeNo) (e : TypedExpr) → IsExpr ws a b e u → AreAmong types u t → IsExpr ws a b (expr.Plus t e) t
       Negate : (a b : ℕ) (u : TypeNo) (e : TypedExpr) → IsExpr ws a b e u → IsExpr ws a b (expr.Negate e) integer
       Chain : (a b c : ℕ) (u t : TypeNo) (e : TypedExpr) (ls : List Link) → IsExpr ws a b e u → AreLinks ws b c u ls t → IsExpr ws a c (expr.Chain e ls) t
@@ -141,7 +143,13 @@ module _ (x : Context) where
       Ord : (a b : ℕ) (u : TypeNo) (e : TypedExpr) → IsExpr ws a b e u → AreAmong types u (base_of types u) → (are_same (base_of types u) integer ≡ false → AreNatural types u) → IsExpr ws a b (expr.Ord e) cardinal
       Val : (a b : ℕ) (t u : TypeNo) (e : TypedExpr) → IsExpr ws a b e u → (scalar_at types t ≡ None → ⊥) → IsExpr ws a b (expr.Val t e) t
       High : (a : ℕ) (slot : Slot) (t : Ty) → kind_at x.kinds slot ≡ Some (Open t) → IsExpr ws a a (expr.High slot) cardinal
-      FunctionCall : (a b : ℕ) (t : TypeNo) (c : Call) → IsCall ws a b c (Some (scalar_at types t)) → IsExpr ws a b (expr.Call t c) t
+      FunctionCall : (a b : ℕ) (t : TypeNo) (r : Scalar) (c : Call) → IsCall ws a b c (Some (tree types t)) → IsCell types t r → IsExpr ws a b (expr.Call t c) t
+
+    -- an expression of a procedure type with this heading: a variable, a procedure of a module, or the result of a function
+    pub data IsProcedureExpr (ws : List Ty) : (from to : ℕ) → TypedExpr → Heading → Type 0 where
+      LoadedProcedure : (a b : ℕ) (t : TypeNo) (h : Heading) (d : Place) → tree types t ≡ Cell (Callable h) → IsPlace ws a b d (Cell (Callable h)) → IsProcedureExpr ws a b (expr.Load t d) h
+      NamedProcedure : (a : ℕ) (f : Procedure) (h : Heading) → IsNamed x f → heading_at types f.heading ≡ Some h → IsProcedureExpr ws a a (expr.Procedure f) h
+      GivenProcedure : (a b : ℕ) (t : TypeNo) (h : Heading) (c : Call) → IsCall ws a b c (Some (Cell (Callable h))) → IsProcedureExpr ws a b (expr.Call t c) h
 
     -- operators behind a value of a type
     pub data AreLinks (ws : List Ty) : (from to : ℕ) → TypeNo → List Link → TypeNo → Type 0 where
@@ -174,10 +182,13 @@ module _ (x : Context) where
       ElementOf : (a b : ℕ) (t w : TypeNo) (r : Range) (u : Ty) (i : TypedExpr) → index_of types t ≡ Some r → tree types t ≡ Array (elements_of (Some r)) u → IsExpr ws a b i w
           → IsComponent ws a b (tree types t) (component'.Element t i) u
 
-    -- a call, and the range of its result
+    -- a call, and the type of its result
     pub data IsCall (ws : List Ty) : (from to : ℕ) → Call → Result → Type 0 where
       OfModule : (a b : ℕ) (f : Procedure) (args : List Argument) → IsCallable x f → AreArguments ws a b args (forms_of types f.heading) → IsCall ws a b (call.Module f args) (result_of types f.heading)
       OfProcedure : (a b : ℕ) (f : LocalProcedure) (args : List Argument) → IsInner x f → AreArguments ws a b args (forms_of types f.heading) → IsCall ws a b (call.Nested f args) (result_of types f.heading)
+      -- of a procedure variable: the module has the type of the functions with its heading
+      OfVariable : (a b c : ℕ) (t : TypeNo) (h : Heading) (d : Place) (args : List Argument) → heading_at types t ≡ Some h → tree types t ≡ Cell (Callable h) → IsPlace ws a b d (Cell (Callable h))
+          → is_among (needed x.home) (of_heading types t) ≡ true → AreArguments ws b c args (forms_of types t) → IsCall ws a c (call.Variable t d args) (result_of types t)
 
     pub data AreArguments (ws : List Ty) : (from to : ℕ) → List Argument → Forms → Type 0 where
       no_arguments : (a : ℕ) → AreArguments ws a a [] []
@@ -185,6 +196,7 @@ module _ (x : Context) where
 
     pub data IsArgument (ws : List Ty) : (from to : ℕ) → Argument → Form → Type 0 where
       Value : (a b : ℕ) (t u : TypeNo) (c : Scalar) (e : TypedExpr) → IsExpr ws a b e u → IsCell types t c → IsTaken x.home t e u → IsArgument ws a b (argument.Value t e) (ByNumber c)
+      ProcedureActual : (a b : ℕ) (t : TypeNo) (h : Heading) (e : TypedExpr) → IsProcedureExpr ws a b e h → scalar_at types t ≡ None → IsArgument ws a b (argument.Value t e) (ByNumber (Callable h))
       ActualName : (a b : ℕ) (d : Place) (t : Ty) → IsPlace ws a b d t → IsArgument ws a b (argument.Place d) (ByName t)
       ActualCopy : (a b : ℕ) (d : Place) (t : Ty) → IsPlace ws a b d t → IsArgument ws a b (argument.Place d) (ByCopy t)
       ActualArray : (a b : ℕ) (t : TypeNo) (r : Range) (u : Ty) (is_var : Bool) (d : Place) → index_of types t ≡ Some r → (r.high -ℤ r.low) ≤ℤ pos 4294967295 → tree types t ≡ Array (elements_of (Some r)) u

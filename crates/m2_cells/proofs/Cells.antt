@@ -1,19 +1,19 @@
 -- Loads and stores of cells.
-use Rattle.std.proofs.Common.{◌≡◌, ⊎_elim, ℕ, zero, suc, ◌+◌, ◌-◌, ◌*◌, ◌%◌, ◌^◌, ◌<◌, ◌≤◌, ℤ, pos, negsuc, ◌+ℤ◌, ◌-ℤ◌, ◌≤ℤ◌, unsigned_abs, List, ◌++◌, length, take, drop, get_or, Some, None, option_map, true, nat_lt, nat_le, if◌then◌else◌, refl, sym, ap, ◌∙◌, subst, inl, inr, arith, length-append, length-drop, length-take-le, get_or-drop, get_or-take, get_or-append-add}
-use Rattle.std.proofs.lemmas.List.{get_or_append_left, get_or-append_right}
+use Rattle.std.proofs.Common.{◌≡◌, ⊎_elim, ℕ, zero, suc, ◌+◌, ◌-◌, ◌*◌, ◌%◌, ◌^◌, ◌<◌, ◌≤◌, ℤ, pos, negsuc, ◌+ℤ◌, ◌-ℤ◌, ◌≤ℤ◌, unsigned_abs, List, length, take, drop, get_or, Some, None, option_map, true, nat_lt, nat_le, if◌then◌else◌, refl, sym, ap, ◌∙◌, subst, arith}
 use Rattle.std.proofs.lemmas.Bool.{lt-ltb, le-ltb, le-leb, cases_lt}
 use Rattle.std.proofs.lemmas.Int.{ints, to_z-of_z}
 use Rattle.std.proofs.Math.Nat.{pow-succ'}
 use lib.Signed.{mag}
 use Rattle.std.specs.Int.{w8, w16, w32, w64, cast_signed, cast_unsigned, from_le_bytes}
 use Rattle.wasm_tree.specs.Machine.{bytes_at, pasted}
-use Rattle.wasm_tree.specs.Numbers.{load_size, loaded, extended, stored}
+use Rattle.wasm_tree.specs.Numbers.{load_size, loaded, extended}
 use Rattle.wasm_effect.specs.Bytes.{byte, IsOnly}
 use Rattle.wasm_effect.proofs.Bytes.{byte_part, byte_pasted, pasted_only, length-pasted, small_pasted, part0}
-use Rattle.m2_layout.specs.Types.{Scalar, Natural, Integer, Between, IsOf, IsScalar}
+use Rattle.m2_layout.specs.Types.{Scalar, Natural, Integer, Between, Callable, IsOf, IsScalar}
+use Rattle.m2_meaning.specs.Around.{Modules}
 use Rattle.m2_layout.specs.Sizes.{Room, One, Two, Four, room_for, bytes_in, room_of, width, value_of}
 use Rattle.m2_cells.specs.Cells.{number, word, unsigned_load, load_of, raised, lowered, fetched, put, stored_in}
-use Rattle.m2_cells.specs.Relation.{Says}
+use Rattle.m2_cells.specs.Relation.{Means, Says}
 
 -- ---- numbers
 
@@ -106,6 +106,7 @@ raised_is (Between l g) a m ok small fits = unsigned (room_of (Between l g))
     unsigned One = ap (λ n. (n + word l) % 2 ^ 64) (from_1 a m) ∙ sums _ (below One)
     unsigned Two = ap (λ n. (n + word l) % 2 ^ 64) (from_2 a m) ∙ sums _ (below Two)
     unsigned Four = ap (λ n. (n + word l) % 2 ^ 64) (from_4 a m) ∙ sums _ (below Four)
+raised_is (Callable h) a m ok small fits = from_4 a m
 
 load_width : (c : Scalar) → load_size (load_of c) ≡ width c
 load_width (Natural g) = unsigned_width (room_for g)
@@ -121,18 +122,19 @@ load_width (Between l g) = unsigned_width (room_of (Between l g))
     unsigned_width One = refl
     unsigned_width Two = refl
     unsigned_width Four = refl
+load_width (Callable h) = refl
 
 -- what is loaded from a cell
-pub fetch_parts : (c : Scalar) (a : ℕ) (v : ℤ) (m : List ℕ) → IsScalar c → ((b : ℕ) → byte b m < 256) → a + width c ≤ length m → Says c a v m → (bytes : List ℕ) × (bytes_at (load_size (load_of c)) a m ≡ Some bytes) × (raised c (loaded (load_of c) bytes) ≡ word v)
-fetch_parts c a v m ok small fits says =
+pub fetch_parts : (program : Modules) → (c : Scalar) (a : ℕ) (v : ℤ) (m : List ℕ) → IsScalar c → ((b : ℕ) → byte b m < 256) → a + width c ≤ length m → Says program c a v m → (bytes : List ℕ) × (bytes_at (load_size (load_of c)) a m ≡ Some bytes) × (raised c (loaded (load_of c) bytes) ≡ word v)
+fetch_parts program c a v m ok small fits says =
     let w = load_width c in
     let there : nat_le (a + load_size (load_of c)) (length m) ≡ true = le-leb _ _ (omega arith) in
     let bytes = take (load_size (load_of c)) (drop a m) in
     (bytes, ap (λ b. if b then Some bytes else None) there, raised_is c a m ok small fits ∙ ap word says.value)
 
-pub fetches : (c : Scalar) (a : ℕ) (v : ℤ) (m : List ℕ) → IsScalar c → ((b : ℕ) → byte b m < 256) → a + width c ≤ length m → Says c a v m → fetched c a m ≡ Some (word v)
-fetches c a v m ok small fits says =
-    let p = fetch_parts c a v m ok small fits says in
+pub fetches : (program : Modules) → (c : Scalar) (a : ℕ) (v : ℤ) (m : List ℕ) → IsScalar c → ((b : ℕ) → byte b m < 256) → a + width c ≤ length m → Says program c a v m → fetched c a m ≡ Some (word v)
+fetches program c a v m ok small fits says =
+    let p = fetch_parts program c a v m ok small fits says in
     ap (λ o. option_map (λ bs. raised c (loaded (load_of c) bs)) o) p.1 ∙ ap Some p.2
 
 -- eight bytes, as the link of a frame has
@@ -203,16 +205,22 @@ stands_for (Between l g) v ok is =
     let w : (word v + (2 ^ 64 - word l)) % 2 ^ 64 ≡ unsigned_abs (v -ℤ l) = omega (arith, ints) in
     let e = ap (λ n. n % 256 ^ width (Between l g)) w ∙ room_fits (unsigned_abs (g -ℤ l)) (unsigned_abs (v -ℤ l)) small n in
     ap (λ n. l +ℤ pos n) e ∙ omega (arith, ints)
+stands_for (Callable h) v ok is =
+    let low = is.low in let high = is.high in
+    let w : word v ≡ unsigned_abs v = omega (arith, ints) in
+    let e : word v % 256 ^ 4 ≡ unsigned_abs v = ap (λ n. n % 256 ^ 4) w ∙ omega (arith, ints) in
+    ap pos e ∙ omega (arith, ints)
 
 length-stored : (r : Room) (n : ℕ) → length (stored_in r n) ≡ bytes_in r
 length-stored One n = refl
 length-stored Two n = refl
 length-stored Four n = refl
 
-pub puts : (c : Scalar) (a : ℕ) (v : ℤ) (m : List ℕ) → IsScalar c → IsOf c v → a + width c ≤ length m → Says c a v (put c a (word v) m)
-puts c a v m ok is fits = record {
+pub puts : (program : Modules) → (c : Scalar) (a : ℕ) (v : ℤ) (m : List ℕ) → IsScalar c → IsOf c v → Means program c v → a + width c ≤ length m → Says program c a v (put c a (word v) m)
+puts program c a v m ok is means fits = record {
   value = ap (value_of c) (number_stored (room_of c) a (lowered c (word v)) m fits) ∙ stands_for c v ok is;
   within = is;
+  means = means;
 }
 
 pub put_only : (c : Scalar) (a n : ℕ) (m : List ℕ) → a + width c ≤ length m → IsOnly a (width c) m (put c a n m)

@@ -6,13 +6,15 @@
 //! - `specs/Laws` says what holds after a read, a write, a copy, a call's begin and its end.
 #![tactic(auto)]
 
-ghost use Rattle.m2_cells.specs.Laws.{Assigns, Begins, Copies, CopiesArgument, Ends, Reads, ReadsAddress, ReadsLink, Starts, WritesHidden};
+ghost use Rattle.m2_cells.specs.Laws.{Assigns, Begins, Copies, CopiesArgument, Ends, Reads, ReadsAddress, ReadsLink, ReadsProcedure, Starts, WritesHidden};
 
 /// Cells, whole copies, new instances and their ends.
 pub fn cell_laws()
-    // A variable is read from its cell,
+    // A variable is read from its cell.
     ensures reads { Reads }
-    // and written to it, where all others stay as they were.
+    // A procedure variable holds no procedure, or one with its heading.
+    ensures reads_procedure { ReadsProcedure }
+    // A variable is written to its cell, where all others stay as they were.
     ensures assigns { Assigns }
     // A whole array or record is copied byte by byte, also onto itself.
     ensures copies { Copies }

@@ -1,19 +1,22 @@
-use Rattle.m2_cells.proofs.Worlds.{holds_fetched, holds_assigned}
+use Rattle.m2_cells.proofs.Worlds.{holds_fetched, holds_procedure, holds_assigned}
 use Rattle.m2_cells.proofs.Assigns.{assigns_whole, begins_frame}
 use Rattle.m2_cells.proofs.Worlds.{call_ends}
 use Rattle.m2_cells.proofs.cell_laws.Goals as goal
 
 pub returns-clause-reads : goal.returns-clause-reads
-returns-clause-reads c world x s m h = holds_fetched world x s m h
+returns-clause-reads c program world x s m h = holds_fetched program world x s m h
+
+pub returns-clause-reads_procedure : goal.returns-clause-reads_procedure
+returns-clause-reads_procedure c program world x s m h = holds_procedure program world x s m h
 
 pub returns-clause-assigns : goal.returns-clause-assigns
-returns-clause-assigns c world x s m h = holds_assigned world x s m h
+returns-clause-assigns c program world x s m h = holds_assigned program world x s m h
 
 pub returns-clause-copies : goal.returns-clause-copies
-returns-clause-copies c world x s m h = assigns_whole world x s m h
+returns-clause-copies c program world x s m h = assigns_whole program world x s m h
 
 pub returns-clause-begins : goal.returns-clause-begins
-returns-clause-begins c world x s m h = begins_frame world x s m h
+returns-clause-begins c program world x s m h = begins_frame program world x s m h
 
 pub returns-clause-ends : goal.returns-clause-ends
-returns-clause-ends c world more x x' s m e h = call_ends world more x x' s m e h
+returns-clause-ends c program world more x x' s m e h = call_ends program world more x x' s m e h
