@@ -1,5 +1,5 @@
 -- The names of one block, sort by sort.
-use Rattle.std.proofs.Common.{◌≡◌, ℕ, zero, suc, Bool, true, false, ◌||◌, cond, List, [], ◌∷◌, map, Some, Result, refl, sym, ap, ◌∙◌, ◌==◌, eqb-true}
+use Rattle.std.proofs.Common.{◌≡◌, ℕ, zero, suc, Bool, true, false, ◌||◌, cond, List, [], ◌∷◌, ◌++◌, map, Some, Result, refl, sym, ap, ◌∙◌, ◌==◌, eqb-true}
 use Rattle.std.specs.Prelude.{slice_get}
 use Rattle.std.specs.List.{list_any}
 use Rattle.m2_typed.specs.declared.meaning.LocalKind.{LocalKind}
@@ -23,7 +23,7 @@ use Rattle.m2_formed_ranges.proofs.Types.{value_kept}
 use Rattle.m2_formed_scopes.proofs.Declarations.{same_home}
 use Rattle.m2_typing.specs.Scopes.{MeaningIn, KnownIn, NamesIn}
 use Rattle.m2_typing.specs.Carried.{MeaningPlaced, KnownPlaced, NamesPlaced, MeaningWord, KnownWord, NamesWords, MeaningSlot, KnownSlot, NamesSlots}
-use Rattle.m2_typing.specs.Names.{HasVariables, HasOwn, MeaningElse, KnownElse, NamesElse, BlockFound}
+use Rattle.m2_typing.specs.Names.{HasVariables, HasInstance, MeaningElse, KnownElse, NamesElse, BlockFound}
 use Rattle.m2_typing.proofs.Known.{scalar_known}
 
 -- ---- variables
@@ -39,6 +39,11 @@ mapped_there f [] n x e = absurd cc
 mapped_there f (y ∷ ys) zero x e = let same : y ≡ x = cc in ap (λ z. Some (f z)) same
 mapped_there f (y ∷ ys) (suc n) x e = mapped_there f ys n x e
 
+front_there : {A : Type 0} (xs ys : List A) (n : ℕ) (x : A) → slice_get xs n ≡ Some x → slice_get (xs ++ ys) n ≡ Some x
+front_there [] ys n x e = absurd cc
+front_there (z ∷ xs) ys zero x e = e
+front_there (z ∷ xs) ys (suc n) x e = front_there xs ys n x e
+
 pub variable_there : (x : Context) (v : Variable) (ts : List TypeNo) → HasVariables x v.home ts → slice_get ts v.number ≡ Some v.of → IsVariable x v (tree x.home.types v.of)
 unfolding component
 variable_there x v ts h e =
@@ -47,16 +52,19 @@ variable_there x v ts h e =
     record {
       known = h.known;
       type = ap (λ (r : Ty). component r (v.number ∷ [])) h.typed ∙ type;
-      there = component_there x.base (module_place x.p v.home) (row (map (tree x.home.types) ts)) (v.number ∷ []) h.there ∙ type;
+      there =
+          component_there x.base (module_place x.p v.home) (row (map (tree x.home.types) ts ++ h.behind)) (v.number ∷ []) h.there
+          ∙ component_there (map (tree x.home.types) ts ++ h.behind) v.number (tree x.home.types v.of) [] (front_there (map (tree x.home.types) ts) h.behind v.number (tree x.home.types v.of) at);
     }
 
-own_variables : (x : Context) (home : ℕ) → home ≡ x.home.types.home → HasOwn x → HasVariables x home x.home.variables
+own_variables : (x : Context) (home : ℕ) → home ≡ x.home.types.home → HasInstance x → HasVariables x home x.home.variables
 own_variables x home e h =
     let own : is_own x.home home ≡ true = same_home home x.home.types.home e in
     record {
       known = ap (λ (b : Bool). b || list_any (λ i. i.number == home) x.home.imports) own;
       typed = ap (λ (b : Bool). cond b (module_row x.home) (imported_row x.home.types (slice_get x.home.imports (import_place x.home home)))) own;
-      there = ap (λ (n : ℕ). slice_get x.base (module_place x.p n)) e ∙ h;
+      behind = h.behind;
+      there = ap (λ (n : ℕ). slice_get x.base (module_place x.p n)) e ∙ h.there;
     }
 
 -- ---- names

@@ -1,5 +1,5 @@
 -- The names of one block: what each sort of name asks for, and that they are typed then.
-use Rattle.std.specs.Prelude.{◌≡◌, ℕ, ◌<◌, Bool, true, List, [], ◌∷◌, map, Some, slice_get}
+use Rattle.std.specs.Prelude.{◌≡◌, ℕ, ◌<◌, Bool, true, List, [], ◌∷◌, ◌++◌, map, Some, slice_get}
 use Rattle.m2_typed.specs.declared.meaning.LocalKind.{LocalKind}
 use Rattle.m2_typed.specs.declared.meaning.Meaning.{Meaning}
 use Rattle.m2_typed.specs.declared.meaning.Meaning.TheVariants as meaning
@@ -11,9 +11,8 @@ use Rattle.m2_typed.specs.Known.{made_at}
 use Rattle.m2_judged.specs.Judged.{Gathers}
 use Rattle.m2_judged.specs.declared.known.Known.{Known}
 use Rattle.m2_judged.specs.declared.known.Known.TheVariants.{Later, Ahead, Begun, Headed, Declared}
-use Rattle.m2_layout.specs.Types.{row}
+use Rattle.m2_layout.specs.Types.{Ty, row}
 use Rattle.m2_layout.specs.Shapes.{tree}
-use Rattle.m2_layout.specs.Frames.{module_row}
 use Rattle.m2_meaning.specs.Around.{module_place}
 use Rattle.m2_scheme.specs.Exprs.{variables_row}
 use Rattle.m2_agree_calls.specs.Frames.{Kinds, kind_at}
@@ -26,15 +25,18 @@ use Rattle.m2_typing.specs.Carried.{NamesPlaced, NamesWords, NamesSlots}
 
 -- ---- variables of modules
 
--- a module that is known has variables of these types, for the module that names them and in its instance
+-- A module that is known has variables of these types, for the module that names them and in its instance, where they are
+-- the first.
 pub record HasVariables (x : Context) (home : ℕ) (ts : List TypeNo) : Type 0 where
   pub known : IsKnown x.home home
   pub typed : variables_row x.home home ≡ row (map (tree x.home.types) ts)
-  pub there : slice_get x.base (module_place x.p home) ≡ Some (row (map (tree x.home.types) ts))
+  pub behind : List Ty
+  pub there : slice_get x.base (module_place x.p home) ≡ Some (row (map (tree x.home.types) ts ++ behind))
 
--- the instance of the module itself has its variables
-abbrev pub HasOwn : Context → Type 0
-HasOwn x = slice_get x.base (module_place x.p x.home.types.home) ≡ Some (module_row x.home)
+-- the instance of the module itself: its variables, and what stands behind them
+pub record HasInstance (x : Context) : Type 0 where
+  pub behind : List Ty
+  pub there : slice_get x.base (module_place x.p x.home.types.home) ≡ Some (row (map (tree x.home.types) x.home.variables ++ behind))
 
 -- ---- names that no declaration of variables, formals and constants brings
 
@@ -68,7 +70,7 @@ module _ (x : Context) (opens : ℕ → Bool) where
     pub grows : (t : TypeNo) (m : Made) → made_at types t ≡ Some m → made_at x.home.types t ≡ Some m
     pub variables : (n : ℕ) (t : TypeNo) → slice_get vs n ≡ Some t → slice_get x.home.variables n ≡ Some t
     pub kinds : (n : ℕ) (k : LocalKind) (t : TypeNo) → slice_get slots n ≡ Some (k, t) → kind_at kss (record { up = 0; number = n }) ≡ Some (kind_of x.home.types t k)
-    pub own : HasOwn x
+    pub own : HasInstance x
     pub ranged : NamesRanged types es
     pub words : NamesWords es
     pub placed : NamesPlaced x.home.types.home vs es

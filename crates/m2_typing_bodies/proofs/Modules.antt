@@ -8,6 +8,7 @@ use Rattle.std.proofs.lemmas.Option.{same_Some}
 use Rattle.m2_tree.specs.declared.stmt.Stmt.{Stmt}
 use Rattle.m2_tree.specs.declared.decl.Decl.{Decl, Decl-F, out-Decl, map-Decl, fold_out-Decl}
 use Rattle.m2_tree.specs.declared.decl.Decl.TheOpen as layer
+use Rattle.m2_tree.specs.declared.decl.Module.{Module}
 use Rattle.m2_tree.specs.declared.decl.Block.{Block, out-Block}
 use Rattle.m2_typed.specs.declared.known_types.Types.{Types}
 use Rattle.m2_typed.specs.declared.statement.TypedStmt.{TypedStmt}
@@ -31,7 +32,8 @@ use Rattle.m2_types.specs.Importing.{with_import}
 use Rattle.m2_blocks.specs.Naming.{with_marks}
 use Rattle.m2_blocks.specs.Nesting as nesting
 use Rattle.m2_blocks.specs.Nesting.{within_decl, within, ends_from, with_procedure_ends, with_decl_ends, procedure_ends}
-use Rattle.m2_blocks.specs.Declarations.{Declared, all_declared, declared_block, told_of_lack}
+use Rattle.m2_bodies.specs.Checked.{walked}
+use Rattle.m2_blocks.specs.Declarations.{Declared, all_declared, declared_block, declared_module, told_of_lack}
 use Rattle.m2_modules.specs.Routines.{unfilled, no_bodies}
 use Rattle.m2_bodies.specs.declared.procedure.Walk.{Walk}
 use Rattle.m2_bodies.specs.Judging.{Judges, statements_of}
@@ -56,7 +58,7 @@ use Rattle.m2_typing.specs.Typing.{IsTyped}
 use Rattle.m2_typing_stmts.specs.TypingStmts.{StmtsTyped}
 use Rattle.m2_typing_stmts.proofs.Constructs.{all_typed as row_typed}
 use Rattle.m2_typing_bodies.specs.Words.{WordsStay}
-use Rattle.m2_typing_bodies.specs.TypingBodies.{fits_body, fits_inside, Stage, stands, stands_in, StageTyped, BodyTyped, TypesStatements, MeaningThere, NamesThere, BlocksThere, LocalsStay, DeclsAgree, HeadingsAgree, ScopeKnown, Serves, OtherThan, NumbersApart, ModuleBegins, HasModule, AreBodiesTyped, ModulesAreTyped}
+use Rattle.m2_typing_bodies.specs.TypingBodies.{fits_whole_block, fits_body, fits_inside, Stage, stands, stands_in, StageTyped, BodyTyped, TypesStatements, MeaningThere, NamesThere, BlocksThere, LocalsStay, DeclsAgree, HeadingsAgree, ScopeKnown, Serves, OtherThan, NumbersApart, ModuleBegins, HasModule, AreBodiesTyped, ModulesAreTyped}
 use Rattle.m2_typing_bodies.proofs.Shifting.{meaning_anywhere}
 use Rattle.m2_typing_bodies.proofs.Scopes.{scope_typed}
 use Rattle.m2_typing_bodies.proofs.Blocks.{AllTyped, StepsAgree, all_known}
@@ -330,3 +332,34 @@ modules_typed g base modules s m b fit begins ok z staged has ss e =
     (λ o h q. module_typed g (judged g) (judged_formed g) (judged_typed g) base words ends keeps headings st (told_of_lack g m.name.pos) ds (both_left parts (fits_body (out-Block b).body) f) refl (out-Block b).body
     (both_right parts (fits_body (out-Block b).body) f) begins o z staged h ss q)
     ok has e
+
+-- all of the scope behind the declarations of a module but its own names stays, where its bodies are walked
+pub modules_keep : (g : Gathers) (modules : List (List ℕ × ℕ)) (s : Scope g.Told) (m : Module) (b : Block) → fits_whole_block b ≡ true → ModuleBegins (fold (with_import g modules) (s, Ok tt) m.imports).0
+    → Keeps (declared_module g modules (procedure_ends (out-Block b).decls) s m (out-Block b).decls).0 (walked g (judged g) modules (procedure_ends (out-Block b).decls) s m b).0.scope
+modules_keep g modules s m b fit begins =
+    let base : Types = s.types in
+    let words = words_stay g in
+    let ds : List Decl = (out-Block b).decls in
+    let ends : List ℕ = procedure_ends ds in
+    let st : State (Unit {0}) g.Told = fold (with_import g modules) (s, Ok tt) m.imports in
+    let d : Declared g.Told = declared_block g ends st 0 ds in
+    let first : Walk g.Told = record { scope = d.0; so_far = beside g d.1 (told_of_lack g m.name.pos d.0); bodies = no_bodies d.0.procedures } in
+    let f = sym (fits_at_block g (judged g) (judged_formed g) (judged_typed g) base words ends b (out-Block b) refl) ∙ fit in
+    let parts = list_all itself (map fits_inside ds) in
+    subst (λ (w : Walk g.Told). Keeps d.0 w.scope) (sym (bodies_are g (judged g) (judged_formed g) ends None d.2 first ds))
+    (end_keeps g (judged g) (judged_formed g) (judged_typed g) base words ends (locals_stay g) (headings_agree g) st (told_of_lack g m.name.pos) ds (both_left parts (fits_body (out-Block b).body) f) refl (out-Block b).body
+    (both_right parts (fits_body (out-Block b).body) f) begins)
+
+-- and that scope stands in no procedure
+pub modules_outermost : (g : Gathers) (modules : List (List ℕ × ℕ)) (s : Scope g.Told) (m : Module) (b : Block) → fits_whole_block b ≡ true → ModuleBegins (fold (with_import g modules) (s, Ok tt) m.imports).0
+    → (declared_module g modules (procedure_ends (out-Block b).decls) s m (out-Block b).decls).0.level ≡ 0
+modules_outermost g modules s m b fit begins =
+    let base : Types = s.types in
+    let words = words_stay g in
+    let ds : List Decl = (out-Block b).decls in
+    let ends : List ℕ = procedure_ends ds in
+    let st : State (Unit {0}) g.Told = fold (with_import g modules) (s, Ok tt) m.imports in
+    let f = sym (fits_at_block g (judged g) (judged_formed g) (judged_typed g) base words ends b (out-Block b) refl) ∙ fit in
+    let parts = list_all itself (map fits_inside ds) in
+    level g (judged g) (judged_formed g) (judged_typed g) base words ends (locals_stay g) (headings_agree g) st (told_of_lack g m.name.pos) ds (both_left parts (fits_body (out-Block b).body) f) refl (out-Block b).body
+    (both_right parts (fits_body (out-Block b).body) f) begins

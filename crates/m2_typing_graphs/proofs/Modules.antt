@@ -1,0 +1,201 @@
+-- What is known of the modules of a graph, put together.
+use Rattle.std.proofs.Common.{◌≡◌, ℕ, zero, suc, ◌+◌, ◌<◌, ◌≤◌, Bool, true, false, ◌&&◌, List, [], ◌∷◌, length, Option, Some, None, Result, Ok, refl, sym, ap, subst, ◌∙◌, arith, eqb-true}
+use Rattle.std.specs.Prelude.{◌*◌, ◌^◌, All, slice_get, slice_index_or}
+use Rattle.std.specs.List.{AllByRecursion, list_all}
+use Rattle.std.proofs.lemmas.List.Elements.{All-head, All-tail}
+use Rattle.m2_tree.specs.declared.decl.Block.{Block}
+use Rattle.m2_tree.specs.declared.decl.Contents.{Contents}
+use Rattle.m2_tree.specs.declared.decl.Contents.TheVariants as contents
+use Rattle.m2_tree.specs.declared.decl.Module.{Module}
+use Rattle.m2_graph.specs.Files.{numbered}
+use Rattle.m2_graph.specs.Graph.{IsGraph, CompileEach}
+use Rattle.m2_typed.specs.declared.known_types.Types.{Types}
+use Rattle.m2_typed.specs.declared.shape.Made.{Made}
+use Rattle.m2_typed.specs.declared.table.Table.{Table}
+use Rattle.m2_typed.specs.declared.typed_module.Imported.{Imported}
+use Rattle.m2_typed.specs.declared.typed_module.TypedModule.{TypedModule}
+use Rattle.m2_typed.specs.declared.types.TypeNo.{TypeNo}
+use Rattle.m2_typed.specs.Known.{made_at}
+use Rattle.m2_judged.specs.declared.fault.Fault.{Fault}
+use Rattle.m2_judged.specs.declared.scope.Scope.{Scope}
+use Rattle.m2_judged.specs.Judged.{least}
+use Rattle.m2_layout.specs.Texts.{characters, module_texts}
+use Rattle.m2_scheme.specs.Modules.{all_characters}
+use Rattle.m2_links.specs.Linked.{Program, text, bytes_in}
+use Rattle.m2_links.proofs.Stores.{text_length}
+use Rattle.m2_types.specs.Predeclared.{first_scope}
+use Rattle.m2_modules.specs.Own.{implementation_scope}
+use Rattle.m2_formed.specs.Formed.{Holds, fine, broken}
+use Rattle.m2_formed_bodies.specs.FormedBodies.{Keeps}
+use Rattle.m2_formed_known.specs.FormedKnown.{fits_module}
+use Rattle.m2_formed_frames.proofs.Bytes.{texts_are_bytes}
+use Rattle.m2_formed_trees.specs.FormedTrees.{fits_contents}
+use Rattle.m2_formed_coherent.specs.FormedCoherent.{trees_of, IsBodyOf, AreBodiesIn}
+use Rattle.m2_formed_coherent.proofs.Graphs.{graphs_whole}
+use Rattle.m2_formed_graphs.specs.FormedGraphs.{IsFit}
+use Rattle.m2_compile.specs.Own.{own_table, tables_behind}
+use Rattle.m2_compile.specs.Compiling.{tables_of, typed_body}
+use Rattle.m2_jobs.specs.Spelled.{needed_of}
+use Rattle.m2_agree_trees.specs.Typed.{Context}
+use Rattle.m2_agree_runs.specs.Programs.{ground}
+use Rattle.m2_agree_linked.specs.Modules.{IsTypedModule, AreTypedModules}
+use Rattle.m2_typing.specs.Carried.{NamesPlaced, NamesSlots}
+use Rattle.m2_typing.specs.Names.{HasInstance}
+use Rattle.m2_typing_bodies.specs.TypingBodies.{fits_whole_block, Stage, stands, StageTyped, HasModule, NamesThere, AreBodiesTyped}
+use Rattle.m2_typing_bodies.proofs.Modules.{modules_typed, modules_keep, modules_outermost}
+use Rattle.m2_typing_wants.specs.TypingWants.{CallsNoVariable, AreOrdered, placed}
+use Rattle.m2_typing_wants.proofs.Orders.{bodies_ordered}
+use Rattle.m2_typing_wants.proofs.Provided.{bodies_provided, module_typed}
+use Rattle.m2_typing_tables.specs.TypingTables.{BeginsIn, program, implementation, tables_by, modules_in, declared_in, walked_in, BodyStands, BodiesStand}
+use Rattle.m2_typing_names.specs.TypingNames.{is_open, NamesStand, NamesFrom, BodyNamed, placed_at, NamesAreThere}
+use Rattle.m2_typing_graphs.proofs.Names.{module_names}
+
+-- ---- lists
+
+same_there : {X : Type 0} (x y : X) → Some x ≡ Some y → x ≡ y
+same_there x y e = cc e
+
+each_at : {X : Type 0} (P : X → Type 0) (xs : List X) → AllByRecursion P xs → (n : ℕ) (x : X) → slice_get xs n ≡ Some x → P x
+each_at P [] h n x e = absurd cc
+each_at P (y ∷ xs) h zero x e = subst P (same_there y x e) h.0
+each_at P (y ∷ xs) h (suc n) x e = each_at P xs h.1 n x e
+
+all_at : {X : Type 0} (P : X → Type 0) (xs : List X) → All P xs → (n : ℕ) (x : X) → slice_get xs n ≡ Some x → P x
+all_at P [] h n x e = absurd cc
+all_at P (y ∷ xs) h zero x e = subst P (same_there y x e) (All-head P y xs h)
+all_at P (y ∷ xs) h (suc n) x e = all_at P xs (All-tail P y xs h) n x e
+
+first_true : (a b : Bool) → a && b ≡ true → a ≡ true
+first_true true b e = refl
+first_true false b e = e
+
+second_true : (a b : Bool) → a && b ≡ true → b ≡ true
+second_true true b e = e
+second_true false b e = absurd (let no : false ≡ true = e in cc no)
+
+passes_at : {X : Type 0} (f : X → Bool) (xs : List X) → list_all f xs ≡ true → (n : ℕ) (x : X) → slice_get xs n ≡ Some x → f x ≡ true
+passes_at f [] h n x e = absurd cc
+passes_at f (y ∷ xs) h zero x e = ap f (sym (same_there y x e)) ∙ first_true (f y) (list_all f xs) h
+passes_at f (y ∷ xs) h (suc n) x e = passes_at f xs (second_true (f y) (list_all f xs) h) n x e
+
+held : {A T : Type 0} (P : A → Type 0) (r : Result A T) (x : A) → Holds P r → r ≡ Ok x → P x
+held P _ x (fine y p) e = let same : y ≡ x = cc in subst P same p
+held P _ x (broken y) e = absurd cc
+
+-- ---- texts
+
+texts_within : (p : Program) (place : ℕ) (m : TypedModule) → slice_get p place ≡ Some m → characters (module_texts m) ≤ bytes_in p
+texts_within [] place m e = absurd cc
+texts_within (x ∷ p) zero m e = subst (λ (y : TypedModule). characters (module_texts y) ≤ bytes_in (x ∷ p)) (same_there x m e) (omega arith)
+texts_within (x ∷ p) (suc place) m e = let l = texts_within p place m e in omega (arith, l)
+
+texts_room : (p : Program) (pages place : ℕ) (m : TypedModule) → slice_get p place ≡ Some m → bytes_in p + 4096 ≤ 65536 * pages → pages ≤ 1024 → length (all_characters (module_texts m)) ≤ 2 ^ 32
+texts_room p pages place m e room most =
+    let same = text_length (module_texts m) in
+    let within = texts_within p place m e in omega (arith, same, within, room, most)
+
+-- ---- where a body begins
+
+block_fits : (m : Module) (job : ℕ) (ts : List Table) (s : Scope least.Told) (b : Block) → BeginsIn m job ts s b → fits_contents m.contents ≡ true → fits_whole_block b ≡ true
+block_fits m job ts _ _ (program b e) h = ap fits_contents (sym e) ∙ h
+block_fits m job ts _ _ (implementation own b o e) h = ap fits_contents (sym e) ∙ h
+
+module _ (x : Context) (opens : ℕ → Bool) where
+  by_program : (job : ℕ) (m : Module) (own : Option Table) (tables : List Table) (b : Block) → NamesFrom x opens job m own tables (contents.Program b) → NamesStand x opens (first_scope job tables) m b
+  by_program job m None tables b n = n
+  by_program job m (Some o) tables b n = n
+
+  by_implementation : (job : ℕ) (m : Module) (own : Option Table) (tables : List Table) (o : Table) (b : Block) → own ≡ Some o → NamesFrom x opens job m own tables (contents.Implementation b) → NamesStand x opens (implementation_scope o tables) m b
+  by_implementation job m own tables o b e n = subst (λ (q : Option Table). NamesFrom x opens job m q tables (contents.Implementation b)) e n
+
+  names_begun : (m : Module) (job : ℕ) (ts : List Table) (s : Scope least.Told) (b : Block) → BeginsIn m job ts s b → NamesFrom x opens job m (own_table m ts) (tables_by m ts) m.contents → NamesStand x opens s m b
+  names_begun m job ts _ _ (program b e) n = by_program job m (own_table m ts) (tables_by m ts) b (subst (λ (c : Contents). NamesFrom x opens job m (own_table m ts) (tables_by m ts) c) e n)
+  names_begun m job ts _ _ (implementation own b o e) n =
+      by_implementation job m (own_table m ts) (tables_by m ts) own b o (subst (λ (c : Contents). NamesFrom x opens job m (own_table m ts) (tables_by m ts) c) e n)
+
+-- ---- one module
+
+module _ (p : Program) (pages place : ℕ) (m : TypedModule) (there : slice_get p place ≡ Some m) (tree : Module) (job : ℕ) (ts : List Table) (st : BodyStands tree job ts m) where
+  abbrev opens : ℕ → Bool
+  opens = is_open (tables_by tree ts) m.imports
+
+  abbrev x : Context
+  x = placed_at p pages place m
+
+  abbrev z : Stage
+  z = placed p pages place m opens
+
+  module _ (own : HasInstance x) (names : NamesFrom x opens job tree (own_table tree ts) (tables_by tree ts) tree.contents) (fits : fits_contents tree.contents ≡ true) where
+    abbrev behind : Scope least.Told
+    behind = (declared_in st.scope tree st.block).0
+
+    abbrev after : Scope least.Told
+    after = (walked_in st.scope tree st.block).0.scope
+
+    fits_block : fits_whole_block st.block ≡ true
+    fits_block = block_fits tree job ts st.scope st.block st.begun fits
+
+    keeps : Keeps behind after
+    keeps = modules_keep least (modules_in st.scope tree st.block) st.scope tree st.block fits_block st.begins
+
+    outermost : behind.level ≡ 0
+    outermost = modules_outermost least (modules_in st.scope tree st.block) st.scope tree st.block fits_block st.begins
+
+    stand : NamesStand x opens st.scope tree st.block
+    stand = names_begun x opens tree job ts st.scope st.block st.begun names
+
+    grows : (t : TypeNo) (y : Made) → made_at behind.types t ≡ Some y → made_at m.types t ≡ Some y
+    grows t y e = subst (λ (types : Types). made_at types t ≡ Some y) (sym st.types) (keeps.types t y e)
+
+    home : behind.types.home ≡ m.types.home
+    home = sym keeps.home ∙ ap (λ (types : Types). types.home) (sym st.types)
+
+    names_are : NamesThere x opens 0 behind.own
+    names_are =
+        module_names x opens refl behind.types behind.variables behind.own grows (sym st.variables) own st.known.ranged.names st.known.words.names
+        (subst (λ (n : ℕ). NamesPlaced n behind.variables behind.own) home st.placed)
+        (subst (λ (n : ℕ). NamesSlots [] n behind.own) outermost st.slots) stand.others
+
+    has : HasModule least st.base z behind (walked_in st.scope tree st.block).0
+    has = record {
+      types = sym st.types;
+      procedures = sym st.procedures;
+      locals = sym st.locals;
+      known = st.known;
+      names = names_are;
+      outer = stand.outer;
+      members = stand.members;
+    }
+
+    pub bodies_typed : length (all_characters (module_texts m)) ≤ 2 ^ 32 → AreBodiesTyped z m.body
+    bodies_typed room =
+        modules_typed least st.base (modules_in st.scope tree st.block) st.scope tree st.block fits_block st.begins st.told z
+        (record { there = there; all = st.typed; room = room }) has m.body st.body
+
+-- ---- the modules of a graph
+
+module _ (fs : List (List ℕ × Module)) (files : List ℕ) (jobs : List (List ℕ)) (starts : List ℕ) (graph : IsGraph (numbered 0 fs) files jobs starts) (each : CompileEach (numbered 0 fs) files) (fit : list_all fits_module (trees_of fs) ≡ true) (whole : list_all (λ m. fits_contents m.contents) (trees_of fs) ≡ true) where
+  module _ (p : Program) (b : AreBodiesIn (trees_of fs) files jobs starts p) (fits : AllByRecursion IsFit p) (pages : ℕ) (room : bytes_in p + 4096 ≤ 65536 * pages) (most : pages ≤ 1024) (calls : All CallsNoVariable p) where
+    abbrev Body : TypedModule → Type 0
+    Body m = IsBodyOf (trees_of fs) files jobs m
+
+    body_of : (place : ℕ) (m : TypedModule) → slice_get p place ≡ Some m → Body m
+    body_of place m e = each_at Body p (graphs_whole fs files jobs starts graph each fit p b).bodies place m e
+
+    abbrev tables : {m : TypedModule} → Body m → List Table
+    tables o = tables_of (needed_of (trees_of fs) files jobs o.job)
+
+    ordered : (m : TypedModule) (o : Body m) → AreOrdered m
+    ordered m o =
+        let ts : List Table = tables o in
+        held AreOrdered (typed_body o.tree o.job ts) m (bodies_ordered least o.job o.tree (own_table o.tree ts) (tables_behind (own_table o.tree ts) ts)) o.typed
+
+    pub are_typed : AreTypedModules p pages
+    are_typed place m e =
+        let o : Body m = body_of place m e in
+        let named = names_are_there fs files jobs starts graph each fit p b pages place m e o in
+        let st : BodyStands o.tree o.job (tables o) m = bodies_stand fs files jobs starts graph fit o.tree o.job m (passes_at fits_module (trees_of fs) fit (slice_index_or files o.job 0) o.tree o.is_tree) o.typed in
+        let typed = bodies_typed p pages place m e o.tree o.job (tables o) st named.own named.names (passes_at (λ (t : Module). fits_contents t.contents) (trees_of fs) whole (slice_index_or files o.job 0) o.tree o.is_tree) (texts_room p pages place m e room most) in
+        let bytes = texts_are_bytes m (each_at IsFit p fits place m e).spelled in
+        module_typed p pages place m (opens p pages place m e o.tree o.job (tables o) st) typed
+        (bodies_provided (placed p pages place m (opens p pages place m e o.tree o.job (tables o) st)) (all_at CallsNoVariable p calls place m e) (ordered m o) bytes)
