@@ -9,6 +9,7 @@ use Rattle.m2_typed.specs.declared.types.Home.{Home}
 use Rattle.m2_typed.specs.declared.types.Home.TheVariants.{Predeclared, Module}
 use Rattle.m2_typed.specs.declared.types.TypeNo.{TypeNo}
 use Rattle.m2_typed.specs.declared.shape.Scalar.{Scalar as Range}
+use Rattle.m2_typed.specs.declared.shape.Formal.{Formal}
 use Rattle.m2_typed.specs.declared.shape.Shape.{Shape}
 use Rattle.m2_typed.specs.declared.shape.Shape.TheVariants as shape
 use Rattle.m2_typed.specs.declared.shape.Made.{Made}
@@ -18,10 +19,10 @@ use Rattle.m2_typed.specs.declared.table.ModuleTypes.{ModuleTypes}
 use Rattle.m2_typed.specs.declared.table.Table.{Table}
 use Rattle.m2_typed.specs.declared.known_types.Types.{Types}
 use Rattle.m2_typed.specs.Known.{in_list, made_in, scalar_at, scalar_from, scalar_made}
-use Rattle.m2_layout.specs.Types.{Ty, Array, row}
-use Rattle.m2_layout.specs.Shapes.{elements_of, shape_tree, known_trees, tree}
+use Rattle.m2_layout.specs.Types.{Ty, Callable, Cell, Array, Heading, Function, Takes, row}
+use Rattle.m2_layout.specs.Shapes.{elements_of, passing_of, result_tree, heading_tree, shape_tree, known_trees, tree}
 use Rattle.m2_modules.specs.Own.{with_variable_of, with_exported_variable, exported_variables}
-use Rattle.m2_formed_types.specs.Ordered.{named_by, is_known_from, is_known, AreKnown, AreOrderedFrom, OthersOrdered, AreOrdered}
+use Rattle.m2_formed_types.specs.Ordered.{result_named, named_by, is_known_from, is_known, AreKnown, AreOrderedFrom, OthersOrdered, AreOrdered}
 use Rattle.m2_formed_types.proofs.Trees.{at, at_more, at_behind, at_placed, append_more, some_of, made_by, is_among_from, is_among, known_among}
 use Rattle.m2_formed_types.proofs.Shaped.{tree_shaped}
 use Rattle.m2_formed_order.specs.FormedOrder.{ExportsOrdered}
@@ -61,6 +62,16 @@ module _ (a b : Types) (p : AreOrdered a) (q : AreOrdered b) (es : List (ℕ × 
   fields_agree c same [] h = refl
   fields_agree c same (f ∷ fs) h = ap (λ (t : Ty). t ∷ map (λ f. tree a f.1) fs) (same f.1 h.0) ∙ ap (λ (ts : List Ty). tree b f.1 ∷ ts) (fields_agree c same fs h.1)
 
+  result_agrees : (c : TypeNo → Bool) → ((u : TypeNo) → c u ≡ true → tree a u ≡ tree b u) → (r : Option TypeNo) → AllByRecursion (λ u. c u ≡ true) (result_named r) → result_tree (known_trees a) r ≡ result_tree (known_trees b) r
+  result_agrees c same None h = refl
+  result_agrees c same (Some t) h = ap Function (same t h.0)
+
+  headings_agree : (c : TypeNo → Bool) → ((u : TypeNo) → c u ≡ true → tree a u ≡ tree b u) → (fs : List Formal) (r : Option TypeNo) → AllByRecursion (λ u. c u ≡ true) (map (λ f. f.of) fs ++ result_named r)
+      → heading_tree (known_trees a) fs r ≡ heading_tree (known_trees b) fs r
+  headings_agree c same [] r h = result_agrees c same r h
+  headings_agree c same (f ∷ fs) r h =
+      ap (λ (t : Ty). Takes (passing_of f) t (heading_tree (known_trees a) fs r)) (same f.of h.0) ∙ ap (λ (x : Heading). Takes (passing_of f) (tree b f.of) x) (headings_agree c same fs r h.1)
+
   shapes_agree : (c : TypeNo → Bool) → ((u : TypeNo) → c u ≡ true → tree a u ≡ tree b u) → ((u : TypeNo) → c u ≡ true → scalar_at a u ≡ scalar_at b u) → (t : TypeNo) (s : Shape) → AllByRecursion (λ u. c u ≡ true) (named_by s)
       → shape_tree a (known_trees a) t s ≡ shape_tree b (known_trees b) t s
   shapes_agree c same scalar t (shape.Scalar s) h = refl
@@ -68,7 +79,7 @@ module _ (a b : Types) (p : AreOrdered a) (q : AreOrdered b) (es : List (ℕ × 
   shapes_agree c same scalar t (shape.Array i e) h =
       ap (λ (o : Option Range). Array (elements_of o) (tree a e)) (scalar i h.0) ∙ ap (λ (x : Ty). Array (elements_of (scalar_at b i)) x) (same e h.1.0)
   shapes_agree c same scalar t (shape.Record fs) h = ap row (fields_agree c same fs h)
-  shapes_agree c same scalar t (shape.Procedure s) h = refl
+  shapes_agree c same scalar t (shape.Procedure s) h = ap (λ (x : Heading). Cell (Callable x)) (headings_agree c same s.formals s.result h)
   shapes_agree c same scalar t (shape.Open e) h = refl
 
   -- ---- the types of one module

@@ -8,14 +8,15 @@ use Rattle.std.specs.Option.{is_some}
 use Rattle.m2_typed.specs.declared.types.Home.{Home}
 use Rattle.m2_typed.specs.declared.types.Home.TheVariants.{Predeclared, Module}
 use Rattle.m2_typed.specs.declared.types.TypeNo.{TypeNo}
+use Rattle.m2_typed.specs.declared.shape.Formal.{Formal}
 use Rattle.m2_typed.specs.declared.shape.Shape.{Shape}
 use Rattle.m2_typed.specs.declared.shape.Shape.TheVariants as shape
 use Rattle.m2_typed.specs.declared.shape.Made.{Made}
 use Rattle.m2_typed.specs.declared.known_types.Types.{Types}
 use Rattle.m2_typed.specs.Known.{scalar_at, in_list}
-use Rattle.m2_layout.specs.Types.{Ty, Array, row}
-use Rattle.m2_layout.specs.Shapes.{Trees, or_nothing, in_module, tree_in, shape_tree, with_made, module_trees, with_module, elements_of}
-use Rattle.m2_formed_types.specs.Ordered.{named_by, is_known_from, is_known, AreOrderedFrom, OthersOrdered, AreOrdered}
+use Rattle.m2_layout.specs.Types.{Ty, Callable, Cell, Array, Heading, Function, Takes, row}
+use Rattle.m2_layout.specs.Shapes.{Trees, or_nothing, in_module, tree_in, passing_of, result_tree, heading_tree, shape_tree, with_made, module_trees, with_module, elements_of}
+use Rattle.m2_formed_types.specs.Ordered.{result_named, named_by, is_known_from, is_known, AreOrderedFrom, OthersOrdered, AreOrdered}
 
 -- ---- numbers and lists
 
@@ -174,13 +175,23 @@ module _ (types : Types) where
   fields_same q bs cs same [] p = refl
   fields_same q bs cs same (f ∷ fs) p = ap (λ (t : Ty). t ∷ map (λ f. tree_in bs f.1) fs) (same f.1 p.0) ∙ ap (λ (ts : List Ty). tree_in cs f.1 ∷ ts) (fields_same q bs cs same fs p.1)
 
+  result_same : (q : TypeNo → Bool) (bs cs : Trees) → ((u : TypeNo) → q u ≡ true → tree_in bs u ≡ tree_in cs u) → (r : Option TypeNo) → AllByRecursion (λ u. q u ≡ true) (result_named r) → result_tree bs r ≡ result_tree cs r
+  result_same q bs cs same None p = refl
+  result_same q bs cs same (Some t) p = ap Function (same t p.0)
+
+  heading_same : (q : TypeNo → Bool) (bs cs : Trees) → ((u : TypeNo) → q u ≡ true → tree_in bs u ≡ tree_in cs u) → (fs : List Formal) (r : Option TypeNo) → AllByRecursion (λ u. q u ≡ true) (map (λ f. f.of) fs ++ result_named r)
+      → heading_tree bs fs r ≡ heading_tree cs fs r
+  heading_same q bs cs same [] r p = result_same q bs cs same r p
+  heading_same q bs cs same (f ∷ fs) r p =
+      ap (λ (t : Ty). Takes (passing_of f) t (heading_tree bs fs r)) (same f.of p.0) ∙ ap (λ (h : Heading). Takes (passing_of f) (tree_in cs f.of) h) (heading_same q bs cs same fs r p.1)
+
   -- shapes whose named types have the same trees
   pub shape_same : (q : TypeNo → Bool) (bs cs : Trees) → ((u : TypeNo) → q u ≡ true → tree_in bs u ≡ tree_in cs u) → (t : TypeNo) (s : Shape) → AllByRecursion (λ u. q u ≡ true) (named_by s) → shape_tree types bs t s ≡ shape_tree types cs t s
   shape_same q bs cs same t (shape.Scalar s) p = refl
   shape_same q bs cs same t shape.Set p = refl
   shape_same q bs cs same t (shape.Array i e) p = ap (λ (x : Ty). Array (elements_of (scalar_at types i)) x) (same e p.1.0)
   shape_same q bs cs same t (shape.Record fs) p = ap row (fields_same q bs cs same fs p)
-  shape_same q bs cs same t (shape.Procedure s) p = refl
+  shape_same q bs cs same t (shape.Procedure s) p = ap (λ (h : Heading). Cell (Callable h)) (heading_same q bs cs same s.formals s.result p)
   shape_same q bs cs same t (shape.Open e) p = refl
 
   -- ---- the trees of one module
