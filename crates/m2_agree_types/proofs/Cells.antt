@@ -15,12 +15,14 @@ use Rattle.m2_typed.specs.declared.shape.Shape.TheVariants as shape
 use Rattle.m2_typed.specs.declared.shape.Made.{Made}
 use Rattle.m2_typed.specs.declared.known_types.Types.{Types}
 use Rattle.m2_typed.specs.Types.{are_same, is_integer}
-use Rattle.m2_typed.specs.Known.{scalar_at, scalar_from, scalar_made, scalar_shape, made_in, in_list, is_result, is_result_shape, is_result_made, is_result_from}
-use Rattle.m2_layout.specs.Types.{Ty, Natural, Integer, Between, Cell, least, greatest}
-use Rattle.m2_layout.specs.Shapes.{Trees, word, scalar_kind, or_nothing, in_module, scalar_tree, tree_from, shape_tree, with_made, module_trees, with_module, other_trees, known_trees, tree}
+use Rattle.m2_typed.specs.Known.{scalar_at, scalar_from, scalar_made, scalar_shape, made_in, made_from as made_by, made_at, in_list, is_result, is_result_shape, is_result_made, is_result_from}
+use Rattle.m2_layout.specs.Types.{Ty, Natural, Integer, Between, Callable, Cell, Heading, least, greatest}
+use Rattle.m2_layout.specs.Shapes.{Trees, word, scalar_kind, or_nothing, in_module, scalar_tree, tree_from, heading_tree, shape_tree, with_made, module_trees, with_module, other_trees, known_trees, tree}
+use Rattle.m2_cells.specs.Relation.{IsNumber, heading_in, heading_made, heading_at}
 use Rattle.m2_agree.specs.Scene.{AreSmall, IsIn, IsCell}
 use Rattle.m2_ranges.specs.Ranges.{IsRange, type_of, AreRanged}
 use Rattle.m2_ranges.proofs.Known.{range_at}
+use Rattle.m2_agree_types.specs.Laws.{AreByShape}
 use Rattle.m2_agree_types.proofs.Plain.{scalar_is}
 
 -- ---- the range of a type
@@ -195,11 +197,21 @@ numbers_are t r is = by (are_same t r.base) refl (is_integer t) refl
     by true e false f = let low = is.base e f in (sym low, absolute r.high (subst (λ (v : ℤ). v ≤ℤ r.high) low is.some))
     by false e c f = (refl, refl)
 
+-- its numbers stand for themselves
+number_kind : (t : TypeNo) (r : Range) → IsNumber (scalar_kind t r)
+number_kind t r = by (are_same t r.base) (is_integer t)
+  where
+    by : (b c : Bool) → IsNumber (if b then (if c then Integer else Natural (unsigned_abs r.high)) else Between r.low r.high)
+    by true true = tt
+    by true false = tt
+    by false c = tt
+
 pub cell_is : (types : Types) → AreRanged types → (t : TypeNo) (r : Range) → scalar_at types t ≡ Some r → IsCell types t (scalar_kind t r)
 cell_is types is t r e =
     let range = range_at types is t r e in
     let same = numbers_are t r range in record {
       is = scalar_tree_is types t r e;
+      number = number_kind t r;
       scalar = scalar_is t r range;
       values = λ v h. subst (λ (o : Option Range). IsIn o v) (sym e) (subst (λ (x : ℤ). x ≤ℤ v) same.0 h.low, subst (λ (x : ℤ). v ≤ℤ x) same.1 h.high);
       bounds = λ v h.
@@ -207,30 +219,55 @@ cell_is types is t r e =
           record { low = subst (λ (x : ℤ). x ≤ℤ v) (sym same.0) k.0; high = subst (λ (x : ℤ). v ≤ℤ x) (sym same.1) k.1 };
     }
 
--- a set, and a procedure type, has a cell for all numbers of 32 bits
+-- ---- sets
+
+-- a set has a cell for all numbers of 32 bits
 pub word_is : (types : Types) (t : TypeNo) → tree types t ≡ word → scalar_at types t ≡ None → IsCell types t (Natural 4294967295)
 word_is types t is e = record {
   is = is;
+  number = tt;
   scalar = record { low = omega (arith, ints); high = omega (arith, ints); some = omega (arith, ints); narrow = omega (arith, ints) };
   values = λ v h. subst (λ (o : Option Range). IsIn o v) (sym e) (h.low, h.high);
   bounds = λ v h. let k : IsIn None v = subst (λ (o : Option Range). IsIn o v) e h in record { low = k.0; high = k.1 };
 }
 
-result_shaped : (types : Types) (t : TypeNo) (s : Shape) (u : Ty) → MadeTree types t s u → scalar_shape s ≡ None → is_result_shape s ≡ true → u ≡ word
-result_shaped types t (shape.Scalar s) u m e f = absurd cc
-result_shaped types t shape.Set u m e f = m.is
-result_shaped types t (shape.Array i x) u m e f = absurd cc
-result_shaped types t (shape.Record fs) u m e f = absurd cc
-result_shaped types t (shape.Procedure p) u m e f = m.is
-result_shaped types t (shape.Open x) u m e f = absurd cc
+set_shaped : (types : Types) (t : TypeNo) (s : Shape) (u : Ty) → MadeTree types t s u → scalar_shape s ≡ None → is_result_shape s ≡ true → heading_in types s ≡ None → u ≡ word
+set_shaped types t (shape.Scalar s) u m e f g = absurd cc
+set_shaped types t shape.Set u m e f g = m.is
+set_shaped types t (shape.Array i x) u m e f g = absurd cc
+set_shaped types t (shape.Record fs) u m e f g = absurd cc
+set_shaped types t (shape.Procedure p) u m e f g = absurd cc
+set_shaped types t (shape.Open x) u m e f g = absurd cc
 
-pub word_tree_is : (types : Types) (t : TypeNo) → scalar_at types t ≡ None → is_result types t ≡ true → tree types t ≡ word
-word_tree_is types t e r = by t.home refl e r
+pub set_tree_is : (types : Types) (t : TypeNo) → scalar_at types t ≡ None → is_result types t ≡ true → heading_at types t ≡ None → tree types t ≡ word
+set_tree_is types t e r n = by t.home refl e r n
   where
-    made : (home : ℕ) (o : Option Made) → made_in types home t.number ≡ o → scalar_made o ≡ None → is_result_made o ≡ true → in_module (lookup (nat_eq home) (known_trees types)) t.number ≡ word
-    made home None f g h = absurd cc
-    made home (Some m) f g h = result_shaped types (type_of home t.number) m.shape _ (in_known types home t.number m f) g h
+    made : (home : ℕ) (o : Option Made) → made_in types home t.number ≡ o → scalar_made o ≡ None → is_result_made o ≡ true → heading_made types o ≡ None → in_module (lookup (nat_eq home) (known_trees types)) t.number ≡ word
+    made home None f g h k = absurd cc
+    made home (Some m) f g h k = set_shaped types (type_of home t.number) m.shape _ (in_known types home t.number m f) g h k
 
-    by : (home : Home) → t.home ≡ home → scalar_from types home t.number ≡ None → is_result_from types home t.number ≡ true → tree types t ≡ word
-    by Predeclared f g h = ap (λ (k : Home). tree_from (known_trees types) t k) f ∙ ap (λ (o : Option Range). scalar_tree t o) g
-    by (Module home) f g h = ap (λ (k : Home). tree_from (known_trees types) t k) f ∙ made home (made_in types home t.number) refl g h
+    by : (home : Home) → t.home ≡ home → scalar_from types home t.number ≡ None → is_result_from types home t.number ≡ true → heading_made types (made_by types home t.number) ≡ None → tree types t ≡ word
+    by Predeclared f g h k = ap (λ (k : Home). tree_from (known_trees types) t k) f ∙ ap (λ (o : Option Range). scalar_tree t o) g
+    by (Module home) f g h k = ap (λ (k : Home). tree_from (known_trees types) t k) f ∙ made home (made_in types home t.number) refl g h k
+
+pub set_is : (types : Types) (t : TypeNo) → scalar_at types t ≡ None → is_result types t ≡ true → heading_at types t ≡ None → IsCell types t (Natural 4294967295)
+set_is types t e r n = word_is types t (set_tree_is types t e r n) e
+
+-- ---- procedure types
+
+pub procedure_shaped : (types : Types) (before : Trees) (t : TypeNo) (s : Shape) (h : Heading) → before ≡ known_trees types → heading_in types s ≡ Some h → shape_tree types before t s ≡ Cell (Callable h)
+procedure_shaped types before t (shape.Scalar s) h b e = absurd cc
+procedure_shaped types before t shape.Set h b e = absurd cc
+procedure_shaped types before t (shape.Array i x) h b e = absurd cc
+procedure_shaped types before t (shape.Record fs) h b e = absurd cc
+procedure_shaped types before t (shape.Procedure p) h b e =
+    let same : heading_tree (known_trees types) p.formals p.result ≡ h = cc in ap (λ (ts : Trees). Cell (Callable (heading_tree ts p.formals p.result))) b ∙ ap (λ (i : Heading). Cell (Callable i)) same
+procedure_shaped types before t (shape.Open x) h b e = absurd cc
+
+-- a variable of a procedure type has a cell for procedures with the heading of the type
+pub procedure_tree_is : (types : Types) → AreByShape types → (t : TypeNo) (h : Heading) → heading_at types t ≡ Some h → tree types t ≡ Cell (Callable h)
+procedure_tree_is types shaped t h e = by (made_at types t) refl e
+  where
+    by : (o : Option Made) → made_at types t ≡ o → heading_made types o ≡ Some h → tree types t ≡ Cell (Callable h)
+    by None f g = absurd cc
+    by (Some m) f g = shaped t m f ∙ procedure_shaped types (known_trees types) t m.shape h refl g

@@ -15,8 +15,8 @@ use Rattle.m2_typed.specs.declared.shape.Made.{Made}
 use Rattle.m2_typed.specs.declared.known_types.Types.{Types}
 use Rattle.m2_typed.specs.Types.{are_same, is_integer}
 use Rattle.m2_typed.specs.Known.{predeclared_scalar}
-use Rattle.m2_layout.specs.Types.{Ty, Natural, Integer, Between, row, IsScalar, IsPlain}
-use Rattle.m2_layout.specs.Shapes.{Trees, scalar_kind, or_nothing, in_module, scalar_tree, tree_from, tree_in, shape_tree, with_made, module_trees, with_module, other_trees, known_trees, tree}
+use Rattle.m2_layout.specs.Types.{Ty, Natural, Integer, Between, Callable, Heading, row, IsScalar, IsPlain}
+use Rattle.m2_layout.specs.Shapes.{Trees, scalar_kind, or_nothing, in_module, scalar_tree, tree_from, tree_in, heading_tree, shape_tree, with_made, module_trees, with_module, other_trees, known_trees, tree}
 use Rattle.m2_ranges.specs.Ranges.{IsRange, IsRanged, type_of, AreRangedFrom, OthersRanged, AreRanged}
 use Rattle.m2_ranges.proofs.Known.{predeclared_is}
 
@@ -27,6 +27,9 @@ word_scalar = record { low = omega (arith, ints); high = omega (arith, ints); so
 
 integer_scalar : IsScalar Integer
 integer_scalar = record { low = omega (arith, ints); high = omega (arith, ints); some = omega (arith, ints); narrow = omega (arith, ints) }
+
+callable_scalar : (h : Heading) → IsScalar (Callable h)
+callable_scalar h = record { low = omega (arith, ints); high = omega (arith, ints); some = omega (arith, ints); narrow = omega (arith, ints) }
 
 -- a number that is not negative
 natural_scalar : (high : ℤ) → pos 0 ≤ℤ high → high ≤ℤ pos 4294967295 → IsScalar (Natural (unsigned_abs high))
@@ -87,7 +90,7 @@ shape_plain types before h t (shape.Scalar s) is = scalar_is t s is
 shape_plain types before h t shape.Set is = word_scalar
 shape_plain types before h t (shape.Array i e) is = in_plain before h e
 shape_plain types before h t (shape.Record fs) is = row_plain before h fs
-shape_plain types before h t (shape.Procedure p) is = word_scalar
+shape_plain types before h t (shape.Procedure p) is = callable_scalar (heading_tree before p.formals p.result)
 shape_plain types before h t (shape.Open e) is = tt
 
 one_more : (ts : List Ty) (t : Ty) → AllPlain ts → IsPlain t → AllPlain (ts ++ t ∷ [])

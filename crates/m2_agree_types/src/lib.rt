@@ -9,10 +9,11 @@ ghost use Rattle.m2_agree_types.specs.Laws.{
   FormalsArePlain,
   FramesFit,
   ModulesFit,
+  ProceduresAreCells,
   RangesAreSmall,
   ScalarsAreCells,
+  SetsAreCells,
   TreesArePlain,
-  WordsAreCells,
 };
 
 /// Types whose ranges are ranges of the language.
@@ -22,7 +23,9 @@ pub fn type_laws()
     ensures small { RangesAreSmall }
     // A variable of a scalar type has one cell, which holds the numbers of the type.
     ensures cells { ScalarsAreCells }
-    ensures words { WordsAreCells }
+    // One of a set type has a cell for numbers of 32 bits, and one of a procedure type one for procedures with its heading.
+    ensures sets { SetsAreCells }
+    ensures procedures { ProceduresAreCells }
     // What is passed and what stands in frames and modules fits.
     ensures formals { FormalsArePlain }
     ensures frames { FramesFit }

@@ -1,5 +1,5 @@
 use Rattle.m2_agree_types.proofs.Plain.{tree_plain}
-use Rattle.m2_agree_types.proofs.Cells.{are_small, cell_is, word_is, word_tree_is}
+use Rattle.m2_agree_types.proofs.Cells.{are_small, cell_is, set_is, procedure_tree_is}
 use Rattle.m2_agree_types.proofs.Fits.{forms_plain, frame_fits, module_fits}
 use Rattle.m2_agree_types.proofs.type_laws.Goals as goal
 
@@ -12,8 +12,11 @@ returns-clause-small c = are_small
 pub returns-clause-cells : goal.returns-clause-cells
 returns-clause-cells c = cell_is
 
-pub returns-clause-words : goal.returns-clause-words
-returns-clause-words c = λ types t e r. word_is types t (word_tree_is types t e r) e
+pub returns-clause-sets : goal.returns-clause-sets
+returns-clause-sets c = set_is
+
+pub returns-clause-procedures : goal.returns-clause-procedures
+returns-clause-procedures c = procedure_tree_is
 
 pub returns-clause-formals : goal.returns-clause-formals
 returns-clause-formals c = forms_plain
