@@ -65,7 +65,7 @@ use Rattle.m2_agree.proofs.Components.{same_index}
 use Rattle.m2_agree_calls.specs.Frames.{Kinds, Open, kind_at, IsChain, chain_end, chain_more}
 use Rattle.m2_agree_calls.specs.Held.{GivesHeld, AgreesHeld, held_call}
 use Rattle.m2_agree_calls.specs.Laws.{HasSlot}
-use Rattle.m2_agree_calls.specs.Passing.{Form, ByNumber, ByCopy, ByName, ByArray, Forms, Result, forms_of, forms_in, result_of, heading_result, links, GivesResult, Passes, PassAll, pass_none, pass_more, Calls}
+use Rattle.m2_agree_calls.specs.Passing.{Form, ByNumber, ByCopy, ByName, ByArray, Forms, Result, forms_of, result_of, heading_result, links, GivesResult, Passes, PassAll, pass_none, pass_more, Calls}
 use Rattle.m2_agree_calls.proofs.Headings.{forms_same, result_same}
 use Rattle.m2_agree_calls.proofs.Held.{held_calls}
 use Rattle.m2_agree_calls.proofs.Procedures.{held_loads, held_procedures, held_results, held_numbers, held_taken, held_passes}
