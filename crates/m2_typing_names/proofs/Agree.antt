@@ -8,17 +8,17 @@ use Rattle.m2_typed.specs.declared.types.Home.{Home}
 use Rattle.m2_typed.specs.declared.types.Home.TheVariants.{Predeclared, Module}
 use Rattle.m2_typed.specs.declared.types.TypeNo.{TypeNo}
 use Rattle.m2_typed.specs.declared.shape.Formal.{Formal}
-use Rattle.m2_typed.specs.declared.shape.Scalar.{Scalar as Range}
 use Rattle.m2_typed.specs.declared.shape.Shape.{Shape}
 use Rattle.m2_typed.specs.declared.shape.Shape.TheVariants as shape
 use Rattle.m2_typed.specs.declared.shape.Made.{Made}
 use Rattle.m2_typed.specs.declared.table.ModuleTypes.{ModuleTypes}
 use Rattle.m2_typed.specs.declared.table.Table.{Table}
 use Rattle.m2_typed.specs.declared.known_types.Types.{Types}
-use Rattle.m2_typed.specs.Known.{in_list, made_in, made_from, made_at, scalar_at, scalar_from, scalar_made}
-use Rattle.m2_layout.specs.Types.{Ty}
+use Rattle.m2_typed.specs.Known.{in_list, made_in, made_from, made_at}
+use Rattle.m2_layout.specs.Types.{Ty, Heading, Function, Takes}
 use Rattle.m2_layout.specs.Frames.{formals_in, formals_made}
-use Rattle.m2_layout.specs.Shapes.{tree}
+use Rattle.m2_layout.specs.Shapes.{passing_of, result_tree, heading_tree, known_trees, tree}
+use Rattle.m2_cells.specs.Relation.{heading_in, heading_made, heading_at}
 use Rattle.m2_agree_calls.specs.Passing.{Form, ByName, ByArray, value_form, form_of, forms_of, result_in, result_made, result_of}
 use Rattle.m2_formed_types.specs.Ordered.{result_named, named_by, is_known_from, is_known, AreKnown, OthersOrdered, BeginsWith, AreOrdered}
 use Rattle.m2_formed_types.proofs.Trees.{at, at_placed, append_more, some_of, made_by, is_among_from, is_among}
@@ -115,12 +115,6 @@ module _ (types_of : ℕ → List Made) (below : ℕ) (t : Table) (f : TableForm
       from Predeclared n g = refl
       from (Module k) n g = same_made k n g
 
-    same_scalar : (u : TypeNo) → is_among es u ≡ true → scalar_at a u ≡ scalar_at only u
-    same_scalar u e = from u.home u.number e where
-      from : (i : Home) (n : ℕ) → is_among_from es i n ≡ true → scalar_from a i n ≡ scalar_from only i n
-      from Predeclared n g = refl
-      from (Module k) n g = ap scalar_made (same_made k n g)
-
     pub same_tree : (u : TypeNo) → is_known only u ≡ true → tree a u ≡ tree only u
     same_tree u e = trees_agree a only p only_ordered es has f.ordered u (only_among u e)
 
@@ -131,25 +125,47 @@ module _ (types_of : ℕ → List Made) (below : ℕ) (t : Table) (f : TableForm
     forms_same [] k = refl
     forms_same (x ∷ fs) k = ap (λ (u : Ty). with_tree x u ∷ map (form_of a) fs) (same_tree x.of k.0) ∙ ap (λ (rs : List Form). form_of only x ∷ rs) (forms_same fs k.1)
 
-    result_same : (o : Option TypeNo) → AreKnown only (result_named o) → option_map (scalar_at a) o ≡ option_map (scalar_at only) o
+    result_same : (o : Option TypeNo) → AreKnown only (result_named o) → option_map (tree a) o ≡ option_map (tree only) o
     result_same None k = refl
-    result_same (Some u) k = ap (λ (r : Option Range). Some r) (same_scalar u (only_among u k.0))
+    result_same (Some u) k = ap (λ (r : Ty). Some r) (same_tree u k.0)
 
-    shape_same : (s : Shape) → AreKnown only (named_by s) → (map (form_of a) (formals_in s) ≡ map (form_of only) (formals_in s)) × (result_in a s ≡ result_in only s)
-    shape_same (shape.Procedure s) k = (forms_same s.formals (known_left only (map (λ x. x.of) s.formals) (result_named s.result) k), result_same s.result (known_right only (map (λ x. x.of) s.formals) (result_named s.result) k))
-    shape_same (shape.Scalar s) k = (refl, refl)
-    shape_same shape.Set k = (refl, refl)
-    shape_same (shape.Array i e) k = (refl, refl)
-    shape_same (shape.Record fs) k = (refl, refl)
-    shape_same (shape.Open e) k = (refl, refl)
+    -- the same heading in trees
+    ended_same : (o : Option TypeNo) → AreKnown only (result_named o) → result_tree (known_trees a) o ≡ result_tree (known_trees only) o
+    ended_same None k = refl
+    ended_same (Some u) k = ap Function (same_tree u k.0)
 
-    made_alike : (o : Option Made) → KnownMade o → (map (form_of a) (formals_made o) ≡ map (form_of only) (formals_made o)) × (result_made a o ≡ result_made only o)
-    made_alike None k = (refl, refl)
+    heading_same : (fs : List Formal) (o : Option TypeNo) → AreKnown only (map (λ x. x.of) fs ++ result_named o) → heading_tree (known_trees a) fs o ≡ heading_tree (known_trees only) fs o
+    heading_same [] o k = ended_same o k
+    heading_same (x ∷ fs) o k =
+        ap (λ (u : Ty). Takes (passing_of x) u (heading_tree (known_trees a) fs o)) (same_tree x.of k.0) ∙ ap (λ (h : Heading). Takes (passing_of x) (tree only x.of) h) (heading_same fs o k.1)
+
+    -- formals, result and heading are the same
+    abbrev AlikeShape : Shape → Type 0
+    AlikeShape s = (map (form_of a) (formals_in s) ≡ map (form_of only) (formals_in s)) × (result_in a s ≡ result_in only s) × (heading_in a s ≡ heading_in only s)
+
+    shape_same : (s : Shape) → AreKnown only (named_by s) → AlikeShape s
+    shape_same (shape.Procedure s) k = (
+      forms_same s.formals (known_left only (map (λ x. x.of) s.formals) (result_named s.result) k),
+      result_same s.result (known_right only (map (λ x. x.of) s.formals) (result_named s.result) k),
+      ap (λ (h : Heading). Some h) (heading_same s.formals s.result k),
+    )
+    shape_same (shape.Scalar s) k = (refl, refl, refl)
+    shape_same shape.Set k = (refl, refl, refl)
+    shape_same (shape.Array i e) k = (refl, refl, refl)
+    shape_same (shape.Record fs) k = (refl, refl, refl)
+    shape_same (shape.Open e) k = (refl, refl, refl)
+
+    made_alike : (o : Option Made) → KnownMade o
+        → (map (form_of a) (formals_made o) ≡ map (form_of only) (formals_made o)) × (result_made a o ≡ result_made only o) × (heading_made a o ≡ heading_made only o)
+    made_alike None k = (refl, refl, refl)
     made_alike (Some x) k = shape_same x.shape k
 
-    -- a heading has the same formals and the same result
-    pub same_heading : (u : TypeNo) → is_known only u ≡ true → (forms_of a u ≡ forms_of only u) × (result_of a u ≡ result_of only u)
+    -- a heading has the same formals and the same result, and is the same in trees
+    pub same_heading : (u : TypeNo) → is_known only u ≡ true → (forms_of a u ≡ forms_of only u) × (result_of a u ≡ result_of only u) × (heading_at a u ≡ heading_at only u)
     same_heading u e =
         let made : made_at a u ≡ made_at only u = same_at u (only_among u e) in
-        let k = made_alike (made_at only u) (named_made u) in
-        (ap (λ (o : Option Made). map (form_of a) (formals_made o)) made ∙ k.0, ap (λ (o : Option Made). result_made a o) made ∙ k.1)
+        let k = made_alike (made_at only u) (named_made u) in (
+          ap (λ (o : Option Made). map (form_of a) (formals_made o)) made ∙ k.0,
+          ap (λ (o : Option Made). result_made a o) made ∙ k.1,
+          ap (λ (o : Option Made). heading_made a o) made ∙ k.2,
+        )

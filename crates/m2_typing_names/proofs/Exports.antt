@@ -27,6 +27,7 @@ use Rattle.m2_modules.specs.Own.{exported_variables, exported_headings}
 use Rattle.m2_meaning.specs.Around.{module_place}
 use Rattle.m2_scheme.specs.Exprs.{is_own, import_place, imported_row, variables_row}
 use Rattle.m2_links.specs.Linked.{Program}
+use Rattle.m2_cells.specs.Relation.{heading_at}
 use Rattle.m2_agree_calls.specs.Passing.{forms_of, result_of}
 use Rattle.m2_agree_runs.specs.Programs.{module_type}
 use Rattle.m2_agree_trees.specs.Typed.{Context, IsKnown, IsVariable, IsNamed, kinds_around}
@@ -189,6 +190,7 @@ module _ (fs : List (List ℕ × Module)) (files : List ℕ) (jobs : List (List 
           outermost = none_around home.home r.0.level r.0.around (each_at (λ (z : Routine). z.around ≡ None) home.home.procedures f.number r.0 r.1 home.outermost);
           forms = ap (λ (t : TypeNo). forms_of home.home.types t) r.2 ∙ (its.0 ∙ sym mine.0);
           result = ap (λ (t : TypeNo). result_of home.home.types t) r.2 ∙ (its.1 ∙ sym mine.1);
+          heading = ap (λ (t : TypeNo). heading_at home.home.types t) r.2 ∙ (its.2 ∙ sym mine.2);
         }
 
     -- ---- all that it exports

@@ -40,6 +40,7 @@ use Rattle.m2_check.specs.Checks.{judged}
 use Rattle.m2_meaning.specs.Around.{module_place}
 use Rattle.m2_valid.specs.WellFormed.{IsProcedure}
 use Rattle.m2_links.specs.Linked.{Program}
+use Rattle.m2_cells.specs.Relation.{heading_at}
 use Rattle.m2_agree_calls.specs.Passing.{forms_of, result_of}
 use Rattle.m2_agree_runs.specs.Programs.{module_type}
 use Rattle.m2_agree_trees.specs.Typed.{Context, IsNamed}
@@ -125,6 +126,7 @@ module _ (fs : List (List ℕ × Tree)) (files : List ℕ) (jobs : List (List �
         outermost = none_around m r.0.level r.0.around (each_at (λ (z : Routine). z.around ≡ None) m.procedures f.number r.0 r.1 part.outermost);
         forms = ap (λ (t : TypeNo). forms_of m.types t) r.2;
         result = ap (λ (t : TypeNo). result_of m.types t) r.2;
+        heading = ap (λ (t : TypeNo). heading_at m.types t) r.2;
       }
 
   own_else : (v : Meaning) → FormedOwn m opens v → IsOuter v → MeaningElse x opens 0 [] v
