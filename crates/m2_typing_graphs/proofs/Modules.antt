@@ -1,8 +1,7 @@
 -- What is known of the modules of a graph, put together.
 use Rattle.std.proofs.Common.{◌≡◌, ℕ, zero, suc, ◌+◌, ◌<◌, ◌≤◌, Bool, true, false, ◌&&◌, List, [], ◌∷◌, length, Option, Some, None, Result, Ok, refl, sym, ap, subst, ◌∙◌, arith, eqb-true}
-use Rattle.std.specs.Prelude.{◌*◌, ◌^◌, All, slice_get, slice_index_or}
+use Rattle.std.specs.Prelude.{◌*◌, ◌^◌, slice_get, slice_index_or}
 use Rattle.std.specs.List.{AllByRecursion, list_all}
-use Rattle.std.proofs.lemmas.List.Elements.{All-head, All-tail}
 use Rattle.m2_tree.specs.declared.decl.Block.{Block}
 use Rattle.m2_tree.specs.declared.decl.Contents.{Contents}
 use Rattle.m2_tree.specs.declared.decl.Contents.TheVariants as contents
@@ -40,7 +39,7 @@ use Rattle.m2_typing.specs.Carried.{NamesPlaced, NamesSlots}
 use Rattle.m2_typing.specs.Names.{HasInstance}
 use Rattle.m2_typing_bodies.specs.TypingBodies.{fits_whole_block, Stage, stands, StageTyped, HasModule, NamesThere, AreBodiesTyped}
 use Rattle.m2_typing_bodies.proofs.Modules.{modules_typed}
-use Rattle.m2_typing_wants.specs.TypingWants.{CallsNoVariable, AreOrdered, placed}
+use Rattle.m2_typing_wants.specs.TypingWants.{AreOrdered, placed}
 use Rattle.m2_typing_wants.proofs.Orders.{bodies_ordered}
 use Rattle.m2_typing_wants.proofs.Provided.{bodies_provided, module_typed}
 use Rattle.m2_typing_tables.specs.TypingTables.{BeginsIn, program, implementation, tables_by, modules_in, declared_in, walked_in, BodyStands}
@@ -58,11 +57,6 @@ each_at : {X : Type 0} (P : X → Type 0) (xs : List X) → AllByRecursion P xs 
 each_at P [] h n x e = absurd cc
 each_at P (y ∷ xs) h zero x e = subst P (same_there y x e) h.0
 each_at P (y ∷ xs) h (suc n) x e = each_at P xs h.1 n x e
-
-all_at : {X : Type 0} (P : X → Type 0) (xs : List X) → All P xs → (n : ℕ) (x : X) → slice_get xs n ≡ Some x → P x
-all_at P [] h n x e = absurd cc
-all_at P (y ∷ xs) h zero x e = subst P (same_there y x e) (All-head P y xs h)
-all_at P (y ∷ xs) h (suc n) x e = all_at P xs (All-tail P y xs h) n x e
 
 first_true : (a b : Bool) → a && b ≡ true → a ≡ true
 first_true true b e = refl
@@ -143,7 +137,7 @@ module _ (p : Program) (pages place : ℕ) (m : TypedModule) (there : slice_get 
 -- ---- the modules of a graph
 
 module _ (fs : List (List ℕ × Module)) (files : List ℕ) (jobs : List (List ℕ)) (starts : List ℕ) (graph : IsGraph (numbered 0 fs) files jobs starts) (each : CompileEach (numbered 0 fs) files) (fit : list_all fits_module (trees_of fs) ≡ true) (whole : list_all (λ m. fits_contents m.contents) (trees_of fs) ≡ true) where
-  module _ (p : Program) (b : AreBodiesIn (trees_of fs) files jobs starts p) (fits : AllByRecursion IsFit p) (pages : ℕ) (room : bytes_in p + 4096 ≤ 65536 * pages) (most : pages ≤ 1024) (calls : All CallsNoVariable p) where
+  module _ (p : Program) (b : AreBodiesIn (trees_of fs) files jobs starts p) (fits : AllByRecursion IsFit p) (pages : ℕ) (room : bytes_in p + 4096 ≤ 65536 * pages) (most : pages ≤ 1024) where
     abbrev Body : TypedModule → Type 0
     Body m = IsBodyOf (trees_of fs) files jobs m
 
@@ -171,4 +165,4 @@ module _ (fs : List (List ℕ × Module)) (files : List ℕ) (jobs : List (List 
         let typed = bodies_typed p pages place m e o.tree o.job (tables o) st named.own stand (passes_at (λ (t : Module). fits_contents t.contents) (trees_of fs) whole (slice_index_or files o.job 0) o.tree o.is_tree) (texts_room p pages place m e room most) in
         let bytes = texts_are_bytes m (each_at IsFit p fits place m e).spelled in
         module_typed p pages place m (opens p pages place m e o.tree o.job (tables o) st) typed
-        (bodies_provided (placed p pages place m (opens p pages place m e o.tree o.job (tables o) st)) (all_at CallsNoVariable p calls place m e) (ordered m o) bytes)
+        (bodies_provided (placed p pages place m (opens p pages place m e o.tree o.job (tables o) st)) (ordered m o) bytes)

@@ -1,5 +1,5 @@
--- The modules of a graph are typed, where no body calls a procedure variable.
-use Rattle.std.specs.Prelude.{◌≡◌, ℕ, ◌+◌, ◌*◌, ◌≤◌, true, List, All}
+-- The modules of a graph are typed.
+use Rattle.std.specs.Prelude.{◌≡◌, ℕ, ◌+◌, ◌*◌, ◌≤◌, true, List}
 use Rattle.std.specs.List.{AllByRecursion, list_all}
 use Rattle.m2_tree.specs.declared.decl.Module.{Module}
 use Rattle.m2_graph.specs.Files.{numbered}
@@ -10,11 +10,10 @@ use Rattle.m2_formed_coherent.specs.FormedCoherent.{trees_of, AreBodiesIn}
 use Rattle.m2_formed_graphs.specs.FormedGraphs.{IsFit}
 use Rattle.m2_formed_trees.specs.FormedTrees.{fits_contents}
 use Rattle.m2_agree_linked.specs.Modules.{AreTypedModules}
-use Rattle.m2_typing_wants.specs.TypingWants.{CallsNoVariable}
 
--- The files have this graph, and their trees fit, with the statements in them. The bodies that start fit, there is room for
--- them in the pages, and none calls a procedure variable.
+-- The files have this graph, and their trees fit, with the statements in them. The bodies that start fit, and there is room for
+-- them in the pages.
 abbrev pub GraphsAreTyped : Type 0
 GraphsAreTyped = (fs : List (List ℕ × Module)) (files : List ℕ) (jobs : List (List ℕ)) (starts : List ℕ) → IsGraph (numbered 0 fs) files jobs starts → CompileEach (numbered 0 fs) files
     → list_all fits_module (trees_of fs) ≡ true → list_all (λ m. fits_contents m.contents) (trees_of fs) ≡ true → (p : Program) → AreBodiesIn (trees_of fs) files jobs starts p → AllByRecursion IsFit p
-    → (pages : ℕ) → bytes_in p + 4096 ≤ 65536 * pages → pages ≤ 1024 → All CallsNoVariable p → AreTypedModules p pages
+    → (pages : ℕ) → bytes_in p + 4096 ≤ 65536 * pages → pages ≤ 1024 → AreTypedModules p pages

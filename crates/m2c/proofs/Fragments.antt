@@ -6,7 +6,7 @@ use Rattle.std.specs.Int.{is_in_range}
 use Rattle.std.proofs.lemmas.Bool.{leb-true, false≢true}
 use Rattle.std.proofs.lemmas.List.Sums.{AllPass-from_list_all}
 use Rattle.std.proofs.lemmas.List.Elements.{All-weaker}
-use Rattle.m2_headline.specs.Proved.{IsName}
+use Rattle.m2c.specs.Names.{IsName}
 use Rattle.m2c.specs.Names.{is_word}
 
 -- ---- names

@@ -13,6 +13,7 @@ use Rattle.m2_graph_laws.specs.Started.{AreStarted, at_places}
 use Rattle.m2_graph_laws.proofs.Started.{are_started}
 use Rattle.std.proofs.lemmas.List.{length-map}
 use Rattle.std.proofs.lemmas.List.Elements.{All-cons}
+use Rattle.wasm_tree.specs.declared.module.WModule.{WModule}
 use Rattle.wasm_tree.specs.Validity.{IsValid}
 use Rattle.m2_tree.specs.declared.refusal.Refusal.{Refusal}
 use Rattle.m2_typed.specs.declared.typed_module.TypedModule.{TypedModule}
@@ -20,16 +21,13 @@ use Rattle.m2_meaning.specs.Around.{Modules}
 use Rattle.m2_scheme.specs.Modules.{Part, typed_module, typed_link, part_of, link_of, stack_begin}
 use Rattle.m2_emit.specs.declared.emitted.ModuleBytes.{ModuleBytes}
 use Rattle.m2_emit.specs.Emitted.{emitted, parts}
-use Rattle.m2_headline.specs.Headline.{Keeps}
-use Rattle.m2_headline.specs.Headline as headline
-use Rattle.m2_headline.specs.Proved.{IsName, HaveNames, names}
-use Rattle.m2_headline.proofs.Kept.{module_bytes, scheme_keeps}
 use Rattle.m2_read.specs.declared.file.SourceFile.{SourceFile}
 use Rattle.m2_compile.specs.declared.outcome.Compiled.{Compiled}
 use Rattle.m2_jobs.specs.Jobs.{all_compiled}
 use Rattle.m2_jobs.proofs.Rounds.{jobs_count}
 use Rattle.m2_jobs.specs.Borrowed.{borrowed, modules_borrowed}
 use Rattle.m2c.specs.Modules.{result_of, module_in, modules_at}
+use Rattle.m2c.specs.Build.{AreSpelled as BytesSpell}
 use Rattle.m2c.specs.Build.{Told, AreTold, told_at, built_of, named_bytes, modules, refusal_in, refused_from, refused_by, started, data_and_stack, program_file, HaveGraph, IsTooLarge, IsProgram}
 use Rattle.m2_jobs.specs.Spelled.{AreSpelled}
 use Rattle.m2_links.specs.Linked.{IsLinkable, imported_names}
@@ -43,8 +41,11 @@ use Rattle.m2c.proofs.Fitting.{trees_fit, trees_whole, bodies_in}
 use Rattle.m2c.proofs.Valid.{all_valid}
 use Rattle.m2c.proofs.Programs.{AreFit, AreBuilt, all_built, distinct_all, count_all}
 
+abbrev module_bytes : WModule → List ℕ
+module_bytes t = module_spelling t
+
 -- the bytes of modules that have spellings spell them
-pub all_spelled : (p : Modules) → AreFit p → headline.AreSpelled (map module_bytes (map typed_module p)) (map typed_module p)
+pub all_spelled : (p : Modules) → AreFit p → BytesSpell (map module_bytes (map typed_module p)) (map typed_module p)
 all_spelled [] f = tt
 all_spelled (m ∷ ms) f = (record { fits = f.0; spelling = refl }, all_spelled ms f.1)
 
@@ -136,22 +137,14 @@ module _ (files : List SourceFile) (fs : List (List ℕ × Module)) (numbers : L
   pub data_is : stack_begin (parts those) + 4096 ≡ data_and_stack whole.program
   data_is = ap (λ (ms : List ModuleBytes). stack_begin (parts ms) + 4096) whole.are ∙ ap (λ (ps : List Part). stack_begin ps + 4096) (parts_emitted whole.program)
 
-  has_names : All IsName (map (λ m. m.name) those) → HaveNames whole.program
-  has_names h = record {
-    are_names = subst (All IsName) (ap (λ (ms : List ModuleBytes). map (λ m. m.name) ms) whole.are ∙ names_emitted whole.program) h;
-    distinct = distinct_all fs numbers jobs have.each as_many none spelled starts are;
-    count = count_all fs numbers jobs have.each as_many none spelled starts are;
-  }
-
   -- what is built is the program
-  pub is_program : (pages : ℕ) → 1 ≤ pages → pages ≤ 1024 → stack_begin (parts those) + 4096 ≤ 65536 * pages → All IsName (map (λ m. m.name) those) → (link : List ℕ) (built : List (List ℕ × List ℕ))
+  pub is_program : (pages : ℕ) → 1 ≤ pages → pages ≤ 1024 → stack_begin (parts those) + 4096 ≤ 65536 * pages → (link : List ℕ) (built : List (List ℕ × List ℕ))
       → Spells link (link_of (parts those) pages) → built ≡ map named_bytes those → IsProgram files pages link built
-  is_program pages least most fits named link built link_is built_are =
+  is_program pages least most fits link built link_is built_are =
       let p : Modules = whole.program in
       let link_spelled : Spells link (typed_link p pages) =
       subst (λ (ps : List Part). Spells link (link_of ps pages)) (parts_emitted p) (subst (λ (ms : List ModuleBytes). Spells link (link_of (parts ms) pages)) whole.are link_is)
       in
-      let link_whole : link ≡ module_spelling (typed_link p pages) = link_spelled.spelling in
       let built_whole : built ≡ map built_of p = built_are ∙ ap (map named_bytes) whole.are ∙ named_emitted p in
       let fits_all : data_and_stack p ≤ 65536 * pages = subst (λ (n : ℕ). n ≤ 65536 * pages) data_is fits in
       let linkable : IsLinkable p pages = record {
@@ -175,17 +168,15 @@ module _ (files : List SourceFile) (fs : List (List ℕ × Module)) (numbers : L
         code = record {
           link_spelled = link_spelled;
           body_bytes = built_whole;
-          spelled = subst (λ (bs : List (List ℕ)). headline.AreSpelled bs (map typed_module p)) (sym codes) (all_spelled p whole.fit);
+          spelled = subst (λ (bs : List (List ℕ)). BytesSpell bs (map typed_module p)) (sym codes) (all_spelled p whole.fit);
         };
         links = (_, modules_link p pages linkable);
-        behaves = λ calls. typed_behave p pages linkable fits_all most (slots_few p pages link_spelled.fits)
+        behaves = typed_behave p pages linkable fits_all most (slots_few p pages link_spelled.fits)
             (are_modules fs numbers jobs starts have.is_graph have.each (trees_fit files fs have.are_trees) p (bodies_in fs numbers jobs starts p whole.typed) whole.small)
-            (are_typed fs numbers jobs starts have.is_graph have.each (trees_fit files fs have.are_trees) (trees_whole files fs have.are_trees) p (bodies_in fs numbers jobs starts p whole.typed) whole.small pages fits_all most calls);
+            (are_typed fs numbers jobs starts have.is_graph have.each (trees_fit files fs have.are_trees) (trees_whole files fs have.are_trees) p (bodies_in fs numbers jobs starts p whole.typed) whole.small pages fits_all most);
         valid = All-cons IsValid (typed_link p pages) (map typed_module p)
             (link_valid p pages (omega (arith, most)) link_spelled.fits (distinct_all fs numbers jobs have.each as_many none spelled starts are))
             (all_valid fs numbers jobs starts have.is_graph starts p whole.typed);
-        keeps = λ h. subst (λ (l : List ℕ). Keeps p pages l (map (λ m. m.1) built)) (sym link_whole)
-            (subst (λ (ms : List (List ℕ)). Keeps p pages (module_spelling (typed_link p pages)) ms) (sym codes) (scheme_keeps p pages h (has_names named) least most));
       }
 
   pub is_too_large : (pages : ℕ) → 65536 * pages < stack_begin (parts those) + 4096 → (refusals : List Refusal) → AreTold (told_at (program_file fs) 1 1 61 ∷ []) refusals → IsTooLarge files pages refusals

@@ -30,7 +30,7 @@ use Rattle.m2_emit.specs.declared.emitted.ModuleBytes.{ModuleBytes}
 use Rattle.m2_emit.specs.Emitted.{emitted}
 use Rattle.m2_meaning.specs.Around.{Modules}
 use Rattle.m2_scheme.specs.Modules.{typed_module}
-use Rattle.m2_headline.specs.Proved as proved
+use Rattle.m2_links.specs.Linked as linked
 use Rattle.m2_types.specs.Importing.{numbered_modules}
 use Rattle.m2_types.specs.Predeclared.{first_scope}
 use Rattle.m2_modules.specs.Own.{implementation_scope}
@@ -157,7 +157,7 @@ module _ (fs : List (List ℕ × Module)) (numbers : List ℕ) (jobs : List (Lis
   pub record AreBuilt (starts : List ℕ) : Type 0 where
     pub program : Modules
     pub typed : AreTyped (modules fs) numbers jobs starts program
-    pub names : proved.names program ≡ names_of (at_places (modules fs) starts)
+    pub names : linked.names program ≡ names_of (at_places (modules fs) starts)
     pub fit : AreFit program
     pub small : AllByRecursion IsFit program
     pub are : modules_at result starts ≡ map emitted program
@@ -176,7 +176,7 @@ module _ (fs : List (List ℕ × Module)) (numbers : List ℕ) (jobs : List (Lis
         typed = (b.is, rest.typed);
         fit = (b.fits, rest.fit);
         small = (record { small = b.small; spelled = b.fits }, rest.small);
-        names = ap (λ (n : List ℕ). n ∷ proved.names rest.program) b.name ∙ ap (λ (ns : List (List ℕ)). m.name.name ∷ ns) rest.names ∙ sym (ap (λ (ms : List Module). names_of ms) here);
+        names = ap (λ (n : List ℕ). n ∷ linked.names rest.program) b.name ∙ ap (λ (ns : List (List ℕ)). m.name.name ∷ ns) rest.names ∙ sym (ap (λ (ms : List Module). names_of ms) here);
         are = ap (λ (o : Option Compiled). module_in o ++ modules_at result ss) b.becomes ∙ ap (λ (ms : List ModuleBytes). emitted b.typed ∷ ms) rest.are;
       }
 
@@ -196,12 +196,12 @@ module _ (fs : List (List ℕ × Module)) (numbers : List ℕ) (jobs : List (Lis
   pub all_built : AreBuilt fs numbers jobs each same none spelled starts
   all_built = built_all fs numbers jobs each same none spelled starts started.within started.bodies
 
-  pub distinct_all : AreDistinct (proved.names all_built.program)
+  pub distinct_all : AreDistinct (linked.names all_built.program)
   distinct_all = subst AreDistinct (sym all_built.names) (apart_distinct (names_of (at_places (modules fs) starts)) started.distinct)
 
   pub count_all : length all_built.program ≤ 1024
   count_all =
-      let a : length (proved.names all_built.program) ≡ length all_built.program = length-map all_built.program (λ (t : TypedModule). t.name) in
+      let a : length (linked.names all_built.program) ≡ length all_built.program = length-map all_built.program (λ (t : TypedModule). t.name) in
       let b : length (names_of (at_places (modules fs) starts)) ≡ length (at_places (modules fs) starts) = length-map (at_places (modules fs) starts) (λ (m : Module). m.name.name) in
-      let c : length (proved.names all_built.program) ≡ length (names_of (at_places (modules fs) starts)) = ap length all_built.names in
+      let c : length (linked.names all_built.program) ≡ length (names_of (at_places (modules fs) starts)) = ap length all_built.names in
       omega (arith, a, b, c, places_count (modules fs) starts, started.few)

@@ -8,6 +8,7 @@ use Rattle.m2_tree.specs.declared.decl.Contents.{Contents}
 use Rattle.m2_tree.specs.declared.decl.Contents.TheVariants as contents
 use Rattle.m2_tree.specs.declared.decl.Module.{Module}
 use Rattle.wasm_binary.specs.Binary.{module_spelling, Spells}
+use Rattle.wasm_tree.specs.declared.module.WModule.{WModule}
 use Rattle.wasm_tree.specs.Validity.{IsValid}
 use Rattle.wasm_tree.specs.Machine.{Config}
 use Rattle.wasm_tree.specs.Linking.{link as linked}
@@ -20,9 +21,6 @@ use Rattle.m2_meaning.specs.Runs.{run}
 use Rattle.m2_scheme.specs.Modules.{typed_module, typed_link, part_of, stack_begin}
 use Rattle.m2_emit.specs.declared.emitted.ModuleBytes.{ModuleBytes}
 use Rattle.m2_agree_runs.specs.Behaves.{Behaves}
-use Rattle.m2_typing_wants.specs.TypingWants.{CallsNoVariable}
-use Rattle.m2_headline.specs.Headline.{AreSpelled, Keeps}
-use Rattle.m2_headline.specs.Proved.{AreProved}
 use Rattle.m2_read.specs.declared.file.SourceFile.{SourceFile}
 use Rattle.m2c.specs.declared.files.Outcome.{Outcome}
 use Rattle.m2c.specs.declared.files.Outcome.TheVariants as outcome
@@ -129,6 +127,13 @@ named_bytes m = (m.name, m.bytes)
 abbrev pub named : String Global × Vec ℕ → List ℕ × List ℕ
 named m = (string_bytes m.0, m.1.items)
 
+-- each of the bytes spells the module in its place
+abbrev pub AreSpelled : List (List ℕ) → List WModule → Type 0
+AreSpelled [] [] = Unit {0}
+AreSpelled (b ∷ bs) (m ∷ ms) = Spells b m × AreSpelled bs ms
+AreSpelled [] (m ∷ ms) = ⊥
+AreSpelled (b ∷ bs) [] = ⊥
+
 -- the bytes of link, and in start order the name and the bytes of each module that is reached
 pub record IsCode (p : Modules) (pages : ℕ) (link : List ℕ) (built : List (List ℕ × List ℕ)) : Type 0 where
   pub link_spelled : Spells link (typed_link p pages)
@@ -191,8 +196,8 @@ pub record IsTooLarge (files : List SourceFile) (pages : ℕ) (refusals : List R
   pub too_large : 65536 * pages < data_and_stack program
   pub told : AreTold (told_at (program_file trees) 1 1 61 ∷ []) refusals
 
--- No module breaks a rule. Those that are reached are compiled to valid modules and link. Where no body calls a procedure
--- variable, they do what the program does, in runs that go on too.
+-- No module breaks a rule. Those that are reached are compiled to valid modules, which link and do what the program does by
+-- the language's definition: they print the same bytes and end with the same number, and they go on where it goes on.
 pub record IsProgram (files : List SourceFile) (pages : ℕ) (link : List ℕ) (built : List (List ℕ × List ℕ)) : Type 0 where
   pub trees : List (List ℕ × Module)
   pub numbers : List ℕ
@@ -206,9 +211,7 @@ pub record IsProgram (files : List SourceFile) (pages : ℕ) (link : List ℕ) (
   pub code : IsCode program pages link built
   pub links : (c : Config) × (linked (typed_link program pages ∷ map typed_module program) ≡ Ok c)
   pub valid : All IsValid (typed_link program pages ∷ map typed_module program)
-  pub behaves : All CallsNoVariable program
-      → (c : Config) × (linked (typed_link program pages ∷ map typed_module program) ≡ Ok c) × Behaves (typed_link program pages ∷ map typed_module program) c (run program pages)
-  pub keeps : AreProved program → Keeps program pages link (map (λ m. m.1) built)
+  pub behaves : (c : Config) × (linked (typed_link program pages ∷ map typed_module program) ≡ Ok c) × Behaves (typed_link program pages ∷ map typed_module program) c (run program pages)
 
 -- The outcome of a build of these files. Rules of tokens and of the grammar come first, then those of imports, then those
 -- of modules, and then what does not fit into the memory.

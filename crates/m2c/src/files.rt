@@ -91,8 +91,8 @@ impl From<AllocError> for BuildFault {
 ///   all modules that are reached, and 4096 bytes, need more than so many pages.
 ///
 /// A program of which nothing is told is compiled to the module link and, in start order, the modules that are reached
-/// from the program module. They are valid, and link. That they do what the program does is proved for the programs of
-/// `m2_headline/specs/Proved`.
+/// from the program module. They are valid, they link, and they do what the program does: they print the same bytes and
+/// end with the same number, and they go on where it goes on.
 ///
 /// The work goes in two rounds of jobs over so many threads: a job for each file, in the order in which they are given,
 /// and then the jobs of the graph. The gate lets workers in to the jobs of both. What is answered does not depend on how
@@ -111,7 +111,7 @@ pub fn build<R: Threads + Sync, G: Gate>(
         ↔ ((options.workers < 1) ⊎ (max_workers < options.workers)) }
     ensures pages { (1 ≤ options.workers) × (options.workers ≤ max_workers)
         → IsErrOf result BuildFault.Pages ↔ ((options.pages < 1) ⊎ (max_pages < options.pages)) }
-    // The outcome that the files have; the modules do what the program does, where that is proved.
+    // The outcome that the files have; the modules do what the program does.
     ensures built { IfOk result (IsBuilt files.now options.pages) }
     // The files have one outcome, so workers, gates and schedules have no part in it.
     ensures one { IfOk result

@@ -6,10 +6,9 @@ ghost use Rattle.std.specs.List.{list_all};
 ghost use Rattle.std.specs.String.{string_bytes};
 ghost use Rattle.m2_emit.specs.Emitted.{parts};
 ghost use Rattle.m2_graph.specs.Refused.{max_files};
-ghost use Rattle.m2_headline.specs.Proved.{IsName};
 ghost use Rattle.m2_scheme.specs.Modules.{stack_begin};
 ghost use Rattle.m2c.specs.Build.{named, named_bytes};
-ghost use Rattle.m2c.specs.Names.{is_word, AreNamed};
+ghost use Rattle.m2c.specs.Names.{is_word, IsName, AreNamed};
 
 use m2_emit::ModuleBytes;
 use m2_tree::Name;

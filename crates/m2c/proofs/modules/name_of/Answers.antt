@@ -1,5 +1,5 @@
 use Rattle.std.proofs.Common.{◌≡◌, List, ℕ, sym, subst, ◌∙◌}
-use Rattle.m2_headline.specs.Proved.{IsName}
+use Rattle.m2c.specs.Names.{IsName}
 use Rattle.m2c.proofs.Fragments.{word_named}
 use Rattle.m2c.proofs.modules.name_of.Goals as goal
 

@@ -1,15 +1,13 @@
 use Rattle.std.proofs.Common.{◌≡◌, ◌≤◌, ◌+◌, ◌*◌, ℕ, List, map, ap, subst, ◌∙◌}
-use Rattle.std.specs.Prelude.{All}
 use Rattle.std.specs.Global.{Vec}
 use Rattle.wasm_binary.specs.Binary.{Spells}
 use Rattle.m2_scheme.specs.Modules.{link_of, stack_begin}
 use Rattle.m2_emit.specs.declared.emitted.ModuleBytes.{ModuleBytes}
 use Rattle.m2_emit.specs.Emitted.{parts}
-use Rattle.m2_headline.specs.Proved.{IsName}
 use Rattle.m2_jobs.specs.Borrowed.{borrowed}
 use Rattle.m2c.specs.Build.{named, named_bytes, started}
 use Rattle.m2c.proofs.Graphs.{is_program, spelled_borrowed}
-use Rattle.m2c.proofs.Borrowed.{copies_borrowed, names_borrowed}
+use Rattle.m2c.proofs.Borrowed.{copies_borrowed}
 use Rattle.m2c.proofs.outcome.built.Goals as goal
 
 abbrev items_of : Vec ℕ → List ℕ
@@ -25,9 +23,6 @@ returns c =
     in
     let built_are : map named c.in_ok-modules.modules.items ≡ map named_bytes whole = c.in_ok-modules.ensures.modules ∙ copies_borrowed c.args.modules.now ∙ ap (map named_bytes) c.requires.modules in
     let fits : stack_begin (parts whole) + 4096 ≤ 65536 * c.args.pages = subst (λ (ms : List ModuleBytes). stack_begin (parts ms) + 4096 ≤ 65536 * c.args.pages) c.requires.modules c.requires.fits in
-    let named_all : All IsName (map (λ m. m.name) whole) =
-    subst (λ (ms : List ModuleBytes). All IsName (map (λ m. m.name) ms)) c.requires.modules (subst (All IsName) (names_borrowed c.args.modules.now) c.in_ok-modules.ensures.named)
-    in
     let spelled = spelled_borrowed c.args.trees.now g.files.items (map items_of g.jobs.items) c.requires.spelled in
-    is_program c.args.files.now fs g.files.items (map items_of g.jobs.items) g.starts.items c.requires.graph c.requires.none spelled c.args.pages c.requires.least c.requires.most fits named_all
+    is_program c.args.files.now fs g.files.items (map items_of g.jobs.items) g.starts.items c.requires.graph c.requires.none spelled c.args.pages c.requires.least c.requires.most fits
     c.in_ok-link.link.items (map named c.in_ok-modules.modules.items) link_is built_are
