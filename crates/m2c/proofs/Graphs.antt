@@ -73,11 +73,6 @@ unfolding emitted
 parts_emitted [] = refl
 parts_emitted (m ∷ ms) = ap (λ (xs : List Part). part_of m ∷ xs) (parts_emitted ms)
 
-names_emitted : (p : Modules) → map (λ m. m.name) (map emitted p) ≡ names p
-unfolding emitted
-names_emitted [] = refl
-names_emitted (m ∷ ms) = ap (λ (xs : List (List ℕ)). m.name ∷ xs) (names_emitted ms)
-
 -- ---- results by a table of places
 
 module _ (f g : ℕ → Option Compiled) (same : (k : ℕ) → f k ≡ g k) where
