@@ -1,19 +1,17 @@
 -- By induction on the depth of calls.
-use Rattle.std.proofs.Common.{◌≡◌, ℕ, zero, suc, ◌+◌, Bool, true, false, List, [], ◌++◌, length, Some, if◌then◌else◌, refl, sym, ap, subst, ◌∙◌, arith}
+use Rattle.std.proofs.Common.{◌≡◌, ℕ, zero, suc, ◌+◌, Bool, false, List, [], ◌++◌, length, if◌then◌else◌, refl, ap, ◌∙◌, arith}
 use Rattle.std.specs.List.{flat_map}
 use Rattle.wasm_tree.specs.declared.module.WModule.{WModule}
 use Rattle.wasm_tree.specs.declared.store.Value.{Value}
 use Rattle.wasm_tree.specs.Machine.{Typed, zeros}
-use Rattle.wasm_effect.specs.Effect.{Fixed, Effect, StillRunning, State as Target, back, effect, nested, calling as helping}
+use Rattle.wasm_effect.specs.Effect.{Fixed, StillRunning, State as Target, back, effect, nested, calling as helping}
 use Rattle.m2_layout.specs.Types.{Ty}
 use Rattle.m2_meaning.specs.Store.{Location}
-use Rattle.m2_meaning.specs.Answer.{State as Source}
-use Rattle.m2_meaning.specs.Around.{Modules, Frames, Passed}
-use Rattle.m2_meaning.specs.Calls.{calling, runs}
+use Rattle.m2_meaning.specs.Around.{Modules}
+use Rattle.m2_meaning.specs.Calls.{calling}
 use Rattle.m2_scheme.specs.Modules.{numbered}
-use Rattle.m2_agree_procedures.specs.Laws.{callee_of}
 use Rattle.m2_agree_procedures.proofs.Routines.{routine_does}
-use Rattle.m2_agree_programs.specs.Knot.{Part, core, AllDo, IsPart, Knot}
+use Rattle.m2_agree_programs.specs.Knot.{Part, core, Knot}
 
 module _ (modules : List WModule) (fx : Fixed) (serves : (k f : ℕ) → Bool) (extra : (k f : ℕ) → ℕ) (n limit : ℕ) (p : Modules) (base : List Ty) (texts : Location → ℕ → ℕ) where
   -- calls that nest no deeper still run

@@ -1,41 +1,32 @@
 -- The bodies of modules run one after another.
-use Rattle.std.proofs.Common.{◌≡◌, ◌⊎◌, inl, inr, ⊎_elim, ℕ, zero, suc, ◌+◌, ◌-◌, ◌^◌, ◌<◌, ◌≤◌, ℤ, Bool, true, false, List, [], ◌∷◌, ◌++◌, length, Option, Some, None, if◌then◌else◌, refl, sym, ap, subst, ◌∙◌, append-nil, length-append, arith}
-use Rattle.std.specs.Prelude.{slice_get, replicate, nat_le}
+use Rattle.std.proofs.Common.{◌≡◌, ⊎_elim, ℕ, zero, suc, ◌+◌, ◌-◌, ◌<◌, ℤ, false, List, [], ◌∷◌, ◌++◌, length, Some, refl, sym, ap, subst, ◌∙◌, append-nil, length-append, arith}
+use Rattle.std.specs.Prelude.{replicate}
 use Rattle.std.specs.List.{flat_map}
 use Rattle.std.proofs.lemmas.Option.{none-some}
-use Rattle.std.proofs.lemmas.Bool.{le-leb}
 use Rattle.wasm_tree.specs.declared.instr.Instr.{Instr}
-use Rattle.wasm_tree.specs.declared.module.WModule.{WModule}
 use Rattle.wasm_tree.specs.declared.store.Value.{Value}
 use Rattle.wasm_tree.specs.declared.store.Value.TheVariants.{I32, I64}
-use Rattle.wasm_tree.specs.Machine.{Config, Going, Over, Trapped, Progress, Typed, zeros, entered, run}
-use Rattle.wasm_effect.specs.Effect.{Fixed, State as Target, Effect, FellThrough, Branched, Returned, Ended, Traps, StillRunning, Calling, or_traps, back_with, back, then_run, store_of, effect, nested}
-use Rattle.wasm_effect.specs.Laws.{Reaches, GoesOn, RunLeads, comes, shown as shown_effect, IsOver, NestedOnly, NestedPrints}
-use Rattle.wasm_effect.proofs.Follows.{nested_runs}
-use Rattle.wasm_effect.proofs.Whole.{nested_only, nested_prints}
+use Rattle.wasm_tree.specs.Machine.{Typed, zeros}
+use Rattle.wasm_effect.specs.Effect.{State as Target, Effect, FellThrough, Ended, or_traps, back_with, back}
 use Rattle.wasm_effect.proofs.Steps.{split_end_at}
 use Rattle.m2_typed.specs.declared.typed_module.TypedModule.{TypedModule}
-use Rattle.m2_layout.specs.Types.{Ty, Scalar, Hidden, Cell, Field, Nothing, row, frame_of, component, IsScalar, IsFit}
+use Rattle.m2_layout.specs.Types.{Ty, Scalar, Hidden, Cell, Field, row, component, IsFit}
 use Rattle.m2_layout.specs.Sizes.{size, offset}
 use Rattle.m2_meaning.specs.Store.{Location, placed, fresh}
 use Rattle.m2_meaning.specs.Answer.{State as Source, Outcome, Went, Left, Came, Stopped, Unfinished}
 use Rattle.m2_meaning.specs.Around.{Modules, Around}
 use Rattle.m2_meaning.specs.Calls.{body_does, calling}
 use Rattle.m2_meaning.specs.Expressions.{Asks}
-use Rattle.m2_meaning.specs.Runs.{around_body, body_frame, storage, first_state, then_body, bodies, run as program_run}
+use Rattle.m2_meaning.specs.Runs.{around_body, body_frame, storage}
 use Rattle.m2_cells.specs.Relation.{Says, Holds}
-use Rattle.m2_cells.proofs.Worlds.{row_size, call_ends, Where, Old, New, All, where_is, other_behind, placed_else, row_no_leaf}
+use Rattle.m2_cells.proofs.Worlds.{row_size, call_ends, Where, Old, New, All, where_is, other_behind, placed_else}
 use Rattle.m2_scheme.specs.Coded.{Counts}
 use Rattle.m2_scheme.specs.Functions.{enter_code, from_text, locals_of}
-use Rattle.m2_helpers.specs.Bodies.{BodyAt, IsThere, AreThere, body_type, bodies_code, bodies_do, run_typed}
-use Rattle.m2_helpers.proofs.Bodies.{bodies_called}
-use Rattle.m2_agree.specs.Scene.{Scene, HasHelpers, IsSet, calls, runs, Stands, IsFree, HasLocals, Ends, Executes}
+use Rattle.m2_agree.specs.Scene.{Scene, HasHelpers, IsSet, runs, Stands, IsFree, HasLocals, Ends}
 use Rattle.m2_agree_calls.specs.Frames.{chain_end, HasFrames}
-use Rattle.m2_agree_calls.specs.Passing.{HasTop, IsBased}
-use Rattle.m2_agree_procedures.specs.Stage.{HasLimit, Stage}
-use Rattle.m2_agree_procedures.specs.Laws.{kept_in}
+use Rattle.m2_agree_calls.specs.Passing.{HasTop}
+use Rattle.m2_agree_procedures.specs.Stage.{HasLimit}
 use Rattle.m2_agree_procedures.proofs.Rooms.{older_placed}
-use Rattle.m2_agree_procedures.proofs.Formals.{get_first}
 use Rattle.m2_agree_procedures.proofs.Begins.{Start, FrameDone, begin_goes}
 use Rattle.m2_agree_procedures.proofs.Routines.{kept_top, kept_none, kept_is, length_zeros}
 use Rattle.m2_agree_programs.specs.Knot.{core}

@@ -1,5 +1,5 @@
 -- All functions of a program do what is asked, to every depth of calls.
-use Rattle.std.specs.Prelude.{◌≡◌, ℕ, suc, Bool, false, List, [], None}
+use Rattle.std.specs.Prelude.{◌≡◌, ℕ, Bool, false, List, [], None}
 use Rattle.wasm_tree.specs.declared.module.WModule.{WModule}
 use Rattle.wasm_tree.specs.Machine.{Typed}
 use Rattle.wasm_effect.specs.Effect.{Fixed, nested}

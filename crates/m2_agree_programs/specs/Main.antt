@@ -1,23 +1,17 @@
 -- The function of a module's body does what its statements do.
-use Rattle.std.specs.Prelude.{◌≡◌, ℕ, suc, ◌+◌, ◌-◌, ◌<◌, ◌≤◌, ◌^◌, Bool, true, false, List, [], ◌∷◌, ◌++◌, length, Some, None}
-use Rattle.std.specs.List.{flat_map}
+use Rattle.std.specs.Prelude.{◌≡◌, ℕ, suc, ◌+◌, ◌-◌, Bool, false, List, [], ◌∷◌, ◌++◌, length}
 use Rattle.wasm_tree.specs.declared.instr.Instr.{Instr}
 use Rattle.wasm_tree.specs.declared.module.WModule.{WModule}
-use Rattle.wasm_tree.specs.declared.store.Value.{Value}
-use Rattle.wasm_tree.specs.declared.store.Value.TheVariants.{I32}
-use Rattle.wasm_tree.specs.Machine.{Config, Going, Over, Trapped, Typed, entered, run}
-use Rattle.wasm_effect.specs.Effect.{Fixed, Effect, FellThrough, Ended, StillRunning, store_of, nested}
-use Rattle.wasm_effect.specs.Laws.{GoesOn}
+use Rattle.wasm_tree.specs.Machine.{Typed}
+use Rattle.wasm_effect.specs.Effect.{Fixed, nested}
 use Rattle.m2_typed.specs.declared.typed_module.TypedModule.{TypedModule}
 use Rattle.m2_layout.specs.Types.{Ty, row, frame_of}
 use Rattle.m2_layout.specs.Sizes.{size, offset}
 use Rattle.m2_meaning.specs.Store.{Location, placed}
-use Rattle.m2_meaning.specs.Answer.{State as Source, Outcome, Went, Left, Came, Stopped, Unfinished}
 use Rattle.m2_meaning.specs.Around.{Modules, Around}
 use Rattle.m2_meaning.specs.Calls.{body_does, calling}
 use Rattle.m2_meaning.specs.Expressions.{Asks}
-use Rattle.m2_meaning.specs.Runs.{around_body, body_frame, storage, first_state, run as program_run}
-use Rattle.m2_cells.specs.Relation.{Holds}
+use Rattle.m2_meaning.specs.Runs.{around_body, body_frame, storage}
 use Rattle.m2_scheme.specs.Coded.{Coded, Counts}
 use Rattle.m2_scheme.specs.Addresses.{addresses_in}
 use Rattle.m2_scheme.specs.Functions.{setting, from_text, locals_of, enter_code, coded}

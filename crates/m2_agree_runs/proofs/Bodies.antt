@@ -1,25 +1,24 @@
 -- The whole run, body by body, and what follows from it for the machine.
-use Rattle.std.proofs.Common.{◌≡◌, ℕ, zero, suc, ◌+◌, ◌-◌, ◌≤◌, Bool, true, false, List, [], ◌∷◌, ◌++◌, length, Option, Some, None, if◌then◌else◌, refl, sym, ap, subst, ◌∙◌, arith}
+use Rattle.std.proofs.Common.{◌≡◌, ℕ, zero, suc, ◌+◌, ◌-◌, Bool, List, [], ◌∷◌, Option, Some, None, if◌then◌else◌, refl, sym, ap, subst, ◌∙◌, arith}
 use Rattle.wasm_tree.specs.declared.module.WModule.{WModule}
 use Rattle.wasm_tree.specs.declared.store.Value.{Value}
 use Rattle.wasm_tree.specs.declared.store.Value.TheVariants.{I32}
 use Rattle.wasm_tree.specs.Machine.{Config, Going, Over, Trapped, Progress, Typed, entered}
 use Rattle.wasm_tree.specs.Machine as machine
-use Rattle.wasm_effect.specs.Effect.{Fixed, State as Target, store_of, Effect, FellThrough, Branched, Returned, Ended, Traps, StillRunning, Calling, back, effect, calling, nested, then_run}
+use Rattle.wasm_effect.specs.Effect.{State as Target, store_of, Effect, FellThrough, Branched, Returned, Ended, Traps, StillRunning, Calling, back, effect, calling, nested, then_run}
 use Rattle.wasm_effect.specs.Laws.{Reaches, GoesOn, RunLeads, comes, shown, IsOver}
 use Rattle.wasm_effect.proofs.Follows.{nested_runs}
 use Rattle.wasm_effect.proofs.Whole.{nested_only, nested_prints}
-use Rattle.m2_typed.specs.declared.typed_module.TypedModule.{TypedModule}
 use Rattle.m2_layout.specs.Types.{row}
 use Rattle.m2_layout.specs.Sizes.{size}
 use Rattle.m2_meaning.specs.Answer.{State as Source, Outcome, Went, Left, Came, Stopped, Unfinished}
 use Rattle.m2_meaning.specs.Around.{Modules}
 use Rattle.m2_meaning.specs.Runs.{storage, body_frame, bodies, first_state, then_body}
 use Rattle.m2_meaning.specs.Runs as runs
-use Rattle.m2_helpers.specs.Bodies.{BodyAt, AreThere, bodies_do, run_typed}
+use Rattle.m2_helpers.specs.Bodies.{BodyAt, bodies_do, run_typed}
 use Rattle.m2_helpers.proofs.Bodies.{bodies_called}
-use Rattle.m2_agree_runs.specs.Behaves.{Behaves, printed}
-use Rattle.m2_agree_runs.specs.Bodies.{Ground, IsHeld, IsBack, BodyEnds, BodyDoes, statements_do, AllDo, BodiesBehave}
+use Rattle.m2_agree_runs.specs.Behaves.{printed}
+use Rattle.m2_agree_runs.specs.Bodies.{Ground, IsHeld, BodyEnds, statements_do, AllDo, BodiesBehave}
 
 -- ---- the run of the bodies is that of the program
 

@@ -1,16 +1,16 @@
 -- The memory that link begins with holds the first store.
-use Rattle.std.proofs.Common.{◌≡◌, ℕ, zero, suc, ◌+◌, ◌-◌, ◌*◌, ◌<◌, ◌≤◌, ℤ, List, [], ◌∷◌, ◌++◌, length, map, Option, Some, None, refl, sym, ap, subst, ◌∙◌, append_assoc, arith}
-use Rattle.std.specs.Prelude.{replicate, All, get_or}
-use Rattle.std.proofs.lemmas.List.{length-append, length-replicate, get_or-replicate, get_or_append_left, get_or-append_right}
-use Rattle.std.proofs.lemmas.List.Elements.{All-head, All-tail, All-append, All-get_or}
+use Rattle.std.proofs.Common.{◌≡◌, ℕ, zero, suc, ◌+◌, ◌-◌, ◌*◌, ◌<◌, ◌≤◌, List, [], ◌∷◌, ◌++◌, length, map, Some, refl, sym, ap, subst, ◌∙◌, append_assoc, arith}
+use Rattle.std.specs.Prelude.{replicate, All}
+use Rattle.std.proofs.lemmas.List.{length-append, length-replicate}
+use Rattle.std.proofs.lemmas.List.Elements.{All-head, All-tail}
 use Rattle.wasm_effect.specs.Bytes.{byte}
 use Rattle.m2_typed.specs.declared.typed_module.TypedModule.{TypedModule}
-use Rattle.m2_layout.specs.Types.{Ty, Scalar, Cell, Hidden, Nothing, Field, row, component, IsFit}
+use Rattle.m2_layout.specs.Types.{Ty, Scalar, Cell, Hidden, Nothing, Field, row, component}
 use Rattle.m2_layout.specs.Sizes.{size, offset}
 use Rattle.m2_layout.specs.Shapes.{tree}
 use Rattle.m2_layout.specs.Frames.{module_row}
 use Rattle.m2_layout.specs.Texts.{characters, module_texts}
-use Rattle.m2_meaning.specs.Store.{Location, fresh, first_in}
+use Rattle.m2_meaning.specs.Store.{Location, fresh}
 use Rattle.m2_meaning.specs.Runs.{first_state}
 use Rattle.m2_cells.specs.Relation.{Says, Shows}
 use Rattle.m2_cells.proofs.Worlds.{row_size}

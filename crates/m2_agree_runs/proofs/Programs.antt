@@ -1,16 +1,14 @@
 -- The linked modules of a program do what the program does.
-use Rattle.std.proofs.Common.{◌≡◌, ℕ, zero, suc, ◌+◌, ◌*◌, ◌-◌, List, [], ◌∷◌, ◌++◌, Some, Result, Ok, refl, sym, ap, subst, ◌∙◌, arith}
+use Rattle.std.proofs.Common.{◌≡◌, ℕ, List, [], ◌∷◌, ◌++◌, Some, Ok, sym, ap, ◌∙◌, arith}
 use Rattle.std.specs.Prelude.{replicate}
 use Rattle.wasm_tree.specs.declared.instr.Instr.{Instr}
 use Rattle.wasm_tree.specs.Machine.{Config, Going, entered}
-use Rattle.wasm_tree.specs.Linking.{link}
 use Rattle.wasm_effect.specs.Effect.{store_of}
 use Rattle.m2_layout.specs.Types.{row}
 use Rattle.m2_layout.specs.Sizes.{size}
 use Rattle.m2_helpers.specs.Bodies.{run_typed, bodies_code}
 use Rattle.m2_links.specs.Linked.{Program, all, bytes_in, image, begin, linked_store}
 use Rattle.m2_links.proofs.Placed.{modules_link}
-use Rattle.m2_agree_runs.specs.Bodies.{Ground}
 use Rattle.m2_agree_runs.specs.Programs.{ground, first_bytes, bodies_at, fixed, ProgramBehaves}
 use Rattle.m2_agree_runs.proofs.Bodies.{bodies_behave}
 use Rattle.m2_agree_runs.proofs.Grounds.{top_is, first_held}

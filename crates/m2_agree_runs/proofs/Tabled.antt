@@ -1,23 +1,21 @@
 -- The bodies stand in link's table, and link's run calls them in start order.
-use Rattle.std.proofs.Common.{◌≡◌, ℕ, zero, suc, ◌+◌, ◌-◌, ◌*◌, ◌<◌, ◌≤◌, Bool, true, List, [], ◌∷◌, ◌++◌, length, map, Option, Some, None, refl, sym, ap, subst, ◌∙◌, append_assoc, arith}
+use Rattle.std.proofs.Common.{◌≡◌, ℕ, zero, suc, ◌+◌, ◌*◌, ◌<◌, List, [], ◌∷◌, ◌++◌, length, map, Option, Some, None, refl, sym, ap, subst, ◌∙◌, append_assoc, arith}
 use Rattle.std.specs.Prelude.{slice_get, replicate}
 use Rattle.std.specs.Option.{option_and_then}
-use Rattle.std.proofs.lemmas.List.{length-append, append-nil}
+use Rattle.std.proofs.lemmas.List.{length-append}
 use Rattle.wasm_tree.specs.declared.instr.Instr.{Instr}
 use Rattle.wasm_tree.specs.declared.instr.Instr.TheVariants as instr
 use Rattle.wasm_tree.specs.declared.module.Function.{Function}
 use Rattle.wasm_tree.specs.declared.module.WModule.{WModule}
-use Rattle.wasm_tree.specs.declared.store.Callee.{Callee}
 use Rattle.wasm_tree.specs.declared.store.Callee.TheVariants.{Put, Stop, Own}
-use Rattle.wasm_tree.specs.declared.store.Value.{Value}
 use Rattle.wasm_tree.specs.declared.store.Value.TheVariants.{I32}
 use Rattle.wasm_tree.specs.Machine as machine
 use Rattle.wasm_tree.specs.Machine.{global_at, callee_in, own_function}
-use Rattle.wasm_effect.specs.Effect.{Fixed, store_of}
+use Rattle.wasm_effect.specs.Effect.{store_of}
 use Rattle.m2_typed.specs.declared.typed_module.TypedModule.{TypedModule}
-use Rattle.m2_scheme.specs.Modules.{slots, part_of, typed_module, typed_link, calls_from}
+use Rattle.m2_scheme.specs.Modules.{slots, part_of, typed_module, calls_from}
 use Rattle.m2_helpers.specs.Bodies.{BodyAt, IsThere, AreThere, bodies_code}
-use Rattle.m2_links.specs.Linked.{Program, all, count, values, own_from, somes_from, owns, filled, link_instance, link_values, slots_in}
+use Rattle.m2_links.specs.Linked.{Program, all, count, values, own_from, somes_from, owns, filled, link_values, slots_in}
 use Rattle.m2_links.proofs.Stores.{counts, global_place, slot_is, slots_more}
 use Rattle.m2_links.proofs.Placed.{enough}
 use Rattle.m2_agree_runs.specs.Programs.{body_typed, bodies_at, fixed}

@@ -1,6 +1,5 @@
 -- Whole programs: what stands in the memory and in the table when they begin, and what their linked modules do.
 use Rattle.std.specs.Prelude.{◌≡◌, ℕ, suc, ◌+◌, ◌*◌, ◌-◌, ◌<◌, Bool, false, List, [], ◌∷◌, ◌++◌, map, replicate, Some, Ok, All}
-use Rattle.wasm_tree.specs.declared.module.WModule.{WModule}
 use Rattle.wasm_tree.specs.Machine.{Config, Typed}
 use Rattle.wasm_tree.specs.Linking.{link}
 use Rattle.wasm_effect.specs.Bytes.{byte}
