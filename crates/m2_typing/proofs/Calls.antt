@@ -4,6 +4,7 @@ use Rattle.std.specs.Prelude.{not, cond, if◌then◌else◌}
 use Rattle.m2_tree.specs.declared.pos.Pos.{Pos}
 use Rattle.m2_typed.specs.declared.computed.Argument.{Argument}
 use Rattle.m2_typed.specs.declared.computed.Argument.TheVariants as argument
+use Rattle.m2_typed.specs.declared.computed.Call.{Call}
 use Rattle.m2_typed.specs.declared.computed.Call.TheVariants as call
 use Rattle.m2_typed.specs.declared.computed.Place.{Place}
 use Rattle.m2_typed.specs.declared.computed.Slot.{Slot}
@@ -43,7 +44,7 @@ use Rattle.m2_calls.specs.declared.callee.Called.TheVariants as called
 use Rattle.m2_calls.specs.declared.standard.Unary.{Unary}
 use Rattle.m2_calls.specs.declared.standard.Unary.TheVariants as unary
 use Rattle.m2_layout.specs.Shapes.{elements_of, tree}
-use Rattle.m2_layout.specs.Types.{Ty, Array}
+use Rattle.m2_layout.specs.Types.{Ty, Callable, Cell, Array}
 use Rattle.m2_scheme.specs.Cells.{base_of}
 use Rattle.m2_agree.specs.Scene.{AreAmong}
 use Rattle.m2_agree_calls.specs.Passing.{Form, ByCopy, ByName, ByArray, value_form, form_of, forms_of, result_of}
@@ -57,9 +58,9 @@ use Rattle.m2_formed_ranges.proofs.Types.{same_types, both_left}
 use Rattle.m2_formed_ranges.proofs.Subranges.{between_in, at_itself, number_between, based_at}
 use Rattle.m2_formed_ranges.proofs.Values.{unary_ranged}
 use Rattle.m2_typing.specs.Typing.{IsConstant, is_known, TypesTyped, ExprTyped, PlaceTyped, CallTyped, ArgumentTyped, ScalarTyped, ValueTyped, DesignatedTyped}
-use Rattle.m2_typing.proofs.Known.{ClassIs, class_is, scalar_known, array_known, among_base, base_is, among_natural, HasCell, ranged_cell, bits_cell, has_base, IsArray, array_is, whole_copied}
+use Rattle.m2_typing.proofs.Known.{IsRoutine, ClassIs, class_is, scalar_known, array_known, among_base, base_is, among_natural, HasCell, ranged_cell, bits_cell, routine_tree, has_base, IsArray, array_is, whole_copied}
 use Rattle.m2_typing.proofs.Words.{holds_both, unary_words, bound_word}
-use Rattle.m2_typing.proofs.Operators.{where_not, numeric_is, boolean_base, char_base, of_value_typed, scalar_typed, suited_typed}
+use Rattle.m2_typing.proofs.Operators.{where_not, numeric_is, boolean_base, char_base, of_value_typed, scalar_typed, suited_typed, procedure_suited_typed}
 use Rattle.m2_typing.proofs.Constructs as made
 
 module _ (x : Context) (ws : List Ty) (h : TypesTyped x.home.types) (g : Gathers) (opens : ℕ → Bool) (scope : Types) (grows : Grows scope x.home.types) where
@@ -80,17 +81,31 @@ module _ (x : Context) (ws : List Ty) (h : TypesTyped x.home.types) (g : Gathers
   loaded_typed : (t : TypeNo) (d : Place) (c : Class) → ClassIs types t c → PlaceTyped x ws d (tree types t) → ValueTyped x ws (loaded_as t d c)
   loaded_typed t d (class.Scalar s) e p = record { typed = load_made t d (ranged_cell types h t s e) p; based = has_base types h t s e; run = made.run_load m t d }
   loaded_typed t d class.Set e p = record { of = t; typed = load_made t d (bits_cell types t e) p; word = e.none }
-  loaded_typed t d class.Procedure e p = record { typed = load_made t d (bits_cell types t e) p; word = e.none }
+  loaded_typed t d class.Procedure e p = record {
+    heading = e.heading;
+    is = e.is;
+    word = e.none;
+    typed = made.loaded_procedure_typed x ws t e.heading d (routine_tree types h t e) (subst (λ (u : Ty). PlaceTyped x ws d u) (routine_tree types h t e) p);
+  }
   loaded_typed t d class.Whole e p = p
 
-  given_as_typed : (t : TypeNo) (e : TypedExpr) (c : Class) → ClassIs types t c → ExprTyped x ws e t → made.IsRun m e → ValueTyped x ws (given_as t e c)
-  given_as_typed t e (class.Scalar s) k p r = record { typed = p; based = has_base types h t s k; run = r }
-  given_as_typed t e class.Set k p r = record { of = t; typed = p; word = k.none }
-  given_as_typed t e class.Procedure k p r = record { typed = p; word = k.none }
-  given_as_typed t e class.Whole k p r = tt
+  call_made : (t : TypeNo) (c : Call) → HasCell types t → CallTyped x ws c (Some (tree types t)) → ExprTyped x ws (expr.Call t c) t
+  call_made t c k p = made.function_typed x ws t k.cell c p k.is
 
-  pub given_typed : (t : TypeNo) (e : TypedExpr) → ExprTyped x ws e t → made.IsRun m e → ValueTyped x ws (given scope t e)
-  given_typed t e p r = given_as_typed t e (class_at scope t) (class_is scope types grows t) p r
+  given_as_typed : (t : TypeNo) (c : Call) (k : Class) → ClassIs types t k → CallTyped x ws c (Some (tree types t)) → ValueTyped x ws (given_as t (expr.Call t c) k)
+  given_as_typed t c (class.Scalar s) e p = record { typed = call_made t c (ranged_cell types h t s e) p; based = has_base types h t s e; run = made.run_call m t c }
+  given_as_typed t c class.Set e p = record { of = t; typed = call_made t c (bits_cell types t e) p; word = e.none }
+  given_as_typed t c class.Procedure e p = record {
+    heading = e.heading;
+    is = e.is;
+    word = e.none;
+    typed = made.given_procedure_typed x ws t e.heading c (subst (λ (u : Ty). CallTyped x ws c (Some u)) (routine_tree types h t e) p);
+  }
+  given_as_typed t c class.Whole e p = tt
+
+  -- what a function gives
+  pub given_typed : (t : TypeNo) (c : Call) → CallTyped x ws c (Some (tree types t)) → ValueTyped x ws (given scope t (expr.Call t c))
+  given_typed t c p = given_as_typed t c (class_at scope t) (class_is scope types grows t) p
 
   pub taken_typed : (at : Pos) (d : Designated) → DesignatedTyped x ws opens d → Value_ (taken g scope at d)
   taken_typed at (designated.Value v) p = fine v p
@@ -183,10 +198,16 @@ module _ (x : Context) (ws : List Ty) (h : TypesTyped x.home.types) (g : Gathers
         then_holds (suited_typed x ws h g scope grows 43 t at v k) (λ e j.
         fine (argument.Value t e) (subst (λ (f : Form). ArgumentTyped x ws (argument.Value t e) f) (sym (ap value_form c.is.is)) (made.value_typed x ws t j.of c.cell e j.typed c.is j.taken))))
 
+    routine_typed : (t : TypeNo) (at : Pos) (d : Designated) (i : IsRoutine types t) → class_at scope t ≡ class.Procedure → DesignatedTyped x ws opens d → For (value_form (tree types t)) (simple_passed g scope t at d)
+    routine_typed t at d i q p =
+        then_holds (taken_typed at d p) (λ v k.
+        then_holds (procedure_suited_typed x ws h g scope grows 43 t at v i q k) (λ e j.
+        fine (argument.Value t e) (subst (λ (f : Form). ArgumentTyped x ws (argument.Value t e) f) (sym (ap value_form (routine_tree types h t i))) (made.procedure_actual_typed x ws t i.heading e j i.none))))
+
     passed_typed : (t : TypeNo) (at : Pos) (d : Designated) (c : Class) → is_known scope t ≡ true → class_at scope t ≡ c → ClassIs types t c → DesignatedTyped x ws opens d → For (value_form (tree types t)) (passed_as g scope t at d c)
     passed_typed t at d (class.Scalar s) k q e p = simple_typed t at d (ranged_cell types h t s e) p
     passed_typed t at d class.Set k q e p = simple_typed t at d (bits_cell types t e) p
-    passed_typed t at d class.Procedure k q e p = simple_typed t at d (bits_cell types t e) p
+    passed_typed t at d class.Procedure k q e p = routine_typed t at d e q p
     passed_typed t at d class.Whole k q e p = whole_typed t at d (whole_copied types h scope grows t k q) p
 
     by_formal : (v q : Bool) (t : TypeNo) (at : Pos) (d : Designated) → is_known scope t ≡ true → DesignatedTyped x ws opens d
@@ -205,22 +226,22 @@ module _ (x : Context) (ws : List Ty) (h : TypesTyped x.home.types) (g : Gathers
   abbrev pub CalleeTyped : TypeNo → Callee → Type 0
   CalleeTyped t (callee.Module f) = IsNamed x f × (f.heading ≡ t)
   CalleeTyped t (callee.Nested f) = IsInner x f × (f.heading ≡ t)
-  CalleeTyped t (callee.Variable u d) = Unit {0}
+  CalleeTyped t (callee.Variable u d) = PlaceTyped x ws d (tree types u) × IsRoutine types u × (u ≡ t)
 
   abbrev pub CalledTyped : Called → Type 0
   CalledTyped (called.Routine t c) = CalleeTyped t c
   CalledTyped (called.Standard f) = Unit {0}
 
-  held_typed : (at : Pos) (t : TypeNo) (d : Place) (c : Class) → Holds CalledTyped (held_by g at t d c)
-  held_typed at t d class.Procedure = fine (called.Routine t (callee.Variable t d)) tt
-  held_typed at t d (class.Scalar s) = told_holds g at 40
-  held_typed at t d class.Set = told_holds g at 40
-  held_typed at t d class.Whole = told_holds g at 40
+  held_typed : (at : Pos) (t : TypeNo) (d : Place) (c : Class) → ClassIs types t c → PlaceTyped x ws d (tree types t) → Holds CalledTyped (held_by g at t d c)
+  held_typed at t d class.Procedure i p = fine (called.Routine t (callee.Variable t d)) (p, i, refl)
+  held_typed at t d (class.Scalar s) i p = told_holds g at 40
+  held_typed at t d class.Set i p = told_holds g at 40
+  held_typed at t d class.Whole i p = told_holds g at 40
 
   pub callee_typed : (at : Pos) (d : Designated) → DesignatedTyped x ws opens d → Holds CalledTyped (callee_of g scope at d)
   callee_typed at (designated.Procedure f) p = fine (called.Routine f.heading (callee.Module f)) (p, refl)
   callee_typed at (designated.Nested f) p = fine (called.Routine f.heading (callee.Nested f)) (p, refl)
-  callee_typed at (designated.Variable t d) p = held_typed at t d (class_at scope t)
+  callee_typed at (designated.Variable t d) p = held_typed at t d (class_at scope t) (class_is scope types grows t) p
   callee_typed at (designated.Standard f) p = fine (called.Standard f) tt
   callee_typed at (designated.Value v) p = told_holds g at 40
   callee_typed at (designated.Open t slot) p = told_holds g at 40
@@ -230,7 +251,10 @@ module _ (x : Context) (ws : List Ty) (h : TypesTyped x.home.types) (g : Gathers
   pub call_typed : (c : Callee) (t : TypeNo) (gs : List Argument) → CalleeTyped t c → made.ArgumentsTyped x ws gs (forms_of types t) → CallTyped x ws (call_by gs c) (result_of types t)
   call_typed (callee.Module f) t gs k p = subst (λ (u : TypeNo). CallTyped x ws (call.Module f gs) (result_of types u)) k.1 (made.module_call_typed x ws f gs k.0 (subst (λ (u : TypeNo). made.ArgumentsTyped x ws gs (forms_of types u)) (sym k.1) p))
   call_typed (callee.Nested f) t gs k p = subst (λ (u : TypeNo). CallTyped x ws (call.Nested f gs) (result_of types u)) k.1 (made.nested_call_typed x ws f gs k.0 (subst (λ (u : TypeNo). made.ArgumentsTyped x ws gs (forms_of types u)) (sym k.1) p))
-  call_typed (callee.Variable u d) t gs k p = made.variable_call_typed x ws u d gs (result_of types t)
+  call_typed (callee.Variable u d) t gs k p =
+      let tr : tree types u ≡ Cell (Callable k.1.heading) = routine_tree types h u k.1 in
+      subst (λ (w : TypeNo). CallTyped x ws (call.Variable u d gs) (result_of types w)) k.2
+      (made.variable_call_typed x ws u k.1.heading d gs k.1.is tr (subst (λ (w : Ty). PlaceTyped x ws d w) tr k.0) (subst (λ (w : TypeNo). made.ArgumentsTyped x ws gs (forms_of types w)) (sym k.2) p))
 
   -- ---- standard functions of one value
 

@@ -31,7 +31,8 @@ use Rattle.m2_typed.specs.Known.{scalar_at}
 use Rattle.m2_typed.specs.Types.{are_same, integer, cardinal, boolean, char, bitset}
 use Rattle.m2_layout.specs.Shapes.{tree, elements_of}
 use Rattle.m2_layout.specs.Texts.{passed, characters, texts_of, texts_at, texts_linked, texts_behind, texts_passed}
-use Rattle.m2_layout.specs.Types.{Ty, Scalar, Natural, Cell, Array, component}
+use Rattle.m2_layout.specs.Types.{Ty, Scalar, Natural, Callable, Cell, Array, Heading, component}
+use Rattle.m2_cells.specs.Relation.{heading_at}
 use Rattle.m2_scheme.specs.Cells.{base_of}
 use Rattle.m2_scheme.specs.Exprs.{Part, is_own, index_of, expr_layer, expr_part}
 use Rattle.m2_scheme.specs.Modules.{numbered}
@@ -39,12 +40,12 @@ use Rattle.m2_scheme.specs.Signatures.{of_heading}
 use Rattle.m2_agree.specs.Scene.{IsValue, AreAmong, AreNatural, IsCell}
 use Rattle.m2_agree_calls.specs.Frames.{Open, kind_at}
 use Rattle.m2_agree_calls.specs.Passing.{Form, ByNumber, ByCopy, ByName, ByArray, Forms, Result, forms_of, result_of}
-use Rattle.m2_agree_trees.specs.Typed.{Context, IsNamed, IsCallable, IsInner, HasText, IsTaken, IsRoot, IsExpr, AreLinks, IsLink, IsPlace, AreComponents, IsComponent, IsCall, AreArguments, IsArgument}
+use Rattle.m2_agree_trees.specs.Typed.{Context, IsNamed, IsCallable, IsInner, HasText, IsTaken, IsRoot, IsExpr, IsProcedureExpr, AreLinks, IsLink, IsPlace, AreComponents, IsComponent, IsCall, AreArguments, IsArgument}
 use Rattle.m2_agree_trees.specs.Typed as typed
 use Rattle.m2_agree_trees.proofs.Opened.{expr_opened, expr_at}
 use Rattle.m2_typing.specs.Wanted.{Wanted, wanted_of, wanted_at, wanted_called, wanted_linked, wanted_behind, wanted_passed, AreNeeded, Has}
-use Rattle.m2_typing.specs.Typing.{ExprTyped, PlaceTyped, CallTyped, ArgumentTyped}
-use Rattle.m2_typing.proofs.Wants.{nothing, beside, made, seam, has_first, has_second, all_passed, passed_last, wants_constant, wants_load, wants_procedure, wants_plus, wants_negate, wants_compare, wants_not, wants_include, wants_in, wants_abs, wants_cap, wants_chr, wants_odd, wants_ord, wants_val, wants_high, wants_call, wants_linked, wants_arithmetic, wants_and, wants_or, wants_combine, wants_rooted, wants_behind, wants_field, wants_element, wants_open_element, through_table, wants_module, wants_nested, variable_held, wants_value, wants_actual, wants_array, wants_open, wants_text}
+use Rattle.m2_typing.specs.Typing.{ExprTyped, ProcedureTyped, PlaceTyped, CallTyped, ArgumentTyped}
+use Rattle.m2_typing.proofs.Wants.{nothing, beside, made, seam, has_first, has_second, all_passed, passed_last, wants_constant, wants_load, wants_procedure, wants_plus, wants_negate, wants_compare, wants_not, wants_include, wants_in, wants_abs, wants_cap, wants_chr, wants_odd, wants_ord, wants_val, wants_high, wants_call, wants_linked, wants_arithmetic, wants_and, wants_or, wants_combine, wants_rooted, wants_behind, wants_field, wants_element, wants_open_element, through_table, wants_module, wants_nested, by_heading, wants_variable, wants_value, wants_actual, wants_array, wants_open, wants_text}
 
 -- ---- what is no constant
 
@@ -148,10 +149,16 @@ module _ (x : Context) (ws : List Ty) where
   links_more _ _ z _ _ w _ l (typed.no_links a t) k = one_link a z t w l k
   links_more _ _ z _ _ w _ y (typed.more_links a b c t u v l ls h hs) k = typed.more_links a b z t u w l (ls ++ y ∷ []) h (links_more b c z u v w ls y hs k)
 
+  -- a value of a procedure type is no chain
+  procedure_linked : (a b z : ℕ) (t w : TypeNo) (h : Heading) (e : TypedExpr) (l : Link) → IsProcedureExpr x ws a b e h → scalar_at types t ≡ None → IsLink x ws b z t l w → IsExpr x ws a z (linked e l) w
+  procedure_linked _ _ z t w _ _ l (typed.LoadedProcedure a b u h d tr p) n k = subst (λ (y : TypedExpr-F Argument Call Component Link TypedExpr Place). IsExpr x ws a z (linked_to y (expr.Load u d) l) w) (sym (expr.outs-Load u d)) (typed.Chain a b z t w (expr.Load u d) (l ∷ []) (typed.ProcedureValue a b t h (expr.Load u d) (typed.LoadedProcedure a b u h d tr p) n) (one_link b z t w l k))
+  procedure_linked _ _ z t w _ _ l (typed.NamedProcedure a f h known is) n k = subst (λ (y : TypedExpr-F Argument Call Component Link TypedExpr Place). IsExpr x ws a z (linked_to y (expr.Procedure f) l) w) (sym (expr.outs-Procedure f)) (typed.Chain a a z t w (expr.Procedure f) (l ∷ []) (typed.ProcedureValue a a t h (expr.Procedure f) (typed.NamedProcedure a f h known is) n) (one_link a z t w l k))
+  procedure_linked _ _ z t w _ _ l (typed.GivenProcedure a b u h c p) n k = subst (λ (y : TypedExpr-F Argument Call Component Link TypedExpr Place). IsExpr x ws a z (linked_to y (expr.Call u c) l) w) (sym (expr.outs-Call u c)) (typed.Chain a b z t w (expr.Call u c) (l ∷ []) (typed.ProcedureValue a b t h (expr.Call u c) (typed.GivenProcedure a b u h c p) n) (one_link b z t w l k))
+
   linked_is : (a b z : ℕ) (t w : TypeNo) (e : TypedExpr) (l : Link) → IsExpr x ws a b e t → IsLink x ws b z t l w → IsExpr x ws a z (linked e l) w
   linked_is _ _ z _ w _ l (typed.Constant a t n is) k = subst (λ (y : TypedExpr-F Argument Call Component Link TypedExpr Place). IsExpr x ws a z (linked_to y (expr.Constant t n) l) w) (sym (expr.outs-Constant t n)) (typed.Chain a a z t w (expr.Constant t n) (l ∷ []) (typed.Constant a t n is) (one_link a z t w l k))
   linked_is _ _ z _ w _ l (typed.Load a b t c d cell h) k = subst (λ (y : TypedExpr-F Argument Call Component Link TypedExpr Place). IsExpr x ws a z (linked_to y (expr.Load t d) l) w) (sym (expr.outs-Load t d)) (typed.Chain a b z t w (expr.Load t d) (l ∷ []) (typed.Load a b t c d cell h) (one_link b z t w l k))
-  linked_is _ _ z _ w _ l (typed.ProcedureValue a f known none) k = subst (λ (y : TypedExpr-F Argument Call Component Link TypedExpr Place). IsExpr x ws a z (linked_to y (expr.Procedure f) l) w) (sym (expr.outs-Procedure f)) (typed.Chain a a z f.heading w (expr.Procedure f) (l ∷ []) (typed.ProcedureValue a f known none) (one_link a z f.heading w l k))
+  linked_is _ _ z _ w _ l (typed.ProcedureValue a b t h e p none) k = procedure_linked a b z t w h e l p none k
   linked_is _ _ z _ w _ l (typed.Plus a b t u e h g) k = subst (λ (y : TypedExpr-F Argument Call Component Link TypedExpr Place). IsExpr x ws a z (linked_to y (expr.Plus t e) l) w) (sym (expr.outs-Plus t e)) (typed.Chain a b z t w (expr.Plus t e) (l ∷ []) (typed.Plus a b t u e h g) (one_link b z t w l k))
   linked_is _ _ z _ w _ l (typed.Negate a b u e h) k = subst (λ (y : TypedExpr-F Argument Call Component Link TypedExpr Place). IsExpr x ws a z (linked_to y (expr.Negate e) l) w) (sym (expr.outs-Negate e)) (typed.Chain a b z integer w (expr.Negate e) (l ∷ []) (typed.Negate a b u e h) (one_link b z integer w l k))
   linked_is _ _ z _ w _ l (typed.Chain a b c u t e ls h hs) k = subst (λ (y : TypedExpr-F Argument Call Component Link TypedExpr Place). IsExpr x ws a z (linked_to y (expr.Chain e ls) l) w) (sym (expr.outs-Chain e ls)) (typed.Chain a b z u w e (ls ++ l ∷ []) h (links_more b c z u t w ls l hs k))
@@ -166,7 +173,7 @@ module _ (x : Context) (ws : List Ty) where
   linked_is _ _ z _ w _ l (typed.Ord a b u e h i j) k = subst (λ (y : TypedExpr-F Argument Call Component Link TypedExpr Place). IsExpr x ws a z (linked_to y (expr.Ord e) l) w) (sym (expr.outs-Ord e)) (typed.Chain a b z cardinal w (expr.Ord e) (l ∷ []) (typed.Ord a b u e h i j) (one_link b z cardinal w l k))
   linked_is _ _ z _ w _ l (typed.Val a b t u e h i) k = subst (λ (y : TypedExpr-F Argument Call Component Link TypedExpr Place). IsExpr x ws a z (linked_to y (expr.Val t e) l) w) (sym (expr.outs-Val t e)) (typed.Chain a b z t w (expr.Val t e) (l ∷ []) (typed.Val a b t u e h i) (one_link b z t w l k))
   linked_is _ _ z _ w _ l (typed.High a slot t there) k = subst (λ (y : TypedExpr-F Argument Call Component Link TypedExpr Place). IsExpr x ws a z (linked_to y (expr.High slot) l) w) (sym (expr.outs-High slot)) (typed.Chain a a z cardinal w (expr.High slot) (l ∷ []) (typed.High a slot t there) (one_link a z cardinal w l k))
-  linked_is _ _ z _ w _ l (typed.FunctionCall a b t c h) k = subst (λ (y : TypedExpr-F Argument Call Component Link TypedExpr Place). IsExpr x ws a z (linked_to y (expr.Call t c) l) w) (sym (expr.outs-Call t c)) (typed.Chain a b z t w (expr.Call t c) (l ∷ []) (typed.FunctionCall a b t c h) (one_link b z t w l k))
+  linked_is _ _ z _ w _ l (typed.FunctionCall a b t r c h i) k = subst (λ (y : TypedExpr-F Argument Call Component Link TypedExpr Place). IsExpr x ws a z (linked_to y (expr.Call t c) l) w) (sym (expr.outs-Call t c)) (typed.Chain a b z t w (expr.Call t c) (l ∷ []) (typed.FunctionCall a b t r c h i) (one_link b z t w l k))
 
   components_more : (a b z : ℕ) (t u w : Ty) (ks : List Component) (k : Component) → AreComponents x ws a b t ks u → IsComponent x ws b z u k w → AreComponents x ws a z t (ks ++ k ∷ []) w
   components_more _ _ z _ _ w _ k (typed.no_components a t) g = typed.more_components a z z t w w k [] g (typed.no_components z w)
@@ -231,8 +238,21 @@ module _ (x : Context) (ws : List Ty) where
   pub load_typed : (t : TypeNo) (c : Scalar) (d : Place) → IsCell types t c → PlaceTyped x ws d (Cell c) → ExprTyped x ws (expr.Load t d) t
   load_typed t c d h p = expr_by (expr.Load t d) (wanted_at m d) t (wants_load m t d) (λ a k. typed.Load a _ t c d h (p a k))
 
-  pub procedure_typed : (f : Procedure) → IsNamed x f → scalar_at types f.heading ≡ None → ExprTyped x ws (expr.Procedure f) f.heading
-  procedure_typed f h g = expr_by (expr.Procedure f) nothing f.heading (wants_procedure m f) (λ a k. subst (λ (b : ℕ). IsExpr x ws a b (expr.Procedure f) f.heading) (same_end a) (typed.ProcedureValue a f h g))
+  -- values of procedure types
+  procedure_by : (e : TypedExpr) (w : Wanted) (h : Heading) → wanted_of m e ≡ w → ((a : ℕ) → Has x a w → IsProcedureExpr x ws a (a + characters w.texts) e h) → ProcedureTyped x ws e h
+  procedure_by e w h q f = by_wanted (λ a b. IsProcedureExpr x ws a b e h) (wanted_of m e) w q f
+
+  pub loaded_procedure_typed : (t : TypeNo) (h : Heading) (d : Place) → tree types t ≡ Cell (Callable h) → PlaceTyped x ws d (Cell (Callable h)) → ProcedureTyped x ws (expr.Load t d) h
+  loaded_procedure_typed t h d tr p = procedure_by (expr.Load t d) (wanted_at m d) h (wants_load m t d) (λ a k. typed.LoadedProcedure a _ t h d tr (p a k))
+
+  pub procedure_typed : (f : Procedure) (h : Heading) → IsNamed x f → heading_at types f.heading ≡ Some h → ProcedureTyped x ws (expr.Procedure f) h
+  procedure_typed f h n g = procedure_by (expr.Procedure f) nothing h (wants_procedure m f) (λ a k. subst (λ (b : ℕ). IsProcedureExpr x ws a b (expr.Procedure f) h) (same_end a) (typed.NamedProcedure a f h n g))
+
+  pub given_procedure_typed : (t : TypeNo) (h : Heading) (c : Call) → CallTyped x ws c (Some (Cell (Callable h))) → ProcedureTyped x ws (expr.Call t c) h
+  given_procedure_typed t h c p = procedure_by (expr.Call t c) (wanted_called m c) h (wants_call m t c) (λ a k. typed.GivenProcedure a _ t h c (p a k))
+
+  pub routine_expr_typed : (t : TypeNo) (h : Heading) (e : TypedExpr) → scalar_at types t ≡ None → ProcedureTyped x ws e h → ExprTyped x ws e t
+  routine_expr_typed t h e n p = λ a k. typed.ProcedureValue a _ t h e (p a k) n
 
   pub plus_typed : (t u : TypeNo) (e : TypedExpr) → ExprTyped x ws e u → AreAmong types u t → ExprTyped x ws (expr.Plus t e) t
   plus_typed t u e p h = expr_by (expr.Plus t e) (wanted_of m e) t (wants_plus m t e) (λ a k. typed.Plus a _ t u e (p a k) h)
@@ -279,8 +299,8 @@ module _ (x : Context) (ws : List Ty) where
   pub high_typed : (slot : Slot) (t : Ty) → kind_at x.kinds slot ≡ Some (Open t) → ExprTyped x ws (expr.High slot) cardinal
   high_typed slot t h = expr_by (expr.High slot) nothing cardinal (wants_high m slot) (λ a k. subst (λ (b : ℕ). IsExpr x ws a b (expr.High slot) cardinal) (same_end a) (typed.High a slot t h))
 
-  pub function_typed : (t : TypeNo) (c : Call) → CallTyped x ws c (Some (scalar_at types t)) → ExprTyped x ws (expr.Call t c) t
-  function_typed t c p = expr_by (expr.Call t c) (wanted_called m c) t (wants_call m t c) (λ a k. typed.FunctionCall a _ t c (p a k))
+  pub function_typed : (t : TypeNo) (r : Scalar) (c : Call) → CallTyped x ws c (Some (tree types t)) → IsCell types t r → ExprTyped x ws (expr.Call t c) t
+  function_typed t r c p i = expr_by (expr.Call t c) (wanted_called m c) t (wants_call m t c) (λ a k. typed.FunctionCall a _ t r c (p a k) i)
 
   -- ---- designators
 
@@ -322,6 +342,9 @@ module _ (x : Context) (ws : List Ty) where
   pub value_typed : (t u : TypeNo) (c : Scalar) (e : TypedExpr) → ExprTyped x ws e u → IsCell types t c → IsTaken m t e u → ArgumentTyped x ws (argument.Value t e) (ByNumber c)
   value_typed t u c e p h g = argument_by (argument.Value t e) (wanted_of m e) (ByNumber c) (wants_value m t e) (λ a k. typed.Value a _ t u c e (p a k) h g)
 
+  pub procedure_actual_typed : (t : TypeNo) (h : Heading) (e : TypedExpr) → ProcedureTyped x ws e h → scalar_at types t ≡ None → ArgumentTyped x ws (argument.Value t e) (ByNumber (Callable h))
+  procedure_actual_typed t h e p n = argument_by (argument.Value t e) (wanted_of m e) (ByNumber (Callable h)) (wants_value m t e) (λ a k. typed.ProcedureActual a _ t h e (p a k) n)
+
   pub name_typed : (d : Place) (t : Ty) → PlaceTyped x ws d t → ArgumentTyped x ws (argument.Place d) (ByName t)
   name_typed d t p = argument_by (argument.Place d) (wanted_at m d) (ByName t) (wants_actual m d) (λ a k. typed.ActualName a _ d t (p a k))
 
@@ -336,7 +359,7 @@ module _ (x : Context) (ws : List Ty) where
   open_typed slot is_var u h = argument_by (argument.Open slot) nothing (ByArray is_var u) (wants_open m slot) (λ a k. subst (λ (b : ℕ). IsArgument x ws a b (argument.Open slot) (ByArray is_var u)) (same_end a) (typed.ActualOpen a slot is_var u h))
 
   pub text_typed : (text : List ℕ) → length x.characters ≤ 2 ^ 32 → ArgumentTyped x ws (argument.Text text) (ByArray false (Cell (Natural 255)))
-  text_typed text room = argument_by (argument.Text text) (made (passed text ∷ []) [] false) (ByArray false (Cell (Natural 255))) (wants_text m text) (λ a k.
+  text_typed text room = argument_by (argument.Text text) (made (passed text ∷ []) []) (ByArray false (Cell (Natural 255))) (wants_text m text) (λ a k.
       let there : HasText x a (passed text) = k.texts.0 in
       let fits = there.fits in
       let end : a + length (passed text) ≡ a + (length (passed text) + 0) = omega arith in
@@ -375,6 +398,15 @@ module _ (x : Context) (ws : List Ty) where
   pub nested_call_typed : (f : LocalProcedure) (gs : List Argument) → IsInner x f → ArgumentsTyped gs (forms_of types f.heading) → CallTyped x ws (call.Nested f gs) (result_of types f.heading)
   nested_call_typed f gs h p = call_by (call.Nested f gs) (all_passed m gs) (result_of types f.heading) (wants_nested m f gs) (λ a k. typed.OfProcedure a _ f gs h (p a k))
 
-  -- a call of a procedure variable is never asked for
-  pub variable_call_typed : (t : TypeNo) (d : Place) (gs : List Argument) (r : Result) → CallTyped x ws (call.Variable t d gs) r
-  variable_call_typed t d gs r = λ a k. let e : true ≡ false = sym (variable_held m t d gs) ∙ k.held in absurd cc
+  -- of a procedure variable
+  pub variable_call_typed : (t : TypeNo) (h : Heading) (d : Place) (gs : List Argument) → heading_at types t ≡ Some h → tree types t ≡ Cell (Callable h) → PlaceTyped x ws d (Cell (Callable h)) → ArgumentsTyped gs (forms_of types t)
+      → CallTyped x ws (call.Variable t d gs) (result_of types t)
+  variable_call_typed t h d gs e tr p q = call_by (call.Variable t d gs) (beside (wanted_at m d) (beside (all_passed m gs) (by_heading m t))) (result_of types t) (wants_variable m t d gs) (λ a k.
+      let b : ℕ = a + characters (texts_at d) in
+      let behind = has_second x a (wanted_at m d) (beside (all_passed m gs) (by_heading m t)) k in
+      let signed = has_second x b (all_passed m gs) (by_heading m t) behind in
+      let one = seam b (all_passed m gs).texts [] in
+      let two = seam a (texts_at d) ((all_passed m gs).texts ++ []) in
+      let end : b + characters (all_passed m gs).texts ≡ a + characters (texts_at d ++ ((all_passed m gs).texts ++ [])) = same_end (b + characters (all_passed m gs).texts) ∙ one ∙ two in
+      subst (λ (c : ℕ). IsCall x ws a c (call.Variable t d gs) (result_of types t)) end
+      (typed.OfVariable a b _ t h d gs e tr (p a (has_first x a (wanted_at m d) (beside (all_passed m gs) (by_heading m t)) k)) signed.signatures.0 (q b (has_first x b (all_passed m gs) (by_heading m t) behind))))

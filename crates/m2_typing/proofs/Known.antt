@@ -17,13 +17,14 @@ use Rattle.m2_judged.specs.Scopes.{fields_shape, fields_made, fields_at}
 use Rattle.m2_computed.specs.declared.class.Class.{Class}
 use Rattle.m2_computed.specs.declared.class.Class.TheVariants as class
 use Rattle.m2_computed.specs.Classes.{class_shape, class_made, class_range, class_from, class_at, signature_shape, signature_made, signature_at, array_shape, array_made, array_at}
-use Rattle.m2_layout.specs.Types.{Ty, Scalar, Natural, Array, row}
-use Rattle.m2_layout.specs.Shapes.{scalar_kind, elements_of, shape_tree, known_trees, tree}
+use Rattle.m2_layout.specs.Types.{Ty, Scalar, Natural, Callable, Cell, Array, Heading, row}
+use Rattle.m2_layout.specs.Shapes.{scalar_kind, elements_of, heading_tree, shape_tree, known_trees, tree}
+use Rattle.m2_cells.specs.Relation.{heading_in, heading_made, heading_at}
 use Rattle.m2_scheme.specs.Cells.{base_in, base_of, is_subrange, is_free}
 use Rattle.m2_scheme.specs.Exprs.{index_shape, index_made, index_of}
 use Rattle.m2_agree.specs.Scene.{IsIn, IsValue, AreAmong, AreNatural, IsCell}
 use Rattle.m2_agree_calls.specs.Passing.{ByCopy, value_form, result_in, result_made, result_of}
-use Rattle.m2_agree_types.proofs.Cells.{cell_is, word_is, word_tree_is}
+use Rattle.m2_agree_types.proofs.Cells.{cell_is, set_is, procedure_tree_is}
 use Rattle.m2_formed.proofs.Basics.{Grows}
 use Rattle.m2_ranges.specs.Ranges.{IsRange, AreRanged}
 use Rattle.m2_ranges.proofs.Known.{range_at}
@@ -34,15 +35,22 @@ use Rattle.m2_typing.specs.Typing.{HasBase, is_known_from, is_known, IsIndexed, 
 
 -- ---- types that are known
 
--- a type without a range, which is no array and no record
+-- a set type
 pub record IsBits (types : Types) (t : TypeNo) : Type 0 where
   pub none : scalar_at types t ≡ None
   pub result : is_result types t ≡ true
+  pub headless : heading_at types t ≡ None
+
+-- a procedure type
+pub record IsRoutine (types : Types) (t : TypeNo) : Type 0 where
+  pub none : scalar_at types t ≡ None
+  pub heading : Heading
+  pub is : heading_at types t ≡ Some heading
 
 abbrev pub ClassIs : Types → TypeNo → Class → Type 0
 ClassIs types t (class.Scalar s) = scalar_at types t ≡ Some s
 ClassIs types t class.Set = IsBits types t
-ClassIs types t class.Procedure = IsBits types t
+ClassIs types t class.Procedure = IsRoutine types t
 ClassIs types t class.Whole = Unit {0}
 
 abbrev pub type_of : (home n : ℕ) → TypeNo
@@ -57,10 +65,10 @@ pub record MadeSo {B : Type 0} (types : Types) (t : TypeNo) (view : Shape → Op
 module _ (known all : Types) (grows : Grows known all) where
   class_by_shape : (home n : ℕ) (x : Made) (s : Shape) → made_in all home n ≡ Some x → x.shape ≡ s → ClassIs all (type_of home n) (class_shape s)
   class_by_shape home n x (shape.Scalar r) e q = ap scalar_made e ∙ ap scalar_shape q
-  class_by_shape home n x shape.Set e q = record { none = ap scalar_made e ∙ ap scalar_shape q; result = ap is_result_made e ∙ ap is_result_shape q }
+  class_by_shape home n x shape.Set e q = record { none = ap scalar_made e ∙ ap scalar_shape q; result = ap is_result_made e ∙ ap is_result_shape q; headless = ap (heading_made all) e ∙ ap (heading_in all) q }
   class_by_shape home n x (shape.Array i j) e q = tt
   class_by_shape home n x (shape.Record fs) e q = tt
-  class_by_shape home n x (shape.Procedure p) e q = record { none = ap scalar_made e ∙ ap scalar_shape q; result = ap is_result_made e ∙ ap is_result_shape q }
+  class_by_shape home n x (shape.Procedure p) e q = record { none = ap scalar_made e ∙ ap scalar_shape q; heading = heading_tree (known_trees all) p.formals p.result; is = ap (heading_made all) e ∙ ap (heading_in all) q }
   class_by_shape home n x (shape.Open j) e q = tt
 
   class_by_made : (home n : ℕ) (o : Option Made) → made_in known home n ≡ o → ClassIs all (type_of home n) (class_made o)
@@ -68,7 +76,7 @@ module _ (known all : Types) (grows : Grows known all) where
   class_by_made home n (Some x) e = class_by_shape home n x x.shape (grows (type_of home n) x e) refl
 
   class_by_range : (n : ℕ) (o : Option Range) → predeclared_scalar n ≡ o → ClassIs all (record { home = Predeclared; number = n }) (class_range o)
-  class_by_range n None e = record { none = e; result = refl }
+  class_by_range n None e = record { none = e; result = refl; headless = refl }
   class_by_range n (Some r) e = e
 
   class_by : (home : Home) (n : ℕ) → ClassIs all (record { home = home; number = n }) (class_from known (record { home = home; number = n }) home)
@@ -186,7 +194,11 @@ pub ranged_cell : (types : Types) → TypesTyped types → (t : TypeNo) (r : Ran
 ranged_cell types h t r e = record { cell = scalar_kind t r; is = cell_is types h.ranged t r e }
 
 pub bits_cell : (types : Types) → (t : TypeNo) → IsBits types t → HasCell types t
-bits_cell types t b = record { cell = Natural 4294967295; is = word_is types t (word_tree_is types t b.none b.result) b.none }
+bits_cell types t b = record { cell = Natural 4294967295; is = set_is types t b.none b.result b.headless }
+
+-- and one of a procedure type has one for procedures with its heading
+pub routine_tree : (types : Types) → TypesTyped types → (t : TypeNo) (i : IsRoutine types t) → tree types t ≡ Cell (Callable i.heading)
+routine_tree types h t i = procedure_tree_is types h.trees t i.heading i.is
 
 pub has_base : (types : Types) → TypesTyped types → (t : TypeNo) (r : Range) → scalar_at types t ≡ Some r → HasBase types t r.base
 has_base types h t r e = record { range = r; at = e; own = refl; based = based_at types h.own h.others t r e }
@@ -272,16 +284,16 @@ module _ (types : Types) (h : TypesTyped types) where
 
 -- ---- results of headings
 
-result_by_shape : (types : Types) (t : TypeNo) (h : Signature) (x : Made) (s : Shape) → made_at types t ≡ Some x → x.shape ≡ s → signature_shape s ≡ Some h → result_of types t ≡ option_map (scalar_at types) h.result
+result_by_shape : (types : Types) (t : TypeNo) (h : Signature) (x : Made) (s : Shape) → made_at types t ≡ Some x → x.shape ≡ s → signature_shape s ≡ Some h → result_of types t ≡ option_map (tree types) h.result
 result_by_shape types t h x (shape.Procedure p) m q so =
-    let same : p ≡ h = cc in ap (result_made types) m ∙ ap (result_in types) q ∙ ap (λ (i : Signature). option_map (scalar_at types) i.result) same
+    let same : p ≡ h = cc in ap (result_made types) m ∙ ap (result_in types) q ∙ ap (λ (i : Signature). option_map (tree types) i.result) same
 result_by_shape types t h x (shape.Scalar r) m q so = absurd cc
 result_by_shape types t h x shape.Set m q so = absurd cc
 result_by_shape types t h x (shape.Array i e) m q so = absurd cc
 result_by_shape types t h x (shape.Record fs) m q so = absurd cc
 result_by_shape types t h x (shape.Open e) m q so = absurd cc
 
-pub result_is : (types : Types) (t : TypeNo) (h : Signature) → MadeSo types t signature_shape h → result_of types t ≡ option_map (scalar_at types) h.result
+pub result_is : (types : Types) (t : TypeNo) (h : Signature) → MadeSo types t signature_shape h → result_of types t ≡ option_map (tree types) h.result
 result_is types t h k = result_by_shape types t h k.made k.made.shape k.is refl k.so
 
 -- a heading is no scalar type
@@ -299,3 +311,15 @@ heading_by types (Module home) n h x m so = heading_by_shape types home n h x x.
 
 pub heading_is : (types : Types) (t : TypeNo) (h : Signature) → MadeSo types t signature_shape h → scalar_at types t ≡ None
 heading_is types t h k = heading_by types t.home t.number h k.made k.is k.so
+
+-- the heading of a procedure type is by its formals and its result
+named_by_shape : (types : Types) (s : Shape) (h : Signature) → signature_shape s ≡ Some h → heading_in types s ≡ Some (heading_tree (known_trees types) h.formals h.result)
+named_by_shape types (shape.Procedure p) h so = let same : p ≡ h = cc in ap (λ (i : Signature). Some (heading_tree (known_trees types) i.formals i.result)) same
+named_by_shape types (shape.Scalar r) h so = absurd cc
+named_by_shape types shape.Set h so = absurd cc
+named_by_shape types (shape.Array i e) h so = absurd cc
+named_by_shape types (shape.Record fs) h so = absurd cc
+named_by_shape types (shape.Open e) h so = absurd cc
+
+pub heading_by_signature : (types : Types) (t : TypeNo) (h : Signature) → MadeSo types t signature_shape h → heading_at types t ≡ Some (heading_tree (known_trees types) h.formals h.result)
+heading_by_signature types t h k = ap (heading_made types) k.is ∙ named_by_shape types k.made.shape h k.so

@@ -34,7 +34,6 @@ use Rattle.m2_typed.specs.declared.shape.Formal.{Formal}
 use Rattle.m2_typed.specs.declared.shape.Signature.{Signature}
 use Rattle.m2_typed.specs.declared.types.TypeNo.{TypeNo}
 use Rattle.m2_typed.specs.Chains.{rooted}
-use Rattle.m2_typed.specs.Known.{scalar_at}
 use Rattle.m2_typed.specs.Types.{char}
 use Rattle.m2_judged.specs.Judged.{Gathers, told_where, ◌▷◌}
 use Rattle.m2_judged.specs.declared.scope.Scope.{Scope}
@@ -193,7 +192,7 @@ module _ (g : Gathers) (x : Context) (ws : List Ty) (opens : ℕ → Bool) (s : 
 
   module _ (at : Pos) (t : TypeNo) (c : Callee) (args : List (Meant g.Told)) (there : CalleeTyped x ws h.all g opens s.types h.types t c) (all : AllM args) where
     -- a call with these arguments has the result of the heading
-    pub call_made : (k : Signature) → signature_at s.types t ≡ Some k → (gs : List Argument) → made.ArgumentsTyped x ws gs (map (form_of types) k.formals) → CallTyped x ws (call_by gs c) (option_map (scalar_at types) k.result)
+    pub call_made : (k : Signature) → signature_at s.types t ≡ Some k → (gs : List Argument) → made.ArgumentsTyped x ws gs (map (form_of types) k.formals) → CallTyped x ws (call_by gs c) (option_map (tree types) k.result)
     call_made k e gs p =
         let heading = heading_kept s.types types h.types t k e in
         subst (CallTyped x ws (call_by gs c)) (result_is types t k (signature_known s.types types h.types t k e))
@@ -203,9 +202,7 @@ module _ (g : Gathers) (x : Context) (ws : List Ty) (opens : ℕ → Bool) (s : 
     given_call k r e q count =
         then_holds (actuals_typed args k.formals count (h.formals t k e) all) (λ gs p.
         fine (given s.types r (expr.Call r (call_by gs c)))
-        (given_typed x ws h.all g opens s.types h.types r (expr.Call r (call_by gs c))
-        (made.function_typed x ws r (call_by gs c) (subst (CallTyped x ws (call_by gs c)) (ap (option_map (scalar_at types)) q) (call_made k e gs p)))
-        (made.run_call x.home r (call_by gs c))))
+        (given_typed x ws h.all g opens s.types h.types r (call_by gs c) (subst (CallTyped x ws (call_by gs c)) (ap (option_map (tree types)) q) (call_made k e gs p))))
 
     by_count : (k : Signature) (r : TypeNo) (q : Bool) → (length k.formals == length args) ≡ q → signature_at s.types t ≡ Some k → k.result ≡ Some r
         → Value_ ((told_where g {A = Unit {0}} (not q) at 42 (Ok (tt {0})) ▷ λ fine. Ok r) ▷ λ r. call_given g s.types r c (actuals g s k.formals args))

@@ -20,6 +20,7 @@ use Rattle.m2_typed.specs.declared.computed.TypedExpr.TheVariants as expr
 use Rattle.m2_typed.specs.declared.known_types.Types.{Types}
 use Rattle.m2_typed.specs.declared.meaning.Procedure.{Procedure}
 use Rattle.m2_typed.specs.declared.meaning.Value.{Value}
+use Rattle.m2_typed.specs.declared.shape.Formal.{Formal}
 use Rattle.m2_typed.specs.declared.shape.Scalar.{Scalar as Range}
 use Rattle.m2_typed.specs.declared.shape.Signature.{Signature}
 use Rattle.m2_typed.specs.declared.typed_module.TypedModule.{TypedModule}
@@ -39,7 +40,7 @@ use Rattle.m2_values.specs.declared.operand.Operand.{Operand}
 use Rattle.m2_values.specs.declared.operand.Operand.TheVariants as operand
 use Rattle.m2_values.specs.declared.operator.BinaryOp.{BinaryOp}
 use Rattle.m2_values.specs.declared.operator.BinaryOp.TheVariants.{Plus, Minus, Times, Over, Div, Mod, And, Or, Relation}
-use Rattle.m2_computed.specs.Agreement.{signatures_agree, headings_agree}
+use Rattle.m2_computed.specs.Agreement.{is_alike, formal_agrees, formals_agree, result_agrees, signatures_agree, headings_agree}
 use Rattle.m2_computed.specs.Classes.{class_at, signature_at, array_at}
 use Rattle.m2_computed.specs.Sides.{known_of, constant_side, side_of, sort_of, or_cardinal, run_of}
 use Rattle.m2_computed.specs.Signs.{signed_scalar, signed_value, signed, negated_value, negated}
@@ -60,19 +61,20 @@ use Rattle.m2_computed.specs.declared.side.Amount.{Amount}
 use Rattle.m2_computed.specs.declared.side.Amount.TheVariants.{Known, Run}
 use Rattle.m2_computed.specs.declared.side.Side.{Side}
 use Rattle.m2_computed.specs.declared.side.Side.TheVariants as side
-use Rattle.m2_layout.specs.Shapes.{tree}
-use Rattle.m2_layout.specs.Types.{Ty, row, component}
+use Rattle.m2_layout.specs.Shapes.{Trees, tree_in, passing_of, result_tree, heading_tree, known_trees, tree}
+use Rattle.m2_layout.specs.Types.{Passing, ByValue, ByName, AsOpen, Ty, Heading, Function, Takes, row, component}
+use Rattle.m2_cells.specs.Relation.{heading_at}
 use Rattle.m2_agree.specs.Scene.{IsValue, AreAmong}
 use Rattle.m2_agree_calls.specs.Frames.{Open, kind_at}
 use Rattle.m2_agree_trees.specs.Typed.{Context, IsNamed}
 use Rattle.m2_formed.specs.Formed.{Holds, fine, broken}
 use Rattle.m2_formed.proofs.Basics.{then_holds, holds_weaker, told_holds, where_holds, both_holds, any_holds, Grows}
 use Rattle.m2_formed_ranges.specs.FormedRanges.{IsNumber, ValueRanged}
-use Rattle.m2_formed_ranges.proofs.Types.{same_types}
+use Rattle.m2_formed_ranges.proofs.Types.{same_types, both_left, both_right}
 use Rattle.m2_formed_ranges.proofs.Subranges.{between_in, test_holds, beside_holds, SortRanged, OperandRanged, operand_ranged, fits_number}
 use Rattle.m2_formed_ranges.proofs.Values.{combined_ranged, signed_ranged, negated_ranged}
-use Rattle.m2_typing.specs.Typing.{IsWord, IsConstant, HasBase, TypesTyped, ExprTyped, PlaceTyped, GivenTyped, ScalarTyped, WordTyped, RoutineTyped, ValueTyped, DesignatedTyped}
-use Rattle.m2_typing.proofs.Known.{IsBits, ClassIs, MadeSo, class_is, scalar_known, signature_known, array_known, fields_known, within_range, number_value, among_itself, among_words, among_base, free_among, has_base, IsArray, array_is, record_is, heading_is}
+use Rattle.m2_typing.specs.Typing.{IsWord, IsConstant, HasBase, TypesTyped, ExprTyped, ProcedureTyped, PlaceTyped, GivenTyped, ScalarTyped, WordTyped, RoutineTyped, ValueTyped, DesignatedTyped}
+use Rattle.m2_typing.proofs.Known.{IsRoutine, ClassIs, MadeSo, class_is, signature_known, array_known, fields_known, within_range, number_value, among_itself, among_words, among_base, free_among, HasCell, ranged_cell, bits_cell, has_base, IsArray, array_is, record_is, heading_is, heading_by_signature}
 use Rattle.m2_typing.proofs.Known as known
 use Rattle.m2_typing.proofs.Words.{Small, OperandWord, operand_word, holds_both, binary_words, signed_words, negated_words}
 use Rattle.m2_typing.proofs.Constructs as made
@@ -151,20 +153,55 @@ common_some (Some t) (Some u) p e = by (are_same t u) e where
   by true g = cc g
   by false g = cc g
 
--- ---- headings that agree are headings
+-- ---- headings that agree are the same
 
-record IsThere (o : Option Signature) : Type 0 where
-  heading : Signature
-  is : o ≡ Some heading
+alike_same : (a b : Bool) → is_alike a b ≡ true → a ≡ b
+alike_same true true e = refl
+alike_same true false e = absurd cc
+alike_same false true e = absurd cc
+alike_same false false e = refl
 
-agree_first : (a b : Option Signature) → signatures_agree a b ≡ true → IsThere a
-agree_first None b e = absurd cc
-agree_first (Some h) b e = record { heading = h; is = refl }
+passing_same : (f y : Formal) → f.is_var ≡ y.is_var → f.is_open ≡ y.is_open → passing_of f ≡ passing_of y
+passing_same f y v o = ap (λ (b : Bool). if b then AsOpen f.is_var else (if f.is_var then ByName else ByValue)) o ∙ ap (λ (b : Bool). if y.is_open then AsOpen b else (if b then ByName else ByValue)) v
 
-agree_second : (a b : Option Signature) → signatures_agree a b ≡ true → IsThere b
-agree_second None b e = absurd cc
-agree_second (Some h) None e = absurd cc
-agree_second (Some h) (Some k) e = record { heading = k; is = refl }
+result_same : (ts : Trees) (r q : Option TypeNo) → result_agrees r q ≡ true → result_tree ts r ≡ result_tree ts q
+result_same ts None None e = refl
+result_same ts None (Some u) e = absurd cc
+result_same ts (Some t) None e = absurd cc
+result_same ts (Some t) (Some u) e = ap (λ (w : TypeNo). Function (tree_in ts w)) (same_types t u e)
+
+heading_same : (ts : Trees) (fs ys : List Formal) (r q : Option TypeNo) → formals_agree fs ys ≡ true → result_agrees r q ≡ true → heading_tree ts fs r ≡ heading_tree ts ys q
+heading_same ts [] [] r q e k = result_same ts r q k
+heading_same ts [] (y ∷ ys) r q e k = absurd cc
+heading_same ts (f ∷ fs) [] r q e k = absurd cc
+heading_same ts (f ∷ fs) (y ∷ ys) r q e k =
+    let one : formal_agrees f y ≡ true = both_left (formal_agrees f y) (formals_agree fs ys) e in
+    let kinds : (is_alike f.is_var y.is_var && is_alike f.is_open y.is_open) ≡ true = both_left (is_alike f.is_var y.is_var && is_alike f.is_open y.is_open) (are_same f.of y.of) one in
+    let var : f.is_var ≡ y.is_var = alike_same f.is_var y.is_var (both_left (is_alike f.is_var y.is_var) (is_alike f.is_open y.is_open) kinds) in
+    let open' : f.is_open ≡ y.is_open = alike_same f.is_open y.is_open (both_right (is_alike f.is_var y.is_var) (is_alike f.is_open y.is_open) kinds) in
+    let of : f.of ≡ y.of = same_types f.of y.of (both_right (is_alike f.is_var y.is_var && is_alike f.is_open y.is_open) (are_same f.of y.of) one) in
+    ap (λ (p : Passing). Takes p (tree_in ts f.of) (heading_tree ts fs r)) (passing_same f y var open')
+    ∙ ap (λ (t : TypeNo). Takes (passing_of y) (tree_in ts t) (heading_tree ts fs r)) of
+    ∙ ap (λ (h : Heading). Takes (passing_of y) (tree_in ts y.of) h) (heading_same ts fs ys r q (both_right (formal_agrees f y) (formals_agree fs ys) e) k)
+
+-- two signatures that are there, with one heading
+record AreOne (a b : Option Signature) : Type 0 where
+  first : Signature
+  second : Signature
+  is : a ≡ Some first
+  other : b ≡ Some second
+  same : (ts : Trees) → heading_tree ts first.formals first.result ≡ heading_tree ts second.formals second.result
+
+agree_one : (a b : Option Signature) → signatures_agree a b ≡ true → AreOne a b
+agree_one None b e = absurd cc
+agree_one (Some h) None e = absurd cc
+agree_one (Some h) (Some k) e = record {
+  first = h;
+  second = k;
+  is = refl;
+  other = refl;
+  same = λ ts. heading_same ts h.formals k.formals h.result k.result (both_left (formals_agree h.formals k.formals) (result_agrees h.result k.result) e) (both_right (formals_agree h.formals k.formals) (result_agrees h.result k.result) e);
+}
 
 -- ---- fields of a record
 
@@ -275,6 +312,11 @@ module _ (x : Context) (ws : List Ty) (h : TypesTyped x.home.types) where
   amount_among w (Known a) p q e = record { of = w; typed = made.constant_typed x ws w a.number (known_among w a.sort a.number p q e); among = among_itself types w w refl }
   amount_among w (Run b e) p (inl q) f = absurd (let z : Some b ≡ None = q.0 in cc z)
   amount_among w (Run b e) p (inr q) f = record { of = p.of; typed = p.scalar.typed; among = subst (λ (k : TypeNo). AreAmong types p.of k) (one_type b w q) (among_base types p.of b p.scalar.based) }
+
+  -- a value for a place: of a type with a cell for numbers, or of a procedure type
+  pub data IsSuited (t : TypeNo) (e : TypedExpr) : Type 0 where
+    SuitsCell : HasCell types t → GivenTyped x ws e t → IsSuited t e
+    SuitsProcedure : (i : IsRoutine types t) → ProcedureTyped x ws e i.heading → IsSuited t e
 
   module _ (g : Gathers) where
     abbrev pub Value_ : Result Computed g.Told → Type 0
@@ -515,24 +557,30 @@ module _ (x : Context) (ws : List Ty) (h : TypesTyped x.home.types) where
     -- ---- in a scope, the types of which are those of the module
 
     module _ (scope : Types) (grows : Grows scope types) where
-      headed : (t : TypeNo) → IsThere (signature_at scope t) → scalar_at types t ≡ None
-      headed t i = heading_is types t i.heading (signature_known scope types grows t i.heading i.is)
+      -- a procedure whose heading is there
+      named_some : (f : Procedure) (h : Signature) → IsNamed x f → signature_at scope f.heading ≡ Some h → SomeTyped (expr.Procedure f)
+      named_some f h k i =
+          let made_so = signature_known scope types grows f.heading h i in
+          record {
+            of = f.heading;
+            typed = made.routine_expr_typed x ws f.heading _ (expr.Procedure f) (heading_is types f.heading h made_so) (made.procedure_typed x ws f _ k (heading_by_signature types f.heading h made_so));
+          }
 
-      named_some : (f : Procedure) → IsNamed x f → IsThere (signature_at scope f.heading) → SomeTyped (expr.Procedure f)
-      named_some f k i = record { of = f.heading; typed = made.procedure_typed x ws f k (headed f.heading i) }
+      routine_some : (t : TypeNo) (e : TypedExpr) → RoutineTyped x ws t e → SomeTyped e
+      routine_some t e p = record { of = t; typed = made.routine_expr_typed x ws t p.heading e p.word p.typed }
 
       partner_pair : (t : TypeNo) (e : TypedExpr) (y : Option Side) → RoutineTyped x ws t e → SideTyped y → PairTyped e (partner_of scope t y)
       partner_pair t e None p q = tt
       partner_pair t e (Some (side.Scalar b)) p q = tt
       partner_pair t e (Some (side.Set s)) p q = tt
-      partner_pair t e (Some (side.Routine u f)) p q = λ k. (record { of = t; typed = p.typed }, record { of = u; typed = q.typed })
-      partner_pair t e (Some (side.Procedure f)) p q = λ k. (record { of = t; typed = p.typed }, named_some f q (agree_second (signature_at scope t) (signature_at scope f.heading) k))
+      partner_pair t e (Some (side.Routine u f)) p q = λ k. (routine_some t e p, routine_some u f q)
+      partner_pair t e (Some (side.Procedure f)) p q = λ k. let j = agree_one (signature_at scope t) (signature_at scope f.heading) k in (routine_some t e p, named_some f j.second q j.other)
 
       routine_pair : (f : Procedure) (y : Option Side) → IsNamed x f → SideTyped y → PairTyped (expr.Procedure f) (routine_of scope f y)
       routine_pair f None p q = tt
       routine_pair f (Some (side.Scalar b)) p q = tt
       routine_pair f (Some (side.Set s)) p q = tt
-      routine_pair f (Some (side.Routine u e)) p q = λ k. (named_some f p (agree_second (signature_at scope u) (signature_at scope f.heading) k), record { of = u; typed = q.typed })
+      routine_pair f (Some (side.Routine u e)) p q = λ k. let j = agree_one (signature_at scope u) (signature_at scope f.heading) k in (named_some f j.second p j.other, routine_some u e q)
       routine_pair f (Some (side.Procedure h)) p q = tt
 
       between_typed : (op : BinaryOp) (spot at : Pos) (v : Option Side) (at' : Pos) (y : Option Side) → SideSorted v ⊎ SideSorted y → SideTyped v → SideTyped y → Value_ (between g scope op spot at v at' y)
@@ -589,24 +637,48 @@ module _ (x : Context) (ws : List Ty) (h : TypesTyped x.home.types) where
       set_given number t at (Some (side.Routine u f)) e p = told_holds g at number
       set_given number t at (Some (side.Procedure f)) e p = told_holds g at number
 
-      procedure_given : (number : ℕ) (t : TypeNo) (at : Pos) (v : Option Side) → scalar_at types t ≡ None → SideTyped v → Given_ t (procedure_suited g number scope t at v)
+      -- a value of a procedure type, with its heading
+      abbrev pub Procedure_ : Heading → Result TypedExpr g.Told → Type 0
+      Procedure_ k r = Holds (λ e. ProcedureTyped x ws e k) r
+
+      one_heading : (a b : Heading) → Some a ≡ Some b → a ≡ b
+      one_heading a b e = cc
+
+      procedure_given : (number : ℕ) (t : TypeNo) (at : Pos) (v : Option Side) (i : IsRoutine types t) → SideTyped v → Procedure_ i.heading (procedure_suited g number scope t at v)
       procedure_given number t at None e p = told_holds g at number
       procedure_given number t at (Some (side.Scalar a)) e p = told_holds g at number
       procedure_given number t at (Some (side.Set f)) e p = told_holds g at number
-      procedure_given number t at (Some (side.Routine u f)) e p = where_holds g _ at number (fine f (given_among t u f p.typed (among_words types u t p.word e)))
+      procedure_given number t at (Some (side.Routine u f)) e p =
+          where_not g (are_same u t) at number (λ k.
+          let same : p.heading ≡ e.heading = one_heading p.heading e.heading (sym p.is ∙ ap (heading_at types) (same_types u t k) ∙ e.is) in
+          fine f (subst (λ (j : Heading). ProcedureTyped x ws f j) same p.typed))
       procedure_given number t at (Some (side.Procedure f)) e p =
           where_not g (headings_agree scope t f.heading) at number (λ k.
-          let none : scalar_at types f.heading ≡ None = headed f.heading (agree_second (signature_at scope t) (signature_at scope f.heading) k) in
-          fine (expr.Procedure f) (given_among t f.heading (expr.Procedure f) (made.procedure_typed x ws f p none) (among_words types f.heading t none e)))
+          let j = agree_one (signature_at scope t) (signature_at scope f.heading) k in
+          let one = heading_by_signature types t j.first (signature_known scope types grows t j.first j.is) in
+          let two = heading_by_signature types f.heading j.second (signature_known scope types grows f.heading j.second j.other) in
+          fine (expr.Procedure f) (made.procedure_typed x ws f e.heading p (two ∙ ap (λ (z : Heading). Some z) (sym (j.same (known_trees types))) ∙ sym one ∙ e.is)))
 
       value_given : (number : ℕ) (t : TypeNo) (at : Pos) (v : Option Side) (c : Class) → ClassIs types t c → SideTyped v → Given_ t (value_in g number scope t at v c)
       value_given number t at v (class.Scalar s) e p = scalar_given number t s at v e p
       value_given number t at v class.Set e p = set_given number t at v e.none p
-      value_given number t at v class.Procedure e p = procedure_given number t at v e.none p
+      value_given number t at v class.Procedure e p = holds_weaker (λ f k. given_among t t f (made.routine_expr_typed x ws t e.heading f e.none k) (among_itself types t t refl)) (procedure_given number t at v e p)
       value_given number t at v class.Whole e p = told_holds g at number
 
       pub suited_typed : (number : ℕ) (t : TypeNo) (at : Pos) (v : Computed) → ValueTyped x ws v → Given_ t (value_suited g number scope t at v)
       suited_typed number t at v p = value_given number t at (side_of v) (class_at scope t) (class_is scope types grows t) (side_typed v p)
+
+      place_suited : (number : ℕ) (t : TypeNo) (at : Pos) (v : Option Side) (c : Class) → ClassIs types t c → SideTyped v → Holds (IsSuited t) (value_in g number scope t at v c)
+      place_suited number t at v (class.Scalar s) e p = holds_weaker (λ f k. SuitsCell (ranged_cell types h t s e) k) (scalar_given number t s at v e p)
+      place_suited number t at v class.Set e p = holds_weaker (λ f k. SuitsCell (bits_cell types t e) k) (set_given number t at v e.none p)
+      place_suited number t at v class.Procedure e p = holds_weaker (λ f k. SuitsProcedure e k) (procedure_given number t at v e p)
+      place_suited number t at v class.Whole e p = told_holds g at number
+
+      pub place_suited_typed : (number : ℕ) (t : TypeNo) (at : Pos) (v : Computed) → ValueTyped x ws v → Holds (IsSuited t) (value_suited g number scope t at v)
+      place_suited_typed number t at v p = place_suited number t at (side_of v) (class_at scope t) (class_is scope types grows t) (side_typed v p)
+
+      pub procedure_suited_typed : (number : ℕ) (t : TypeNo) (at : Pos) (v : Computed) (i : IsRoutine types t) → class_at scope t ≡ class.Procedure → ValueTyped x ws v → Procedure_ i.heading (value_suited g number scope t at v)
+      procedure_suited_typed number t at v i q p = subst (λ (c : Class). Procedure_ i.heading (value_in g number scope t at (side_of v) c)) (sym q) (procedure_given number t at (side_of v) i (side_typed v p))
 
       -- ---- components
 

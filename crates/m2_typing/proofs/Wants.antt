@@ -1,6 +1,6 @@
 -- What each construct asks for: what its parts ask for, one behind the other.
-use Rattle.std.proofs.Common.{◌≡◌, ℕ, ◌+◌, Bool, true, false, List, [], ◌∷◌, ◌++◌, length, map, refl, sym, ap, subst, ◌∙◌, arith, append_assoc}
-use Rattle.std.specs.Prelude.{◌||◌, if◌then◌else◌, ℤ}
+use Rattle.std.proofs.Common.{◌≡◌, ℕ, ◌+◌, List, [], ◌∷◌, ◌++◌, length, map, refl, sym, ap, subst, ◌∙◌, arith, append_assoc}
+use Rattle.std.specs.Prelude.{if◌then◌else◌, ℤ}
 use Rattle.std.proofs.lemmas.List.{append-nil}
 use Rattle.m2_typed.specs.declared.computed.Argument.{Argument, Argument-F, out-Argument, map-Argument, fold_out-Argument}
 use Rattle.m2_typed.specs.declared.computed.Argument.TheOpen as layer
@@ -31,21 +31,21 @@ use Rattle.m2_scheme.specs.Exprs.{is_own}
 use Rattle.m2_scheme.specs.Signatures.{Signatures, of_heading, of_expr, of_place, of_call}
 use Rattle.m2_scheme.specs.Signatures as signed
 use Rattle.m2_agree_trees.specs.Typed.{Context}
-use Rattle.m2_typing.specs.Wanted.{one_holds, argument_holds, call_holds, component_holds, link_holds, expr_holds, place_holds, calls_held, held_at, held_called, held_linked, held_behind, held_passed, of_link, of_component, of_argument, Wanted, wanted_of, wanted_at, wanted_called, wanted_linked, wanted_behind, wanted_passed, TextsStand, AreNeeded, Has}
+use Rattle.m2_typing.specs.Wanted.{of_link, of_component, of_argument, Wanted, wanted_of, wanted_at, wanted_called, wanted_linked, wanted_behind, wanted_passed, TextsStand, AreNeeded, Has}
 
 -- ---- one behind the other
 
 abbrev pub nothing : Wanted
-nothing = record { texts = []; signatures = []; held = false }
+nothing = record { texts = []; signatures = [] }
 
 abbrev pub beside : Wanted → Wanted → Wanted
-beside u v = record { texts = u.texts ++ v.texts; signatures = u.signatures ++ v.signatures; held = u.held || v.held }
+beside u v = record { texts = u.texts ++ v.texts; signatures = u.signatures ++ v.signatures }
 
-abbrev pub made : Texts → Signatures → Bool → Wanted
-made t s b = record { texts = t; signatures = s; held = b }
+abbrev pub made : Texts → Signatures → Wanted
+made t s = record { texts = t; signatures = s }
 
-pub made_same : (t u : Texts) (s z : Signatures) (b c : Bool) → t ≡ u → s ≡ z → b ≡ c → made t s b ≡ made u z c
-made_same t u s z b c p q r = ap (λ (y : Texts). made y s b) p ∙ ap (λ (y : Signatures). made u y b) q ∙ ap (λ (y : Bool). made u z y) r
+pub made_same : (t u : Texts) (s z : Signatures) → t ≡ u → s ≡ z → made t s ≡ made u z
+made_same t u s z p q = ap (λ (y : Texts). made y s) p ∙ ap (λ (y : Signatures). made u y) q
 
 pub characters_append : (ts us : Texts) → characters (ts ++ us) ≡ characters ts + characters us
 characters_append [] us = omega arith
@@ -71,123 +71,91 @@ module _ (x : Context) where
   needed_second [] zs h = h
   needed_second (s ∷ ss) zs h = needed_second ss zs h.1
 
-  or_first : (b c : Bool) → (b || c) ≡ false → b ≡ false
-  or_first true c e = absurd cc
-  or_first false c e = refl
-
-  or_second : (b c : Bool) → (b || c) ≡ false → c ≡ false
-  or_second true c e = absurd cc
-  or_second false c e = e
-
   pub has_first : (a : ℕ) (u v : Wanted) → Has x a (beside u v) → Has x a u
-  has_first a u v h = record { texts = texts_first a u.texts v.texts h.texts; signatures = needed_first u.signatures v.signatures h.signatures; held = or_first u.held v.held h.held }
+  has_first a u v h = record { texts = texts_first a u.texts v.texts h.texts; signatures = needed_first u.signatures v.signatures h.signatures }
 
   pub has_second : (a : ℕ) (u v : Wanted) → Has x a (beside u v) → Has x (a + characters u.texts) v
-  has_second a u v h = record { texts = texts_second a u.texts v.texts h.texts; signatures = needed_second u.signatures v.signatures h.signatures; held = or_second u.held v.held h.held }
+  has_second a u v h = record { texts = texts_second a u.texts v.texts h.texts; signatures = needed_second u.signatures v.signatures h.signatures }
 
 -- ---- a layer of a tree
 
 module _ (m : TypedModule) where
   argument_texts : (e : Argument) (y : Argument-F Argument Call Component Link TypedExpr Place) → out-Argument e ≡ y → texts_passed e ≡ texts.argument_texts (map-Argument Argument Call Component Link TypedExpr Place Texts Texts Texts Texts Texts Texts texts_passed texts_called texts_behind texts_linked texts_of texts_at y)
-  unfolding texts_of texts_at texts_called texts_linked texts_behind texts_passed of_expr of_place of_call of_link of_component of_argument calls_held held_at held_called held_linked held_behind held_passed
+  unfolding texts_of texts_at texts_called texts_linked texts_behind texts_passed of_expr of_place of_call of_link of_component of_argument
   argument_texts e y h = fold_out-Argument Texts Texts Texts Texts Texts Texts texts.argument_texts texts.call_texts texts.component_texts texts.link_texts texts.expr_texts texts.place_texts e ∙ ap (λ (y : Argument-F Argument Call Component Link TypedExpr Place). texts.argument_texts (map-Argument Argument Call Component Link TypedExpr Place Texts Texts Texts Texts Texts Texts texts_passed texts_called texts_behind texts_linked texts_of texts_at y)) h
 
   argument_signatures : (e : Argument) (y : Argument-F Argument Call Component Link TypedExpr Place) → out-Argument e ≡ y → of_argument m e ≡ signed.argument_layer m (map-Argument Argument Call Component Link TypedExpr Place Signatures Signatures Signatures Signatures Signatures Signatures (of_argument m) (of_call m) (of_component m) (of_link m) (of_expr m) (of_place m) y)
-  unfolding texts_of texts_at texts_called texts_linked texts_behind texts_passed of_expr of_place of_call of_link of_component of_argument calls_held held_at held_called held_linked held_behind held_passed
+  unfolding texts_of texts_at texts_called texts_linked texts_behind texts_passed of_expr of_place of_call of_link of_component of_argument
   argument_signatures e y h = fold_out-Argument Signatures Signatures Signatures Signatures Signatures Signatures (signed.argument_layer m) (signed.call_layer m) (signed.component_layer m) (signed.link_layer m) (signed.expr_layer m) (signed.place_layer m) e ∙ ap (λ (y : Argument-F Argument Call Component Link TypedExpr Place). signed.argument_layer m (map-Argument Argument Call Component Link TypedExpr Place Signatures Signatures Signatures Signatures Signatures Signatures (of_argument m) (of_call m) (of_component m) (of_link m) (of_expr m) (of_place m) y)) h
 
-  argument_held : (e : Argument) (y : Argument-F Argument Call Component Link TypedExpr Place) → out-Argument e ≡ y → held_passed e ≡ argument_holds (map-Argument Argument Call Component Link TypedExpr Place Bool Bool Bool Bool Bool Bool held_passed held_called held_behind held_linked calls_held held_at y)
-  unfolding texts_of texts_at texts_called texts_linked texts_behind texts_passed of_expr of_place of_call of_link of_component of_argument calls_held held_at held_called held_linked held_behind held_passed
-  argument_held e y h = fold_out-Argument Bool Bool Bool Bool Bool Bool argument_holds call_holds component_holds link_holds expr_holds place_holds e ∙ ap (λ (y : Argument-F Argument Call Component Link TypedExpr Place). argument_holds (map-Argument Argument Call Component Link TypedExpr Place Bool Bool Bool Bool Bool Bool held_passed held_called held_behind held_linked calls_held held_at y)) h
-
-  argument_wants : (e : Argument) (y : Argument-F Argument Call Component Link TypedExpr Place) → out-Argument e ≡ y → wanted_passed m e ≡ made (texts.argument_texts (map-Argument Argument Call Component Link TypedExpr Place Texts Texts Texts Texts Texts Texts texts_passed texts_called texts_behind texts_linked texts_of texts_at y)) (signed.argument_layer m (map-Argument Argument Call Component Link TypedExpr Place Signatures Signatures Signatures Signatures Signatures Signatures (of_argument m) (of_call m) (of_component m) (of_link m) (of_expr m) (of_place m) y)) (argument_holds (map-Argument Argument Call Component Link TypedExpr Place Bool Bool Bool Bool Bool Bool held_passed held_called held_behind held_linked calls_held held_at y))
-  argument_wants e y h = made_same (texts_passed e) _ (of_argument m e) _ (held_passed e) _ (argument_texts e y h) (argument_signatures e y h) (argument_held e y h)
+  argument_wants : (e : Argument) (y : Argument-F Argument Call Component Link TypedExpr Place) → out-Argument e ≡ y → wanted_passed m e ≡ made (texts.argument_texts (map-Argument Argument Call Component Link TypedExpr Place Texts Texts Texts Texts Texts Texts texts_passed texts_called texts_behind texts_linked texts_of texts_at y)) (signed.argument_layer m (map-Argument Argument Call Component Link TypedExpr Place Signatures Signatures Signatures Signatures Signatures Signatures (of_argument m) (of_call m) (of_component m) (of_link m) (of_expr m) (of_place m) y))
+  argument_wants e y h = made_same (texts_passed e) _ (of_argument m e) _ (argument_texts e y h) (argument_signatures e y h)
 
   call_texts : (e : Call) (y : Call-F Argument Call Component Link TypedExpr Place) → out-Call e ≡ y → texts_called e ≡ texts.call_texts (map-Call Argument Call Component Link TypedExpr Place Texts Texts Texts Texts Texts Texts texts_passed texts_called texts_behind texts_linked texts_of texts_at y)
-  unfolding texts_of texts_at texts_called texts_linked texts_behind texts_passed of_expr of_place of_call of_link of_component of_argument calls_held held_at held_called held_linked held_behind held_passed
+  unfolding texts_of texts_at texts_called texts_linked texts_behind texts_passed of_expr of_place of_call of_link of_component of_argument
   call_texts e y h = fold_out-Call Texts Texts Texts Texts Texts Texts texts.argument_texts texts.call_texts texts.component_texts texts.link_texts texts.expr_texts texts.place_texts e ∙ ap (λ (y : Call-F Argument Call Component Link TypedExpr Place). texts.call_texts (map-Call Argument Call Component Link TypedExpr Place Texts Texts Texts Texts Texts Texts texts_passed texts_called texts_behind texts_linked texts_of texts_at y)) h
 
   call_signatures : (e : Call) (y : Call-F Argument Call Component Link TypedExpr Place) → out-Call e ≡ y → of_call m e ≡ signed.call_layer m (map-Call Argument Call Component Link TypedExpr Place Signatures Signatures Signatures Signatures Signatures Signatures (of_argument m) (of_call m) (of_component m) (of_link m) (of_expr m) (of_place m) y)
-  unfolding texts_of texts_at texts_called texts_linked texts_behind texts_passed of_expr of_place of_call of_link of_component of_argument calls_held held_at held_called held_linked held_behind held_passed
+  unfolding texts_of texts_at texts_called texts_linked texts_behind texts_passed of_expr of_place of_call of_link of_component of_argument
   call_signatures e y h = fold_out-Call Signatures Signatures Signatures Signatures Signatures Signatures (signed.argument_layer m) (signed.call_layer m) (signed.component_layer m) (signed.link_layer m) (signed.expr_layer m) (signed.place_layer m) e ∙ ap (λ (y : Call-F Argument Call Component Link TypedExpr Place). signed.call_layer m (map-Call Argument Call Component Link TypedExpr Place Signatures Signatures Signatures Signatures Signatures Signatures (of_argument m) (of_call m) (of_component m) (of_link m) (of_expr m) (of_place m) y)) h
 
-  call_held : (e : Call) (y : Call-F Argument Call Component Link TypedExpr Place) → out-Call e ≡ y → held_called e ≡ call_holds (map-Call Argument Call Component Link TypedExpr Place Bool Bool Bool Bool Bool Bool held_passed held_called held_behind held_linked calls_held held_at y)
-  unfolding texts_of texts_at texts_called texts_linked texts_behind texts_passed of_expr of_place of_call of_link of_component of_argument calls_held held_at held_called held_linked held_behind held_passed
-  call_held e y h = fold_out-Call Bool Bool Bool Bool Bool Bool argument_holds call_holds component_holds link_holds expr_holds place_holds e ∙ ap (λ (y : Call-F Argument Call Component Link TypedExpr Place). call_holds (map-Call Argument Call Component Link TypedExpr Place Bool Bool Bool Bool Bool Bool held_passed held_called held_behind held_linked calls_held held_at y)) h
-
-  call_wants : (e : Call) (y : Call-F Argument Call Component Link TypedExpr Place) → out-Call e ≡ y → wanted_called m e ≡ made (texts.call_texts (map-Call Argument Call Component Link TypedExpr Place Texts Texts Texts Texts Texts Texts texts_passed texts_called texts_behind texts_linked texts_of texts_at y)) (signed.call_layer m (map-Call Argument Call Component Link TypedExpr Place Signatures Signatures Signatures Signatures Signatures Signatures (of_argument m) (of_call m) (of_component m) (of_link m) (of_expr m) (of_place m) y)) (call_holds (map-Call Argument Call Component Link TypedExpr Place Bool Bool Bool Bool Bool Bool held_passed held_called held_behind held_linked calls_held held_at y))
-  call_wants e y h = made_same (texts_called e) _ (of_call m e) _ (held_called e) _ (call_texts e y h) (call_signatures e y h) (call_held e y h)
+  call_wants : (e : Call) (y : Call-F Argument Call Component Link TypedExpr Place) → out-Call e ≡ y → wanted_called m e ≡ made (texts.call_texts (map-Call Argument Call Component Link TypedExpr Place Texts Texts Texts Texts Texts Texts texts_passed texts_called texts_behind texts_linked texts_of texts_at y)) (signed.call_layer m (map-Call Argument Call Component Link TypedExpr Place Signatures Signatures Signatures Signatures Signatures Signatures (of_argument m) (of_call m) (of_component m) (of_link m) (of_expr m) (of_place m) y))
+  call_wants e y h = made_same (texts_called e) _ (of_call m e) _ (call_texts e y h) (call_signatures e y h)
 
   component_texts : (e : Component) (y : Component-F Argument Call Component Link TypedExpr Place) → out-Component e ≡ y → texts_behind e ≡ texts.component_texts (map-Component Argument Call Component Link TypedExpr Place Texts Texts Texts Texts Texts Texts texts_passed texts_called texts_behind texts_linked texts_of texts_at y)
-  unfolding texts_of texts_at texts_called texts_linked texts_behind texts_passed of_expr of_place of_call of_link of_component of_argument calls_held held_at held_called held_linked held_behind held_passed
+  unfolding texts_of texts_at texts_called texts_linked texts_behind texts_passed of_expr of_place of_call of_link of_component of_argument
   component_texts e y h = fold_out-Component Texts Texts Texts Texts Texts Texts texts.argument_texts texts.call_texts texts.component_texts texts.link_texts texts.expr_texts texts.place_texts e ∙ ap (λ (y : Component-F Argument Call Component Link TypedExpr Place). texts.component_texts (map-Component Argument Call Component Link TypedExpr Place Texts Texts Texts Texts Texts Texts texts_passed texts_called texts_behind texts_linked texts_of texts_at y)) h
 
   component_signatures : (e : Component) (y : Component-F Argument Call Component Link TypedExpr Place) → out-Component e ≡ y → of_component m e ≡ signed.component_layer m (map-Component Argument Call Component Link TypedExpr Place Signatures Signatures Signatures Signatures Signatures Signatures (of_argument m) (of_call m) (of_component m) (of_link m) (of_expr m) (of_place m) y)
-  unfolding texts_of texts_at texts_called texts_linked texts_behind texts_passed of_expr of_place of_call of_link of_component of_argument calls_held held_at held_called held_linked held_behind held_passed
+  unfolding texts_of texts_at texts_called texts_linked texts_behind texts_passed of_expr of_place of_call of_link of_component of_argument
   component_signatures e y h = fold_out-Component Signatures Signatures Signatures Signatures Signatures Signatures (signed.argument_layer m) (signed.call_layer m) (signed.component_layer m) (signed.link_layer m) (signed.expr_layer m) (signed.place_layer m) e ∙ ap (λ (y : Component-F Argument Call Component Link TypedExpr Place). signed.component_layer m (map-Component Argument Call Component Link TypedExpr Place Signatures Signatures Signatures Signatures Signatures Signatures (of_argument m) (of_call m) (of_component m) (of_link m) (of_expr m) (of_place m) y)) h
 
-  component_held : (e : Component) (y : Component-F Argument Call Component Link TypedExpr Place) → out-Component e ≡ y → held_behind e ≡ component_holds (map-Component Argument Call Component Link TypedExpr Place Bool Bool Bool Bool Bool Bool held_passed held_called held_behind held_linked calls_held held_at y)
-  unfolding texts_of texts_at texts_called texts_linked texts_behind texts_passed of_expr of_place of_call of_link of_component of_argument calls_held held_at held_called held_linked held_behind held_passed
-  component_held e y h = fold_out-Component Bool Bool Bool Bool Bool Bool argument_holds call_holds component_holds link_holds expr_holds place_holds e ∙ ap (λ (y : Component-F Argument Call Component Link TypedExpr Place). component_holds (map-Component Argument Call Component Link TypedExpr Place Bool Bool Bool Bool Bool Bool held_passed held_called held_behind held_linked calls_held held_at y)) h
-
-  component_wants : (e : Component) (y : Component-F Argument Call Component Link TypedExpr Place) → out-Component e ≡ y → wanted_behind m e ≡ made (texts.component_texts (map-Component Argument Call Component Link TypedExpr Place Texts Texts Texts Texts Texts Texts texts_passed texts_called texts_behind texts_linked texts_of texts_at y)) (signed.component_layer m (map-Component Argument Call Component Link TypedExpr Place Signatures Signatures Signatures Signatures Signatures Signatures (of_argument m) (of_call m) (of_component m) (of_link m) (of_expr m) (of_place m) y)) (component_holds (map-Component Argument Call Component Link TypedExpr Place Bool Bool Bool Bool Bool Bool held_passed held_called held_behind held_linked calls_held held_at y))
-  component_wants e y h = made_same (texts_behind e) _ (of_component m e) _ (held_behind e) _ (component_texts e y h) (component_signatures e y h) (component_held e y h)
+  component_wants : (e : Component) (y : Component-F Argument Call Component Link TypedExpr Place) → out-Component e ≡ y → wanted_behind m e ≡ made (texts.component_texts (map-Component Argument Call Component Link TypedExpr Place Texts Texts Texts Texts Texts Texts texts_passed texts_called texts_behind texts_linked texts_of texts_at y)) (signed.component_layer m (map-Component Argument Call Component Link TypedExpr Place Signatures Signatures Signatures Signatures Signatures Signatures (of_argument m) (of_call m) (of_component m) (of_link m) (of_expr m) (of_place m) y))
+  component_wants e y h = made_same (texts_behind e) _ (of_component m e) _ (component_texts e y h) (component_signatures e y h)
 
   link_texts : (e : Link) (y : Link-F Argument Call Component Link TypedExpr Place) → out-Link e ≡ y → texts_linked e ≡ texts.link_texts (map-Link Argument Call Component Link TypedExpr Place Texts Texts Texts Texts Texts Texts texts_passed texts_called texts_behind texts_linked texts_of texts_at y)
-  unfolding texts_of texts_at texts_called texts_linked texts_behind texts_passed of_expr of_place of_call of_link of_component of_argument calls_held held_at held_called held_linked held_behind held_passed
+  unfolding texts_of texts_at texts_called texts_linked texts_behind texts_passed of_expr of_place of_call of_link of_component of_argument
   link_texts e y h = fold_out-Link Texts Texts Texts Texts Texts Texts texts.argument_texts texts.call_texts texts.component_texts texts.link_texts texts.expr_texts texts.place_texts e ∙ ap (λ (y : Link-F Argument Call Component Link TypedExpr Place). texts.link_texts (map-Link Argument Call Component Link TypedExpr Place Texts Texts Texts Texts Texts Texts texts_passed texts_called texts_behind texts_linked texts_of texts_at y)) h
 
   link_signatures : (e : Link) (y : Link-F Argument Call Component Link TypedExpr Place) → out-Link e ≡ y → of_link m e ≡ signed.link_layer m (map-Link Argument Call Component Link TypedExpr Place Signatures Signatures Signatures Signatures Signatures Signatures (of_argument m) (of_call m) (of_component m) (of_link m) (of_expr m) (of_place m) y)
-  unfolding texts_of texts_at texts_called texts_linked texts_behind texts_passed of_expr of_place of_call of_link of_component of_argument calls_held held_at held_called held_linked held_behind held_passed
+  unfolding texts_of texts_at texts_called texts_linked texts_behind texts_passed of_expr of_place of_call of_link of_component of_argument
   link_signatures e y h = fold_out-Link Signatures Signatures Signatures Signatures Signatures Signatures (signed.argument_layer m) (signed.call_layer m) (signed.component_layer m) (signed.link_layer m) (signed.expr_layer m) (signed.place_layer m) e ∙ ap (λ (y : Link-F Argument Call Component Link TypedExpr Place). signed.link_layer m (map-Link Argument Call Component Link TypedExpr Place Signatures Signatures Signatures Signatures Signatures Signatures (of_argument m) (of_call m) (of_component m) (of_link m) (of_expr m) (of_place m) y)) h
 
-  link_held : (e : Link) (y : Link-F Argument Call Component Link TypedExpr Place) → out-Link e ≡ y → held_linked e ≡ link_holds (map-Link Argument Call Component Link TypedExpr Place Bool Bool Bool Bool Bool Bool held_passed held_called held_behind held_linked calls_held held_at y)
-  unfolding texts_of texts_at texts_called texts_linked texts_behind texts_passed of_expr of_place of_call of_link of_component of_argument calls_held held_at held_called held_linked held_behind held_passed
-  link_held e y h = fold_out-Link Bool Bool Bool Bool Bool Bool argument_holds call_holds component_holds link_holds expr_holds place_holds e ∙ ap (λ (y : Link-F Argument Call Component Link TypedExpr Place). link_holds (map-Link Argument Call Component Link TypedExpr Place Bool Bool Bool Bool Bool Bool held_passed held_called held_behind held_linked calls_held held_at y)) h
-
-  link_wants : (e : Link) (y : Link-F Argument Call Component Link TypedExpr Place) → out-Link e ≡ y → wanted_linked m e ≡ made (texts.link_texts (map-Link Argument Call Component Link TypedExpr Place Texts Texts Texts Texts Texts Texts texts_passed texts_called texts_behind texts_linked texts_of texts_at y)) (signed.link_layer m (map-Link Argument Call Component Link TypedExpr Place Signatures Signatures Signatures Signatures Signatures Signatures (of_argument m) (of_call m) (of_component m) (of_link m) (of_expr m) (of_place m) y)) (link_holds (map-Link Argument Call Component Link TypedExpr Place Bool Bool Bool Bool Bool Bool held_passed held_called held_behind held_linked calls_held held_at y))
-  link_wants e y h = made_same (texts_linked e) _ (of_link m e) _ (held_linked e) _ (link_texts e y h) (link_signatures e y h) (link_held e y h)
+  link_wants : (e : Link) (y : Link-F Argument Call Component Link TypedExpr Place) → out-Link e ≡ y → wanted_linked m e ≡ made (texts.link_texts (map-Link Argument Call Component Link TypedExpr Place Texts Texts Texts Texts Texts Texts texts_passed texts_called texts_behind texts_linked texts_of texts_at y)) (signed.link_layer m (map-Link Argument Call Component Link TypedExpr Place Signatures Signatures Signatures Signatures Signatures Signatures (of_argument m) (of_call m) (of_component m) (of_link m) (of_expr m) (of_place m) y))
+  link_wants e y h = made_same (texts_linked e) _ (of_link m e) _ (link_texts e y h) (link_signatures e y h)
 
   expr_texts : (e : TypedExpr) (y : TypedExpr-F Argument Call Component Link TypedExpr Place) → out-TypedExpr e ≡ y → texts_of e ≡ texts.expr_texts (map-TypedExpr Argument Call Component Link TypedExpr Place Texts Texts Texts Texts Texts Texts texts_passed texts_called texts_behind texts_linked texts_of texts_at y)
-  unfolding texts_of texts_at texts_called texts_linked texts_behind texts_passed of_expr of_place of_call of_link of_component of_argument calls_held held_at held_called held_linked held_behind held_passed
+  unfolding texts_of texts_at texts_called texts_linked texts_behind texts_passed of_expr of_place of_call of_link of_component of_argument
   expr_texts e y h = fold_out-TypedExpr Texts Texts Texts Texts Texts Texts texts.argument_texts texts.call_texts texts.component_texts texts.link_texts texts.expr_texts texts.place_texts e ∙ ap (λ (y : TypedExpr-F Argument Call Component Link TypedExpr Place). texts.expr_texts (map-TypedExpr Argument Call Component Link TypedExpr Place Texts Texts Texts Texts Texts Texts texts_passed texts_called texts_behind texts_linked texts_of texts_at y)) h
 
   expr_signatures : (e : TypedExpr) (y : TypedExpr-F Argument Call Component Link TypedExpr Place) → out-TypedExpr e ≡ y → of_expr m e ≡ signed.expr_layer m (map-TypedExpr Argument Call Component Link TypedExpr Place Signatures Signatures Signatures Signatures Signatures Signatures (of_argument m) (of_call m) (of_component m) (of_link m) (of_expr m) (of_place m) y)
-  unfolding texts_of texts_at texts_called texts_linked texts_behind texts_passed of_expr of_place of_call of_link of_component of_argument calls_held held_at held_called held_linked held_behind held_passed
+  unfolding texts_of texts_at texts_called texts_linked texts_behind texts_passed of_expr of_place of_call of_link of_component of_argument
   expr_signatures e y h = fold_out-TypedExpr Signatures Signatures Signatures Signatures Signatures Signatures (signed.argument_layer m) (signed.call_layer m) (signed.component_layer m) (signed.link_layer m) (signed.expr_layer m) (signed.place_layer m) e ∙ ap (λ (y : TypedExpr-F Argument Call Component Link TypedExpr Place). signed.expr_layer m (map-TypedExpr Argument Call Component Link TypedExpr Place Signatures Signatures Signatures Signatures Signatures Signatures (of_argument m) (of_call m) (of_component m) (of_link m) (of_expr m) (of_place m) y)) h
 
-  expr_held : (e : TypedExpr) (y : TypedExpr-F Argument Call Component Link TypedExpr Place) → out-TypedExpr e ≡ y → calls_held e ≡ expr_holds (map-TypedExpr Argument Call Component Link TypedExpr Place Bool Bool Bool Bool Bool Bool held_passed held_called held_behind held_linked calls_held held_at y)
-  unfolding texts_of texts_at texts_called texts_linked texts_behind texts_passed of_expr of_place of_call of_link of_component of_argument calls_held held_at held_called held_linked held_behind held_passed
-  expr_held e y h = fold_out-TypedExpr Bool Bool Bool Bool Bool Bool argument_holds call_holds component_holds link_holds expr_holds place_holds e ∙ ap (λ (y : TypedExpr-F Argument Call Component Link TypedExpr Place). expr_holds (map-TypedExpr Argument Call Component Link TypedExpr Place Bool Bool Bool Bool Bool Bool held_passed held_called held_behind held_linked calls_held held_at y)) h
-
-  expr_wants : (e : TypedExpr) (y : TypedExpr-F Argument Call Component Link TypedExpr Place) → out-TypedExpr e ≡ y → wanted_of m e ≡ made (texts.expr_texts (map-TypedExpr Argument Call Component Link TypedExpr Place Texts Texts Texts Texts Texts Texts texts_passed texts_called texts_behind texts_linked texts_of texts_at y)) (signed.expr_layer m (map-TypedExpr Argument Call Component Link TypedExpr Place Signatures Signatures Signatures Signatures Signatures Signatures (of_argument m) (of_call m) (of_component m) (of_link m) (of_expr m) (of_place m) y)) (expr_holds (map-TypedExpr Argument Call Component Link TypedExpr Place Bool Bool Bool Bool Bool Bool held_passed held_called held_behind held_linked calls_held held_at y))
-  expr_wants e y h = made_same (texts_of e) _ (of_expr m e) _ (calls_held e) _ (expr_texts e y h) (expr_signatures e y h) (expr_held e y h)
+  expr_wants : (e : TypedExpr) (y : TypedExpr-F Argument Call Component Link TypedExpr Place) → out-TypedExpr e ≡ y → wanted_of m e ≡ made (texts.expr_texts (map-TypedExpr Argument Call Component Link TypedExpr Place Texts Texts Texts Texts Texts Texts texts_passed texts_called texts_behind texts_linked texts_of texts_at y)) (signed.expr_layer m (map-TypedExpr Argument Call Component Link TypedExpr Place Signatures Signatures Signatures Signatures Signatures Signatures (of_argument m) (of_call m) (of_component m) (of_link m) (of_expr m) (of_place m) y))
+  expr_wants e y h = made_same (texts_of e) _ (of_expr m e) _ (expr_texts e y h) (expr_signatures e y h)
 
   place_texts : (e : Place) (y : Place-F Argument Call Component Link TypedExpr Place) → out-Place e ≡ y → texts_at e ≡ texts.place_texts (map-Place Argument Call Component Link TypedExpr Place Texts Texts Texts Texts Texts Texts texts_passed texts_called texts_behind texts_linked texts_of texts_at y)
-  unfolding texts_of texts_at texts_called texts_linked texts_behind texts_passed of_expr of_place of_call of_link of_component of_argument calls_held held_at held_called held_linked held_behind held_passed
+  unfolding texts_of texts_at texts_called texts_linked texts_behind texts_passed of_expr of_place of_call of_link of_component of_argument
   place_texts e y h = fold_out-Place Texts Texts Texts Texts Texts Texts texts.argument_texts texts.call_texts texts.component_texts texts.link_texts texts.expr_texts texts.place_texts e ∙ ap (λ (y : Place-F Argument Call Component Link TypedExpr Place). texts.place_texts (map-Place Argument Call Component Link TypedExpr Place Texts Texts Texts Texts Texts Texts texts_passed texts_called texts_behind texts_linked texts_of texts_at y)) h
 
   place_signatures : (e : Place) (y : Place-F Argument Call Component Link TypedExpr Place) → out-Place e ≡ y → of_place m e ≡ signed.place_layer m (map-Place Argument Call Component Link TypedExpr Place Signatures Signatures Signatures Signatures Signatures Signatures (of_argument m) (of_call m) (of_component m) (of_link m) (of_expr m) (of_place m) y)
-  unfolding texts_of texts_at texts_called texts_linked texts_behind texts_passed of_expr of_place of_call of_link of_component of_argument calls_held held_at held_called held_linked held_behind held_passed
+  unfolding texts_of texts_at texts_called texts_linked texts_behind texts_passed of_expr of_place of_call of_link of_component of_argument
   place_signatures e y h = fold_out-Place Signatures Signatures Signatures Signatures Signatures Signatures (signed.argument_layer m) (signed.call_layer m) (signed.component_layer m) (signed.link_layer m) (signed.expr_layer m) (signed.place_layer m) e ∙ ap (λ (y : Place-F Argument Call Component Link TypedExpr Place). signed.place_layer m (map-Place Argument Call Component Link TypedExpr Place Signatures Signatures Signatures Signatures Signatures Signatures (of_argument m) (of_call m) (of_component m) (of_link m) (of_expr m) (of_place m) y)) h
 
-  place_held : (e : Place) (y : Place-F Argument Call Component Link TypedExpr Place) → out-Place e ≡ y → held_at e ≡ place_holds (map-Place Argument Call Component Link TypedExpr Place Bool Bool Bool Bool Bool Bool held_passed held_called held_behind held_linked calls_held held_at y)
-  unfolding texts_of texts_at texts_called texts_linked texts_behind texts_passed of_expr of_place of_call of_link of_component of_argument calls_held held_at held_called held_linked held_behind held_passed
-  place_held e y h = fold_out-Place Bool Bool Bool Bool Bool Bool argument_holds call_holds component_holds link_holds expr_holds place_holds e ∙ ap (λ (y : Place-F Argument Call Component Link TypedExpr Place). place_holds (map-Place Argument Call Component Link TypedExpr Place Bool Bool Bool Bool Bool Bool held_passed held_called held_behind held_linked calls_held held_at y)) h
-
-  place_wants : (e : Place) (y : Place-F Argument Call Component Link TypedExpr Place) → out-Place e ≡ y → wanted_at m e ≡ made (texts.place_texts (map-Place Argument Call Component Link TypedExpr Place Texts Texts Texts Texts Texts Texts texts_passed texts_called texts_behind texts_linked texts_of texts_at y)) (signed.place_layer m (map-Place Argument Call Component Link TypedExpr Place Signatures Signatures Signatures Signatures Signatures Signatures (of_argument m) (of_call m) (of_component m) (of_link m) (of_expr m) (of_place m) y)) (place_holds (map-Place Argument Call Component Link TypedExpr Place Bool Bool Bool Bool Bool Bool held_passed held_called held_behind held_linked calls_held held_at y))
-  place_wants e y h = made_same (texts_at e) _ (of_place m e) _ (held_at e) _ (place_texts e y h) (place_signatures e y h) (place_held e y h)
+  place_wants : (e : Place) (y : Place-F Argument Call Component Link TypedExpr Place) → out-Place e ≡ y → wanted_at m e ≡ made (texts.place_texts (map-Place Argument Call Component Link TypedExpr Place Texts Texts Texts Texts Texts Texts texts_passed texts_called texts_behind texts_linked texts_of texts_at y)) (signed.place_layer m (map-Place Argument Call Component Link TypedExpr Place Signatures Signatures Signatures Signatures Signatures Signatures (of_argument m) (of_call m) (of_component m) (of_link m) (of_expr m) (of_place m) y))
+  place_wants e y h = made_same (texts_at e) _ (of_place m e) _ (place_texts e y h) (place_signatures e y h)
 
   -- ---- rows of parts
 
   abbrev pub all_linked : List Link → Wanted
-  all_linked ls = made (texts.joined (map texts_linked ls)) (signed.joined (map (of_link m) ls)) (one_holds (map held_linked ls))
+  all_linked ls = made (texts.joined (map texts_linked ls)) (signed.joined (map (of_link m) ls))
 
   abbrev pub all_behind : List Component → Wanted
-  all_behind cs = made (texts.joined (map texts_behind cs)) (signed.joined (map (of_component m) cs)) (one_holds (map held_behind cs))
+  all_behind cs = made (texts.joined (map texts_behind cs)) (signed.joined (map (of_component m) cs))
 
   abbrev pub all_passed : List Argument → Wanted
-  all_passed gs = made (texts.joined (map texts_passed gs)) (signed.joined (map (of_argument m) gs)) (one_holds (map held_passed gs))
+  all_passed gs = made (texts.joined (map texts_passed gs)) (signed.joined (map (of_argument m) gs))
 
   texts_last : {A : Type 0} (f : A → Texts) (xs : List A) (y : A) → texts.joined (map f (xs ++ y ∷ [])) ≡ texts.joined (map f xs) ++ f y
   texts_last f [] y = append-nil (f y)
@@ -197,26 +165,14 @@ module _ (m : TypedModule) where
   signed_last f [] y = append-nil (f y)
   signed_last f (z ∷ xs) y = ap (λ (us : Signatures). f z ++ us) (signed_last f xs y) ∙ sym (append_assoc (f z) (signed.joined (map f xs)) (f y))
 
-  or_false : (b : Bool) → (b || false) ≡ b
-  or_false true = refl
-  or_false false = refl
-
-  or_both : (b c d : Bool) → (b || (c || d)) ≡ ((b || c) || d)
-  or_both true c d = refl
-  or_both false c d = refl
-
-  held_last : {A : Type 0} (f : A → Bool) (xs : List A) (y : A) → one_holds (map f (xs ++ y ∷ [])) ≡ (one_holds (map f xs) || f y)
-  held_last f [] y = or_false (f y)
-  held_last f (z ∷ xs) y = ap (λ (b : Bool). f z || b) (held_last f xs y) ∙ or_both (f z) (one_holds (map f xs)) (f y)
-
   pub linked_last : (ls : List Link) (l : Link) → all_linked (ls ++ l ∷ []) ≡ beside (all_linked ls) (wanted_linked m l)
-  linked_last ls l = made_same _ _ _ _ _ _ (texts_last texts_linked ls l) (signed_last (of_link m) ls l) (held_last held_linked ls l)
+  linked_last ls l = made_same _ _ _ _ (texts_last texts_linked ls l) (signed_last (of_link m) ls l)
 
   pub behind_last : (cs : List Component) (c : Component) → all_behind (cs ++ c ∷ []) ≡ beside (all_behind cs) (wanted_behind m c)
-  behind_last cs c = made_same _ _ _ _ _ _ (texts_last texts_behind cs c) (signed_last (of_component m) cs c) (held_last held_behind cs c)
+  behind_last cs c = made_same _ _ _ _ (texts_last texts_behind cs c) (signed_last (of_component m) cs c)
 
   pub passed_last : (gs : List Argument) (g : Argument) → all_passed (gs ++ g ∷ []) ≡ beside (all_passed gs) (wanted_passed m g)
-  passed_last gs g = made_same _ _ _ _ _ _ (texts_last texts_passed gs g) (signed_last (of_argument m) gs g) (held_last held_passed gs g)
+  passed_last gs g = made_same _ _ _ _ (texts_last texts_passed gs g) (signed_last (of_argument m) gs g)
 
   -- ---- expressions
 
@@ -275,10 +231,10 @@ module _ (m : TypedModule) where
   wants_call t c = expr_wants (expr.Call t c) (layer.Call t c) (expr.outs-Call t c)
 
   around : (u v w : Wanted) → beside u (beside v w) ≡ beside (beside u v) w
-  around u v w = made_same _ _ _ _ _ _ (sym (append_assoc u.texts v.texts w.texts)) (sym (append_assoc u.signatures v.signatures w.signatures)) (or_both u.held v.held w.held)
+  around u v w = made_same _ _ _ _ (sym (append_assoc u.texts v.texts w.texts)) (sym (append_assoc u.signatures v.signatures w.signatures))
 
   one_linked : (e : TypedExpr) (l : Link) → wanted_of m (expr.Chain e (l ∷ [])) ≡ beside (wanted_of m e) (wanted_linked m l)
-  one_linked e l = wants_chain e (l ∷ []) ∙ ap (λ (w : Wanted). beside (wanted_of m e) w) (made_same _ _ _ _ _ _ (append-nil (texts_linked l)) (append-nil (of_link m l)) (or_false (held_linked l)))
+  one_linked e l = wants_chain e (l ∷ []) ∙ ap (λ (w : Wanted). beside (wanted_of m e) w) (made_same _ _ _ _ (append-nil (texts_linked l)) (append-nil (of_link m l)))
 
   -- a chain is asked for what stands before the operator, and then what the operator asks for
   linked_by : (e : TypedExpr) (y : TypedExpr-F Argument Call Component Link TypedExpr Place) (l : Link) → out-TypedExpr e ≡ y → wanted_of m (linked_to y e l) ≡ beside (wanted_of m e) (wanted_linked m l)
@@ -342,16 +298,21 @@ module _ (m : TypedModule) where
 
   -- a call of another module's procedure goes through the table
   abbrev pub through_table : Procedure → Wanted
-  through_table f = made [] (if is_own m f.home then [] else of_heading m.types f.heading ∷ []) false
+  through_table f = made [] (if is_own m f.home then [] else of_heading m.types f.heading ∷ [])
 
   pub wants_module : (f : Procedure) (gs : List Argument) → wanted_called m (call.Module f gs) ≡ beside (all_passed gs) (through_table f)
-  wants_module f gs = call_wants (call.Module f gs) (layer.Module f gs) (call.outs-Module f gs) ∙ made_same _ _ _ _ _ _ (sym (append-nil (texts.joined (map texts_passed gs)))) refl (sym (or_false (one_holds (map held_passed gs))))
+  wants_module f gs = call_wants (call.Module f gs) (layer.Module f gs) (call.outs-Module f gs) ∙ made_same _ _ _ _ (sym (append-nil (texts.joined (map texts_passed gs)))) refl
 
   pub wants_nested : (f : LocalProcedure) (gs : List Argument) → wanted_called m (call.Nested f gs) ≡ all_passed gs
   wants_nested f gs = call_wants (call.Nested f gs) (layer.Nested f gs) (call.outs-Nested f gs)
 
-  pub variable_held : (t : TypeNo) (d : Place) (gs : List Argument) → held_called (call.Variable t d gs) ≡ true
-  variable_held t d gs = call_held (call.Variable t d gs) (layer.Variable t d gs) (call.outs-Variable t d gs)
+  -- and so does one of a procedure variable
+  abbrev pub by_heading : TypeNo → Wanted
+  by_heading t = made [] (of_heading m.types t ∷ [])
+
+  pub wants_variable : (t : TypeNo) (d : Place) (gs : List Argument) → wanted_called m (call.Variable t d gs) ≡ beside (wanted_at m d) (beside (all_passed gs) (by_heading t))
+  wants_variable t d gs =
+      call_wants (call.Variable t d gs) (layer.Variable t d gs) (call.outs-Variable t d gs) ∙ made_same _ _ _ _ (ap (λ (us : Texts). texts_at d ++ us) (sym (append-nil (texts.joined (map texts_passed gs))))) refl
 
   pub wants_value : (t : TypeNo) (e : TypedExpr) → wanted_passed m (argument.Value t e) ≡ wanted_of m e
   wants_value t e = argument_wants (argument.Value t e) (layer.Value t e) (argument.outs-Value t e)
@@ -365,5 +326,5 @@ module _ (m : TypedModule) where
   pub wants_open : (slot : Slot) → wanted_passed m (argument.Open slot) ≡ nothing
   wants_open slot = argument_wants (argument.Open slot) (layer.Open slot) (argument.outs-Open slot)
 
-  pub wants_text : (text : List ℕ) → wanted_passed m (argument.Text text) ≡ made (passed text ∷ []) [] false
+  pub wants_text : (text : List ℕ) → wanted_passed m (argument.Text text) ≡ made (passed text ∷ []) []
   wants_text text = argument_wants (argument.Text text) (layer.Text text) (argument.outs-Text text)

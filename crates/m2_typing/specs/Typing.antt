@@ -39,13 +39,14 @@ use Rattle.m2_computed.specs.declared.computed.Designated.{Designated}
 use Rattle.m2_computed.specs.declared.computed.Designated.TheVariants as designated
 use Rattle.m2_exprs.specs.Meanings.{meant, head}
 use Rattle.m2_layout.specs.Texts.{characters, texts_of, texts_at, texts_called, texts_passed}
-use Rattle.m2_layout.specs.Types.{Ty, component}
+use Rattle.m2_layout.specs.Types.{Ty, Heading, component}
 use Rattle.m2_layout.specs.Shapes.{shape_tree, known_trees, tree}
+use Rattle.m2_cells.specs.Relation.{heading_at}
 use Rattle.m2_scheme.specs.Exprs.{expr_part}
 use Rattle.m2_scheme.specs.Modules.{numbered}
 use Rattle.m2_agree_calls.specs.Frames.{Kind, Kept, Alias, Open, kind_at}
 use Rattle.m2_agree_calls.specs.Passing.{Form, Result as Gives}
-use Rattle.m2_agree_trees.specs.Typed.{Context, IsVariable, IsNamed, IsInner, IsTaken, IsExpr, IsPlace, IsCall, IsArgument}
+use Rattle.m2_agree_trees.specs.Typed.{Context, IsVariable, IsNamed, IsInner, IsTaken, IsExpr, IsProcedureExpr, IsPlace, IsCall, IsArgument}
 use Rattle.m2_formed.specs.Formed.{Holds}
 use Rattle.m2_ranges.specs.Ranges.{AreRanged}
 use Rattle.m2_formed_ranges.specs.FormedRanges.{itself, fits_layer, ValueRanged, IsBased, AllBased, OthersBased}
@@ -154,10 +155,16 @@ module _ (x : Context) (ws : List Ty) where
     pub typed : ExprTyped e of
     pub word : scalar_at x.home.types of ≡ None
 
+  -- an expression of a procedure type with this heading
+  abbrev pub ProcedureTyped : TypedExpr → Heading → Type 0
+  ProcedureTyped e h = (a : ℕ) → Has x a (wanted_of x.home e) → IsProcedureExpr x ws a (a + characters (texts_of e)) e h
+
   -- a value of this procedure type
   pub record RoutineTyped (t : TypeNo) (e : TypedExpr) : Type 0 where
-    pub typed : ExprTyped e t
+    pub heading : Heading
+    pub is : heading_at x.home.types t ≡ Some heading
     pub word : scalar_at x.home.types t ≡ None
+    pub typed : ProcedureTyped e heading
 
   abbrev pub ValueTyped : Computed → Type 0
   ValueTyped (value.Constant v) = IsConstant x.home.types v

@@ -1,7 +1,6 @@
 //! Why what the checker makes of expressions is typed. There is no code here but what names the laws.
 //!
-//! - `specs/Wanted` says what a tree asks for where it stands: its texts, the types of its calls through the table, and no
-//!   call of a procedure variable.
+//! - `specs/Wanted` says what a tree asks for where it stands: its texts, and the types of its calls through the table.
 //! - `specs/Typing` says when what the checker makes of a part is typed, and what a scope is to know for that.
 //! - `specs/Scopes` says the same of the names of a scope, block by block, and `proofs/Scoping` that this is enough.
 //! - `proofs/Wants` has what each construct asks for, `proofs/Constructs` that constructs with typed parts are typed, and

@@ -1,5 +1,5 @@
 -- Statements whose parts are typed are typed, wherever what they ask for is there.
-use Rattle.std.proofs.Common.{◌≡◌, ℕ, ◌+◌, ℤ, pos, negsuc, Bool, true, false, List, [], ◌∷◌, ◌++◌, length, Some, None, refl, sym, ap, subst, ◌∙◌, arith}
+use Rattle.std.proofs.Common.{◌≡◌, ℕ, ◌+◌, ℤ, pos, negsuc, Bool, true, List, [], ◌∷◌, ◌++◌, length, Some, None, refl, sym, ap, subst, ◌∙◌, arith}
 use Rattle.std.specs.Prelude.{◌≤◌, ◌≤ℤ◌}
 use Rattle.std.specs.List.{AllByRecursion}
 use Rattle.m2_typed.specs.declared.computed.Call.{Call}
@@ -17,17 +17,17 @@ use Rattle.m2_typed.specs.declared.known_types.Types.{Types}
 use Rattle.m2_typed.specs.Chains.{rooted}
 use Rattle.m2_typed.specs.Types.{boolean, char, bitset}
 use Rattle.m2_typed.specs.Known.{scalar_at}
-use Rattle.m2_layout.specs.Types.{Ty, Scalar, Natural, Cell, Array, IsPlain}
+use Rattle.m2_layout.specs.Types.{Ty, Scalar, Natural, Callable, Cell, Array, Heading, IsPlain}
 use Rattle.m2_layout.specs.Shapes.{tree}
 use Rattle.m2_layout.specs.Texts.{Texts, characters, texts_of, texts_at}
 use Rattle.m2_scheme.specs.Cells.{base_of}
 use Rattle.m2_agree.specs.Scene.{AreAmong, IsCell, AreLabels}
 use Rattle.m2_agree_calls.specs.Passing.{Result as Gives}
-use Rattle.m2_agree_trees.specs.Typed.{Context, HasText, IsExpr, IsPlace}
+use Rattle.m2_agree_trees.specs.Typed.{Context, HasText, IsExpr, IsProcedureExpr, IsPlace}
 use Rattle.m2_agree_stmts.specs.Typed.{IsControl, IsGiven, IsTest, IsStmt, AreStmts, AreArms}
 use Rattle.m2_agree_stmts.specs.Typed as typed
 use Rattle.m2_typing.specs.Wanted.{Wanted, wanted_of, wanted_at, wanted_called, Has}
-use Rattle.m2_typing.specs.Typing.{ExprTyped, PlaceTyped, CallTyped, GivenTyped}
+use Rattle.m2_typing.specs.Typing.{ExprTyped, ProcedureTyped, PlaceTyped, CallTyped, GivenTyped}
 use Rattle.m2_typing.proofs.Wants.{nothing, beside, made, seam, has_first, has_second, wants_rooted}
 use Rattle.m2_typing_stmts.specs.Asked.{wanted_in, wanted_armed, wanted_by}
 use Rattle.m2_typing_stmts.specs.TypingStmts.{StmtTyped, StmtsTyped}
@@ -66,6 +66,9 @@ module _ (x : Context) (result : Gives) where
   module _ (ws : List Ty) where
     expr_to : (e : TypedExpr) (t : TypeNo) → ExprTyped x ws e t → (a b : ℕ) → a + characters (texts_of e) ≡ b → Has x a (wanted_of m e) → IsExpr x ws a b e t
     expr_to e t p a b q h = subst (λ (n : ℕ). IsExpr x ws a n e t) q (p a h)
+
+    procedure_to : (e : TypedExpr) (k : Heading) → ProcedureTyped x ws e k → (a b : ℕ) → a + characters (texts_of e) ≡ b → Has x a (wanted_of m e) → IsProcedureExpr x ws a b e k
+    procedure_to e k p a b q h = subst (λ (n : ℕ). IsProcedureExpr x ws a n e k) q (p a h)
 
     place_to : (d : Place) (t : Ty) → PlaceTyped x ws d t → (a b : ℕ) → a + characters (texts_at d) ≡ b → Has x a (wanted_at m d) → IsPlace x ws a b d t
     place_to d t p a b q h = subst (λ (n : ℕ). IsPlace x ws a n d t) q (p a h)
@@ -141,13 +144,17 @@ module _ (x : Context) (result : Gives) where
     assign_typed d t r e c p q =
         stmt_of (stmt.Assign d t e) (wanted_at m d) (wanted_of m e) (wants_assign m d t e) (λ a b z i j h k. typed.Assign ws l a b z d t r e c (place_to ws d (Cell r) p a b i h) (given_to ws e t q b z j k))
 
+    pub assign_procedure_typed : (d : Place) (t : TypeNo) (k : Heading) (e : TypedExpr) → tree types t ≡ Cell (Callable k) → scalar_at types t ≡ None → PlaceTyped x ws d (Cell (Callable k)) → ProcedureTyped x ws e k → StmtTyped x result ws l (stmt.Assign d t e)
+    assign_procedure_typed d t k e is none p q =
+        stmt_of (stmt.Assign d t e) (wanted_at m d) (wanted_of m e) (wants_assign m d t e) (λ a b z i j h r. typed.AssignProcedure ws l a b z d t k e is none (place_to ws d (Cell (Callable k)) p a b i h) (procedure_to ws e k q b z j r))
+
     pub copy_typed : (d e : Place) (t : TypeNo) → IsPlain (tree types t) → PlaceTyped x ws d (tree types t) → PlaceTyped x ws e (tree types t) → StmtTyped x result ws l (stmt.Copy d e t)
     copy_typed d e t is p q =
         stmt_of (stmt.Copy d e t) (wanted_at m d) (wanted_at m e) (wants_copy m d e t) (λ a b z i j h k. typed.Copy ws l a b z d e t is (place_to ws d (tree types t) p a b i h) (place_to ws e (tree types t) q b z j k))
 
     pub copy_text_typed : (d : Place) (t : TypeNo) (n : ℕ) (text : List ℕ) → tree types t ≡ Array n (Cell (Natural 255)) → length text ≤ n → PlaceTyped x ws d (tree types t) → StmtTyped x result ws l (stmt.CopyText d t text)
     copy_text_typed d t n text is less p =
-        stmt_of (stmt.CopyText d t text) (wanted_at m d) (made (text ∷ []) [] false) (wants_copy_text m d t text) (λ a b z i j h k.
+        stmt_of (stmt.CopyText d t text) (wanted_at m d) (made (text ∷ []) []) (wants_copy_text m d t text) (λ a b z i j h k.
         let there : HasText x b text = k.texts.0 in
         let end : b + length text ≡ z = (let e : b + length text ≡ b + (length text + 0) = omega arith in e) ∙ j in
         subst (λ (c : ℕ). IsStmt x result ws l a c (stmt.CopyText d t text)) end (typed.CopyText ws l a b n d t text is less there (place_to ws d (tree types t) p a b i h)))
@@ -202,8 +209,11 @@ module _ (x : Context) (result : Gives) where
     pub return_typed : result ≡ None → StmtTyped x result ws l stmt.Return
     return_typed e = stmt_at stmt.Return (wants_return m) (λ a. typed.Return ws l a e)
 
-    pub give_typed : (t : TypeNo) (e : TypedExpr) → result ≡ Some (scalar_at types t) → GivenTyped x ws e t → StmtTyped x result ws l (stmt.Give t e)
-    give_typed t e r p = stmt_by (stmt.Give t e) (wanted_of m e) (wants_give m t e) (λ a h. typed.Give ws l a _ t e r (given_to ws e t p a _ refl h))
+    pub give_typed : (t : TypeNo) (r : Scalar) (e : TypedExpr) → result ≡ Some (tree types t) → IsCell types t r → GivenTyped x ws e t → StmtTyped x result ws l (stmt.Give t e)
+    give_typed t r e i c p = stmt_by (stmt.Give t e) (wanted_of m e) (wants_give m t e) (λ a h. typed.Give ws l a _ t r e i c (given_to ws e t p a _ refl h))
+
+    pub give_procedure_typed : (t : TypeNo) (k : Heading) (e : TypedExpr) → result ≡ Some (Cell (Callable k)) → scalar_at types t ≡ None → ProcedureTyped x ws e k → StmtTyped x result ws l (stmt.Give t e)
+    give_procedure_typed t k e i none p = stmt_by (stmt.Give t e) (wanted_of m e) (wants_give m t e) (λ a h. typed.GiveProcedure ws l a _ t k e i none (procedure_to ws e k p a _ refl h))
 
   pub loop_typed : (ws : List Ty) (l : Bool) (body : List TypedStmt) → EachTyped ws true body → StmtTyped x result ws l (stmt.Loop body)
   loop_typed ws l body p = stmt_by ws l (stmt.Loop body) (all_in m body) (wants_loop m body) (λ a h. typed.Loop ws l a _ body (row_typed ws true body p a h))

@@ -51,26 +51,26 @@ use Rattle.m2_calls.specs.declared.effect.Target.{Target}
 use Rattle.m2_calls.specs.declared.effect.Target.TheVariants as target
 use Rattle.m2_exprs.specs.Meanings.{Meant, formals_of, value_of, actuals}
 use Rattle.m2_exprs.specs.Effects.{call_done, routine_done, changed_by, member_by, halted, put_by, standard_done, done_as, done_by}
-use Rattle.m2_layout.specs.Types.{Ty, Natural, Cell, Array}
+use Rattle.m2_layout.specs.Types.{Ty, Natural, Callable, Cell, Array}
 use Rattle.m2_layout.specs.Shapes.{tree, elements_of}
 use Rattle.m2_scheme.specs.Cells.{base_of}
 use Rattle.m2_agree.specs.Scene.{IsCell}
 use Rattle.m2_agree_calls.specs.Passing.{Result as Gives}
 use Rattle.m2_agree_trees.specs.Typed.{Context}
 use Rattle.m2_agree_types.proofs.Plain.{tree_plain}
-use Rattle.m2_agree_types.proofs.Cells.{word_tree_is, word_is}
+use Rattle.m2_agree_types.proofs.Cells.{set_tree_is, set_is}
 use Rattle.m2_formed.specs.Formed.{Holds, fine}
 use Rattle.m2_formed.proofs.Basics.{then_holds, told_holds, both_holds}
 use Rattle.m2_formed_ranges.proofs.Types.{same_types, both_left, both_right}
 use Rattle.m2_formed_ranges.proofs.Subranges.{SortRanged, OperandRanged, operand_ranged}
 use Rattle.m2_typing.specs.Typing.{HasBase, PlaceTyped, CallTyped, GivenTyped, ValueTyped, DesignatedTyped, IsTyped}
-use Rattle.m2_typing.proofs.Known.{ClassIs, class_is, scalar_known, array_known, HasCell, ranged_cell, bits_cell, has_base, base_is, has_range, IsArray, array_is}
+use Rattle.m2_typing.proofs.Known.{ClassIs, class_is, scalar_known, array_known, ranged_cell, routine_tree, has_base, base_is, has_range, IsArray, array_is}
 use Rattle.m2_typing.proofs.Constructs as made
-use Rattle.m2_typing.proofs.Operators.{where_not, SomeTyped, suited_typed}
+use Rattle.m2_typing.proofs.Operators.{where_not, SomeTyped, suited_typed, IsSuited, SuitsCell, SuitsProcedure, place_suited_typed}
 use Rattle.m2_typing.proofs.Calls.{CalleeTyped, CalledTyped, callee_typed}
 use Rattle.m2_typing.proofs.Meanings.{FM, AllM, value_typed, actuals_typed, call_made}
 use Rattle.m2_typing_stmts.specs.TypingStmts.{StmtTyped}
-use Rattle.m2_typing_stmts.proofs.Constructs.{assign_typed, copy_typed, copy_text_typed, call_typed, put_typed, change_typed, member_typed, halt_typed}
+use Rattle.m2_typing_stmts.proofs.Constructs.{assign_typed, assign_procedure_typed, copy_typed, copy_text_typed, call_typed, put_typed, change_typed, member_typed, halt_typed}
 use Rattle.m2_typing_stmts.proofs.Steps.{untyped_value}
 
 -- a text has no more characters than the array has elements
@@ -121,7 +121,7 @@ module _ (g : Gathers) (x : Context) (ws : List Ty) (opens : ℕ → Bool) (s : 
     room : length text ≤ count
 
   abbrev AcceptedTyped : TypeNo → Accepted → Type 0
-  AcceptedTyped t (accepted.Value e) = HasCell types t × GivenTyped x ws e t
+  AcceptedTyped t (accepted.Value e) = IsSuited x ws h.all t e
   AcceptedTyped t (accepted.Whole d) = PlaceTyped x ws d (tree types t)
   AcceptedTyped t (accepted.Text text) = HasPlace t text
 
@@ -162,17 +162,19 @@ module _ (g : Gathers) (x : Context) (ws : List Ty) (opens : ℕ → Bool) (s : 
   given : (number : ℕ) (t : TypeNo) (at : Pos) (v : Computed) → ValueTyped x ws v → Holds (λ e. GivenTyped x ws e t) (value_suited g number s.types t at v)
   given number t at v p = suited_typed x ws h.all g s.types h.types number t at v p
 
-  value_accepted : (number : ℕ) (t : TypeNo) (at : Pos) (v : Computed) → ValueTyped x ws v → HasCell types t → Holds (AcceptedTyped t) (of_expr (value_suited g number s.types t at v))
-  value_accepted number t at v p c = then_holds (given number t at v p) (λ e q. fine (accepted.Value e) (c, q))
+  value_accepted : (number : ℕ) (t : TypeNo) (at : Pos) (v : Computed) → ValueTyped x ws v → Holds (AcceptedTyped t) (of_expr (value_suited g number s.types t at v))
+  value_accepted number t at v p = then_holds (place_suited_typed x ws h.all g s.types h.types number t at v p) (λ e q. fine (accepted.Value e) q)
 
   accepted_in : (number : ℕ) (t : TypeNo) (at : Pos) (v : Computed) (c : Class) → ClassIs types t c → ValueTyped x ws v → Holds (AcceptedTyped t) (suited_in g number s.types t at v c)
-  accepted_in number t at v (class.Scalar r) k p = value_accepted number t at v p (ranged_cell types h.all t r k)
-  accepted_in number t at v class.Set k p = value_accepted number t at v p (bits_cell types t k)
-  accepted_in number t at v class.Procedure k p = value_accepted number t at v p (bits_cell types t k)
+  accepted_in number t at v (class.Scalar r) k p = value_accepted number t at v p
+  accepted_in number t at v class.Set k p = value_accepted number t at v p
+  accepted_in number t at v class.Procedure k p = value_accepted number t at v p
   accepted_in number t at v class.Whole k p = whole_accepted number t at v p
 
   stored_typed : (t : TypeNo) (d : Place) (a : Accepted) → PlaceTyped x ws d (tree types t) → AcceptedTyped t a → StmtTyped x result ws looped (stored t d a)
-  stored_typed t d (accepted.Value e) p q = assign_typed x result ws looped d t q.0.cell e q.0.is (subst (λ (u : Ty). PlaceTyped x ws d u) q.0.is.is p) q.1
+  stored_typed t d (accepted.Value e) p (SuitsCell c q) = assign_typed x result ws looped d t c.cell e c.is (subst (λ (u : Ty). PlaceTyped x ws d u) c.is.is p) q
+  stored_typed t d (accepted.Value e) p (SuitsProcedure i q) =
+      let tr : tree types t ≡ Cell (Callable i.heading) = routine_tree types h.all t i in assign_procedure_typed x result ws looped d t i.heading e tr i.none (subst (λ (u : Ty). PlaceTyped x ws d u) tr p) q
   stored_typed t d (accepted.Whole from) p q = copy_typed x result ws looped d from t (tree_plain types h.all.ranged t) p q
   stored_typed t d (accepted.Text text) p q = copy_text_typed x result ws looped d t q.count text q.is q.room p
 
@@ -264,7 +266,7 @@ module _ (g : Gathers) (x : Context) (ws : List Ty) (opens : ℕ → Bool) (s : 
   SetTyped d = PlaceTyped x ws d (Cell (Natural 4294967295))
 
   set_as_typed : (at : Pos) (t : TypeNo) (d : Place) (c : Class) → ClassIs types t c → PlaceTyped x ws d (tree types t) → Holds SetTyped (set_as g at d c)
-  set_as_typed at t d class.Set k p = fine d (subst (λ (u : Ty). PlaceTyped x ws d u) (word_tree_is types t k.none k.result) p)
+  set_as_typed at t d class.Set k p = fine d (subst (λ (u : Ty). PlaceTyped x ws d u) (set_tree_is types t k.none k.result k.headless) p)
   set_as_typed at t d (class.Scalar r) k p = told_holds g at 44
   set_as_typed at t d class.Procedure k p = told_holds g at 44
   set_as_typed at t d class.Whole k p = told_holds g at 44
@@ -298,7 +300,7 @@ module _ (g : Gathers) (x : Context) (ws : List Ty) (opens : ℕ → Bool) (s : 
   element_typed at value.Untaken p = told_holds g at 43
 
   bitset_cell : IsCell types bitset (Natural 4294967295)
-  bitset_cell = word_is types bitset (word_tree_is types bitset refl refl) refl
+  bitset_cell = set_is types bitset refl refl refl
 
   membership_typed : (o : Membership) {d : Result Place g.Told} {e : Result TypedExpr g.Told} → Holds SetTyped d → Holds Some_ e → Stmt_ (membership_of g o d e)
   membership_typed o p q = then_holds (both_holds g p q) (λ v k. fine (step.Membership o v.0 v.1) (member_typed x result ws looped o v.0 k.1.of (Natural 4294967295) v.1 bitset_cell k.0 k.1.typed))
@@ -344,7 +346,7 @@ module _ (g : Gathers) (x : Context) (ws : List Ty) (opens : ℕ → Bool) (s : 
     proper_call k e q count =
         then_holds (actuals_typed g x ws opens s h args k.formals count (h.formals t k e) all) (λ gs p.
         fine (step.Call (call_by gs c))
-        (call_typed x result ws looped (call_by gs c) (subst (λ (r : Gives). CallTyped x ws (call_by gs c) r) (ap (λ (o : Option TypeNo). option_map (scalar_at types) o) q) (call_made g x ws opens s h at t c args there all k e gs p))))
+        (call_typed x result ws looped (call_by gs c) (subst (λ (r : Gives). CallTyped x ws (call_by gs c) r) (ap (λ (o : Option TypeNo). option_map (tree types) o) q) (call_made g x ws opens s h at t c args there all k e gs p))))
 
     by_count : (k : Signature) (q : Bool) → (length k.formals == length args) ≡ q → signature_at s.types t ≡ Some k → k.result ≡ None
         → Stmt_ (told_where g {A = Unit {0}} (not q) at 42 (Ok (tt {0})) ▷ λ fine. call_done c (actuals g s k.formals args))

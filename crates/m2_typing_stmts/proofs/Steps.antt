@@ -60,16 +60,16 @@ use Rattle.m2_formed_ranges.proofs.Constants.{constants_ranged}
 use Rattle.m2_ranges.specs.Ranges.{AreRanged}
 use Rattle.m2_ranges.proofs.Known.{range_at}
 use Rattle.m2_typing.specs.Typing.{HasBase, kind_of, PlaceTyped, GivenTyped, ValueTyped, DesignatedTyped, MeaningTyped, IsTyped}
-use Rattle.m2_typing.proofs.Known.{ClassIs, class_is, ranged_cell, has_base, among_base, number_value}
+use Rattle.m2_typing.proofs.Known.{ClassIs, class_is, routine_tree, ranged_cell, has_base, among_base, number_value}
 use Rattle.m2_typing.proofs.Constructs as made
-use Rattle.m2_typing.proofs.Operators.{where_not, AmountTyped, SideTyped, SomeTyped, side_typed, suited_typed}
+use Rattle.m2_typing.proofs.Operators.{where_not, AmountTyped, SideTyped, SomeTyped, side_typed, suited_typed, IsSuited, SuitsCell, SuitsProcedure, place_suited_typed}
 use Rattle.m2_steps.specs.Simple.{meant_if, exited, given_back, returned, selector_amount, selector_of, selected, record_by, record_of}
 use Rattle.m2_steps.specs.Control.{controlled_as, controlled, is_own, control_by, control_of, start_at, limit_number, limit_by, limit_at, is_zero, step_number, step_of, type_of, base_of, course, course_of, repeated_for}
 use Rattle.m2_steps.specs.declared.around.Around.{Around}
 use Rattle.m2_steps.specs.declared.control.Control.{Control}
 use Rattle.m2_steps.specs.declared.control.Course.{Course}
 use Rattle.m2_typing_stmts.specs.TypingStmts.{fits_step, StmtTyped, AreReturned}
-use Rattle.m2_typing_stmts.proofs.Constructs.{TestTyped, EachTyped, exit_typed, return_typed, give_typed, for_typed}
+use Rattle.m2_typing_stmts.proofs.Constructs.{TestTyped, EachTyped, exit_typed, return_typed, give_typed, give_procedure_typed, for_typed}
 use Rattle.m2_typing_stmts.proofs.Fixed.{fixed_is}
 
 -- ---- numbers of 32 bits
@@ -169,8 +169,12 @@ module _ (g : Gathers) (x : Context) (ws : List Ty) (opens : ℕ → Bool) (s : 
     pub exited_typed : (at : Pos) (a : Around g.Told) → Holds (StmtTyped x result ws a.in_loop) (exited g at a)
     exited_typed at a = exited_as at a.in_loop
 
+    given_as : (looped : Bool) (t : TypeNo) (y : TypedExpr) → result ≡ Some (tree types t) → IsSuited x ws h.all t y → StmtTyped x result ws looped (step.Give t y)
+    given_as looped t y e (SuitsCell c q) = give_typed x result ws looped t c.cell y e c.is q
+    given_as looped t y e (SuitsProcedure i q) = give_procedure_typed x result ws looped t i.heading y (e ∙ ap (λ (u : Ty). Some u) (routine_tree types h.all t i)) i.none q
+
     given_back_typed : (t : Result TypeNo g.Told) (at : Pos) (looped : Bool) {v : Result Computed g.Told} → AreReturned types (Some t) result → Value_ v → Holds (StmtTyped x result ws looped) (given_back g s.types t at v)
-    given_back_typed (Ok t) at looped e (fine v k) = then_holds (suited_typed x ws h.all g s.types h.types 41 t at v k) (λ y q. fine (step.Give t y) (give_typed x result ws looped t y e q))
+    given_back_typed (Ok t) at looped e (fine v k) = then_holds (place_suited_typed x ws h.all g s.types h.types 41 t at v k) (λ y q. fine (step.Give t y) (given_as looped t y e q))
     given_back_typed (Ok t) at looped e (broken z) = broken z
     given_back_typed (Err y) at looped e (fine v k) = broken y
     given_back_typed (Err y) at looped e (broken z) = broken (g.join y z)

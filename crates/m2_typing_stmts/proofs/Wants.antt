@@ -1,7 +1,7 @@
 -- What each statement asks for: what its parts ask for, one behind the other.
-use Rattle.std.proofs.Common.{◌≡◌, ℕ, Bool, true, false, ◌||◌, List, [], ◌∷◌, ◌++◌, map, Option, Some, None, refl, sym, ap, ◌∙◌}
+use Rattle.std.proofs.Common.{◌≡◌, ℕ, List, [], ◌∷◌, ◌++◌, map, Option, Some, None, refl, sym, ap, ◌∙◌}
 use Rattle.std.specs.Prelude.{ℤ}
-use Rattle.std.specs.List.{flat_map, list_any}
+use Rattle.std.specs.List.{flat_map}
 use Rattle.std.proofs.lemmas.List.{append-nil}
 use Rattle.m2_typed.specs.declared.computed.Call.{Call}
 use Rattle.m2_typed.specs.declared.computed.Place.{Place}
@@ -14,52 +14,44 @@ use Rattle.m2_typed.specs.declared.statement.TypedStmt.TheOpen as step
 use Rattle.m2_typed.specs.declared.statement.TypedStmt.TheVariants as stmt
 use Rattle.m2_typed.specs.declared.typed_module.TypedModule.{TypedModule}
 use Rattle.m2_typed.specs.declared.types.TypeNo.{TypeNo}
-use Rattle.m2_layout.specs.Texts.{Texts, characters, texts_in, texts_armed, body_texts}
+use Rattle.m2_layout.specs.Texts.{Texts, texts_in, texts_armed, body_texts}
 use Rattle.m2_layout.specs.Texts as texts
 use Rattle.m2_scheme.specs.Signatures.{Signatures, of_step}
 use Rattle.m2_scheme.specs.Signatures as signed
-use Rattle.m2_typing.specs.Wanted.{one_holds, Wanted, wanted_of, wanted_at, wanted_called}
+use Rattle.m2_typing.specs.Wanted.{Wanted, wanted_of, wanted_at, wanted_called}
 use Rattle.m2_typing.proofs.Wants.{nothing, beside, made, made_same}
-use Rattle.m2_typing_stmts.specs.Asked.{step_holds, arm_holds, held_in, held_armed, of_arm, wanted_in, wanted_armed, wanted_by}
+use Rattle.m2_typing_stmts.specs.Asked.{of_arm, wanted_in, wanted_armed, wanted_by}
 
 module _ (m : TypedModule) where
   stmt_texts : (e : TypedStmt) (y : TypedStmt-F TypedStmt TypedArm) → out-TypedStmt e ≡ y → texts_in e ≡ texts.step_texts (map-TypedStmt TypedStmt TypedArm Texts Texts texts_in texts_armed y)
-  unfolding texts_in texts_armed of_step of_arm held_in held_armed
+  unfolding texts_in texts_armed of_step of_arm
   stmt_texts e y h = fold_out-TypedStmt Texts Texts texts.step_texts texts.arm_texts e ∙ ap (λ (y : TypedStmt-F TypedStmt TypedArm). texts.step_texts (map-TypedStmt TypedStmt TypedArm Texts Texts texts_in texts_armed y)) h
 
   stmt_signatures : (e : TypedStmt) (y : TypedStmt-F TypedStmt TypedArm) → out-TypedStmt e ≡ y → of_step m e ≡ signed.step_layer m (map-TypedStmt TypedStmt TypedArm Signatures Signatures (of_step m) (of_arm m) y)
-  unfolding texts_in texts_armed of_step of_arm held_in held_armed
+  unfolding texts_in texts_armed of_step of_arm
   stmt_signatures e y h = fold_out-TypedStmt Signatures Signatures (signed.step_layer m) (signed.arm_layer m) e ∙ ap (λ (y : TypedStmt-F TypedStmt TypedArm). signed.step_layer m (map-TypedStmt TypedStmt TypedArm Signatures Signatures (of_step m) (of_arm m) y)) h
 
-  stmt_held : (e : TypedStmt) (y : TypedStmt-F TypedStmt TypedArm) → out-TypedStmt e ≡ y → held_in e ≡ step_holds (map-TypedStmt TypedStmt TypedArm Bool Bool held_in held_armed y)
-  unfolding texts_in texts_armed of_step of_arm held_in held_armed
-  stmt_held e y h = fold_out-TypedStmt Bool Bool step_holds arm_holds e ∙ ap (λ (y : TypedStmt-F TypedStmt TypedArm). step_holds (map-TypedStmt TypedStmt TypedArm Bool Bool held_in held_armed y)) h
-
-  stmt_wants : (e : TypedStmt) (y : TypedStmt-F TypedStmt TypedArm) → out-TypedStmt e ≡ y → wanted_in m e ≡ made (texts.step_texts (map-TypedStmt TypedStmt TypedArm Texts Texts texts_in texts_armed y)) (signed.step_layer m (map-TypedStmt TypedStmt TypedArm Signatures Signatures (of_step m) (of_arm m) y)) (step_holds (map-TypedStmt TypedStmt TypedArm Bool Bool held_in held_armed y))
-  stmt_wants e y h = made_same (texts_in e) _ (of_step m e) _ (held_in e) _ (stmt_texts e y h) (stmt_signatures e y h) (stmt_held e y h)
+  stmt_wants : (e : TypedStmt) (y : TypedStmt-F TypedStmt TypedArm) → out-TypedStmt e ≡ y → wanted_in m e ≡ made (texts.step_texts (map-TypedStmt TypedStmt TypedArm Texts Texts texts_in texts_armed y)) (signed.step_layer m (map-TypedStmt TypedStmt TypedArm Signatures Signatures (of_step m) (of_arm m) y))
+  stmt_wants e y h = made_same (texts_in e) _ (of_step m e) _ (stmt_texts e y h) (stmt_signatures e y h)
 
   arm_texts : (e : TypedArm) (y : TypedArm-F TypedStmt TypedArm) → out-TypedArm e ≡ y → texts_armed e ≡ texts.arm_texts (map-TypedArm TypedStmt TypedArm Texts Texts texts_in texts_armed y)
-  unfolding texts_in texts_armed of_step of_arm held_in held_armed
+  unfolding texts_in texts_armed of_step of_arm
   arm_texts e y h = fold_out-TypedArm Texts Texts texts.step_texts texts.arm_texts e ∙ ap (λ (y : TypedArm-F TypedStmt TypedArm). texts.arm_texts (map-TypedArm TypedStmt TypedArm Texts Texts texts_in texts_armed y)) h
 
   arm_signatures : (e : TypedArm) (y : TypedArm-F TypedStmt TypedArm) → out-TypedArm e ≡ y → of_arm m e ≡ signed.arm_layer m (map-TypedArm TypedStmt TypedArm Signatures Signatures (of_step m) (of_arm m) y)
-  unfolding texts_in texts_armed of_step of_arm held_in held_armed
+  unfolding texts_in texts_armed of_step of_arm
   arm_signatures e y h = fold_out-TypedArm Signatures Signatures (signed.step_layer m) (signed.arm_layer m) e ∙ ap (λ (y : TypedArm-F TypedStmt TypedArm). signed.arm_layer m (map-TypedArm TypedStmt TypedArm Signatures Signatures (of_step m) (of_arm m) y)) h
 
-  arm_held : (e : TypedArm) (y : TypedArm-F TypedStmt TypedArm) → out-TypedArm e ≡ y → held_armed e ≡ arm_holds (map-TypedArm TypedStmt TypedArm Bool Bool held_in held_armed y)
-  unfolding texts_in texts_armed of_step of_arm held_in held_armed
-  arm_held e y h = fold_out-TypedArm Bool Bool step_holds arm_holds e ∙ ap (λ (y : TypedArm-F TypedStmt TypedArm). arm_holds (map-TypedArm TypedStmt TypedArm Bool Bool held_in held_armed y)) h
-
-  arm_wants : (e : TypedArm) (y : TypedArm-F TypedStmt TypedArm) → out-TypedArm e ≡ y → wanted_armed m e ≡ made (texts.arm_texts (map-TypedArm TypedStmt TypedArm Texts Texts texts_in texts_armed y)) (signed.arm_layer m (map-TypedArm TypedStmt TypedArm Signatures Signatures (of_step m) (of_arm m) y)) (arm_holds (map-TypedArm TypedStmt TypedArm Bool Bool held_in held_armed y))
-  arm_wants e y h = made_same (texts_armed e) _ (of_arm m e) _ (held_armed e) _ (arm_texts e y h) (arm_signatures e y h) (arm_held e y h)
+  arm_wants : (e : TypedArm) (y : TypedArm-F TypedStmt TypedArm) → out-TypedArm e ≡ y → wanted_armed m e ≡ made (texts.arm_texts (map-TypedArm TypedStmt TypedArm Texts Texts texts_in texts_armed y)) (signed.arm_layer m (map-TypedArm TypedStmt TypedArm Signatures Signatures (of_step m) (of_arm m) y))
+  arm_wants e y h = made_same (texts_armed e) _ (of_arm m e) _ (arm_texts e y h) (arm_signatures e y h)
 
   -- ---- rows of parts
 
   abbrev pub all_in : List TypedStmt → Wanted
-  all_in ss = made (texts.joined (map texts_in ss)) (signed.joined (map (of_step m) ss)) (one_holds (map held_in ss))
+  all_in ss = made (texts.joined (map texts_in ss)) (signed.joined (map (of_step m) ss))
 
   abbrev pub all_armed : List TypedArm → Wanted
-  all_armed ms = made (texts.joined (map texts_armed ms)) (signed.joined (map (of_arm m) ms)) (one_holds (map held_armed ms))
+  all_armed ms = made (texts.joined (map texts_armed ms)) (signed.joined (map (of_arm m) ms))
 
   abbrev pub all_else : Option (List TypedStmt) → Wanted
   all_else None = nothing
@@ -73,12 +65,8 @@ module _ (m : TypedModule) where
   signed_by [] = refl
   signed_by (s ∷ ss) = ap (λ (us : Signatures). of_step m s ++ us) (signed_by ss)
 
-  held_by : (ss : List TypedStmt) → list_any held_in ss ≡ one_holds (map held_in ss)
-  held_by [] = refl
-  held_by (s ∷ ss) = ap (λ (b : Bool). held_in s || b) (held_by ss)
-
   pub wants_all : (ss : List TypedStmt) → wanted_by m ss ≡ all_in ss
-  wants_all ss = made_same _ _ _ _ _ _ (texts_by ss) (signed_by ss) (held_by ss)
+  wants_all ss = made_same _ _ _ _ (texts_by ss) (signed_by ss)
 
   -- ---- statements
 
@@ -88,11 +76,8 @@ module _ (m : TypedModule) where
   pub wants_copy : (d e : Place) (t : TypeNo) → wanted_in m (stmt.Copy d e t) ≡ beside (wanted_at m d) (wanted_at m e)
   wants_copy d e t = stmt_wants (stmt.Copy d e t) (step.Copy d e t) (stmt.outs-Copy d e t)
 
-  pub wants_copy_text : (d : Place) (t : TypeNo) (text : List ℕ) → wanted_in m (stmt.CopyText d t text) ≡ beside (wanted_at m d) (made (text ∷ []) [] false)
-  wants_copy_text d t text = stmt_wants (stmt.CopyText d t text) (step.CopyText d t text) (stmt.outs-CopyText d t text) ∙ made_same _ _ _ _ _ _ refl (sym (append-nil _)) (sym (or_nothing _)) where
-    or_nothing : (b : Bool) → (b || false) ≡ b
-    or_nothing true = refl
-    or_nothing false = refl
+  pub wants_copy_text : (d : Place) (t : TypeNo) (text : List ℕ) → wanted_in m (stmt.CopyText d t text) ≡ beside (wanted_at m d) (made (text ∷ []) [])
+  wants_copy_text d t text = stmt_wants (stmt.CopyText d t text) (step.CopyText d t text) (stmt.outs-CopyText d t text) ∙ made_same _ _ _ _ refl (sym (append-nil _))
 
   pub wants_call : (c : Call) → wanted_in m (stmt.Call c) ≡ wanted_called m c
   wants_call c = stmt_wants (stmt.Call c) (step.Call c) (stmt.outs-Call c)

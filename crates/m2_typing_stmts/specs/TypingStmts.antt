@@ -10,9 +10,9 @@ use Rattle.m2_tree.specs.declared.stmt.Arm.{Arm, Arm-F, fold-Arm}
 use Rattle.m2_typed.specs.declared.known_types.Types.{Types}
 use Rattle.m2_typed.specs.declared.statement.TypedStmt.{TypedStmt}
 use Rattle.m2_typed.specs.declared.types.TypeNo.{TypeNo}
-use Rattle.m2_typed.specs.Known.{scalar_at}
 use Rattle.m2_judged.specs.Judged.{Gathers}
 use Rattle.m2_judged.specs.declared.scope.Scope.{Scope}
+use Rattle.m2_layout.specs.Shapes.{tree}
 use Rattle.m2_layout.specs.Types.{Ty}
 use Rattle.m2_layout.specs.Texts.{characters, texts_in, body_texts}
 use Rattle.m2_agree_calls.specs.Passing.{Result as Gives}
@@ -89,7 +89,7 @@ module _ (x : Context) (result : Gives) (ws : List Ty) (looped : Bool) where
 -- what RETURN gives in a body is the result of its procedure
 abbrev pub AreReturned : {T : Type 0} → Types → Option (Result TypeNo T) → Gives → Type 0
 AreReturned types None result = result ≡ None
-AreReturned types (Some (Ok t)) result = result ≡ Some (scalar_at types t)
+AreReturned types (Some (Ok t)) result = result ≡ Some (tree types t)
 AreReturned types (Some (Err e)) result = Unit {0}
 
 -- Statements of a body are typed, within as many WITHs as the scope has open.
