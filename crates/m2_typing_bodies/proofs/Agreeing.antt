@@ -15,7 +15,8 @@ use Rattle.m2_typed.specs.declared.meaning.Meaning.TheVariants as meaning
 use Rattle.m2_typed.specs.declared.shape.Made.{Made}
 use Rattle.m2_typed.specs.declared.shape.Shape.{Shape}
 use Rattle.m2_typed.specs.declared.types.TypeNo.{TypeNo}
-use Rattle.m2_typed.specs.Known.{made_at, scalar_at}
+use Rattle.m2_typed.specs.Known.{made_at}
+use Rattle.m2_layout.specs.Shapes.{tree}
 use Rattle.m2_judged.specs.Judged.{Gathers}
 use Rattle.m2_judged.specs.declared.known.Known.{Known}
 use Rattle.m2_judged.specs.declared.scope.Scope.{Scope}
@@ -57,7 +58,7 @@ words_stay g = record {
 }
 
 module _ (g : Gathers) where
-  returned_by : (types : Types) (o : Option TypeNo) → AreReturned {T = g.Told} types (returns_of (Ok o)) (option_map (scalar_at types) o)
+  returned_by : (types : Types) (o : Option TypeNo) → AreReturned {T = g.Told} types (returns_of (Ok o)) (option_map (tree types) o)
   returned_by types None = refl
   returned_by types (Some t) = refl
 
@@ -67,7 +68,7 @@ module _ (g : Gathers) where
       let made : made_at types q.heading ≡ Some k.made = ap (λ (t : TypeNo). made_at types t) is ∙ grows k.heading k.made k.there in (
         ap (λ (o : Option Made). formals_made o) made ∙ ap (λ (x : Shape). formals_in x) k.shape,
         subst (λ (r : Gives). AreReturned types (returns_of (result_of g (inwards s n) h.result)) r) (sym (ap (λ (o : Option Made). result_made types o) made ∙ ap (λ (x : Shape). result_in types x) k.shape))
-            (subst (λ (r : Result (Option TypeNo) g.Told). AreReturned types (returns_of r) (option_map (scalar_at types) k.result)) (sym k.gives) (returned_by types k.result)),
+            (subst (λ (r : Result (Option TypeNo) g.Told). AreReturned types (returns_of r) (option_map (tree types) k.result)) (sym k.gives) (returned_by types k.result)),
       )
 
   -- ---- how many names stand before each declaration

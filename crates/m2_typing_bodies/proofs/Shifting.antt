@@ -30,7 +30,7 @@ module _ (z : Stage) (k : Kinds) (kss : List Kinds) where
   variable_deeper v t h = record { known = h.known; type = h.type; there = h.there }
 
   named_deeper : (f : Procedure) → IsNamed x f → IsNamed more f
-  named_deeper f h = record { known = h.known; home = h.home; there = h.there; routine = h.routine; is = h.is; outermost = h.outermost; forms = h.forms; result = h.result }
+  named_deeper f h = record { known = h.known; home = h.home; there = h.there; routine = h.routine; is = h.is; outermost = h.outermost; forms = h.forms; result = h.result; heading = h.heading }
 
   inner_deeper : (u n : ℕ) (t : TypeNo) → IsInner x (record { up = u; number = n; heading = t }) → IsInner more (record { up = suc u; number = n; heading = t })
   inner_deeper u n t h = record {
@@ -87,7 +87,7 @@ meaning_anywhere z kss opens level (meaning.Variable v) h = (record { known = h.
 meaning_anywhere z kss opens level (meaning.Local v) h = let e = h.0 in absurd cc
 meaning_anywhere z kss opens level (meaning.Field f) h = absurd h.1
 meaning_anywhere z kss opens level (meaning.Procedure f) h =
-    (record { known = h.0.known; home = h.0.home; there = h.0.there; routine = h.0.routine; is = h.0.is; outermost = h.0.outermost; forms = h.0.forms; result = h.0.result }, tt)
+    (record { known = h.0.known; home = h.0.home; there = h.0.there; routine = h.0.routine; is = h.0.is; outermost = h.0.outermost; forms = h.0.forms; result = h.0.result; heading = h.0.heading }, tt)
 meaning_anywhere z kss opens level (meaning.LocalProcedure f) h = absurd (let e = h.0.less in omega (arith, e))
 meaning_anywhere z kss opens level meaning.Ahead h = (tt, tt)
 meaning_anywhere z kss opens level (meaning.Standard f) h = (tt, tt)

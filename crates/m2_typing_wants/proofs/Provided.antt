@@ -2,7 +2,7 @@
 use Rattle.std.proofs.Common.{◌≡◌, ◌⊎◌, inl, inr, ℕ, zero, suc, ◌+◌, ◌<◌, ◌==◌, ◌||◌, Bool, true, false, if◌then◌else◌, List, [], ◌∷◌, ◌++◌, length, get_or, Some, refl, sym, ap, subst, ◌∙◌, append_assoc, arith}
 use Rattle.std.specs.Prelude.{slice_get, All}
 use Rattle.std.specs.List.{list_any, flat_map, AllByRecursion}
-use Rattle.std.proofs.lemmas.Bool.{and_from, or_parts, or_left, or_right, eqb-true, eq-eqb}
+use Rattle.std.proofs.lemmas.Bool.{and_from, or_left, or_right, eqb-true, eq-eqb}
 use Rattle.std.proofs.lemmas.List.{length-append, append-nil, get_or-append-add, get_or_append_left}
 use Rattle.std.proofs.lemmas.List.Elements.{recursion_from_All}
 use Rattle.std.proofs.lemmas.List.Folds.{list_any-append}
@@ -25,15 +25,7 @@ use Rattle.m2_agree_linked.specs.Modules.{IsTypedModule}
 use Rattle.m2_typing.specs.Wanted.{TextsStand, AreNeeded, Has}
 use Rattle.m2_typing_stmts.specs.Asked.{wanted_by}
 use Rattle.m2_typing_bodies.specs.TypingBodies.{Stage, stands, AreBodiesTyped}
-use Rattle.m2_typing_wants.specs.TypingWants.{calls_variable, CallsNoVariable, AreOrdered, IsProvided, AreProvided, placed}
-
--- ---- lists
-
--- what none of a list is, one of it is not
-none_at : {A : Type 0} (test : A → Bool) (xs : List A) (n : ℕ) (x : A) → list_any test xs ≡ false → slice_get xs n ≡ Some x → test x ≡ false
-none_at test [] n x none e = absurd cc
-none_at test (y ∷ xs) zero x none e = ap test (sym (same_Some y x e)) ∙ (or_parts (test y) (list_any test xs) none).0
-none_at test (y ∷ xs) (suc n) x none e = none_at test xs n x ((or_parts (test y) (list_any test xs) none).1) e
+use Rattle.m2_typing_wants.specs.TypingWants.{AreOrdered, IsProvided, AreProvided, placed}
 
 -- ---- texts
 
@@ -163,12 +155,7 @@ module _ (m : TypedModule) where
 
 -- ---- bodies
 
-module _ (m : TypedModule) (calls : CallsNoVariable m) where
-  routine_calls : (w : Which) (r : Routine) → routine_of m w ≡ Some r → calls_variable r.body ≡ false
-  routine_calls (which.Module n) r e = none_at (λ (q : Routine). calls_variable q.body) m.procedures n r calls.procedures e
-  routine_calls (which.Local n) r e = none_at (λ (q : Routine). calls_variable q.body) m.locals n r calls.locals e
-
-module _ (z : Stage) (calls : CallsNoVariable z.home) (ordered : AreOrdered z.home) (bytes : All (λ b. b < 256) (text z.home)) where
+module _ (z : Stage) (ordered : AreOrdered z.home) (bytes : All (λ b. b < 256) (text z.home)) where
   all_bytes : AreBytes (text z.home)
   all_bytes = recursion_from_All (λ b. b < 256) (text z.home) bytes
 
@@ -187,7 +174,6 @@ module _ (z : Stage) (calls : CallsNoVariable z.home) (ordered : AreOrdered z.ho
     routine_provided = record {
       texts = routine_texts_stand (ordered w r is);
       signatures = are_needed (stands z kinds) (flat_map (of_step z.home) r.body) (routine_among z.home w r is);
-      held = routine_calls z.home calls w r is;
     }
 
   body_provided : IsProvided z (characters (routines_texts z.home)) z.home.body
@@ -195,7 +181,6 @@ module _ (z : Stage) (calls : CallsNoVariable z.home) (ordered : AreOrdered z.ho
     texts = part_stands z kinds all_bytes (routines_texts z.home) (body_texts z.home.body) []
         (ap (λ (ts : Texts). routines_texts z.home ++ ts) (sym (append-nil (body_texts z.home.body))));
     signatures = are_needed (stands z kinds) (flat_map (of_step z.home) z.home.body) (body_among z.home);
-    held = calls.body;
   }
 
   pub bodies_provided : AreProvided z

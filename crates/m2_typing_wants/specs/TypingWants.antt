@@ -1,6 +1,6 @@
--- When what the bodies of a module ask for is there: their texts, the types of their calls through the table, and no call
--- of a procedure variable. Then a module is typed whose bodies are typed wherever that is there.
-use Rattle.std.specs.Prelude.{◌≡◌, ◌⊎◌, ℕ, ◌<◌, Bool, true, false, List, [], Option, Some, All}
+-- When what the bodies of a module ask for is there: their texts, and the types of their calls through the table. Then a
+-- module is typed whose bodies are typed wherever that is there.
+use Rattle.std.specs.Prelude.{◌≡◌, ◌⊎◌, ℕ, ◌<◌, Bool, true, List, [], Option, Some, All}
 use Rattle.std.specs.List.{list_any}
 use Rattle.m2_tree.specs.declared.decl.Module.{Module}
 use Rattle.m2_typed.specs.declared.statement.TypedStmt.{TypedStmt}
@@ -19,24 +19,8 @@ use Rattle.m2_agree_bodies.specs.Linked.{text_of}
 use Rattle.m2_agree_linked.specs.Modules.{IsTypedModule}
 use Rattle.m2_formed.specs.Formed.{Holds}
 use Rattle.m2_typing.specs.Wanted.{Has}
-use Rattle.m2_typing_stmts.specs.Asked.{held_in, wanted_by}
+use Rattle.m2_typing_stmts.specs.Asked.{wanted_by}
 use Rattle.m2_typing_bodies.specs.TypingBodies.{Stage, stands, AreBodiesTyped}
-
--- ---- calls of procedure variables
-
--- a body calls one
-abbrev pub calls_variable : List TypedStmt → Bool
-calls_variable body = list_any held_in body
-
--- the body of one of these procedures does
-abbrev pub one_calls_variable : List Routine → Bool
-one_calls_variable routines = list_any (λ r. calls_variable r.body) routines
-
--- no body of the module calls one: not those of its procedures, nor those of the procedures in them, nor its own
-pub record CallsNoVariable (m : TypedModule) : Type 0 where
-  pub procedures : one_calls_variable m.procedures ≡ false
-  pub locals : one_calls_variable m.locals ≡ false
-  pub body : calls_variable m.body ≡ false
 
 -- ---- the order of bodies
 
@@ -50,8 +34,8 @@ BodiesAreOrdered g = (number : ℕ) (m : Module) (own : Option Table) (tables : 
 
 -- ---- what bodies ask for
 
--- What a body asks for is there, in all frames: its texts from this character on, the types of its calls through the
--- table, and no call of a procedure variable.
+-- What a body asks for is there, in all frames: its texts from this character on, and the types of its calls through the
+-- table.
 abbrev pub IsProvided : Stage → (from : ℕ) → List TypedStmt → Type 0
 IsProvided z from body = (kinds : List Kinds) → Has (stands z kinds) from (wanted_by z.home body)
 
@@ -60,9 +44,9 @@ pub record AreProvided (z : Stage) : Type 0 where
   pub procedures : (w : Which) (r : Routine) → routine_of z.home w ≡ Some r → IsProvided z (text_of z.home w) r.body
   pub body : IsProvided z (characters (routines_texts z.home)) z.home.body
 
--- It is there in each module of which no body calls a procedure variable, and whose texts are bytes.
+-- It is there in each module whose texts are bytes.
 abbrev pub BodiesAreProvided : Type 0
-BodiesAreProvided = (z : Stage) → CallsNoVariable z.home → AreOrdered z.home → All (λ b. b < 256) (text z.home) → AreProvided z
+BodiesAreProvided = (z : Stage) → AreOrdered z.home → All (λ b. b < 256) (text z.home) → AreProvided z
 
 -- ---- modules
 
@@ -73,4 +57,4 @@ placed p pages place m opens = record { p = p; base = (ground p pages).base; tex
 -- So a module is typed where its bodies are typed wherever what they ask for is there.
 abbrev pub BodiesMakeModules : Type 0
 BodiesMakeModules = (p : Program) (pages place : ℕ) (m : TypedModule) (opens : ℕ → Bool) → AreBodiesTyped (placed p pages place m opens) m.body
-    → CallsNoVariable m → AreOrdered m → All (λ b. b < 256) (text m) → IsTypedModule p pages place m
+    → AreOrdered m → All (λ b. b < 256) (text m) → IsTypedModule p pages place m

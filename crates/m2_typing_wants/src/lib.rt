@@ -1,7 +1,6 @@
 //! Why the bodies of modules have what they ask for. There is no code here but what names the laws.
 //!
-//! - `specs/TypingWants` says which modules call no procedure variables, that procedures with bodies stand in the order of
-//!   bodies, and when what bodies ask for is there.
+//! - `specs/TypingWants` says that procedures with bodies stand in the order of bodies, and when what bodies ask for is there.
 //! - `proofs/Orders` has the order of bodies, from procedures in procedures to whole modules.
 //! - `proofs/Provided` has the texts of each body among those of the module, the types of its calls, and modules of typed
 //!   bodies.

@@ -11,7 +11,7 @@ pub returns-clause-every : goal.returns-clause-every
 returns-clause-every c = bodies_ordered every
 
 pub returns-clause-provided : goal.returns-clause-provided
-returns-clause-provided c = λ z calls ordered bytes. bodies_provided z calls ordered bytes
+returns-clause-provided c = λ z ordered bytes. bodies_provided z ordered bytes
 
 pub returns-clause-modules : goal.returns-clause-modules
-returns-clause-modules c = λ p pages place m opens typed calls ordered bytes. module_typed p pages place m opens typed (bodies_provided (placed p pages place m opens) calls ordered bytes)
+returns-clause-modules c = λ p pages place m opens typed ordered bytes. module_typed p pages place m opens typed (bodies_provided (placed p pages place m opens) ordered bytes)
