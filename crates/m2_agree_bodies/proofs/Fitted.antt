@@ -20,7 +20,7 @@ use Rattle.m2_layout.specs.Frames.{formals_of}
 use Rattle.m2_meaning.specs.Store.{Location}
 use Rattle.m2_meaning.specs.Around.{Modules, Around, Frames, Callee, entry_of, entry_callee, callee_with, module_place, procedure_in, module_callee, nested_in}
 use Rattle.m2_meaning.specs.Calls.{is_there, calling}
-use Rattle.m2_cells.specs.Relation.{NamesProcedure, heading_at, value_number}
+use Rattle.m2_cells.specs.Relation.{NamesProcedure}
 use Rattle.m2_cells.proofs.Procedures.{entry_there}
 use Rattle.m2_cells.proofs.Worlds.{component_old, offset_old, in_world}
 use Rattle.m2_scheme.specs.Coded.{body_index, raised}
@@ -42,7 +42,6 @@ use Rattle.m2_agree_programs.specs.Knot.{core, AllDo}
 use Rattle.m2_agree_bodies.specs.Linked.{Spot, function_of, called_by, routine_typed, around_of, part_of, context, IsLinked}
 use Rattle.m2_agree_bodies.specs.Laws.{AreLinked}
 use Rattle.m2_agree_bodies.proofs.Counted.{some_around}
-
 
 none_some : {A : Type 0} (x : A) → None ≡ Some x → ⊥
 none_some x e = cc e

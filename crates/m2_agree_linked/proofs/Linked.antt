@@ -24,7 +24,7 @@ use Rattle.m2_layout.specs.Texts.{characters, module_texts}
 use Rattle.m2_meaning.specs.Around.{module_place, entries_before}
 use Rattle.m2_cells.specs.Relation.{value_number}
 use Rattle.m2_scheme.specs.Coded.{body_index}
-use Rattle.m2_scheme.specs.Exprs.{is_own, import_place, slots_global, slot_number, variables_row, imported_row}
+use Rattle.m2_scheme.specs.Exprs.{is_own, import_place, slots_global, variables_row, imported_row}
 use Rattle.m2_scheme.specs.Functions.{routine_of}
 use Rattle.m2_scheme.specs.Modules.{numbered, slots, typed_module}
 use Rattle.m2_valid.proofs.Own.{typed_in}
