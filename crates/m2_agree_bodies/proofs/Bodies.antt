@@ -1,10 +1,10 @@
 -- Bodies that are typed do what the definition says, to every depth of calls.
-use Rattle.std.proofs.Common.{◌≡◌, ℕ, suc, ◌-◌, Bool, false, List, [], ◌∷◌, Option, Some, None, refl, sym, ap, subst}
+use Rattle.std.proofs.Common.{◌≡◌, ℕ, suc, ◌-◌, Bool, false, List, [], ◌∷◌, None, refl, sym, ap, subst}
 use Rattle.std.specs.Prelude.{nat_lt}
 use Rattle.wasm_tree.specs.declared.module.WModule.{WModule}
 use Rattle.wasm_effect.specs.Effect.{Fixed}
-use Rattle.m2_typed.specs.declared.shape.Scalar.{Scalar as Range}
 use Rattle.m2_typed.specs.declared.typed_module.Routine.{Routine}
+use Rattle.m2_typed.specs.declared.typed_module.Which.TheVariants as which
 use Rattle.m2_typed.specs.declared.typed_module.TypedModule.{TypedModule}
 use Rattle.m2_layout.specs.Types.{Ty}
 use Rattle.m2_layout.specs.Frames.{frame}
@@ -23,12 +23,13 @@ use Rattle.m2_scheme.specs.Steps.{body_code}
 use Rattle.m2_agree.specs.Scene.{Scene, Executes}
 use Rattle.m2_agree_calls.specs.Frames.{Kinds, kinds_of}
 use Rattle.m2_agree_calls.specs.Passing.{Result, result_of}
+use Rattle.m2_agree_calls.proofs.Headings.{many_length}
 use Rattle.m2_agree_trees.specs.Placed.{Pins}
 use Rattle.m2_agree_trees.specs.Typed.{Context}
 use Rattle.m2_agree_trees.specs.Fitting.{Fits}
 use Rattle.m2_agree_stmts.specs.Laws.{Suits}
 use Rattle.m2_agree_stmts.proofs.Laws.{bodies, stays}
-use Rattle.m2_agree_procedures.specs.Laws.{or_unranged, top_of, is_inner, IsFunction, DoesBody, body_scene, locals_in}
+use Rattle.m2_agree_procedures.specs.Laws.{top_of, is_inner, IsFunction, DoesBody, body_scene, locals_in}
 use Rattle.m2_agree_programs.specs.Knot.{core, AllDo, IsPart}
 use Rattle.m2_agree_programs.specs.Main.{body_row, IsMain, main_scene}
 use Rattle.m2_agree_programs.proofs.Knots.{knot}
@@ -36,7 +37,7 @@ use Rattle.m2_agree_programs.proofs.Mains.{main_does}
 use Rattle.m2_agree_runs.specs.Programs.{body_typed}
 use Rattle.m2_agree_bodies.specs.Linked.{Spot, routine_typed, around_of, text_of, part_of, context}
 use Rattle.m2_agree_bodies.specs.Laws.{AreLinked, AreTyped, IsTypedMain, Parts, Mains, TypedBodies}
-use Rattle.m2_agree_bodies.proofs.Counted.{function_it, many_length, results_length}
+use Rattle.m2_agree_bodies.proofs.Counted.{function_it, results_length}
 use Rattle.m2_agree_bodies.proofs.Fitted.{fits_here}
 
 -- the place of the next text is that of the code as it stands
@@ -58,6 +59,9 @@ module _ (modules : List WModule) (fx : Fixed) (serves : (k f : ℕ) → Bool) (
     (linked : AreLinked modules fx serves extra n limit p base texts) (typed : AreTyped modules fx serves extra n limit p base texts) where
   levels : (o : Spot p) → nat_lt 1 o.routine.level ≡ is_inner (around_of o.home o.routine)
   levels o = ((typed o).procedure 0).linked
+
+  outermost : (o : Spot p) (number : ℕ) → o.at ≡ which.Module number → around_of o.home o.routine ≡ []
+  outermost o number e = (typed o).outermost number e
 
   function_there : (o : Spot p) → IsFunction (numbered o.home) o.home o.routine (frames_around o.home o.routine.level o.routine.around) (text_of o.home o.at) (routine_typed o.home o.at o.routine)
   function_there o = record {
@@ -84,8 +88,8 @@ module _ (modules : List WModule) (fx : Fixed) (serves : (k f : ℕ) → Bool) (
         same = counted_same (text_of m o.at) t.to (body_code (numbered m) r.body) q.0 (setting m (frame m.types r ∷ outer) (top_of m r) (addresses_in r.body)) q.1;
         executes = λ world y root a types place none set has top.
             let K : Scene = body_scene (core modules fx serves extra n limit p base texts (suc o.place) o.place m d) m r outer (locals_in (numbered m) m r outer (text_of m o.at)) world y root a in
-            let fits : Fits x (calling p n d) [] K = fits_here modules fx serves extra n limit p base texts linked levels d all o.place m o.there kinds a (frame m.types r ∷ outer) (top_of m r) (addresses_in r.body) world y K.locals K.result K.kept set top place none has in
-            let suits : Suits x (calling p n d) result n [] K = record { fits = fits; turns = refl; ranged = λ s e. ap or_unranged e } in
+            let fits : Fits x (calling p n d) [] K = fits_here modules fx serves extra n limit p base texts linked levels outermost d all o.place m o.there kinds a (frame m.types r ∷ outer) (top_of m r) (addresses_in r.body) world y K.locals K.result K.kept set top place none has in
+            let suits : Suits x (calling p n d) result n [] K = record { fits = fits; turns = refl; typed = refl } in
             subst (λ (b : Bool). Executes K b (counted q.0 t.to) (body_does p n (calling p n d) r.body)) (function_it m.types r)
             (counted_executes K (is_there result) q.0 t.to (body_does p n (calling p n d) r.body) (q.2 K suits));
         stays = λ a s s' e. stays x (calling p n d) result n (text_of m o.at) t.to r.body t.typed a s s' e;
@@ -112,13 +116,10 @@ module _ (modules : List WModule) (fx : Fixed) (serves : (k f : ℕ) → Bool) (
         placed = counted q.0 t.to;
         same = counted_same text t.to (body_code (numbered m) m.body) q.0 (setting m (body_row ∷ []) 1 (addresses_in m.body)) q.1;
         executes = λ set has top.
-            let fits : Fits x (calling p n n) [] K = fits_here modules fx serves extra n limit p base texts linked levels n all place m t.there [] a (body_row ∷ []) 1 (addresses_in m.body) K.world K.hidden K.locals K.result K.kept set top refl refl has in
-            let suits : Suits x (calling p n n) None n [] K = record { fits = fits; turns = refl; ranged = λ s e. none_some s e } in
+            let fits : Fits x (calling p n n) [] K = fits_here modules fx serves extra n limit p base texts linked levels outermost n all place m t.there [] a (body_row ∷ []) 1 (addresses_in m.body) K.world K.hidden K.locals K.result K.kept set top refl refl has in
+            let suits : Suits x (calling p n n) None n [] K = record { fits = fits; turns = refl; typed = refl } in
             counted_executes K false q.0 t.to (body_does p n (calling p n n) m.body) (q.2 K suits);
       }
-    where
-      none_some : (s : Option Range) → None ≡ Some s → None ≡ s
-      none_some s e = cc e
 
 pub parts : Parts
 parts modules fx serves extra n limit p base texts linked typed o = parts_are modules fx serves extra n limit p base texts linked typed o

@@ -1,26 +1,27 @@
 -- The scenes in which bodies run fit their contexts, where the modules are linked and all functions do what is asked.
-use Rattle.std.proofs.Common.{◌≡◌, ℕ, zero, suc, ◌+◌, ◌<◌, Bool, true, false, List, [], ◌∷◌, ◌++◌, length, Option, Some, None, if◌then◌else◌, refl, sym, ap, subst, ◌∙◌, arith}
+use Rattle.std.proofs.Common.{◌≡◌, ℕ, zero, suc, ◌+◌, ◌<◌, pos, Bool, true, false, List, [], ◌∷◌, ◌++◌, length, Option, Some, None, if◌then◌else◌, refl, sym, ap, subst, ◌∙◌, arith}
 use Rattle.std.specs.Prelude.{slice_get, drop, nat_lt}
 use Rattle.std.proofs.lemmas.Bool.{eqb-true}
 use Rattle.wasm_tree.specs.declared.instr.Instr.TheVariants as instr
 use Rattle.wasm_tree.specs.declared.module.WModule.{WModule}
 use Rattle.wasm_tree.specs.declared.store.Value.{Value}
-use Rattle.wasm_tree.specs.Machine.{Typed, agree}
-use Rattle.wasm_effect.specs.Effect.{Fixed, nested}
+use Rattle.wasm_tree.specs.Machine.{Typed, agree, callee_in}
+use Rattle.wasm_effect.specs.Effect.{Fixed, nested, store_of}
 use Rattle.m2_typed.specs.declared.computed.LocalProcedure.{LocalProcedure}
 use Rattle.m2_typed.specs.declared.meaning.Procedure.{Procedure}
 use Rattle.m2_typed.specs.declared.meaning.Variable.{Variable}
-use Rattle.m2_typed.specs.declared.shape.Scalar.{Scalar as Range}
 use Rattle.m2_typed.specs.declared.typed_module.Routine.{Routine}
 use Rattle.m2_typed.specs.declared.typed_module.Which.{Which}
 use Rattle.m2_typed.specs.declared.typed_module.Which.TheVariants as which
 use Rattle.m2_typed.specs.declared.typed_module.TypedModule.{TypedModule}
-use Rattle.m2_layout.specs.Types.{Ty, Hidden, row, component}
+use Rattle.m2_layout.specs.Types.{Ty, Hidden, Heading, row, component}
 use Rattle.m2_layout.specs.Sizes.{offset}
 use Rattle.m2_layout.specs.Frames.{formals_of}
 use Rattle.m2_meaning.specs.Store.{Location}
-use Rattle.m2_meaning.specs.Around.{Modules, Around, Frames, Callee, callee_with, module_place, procedure_in, module_callee, nested_in}
-use Rattle.m2_meaning.specs.Calls.{calling}
+use Rattle.m2_meaning.specs.Around.{Modules, Around, Frames, Callee, entry_of, entry_callee, callee_with, module_place, procedure_in, module_callee, nested_in}
+use Rattle.m2_meaning.specs.Calls.{is_there, calling}
+use Rattle.m2_cells.specs.Relation.{NamesProcedure}
+use Rattle.m2_cells.proofs.Procedures.{entry_there}
 use Rattle.m2_cells.proofs.Worlds.{component_old, offset_old, in_world}
 use Rattle.m2_scheme.specs.Coded.{body_index, raised}
 use Rattle.m2_scheme.specs.Exprs.{is_own, all_arguments, has_result, slots_global, slot_number, indirect, module_call, nested_call}
@@ -29,16 +30,18 @@ use Rattle.m2_scheme.specs.Modules.{numbered}
 use Rattle.m2_scheme.specs.Signatures.{Signature, signature, of_heading, type_of}
 use Rattle.m2_agree.specs.Scene.{Scene, IsSet, IsGlobal}
 use Rattle.m2_agree_calls.specs.Frames.{Kinds, HasFrames}
+use Rattle.m2_agree_calls.specs.Held.{HasCallee}
 use Rattle.m2_agree_calls.specs.Laws.{HasSlot, IsText}
-use Rattle.m2_agree_calls.specs.Passing.{Forms, Result, forms_of, result_of, HasTop, DoesAsked, IsCallOf}
+use Rattle.m2_agree_calls.specs.Passing.{Forms, Result, all_operands, forms_of, forms_in, result_of, heading_result, HasTop, DoesAsked, IsCallOf}
 use Rattle.m2_agree_calls.proofs.Called.{direct_calls, table_calls}
+use Rattle.m2_agree_calls.proofs.Headings.{forms_same, result_same, has_it, operands_counted, many_length, agrees_itself, type_same}
 use Rattle.m2_agree_trees.specs.Typed.{Context, IsVariable, IsNamed, IsCallable, IsInner, HasText}
-use Rattle.m2_agree_trees.specs.Fitting.{all_operands, IsCalled, Fits}
+use Rattle.m2_agree_trees.specs.Fitting.{IsCalled, Fits}
 use Rattle.m2_agree_procedures.specs.Laws.{is_inner, callee_of}
 use Rattle.m2_agree_programs.specs.Knot.{core, AllDo}
 use Rattle.m2_agree_bodies.specs.Linked.{Spot, function_of, called_by, routine_typed, around_of, part_of, context, IsLinked}
 use Rattle.m2_agree_bodies.specs.Laws.{AreLinked}
-use Rattle.m2_agree_bodies.proofs.Counted.{has_it, operands_counted, many_length, agrees_itself, some_around}
+use Rattle.m2_agree_bodies.proofs.Counted.{some_around}
 
 none_some : {A : Type 0} (x : A) → None ≡ Some x → ⊥
 none_some x e = cc e
@@ -55,8 +58,8 @@ takes_many m w r b e =
     omega (arith, same, many, level)
 
 module _ (modules : List WModule) (fx : Fixed) (serves : (k f : ℕ) → Bool) (extra : (k f : ℕ) → ℕ) (n limit : ℕ) (p : Modules) (base : List Ty) (texts : Location → ℕ → ℕ)
-    (linked : AreLinked modules fx serves extra n limit p base texts) (levels : (o : Spot p) → nat_lt 1 o.routine.level ≡ is_inner (around_of o.home o.routine)) (d : ℕ) (all : AllDo modules fx serves extra n limit p base texts (Spot p) part_of d) where
-  module _ (place : ℕ) (m : TypedModule) (at : slice_get p place ≡ Some m) (kinds : List Kinds) (a : Around) (frames : List Ty) (arguments addresses : ℕ) (world : List Ty) (y : Location → ℕ → ℕ) (locals : ℕ) (result : Option Range) (kept : ℕ → Option Value) where
+    (linked : AreLinked modules fx serves extra n limit p base texts) (levels : (o : Spot p) → nat_lt 1 o.routine.level ≡ is_inner (around_of o.home o.routine)) (outermost : (o : Spot p) (number : ℕ) → o.at ≡ which.Module number → around_of o.home o.routine ≡ []) (d : ℕ) (all : AllDo modules fx serves extra n limit p base texts (Spot p) part_of d) where
+  module _ (place : ℕ) (m : TypedModule) (at : slice_get p place ≡ Some m) (kinds : List Kinds) (a : Around) (frames : List Ty) (arguments addresses : ℕ) (world : List Ty) (y : Location → ℕ → ℕ) (locals : ℕ) (result : Option Ty) (kept : ℕ → Option Value) where
     -- the scene of a body
     abbrev pub K : Scene
     K = record (core modules fx serves extra n limit p base texts (suc place) place m d) {
@@ -79,7 +82,7 @@ module _ (modules : List WModule) (fx : Fixed) (serves : (k f : ℕ) → Bool) (
     g = linked place m at
 
     named_plainly : (f : Procedure) → IsNamed x f → IsNamed plain f
-    named_plainly f h = record { known = h.known; home = h.home; there = h.there; routine = h.routine; is = h.is; outermost = h.outermost; forms = h.forms; result = h.result }
+    named_plainly f h = record { known = h.known; home = h.home; there = h.there; routine = h.routine; is = h.is; outermost = h.outermost; forms = h.forms; result = h.result; heading = h.heading }
 
     module _ (set : IsSet K) (top : HasTop K base texts) where
       -- what stands in the instances of modules
@@ -142,11 +145,7 @@ module _ (modules : List WModule) (fx : Fixed) (serves : (k f : ℕ) → Bool) (
           omega (arith, link, one, other, both))
           in
           ap (λ (i : ℕ). signature i (has_result h.home.types h.routine.heading)) count
-          ∙ ap (λ (b : Bool). signature (all_arguments (formals_of m.types f.heading)) b) (has_it h.home.types h.routine.heading ∙ ap (λ (r : Result). is_some r) h.result ∙ sym (has_it m.types f.heading))
-        where
-          is_some : Result → Bool
-          is_some None = false
-          is_some (Some r) = true
+          ∙ ap (λ (b : Bool). signature (all_arguments (formals_of m.types f.heading)) b) (has_it h.home.types h.routine.heading ∙ ap (λ (r : Result). is_there r) h.result ∙ sym (has_it m.types f.heading))
 
       module_calls : (f : Procedure) (c : IsCallable x f) (b : Bool) → is_own m f.home ≡ b
           → IsCallOf K (if b then instr.Call (suc body_index + f.number) ∷ [] else (instr.GlobalGet (slots_global m f.home) ∷ (raised (slot_number f) ++ indirect (numbered m) m.types f.heading ∷ [])))
@@ -164,11 +163,11 @@ module _ (modules : List WModule) (fx : Fixed) (serves : (k f : ℕ) → Bool) (
           table_calls K set (slots_global m f.home) q.slot (slot_number f) (numbered m s.arguments s.result) (suc (module_place p f.home)) (6 + f.number) t q.there q.small q.filled (there.functions (which.Module f.number) h.routine h.is)
           (ap (λ o. agree o (Some t.type)) (g.types s (c.signed e)) ∙ ap (λ (s' : Signature). agree (Some (type_of s)) (Some (type_of s'))) (same_type f h) ∙ agrees_itself (type_of s))
 
-      asked : (c : Callee) (kss kss' : List Kinds) (fs fs' : Forms) (r r' : Result) (j i : ℕ) (t : Typed) → kss ≡ kss' → fs ≡ fs' → r ≡ r' → DoesAsked base texts limit (nested modules fx serves extra n d) (calling p n d) c kss fs r j i t → DoesAsked base texts limit (nested modules fx serves extra n d) (calling p n d) c kss' fs' r' j i t
+      asked : (c : Callee) (kss kss' : List Kinds) (fs fs' : Forms) (r r' : Result) (j i : ℕ) (t : Typed) → kss ≡ kss' → fs ≡ fs' → r ≡ r' → DoesAsked p base texts limit (nested modules fx serves extra n d) (calling p n d) c kss fs r j i t → DoesAsked p base texts limit (nested modules fx serves extra n d) (calling p n d) c kss' fs' r' j i t
       asked c kss kss' fs fs' r r' j i t e e' e'' h =
-          subst (λ (kss : List Kinds). DoesAsked base texts limit (nested modules fx serves extra n d) (calling p n d) c kss fs' r' j i t) e
-          (subst (λ (fs : Forms). DoesAsked base texts limit (nested modules fx serves extra n d) (calling p n d) c kss fs r' j i t) e'
-          (subst (λ (r : Result). DoesAsked base texts limit (nested modules fx serves extra n d) (calling p n d) c kss fs r j i t) e'' h))
+          subst (λ (kss : List Kinds). DoesAsked p base texts limit (nested modules fx serves extra n d) (calling p n d) c kss fs' r' j i t) e
+          (subst (λ (fs : Forms). DoesAsked p base texts limit (nested modules fx serves extra n d) (calling p n d) c kss fs r' j i t) e'
+          (subst (λ (r : Result). DoesAsked p base texts limit (nested modules fx serves extra n d) (calling p n d) c kss fs r j i t) e'' h))
 
       module_here : (f : Procedure) → IsCallable x f → (c : Callee) × (module_callee p (module_place p f.home) f.number ≡ Some c) × (c.frames ≡ []) × IsCalled x (calling p n d) K c [] f.heading (module_call (numbered m) m f) 0
       module_here f c =
@@ -215,6 +214,46 @@ module _ (modules : List WModule) (fx : Fixed) (serves : (k f : ℕ) → Bool) (
             },
           )
 
+      -- ---- procedures by their numbers
+
+      -- a procedure of a module itself has the type of its heading
+      outermost_type : (o : Spot p) → around_of o.home o.routine ≡ [] → signature (numbers_of o.home.types o.routine) (has_result o.home.types o.routine.heading) ≡ of_heading o.home.types o.routine.heading
+      outermost_type o outer =
+          let none : nat_lt 1 o.routine.level ≡ false = levels o ∙ ap is_inner outer in
+          let link : ◌≡◌ {A = ℕ} (if nat_lt 1 o.routine.level then 1 else 0) 0 = ap (λ (b : Bool). if b then 1 else 0) none in
+          let count : numbers_of o.home.types o.routine ≡ all_arguments (formals_of o.home.types o.routine.heading) = omega (arith, link) in
+          ap (λ (i : ℕ). signature i (has_result o.home.types o.routine.heading)) count
+
+      callee_here : (h : Heading) (i : ℕ) → NamesProcedure p h i → HasCallee K (calling p n d) base texts h i
+      callee_here h i names =
+          let w : Which = which.Module names.number in
+          let o : Spot p = record { place = names.place; home = names.home; there = names.there; at = w; routine = names.routine; is = names.is } in
+          let outer : around_of names.home names.routine ≡ [] = outermost o names.number refl in
+          let entry = g.entries names.place names.home names.number names.routine names.there names.is in
+          let value = names.value in
+          let small = entry.small in
+          let callee : Callee = callee_of names.place names.home names.routine [] in
+          let t : Typed = routine_typed names.home w names.routine in
+          record {
+            some = omega (arith, value);
+            small = omega (arith, value, small);
+            callee = callee;
+            is =
+                ap (λ (i : ℕ). entry_callee p (entry_of p (pos i))) value
+                ∙ ap (entry_callee p) (entry_there p names.place names.number names.home names.routine names.there names.is)
+                ∙ ap (λ (q : Option TypedModule). procedure_in names.place q names.number) names.there
+                ∙ ap (λ (q : Option Routine). callee_with names.place names.home.types [] q) names.is;
+            outermost = refl;
+            own = suc names.place;
+            function = 6 + names.number;
+            typed = t;
+            filled = λ bytes. ap (callee_in (store_of fx bytes) (suc place)) value ∙ entry.filled bytes;
+            there = (linked names.place names.home names.there).functions w names.routine names.is;
+            type = ap type_of (outermost_type o outer) ∙ type_same names.home.types names.routine.heading h names.heading;
+            does = asked callee (around_of names.home names.routine) [] (forms_of names.home.types names.routine.heading) (forms_in h) (result_of names.home.types names.routine.heading) (heading_result h) (suc names.place) (6 + names.number) t outer
+                (forms_same names.home.types names.routine.heading h names.heading) (result_same names.home.types names.routine.heading h names.heading) (all o []);
+          }
+
       -- ---- all of it
 
       none_open : (j : ℕ) (t : Ty) → slice_get [] j ≡ Some t → ⊥
@@ -225,6 +264,7 @@ module _ (modules : List WModule) (fx : Fixed) (serves : (k f : ℕ) → Bool) (
       fits_here same none has = record {
         set = set;
         home = refl;
+        program = refl;
         place = same;
         frames = has;
         top = top;
@@ -235,4 +275,6 @@ module _ (modules : List WModule) (fx : Fixed) (serves : (k f : ℕ) → Bool) (
         texts = text_here;
         modules = module_here;
         nested = inner_here;
+        callees = callee_here;
+        signed = λ t s. g.types (of_heading m.types t) s;
       }

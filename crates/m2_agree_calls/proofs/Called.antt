@@ -11,19 +11,19 @@ use Rattle.wasm_tree.specs.Machine.{Typed, callee_at, callee_in, global_at, own_
 use Rattle.wasm_effect.specs.Effect.{State as Target, store_of, Effect, then_run, back}
 use Rattle.wasm_effect.proofs.Steps.{split_end_at, global_runs, indirect_runs, own_runs, own_does}
 use Rattle.m2_typed.specs.declared.types.TypeNo.{TypeNo}
-use Rattle.m2_typed.specs.Known.{scalar_at}
-use Rattle.m2_layout.specs.Types.{Ty, row}
+use Rattle.m2_layout.specs.Types.{Ty, Scalar, row}
 use Rattle.m2_layout.specs.Sizes.{size}
+use Rattle.m2_layout.specs.Shapes.{tree}
 use Rattle.m2_meaning.specs.Store.{Location}
 use Rattle.m2_meaning.specs.Answer.{State as Source, Answer, Gave, Ended, Running, then_give, Went, with_answer}
 use Rattle.m2_meaning.specs.Around.{Modules, Callee, Passed, Number, Variable, Array as Whole, Text}
 use Rattle.m2_meaning.specs.Expressions.{Asks, Gives, all_given}
 use Rattle.m2_scheme.specs.Coded.{Coded, Counts, ◌⨾◌, all_coded, raised}
-use Rattle.m2_agree.specs.Scene.{Scene, IsSet, calls, runs, Stands, Into, GivesNumber, Grows, IsFree, HasLocals, inside, Agrees, Ends, Executes}
+use Rattle.m2_agree.specs.Scene.{Scene, IsSet, IsCell, calls, runs, Stands, Into, GivesNumber, Grows, IsFree, HasLocals, inside, Agrees, Ends, Executes}
 use Rattle.m2_agree.proofs.Parts.{into_then, grows_more, grows_same, has_before, free_after, IsPlain}
 use Rattle.m2_agree.proofs.Places.{raised_runs}
 use Rattle.m2_agree_calls.specs.Frames.{Kinds, IsChain}
-use Rattle.m2_agree_calls.specs.Passing.{Form, ByNumber, ByCopy, ByName, ByArray, Forms, Result, IsPassed, ArePassed, none_passed, more_passed, GivesPassed, PassAll, pass_none, pass_more, GivesAll, CallGives, links, DoesAsked, GivesResult, Calls, HasTop, IsCallOf, IsCallHere}
+use Rattle.m2_agree_calls.specs.Passing.{Form, ByNumber, ByCopy, ByName, ByArray, Forms, Result, operands_of, all_operands, IsPassed, ArePassed, none_passed, more_passed, GivesPassed, PassAll, pass_none, pass_more, GivesAll, CallGives, links, DoesAsked, GivesResult, Calls, HasTop, IsCallOf, IsCallHere}
 
 -- ---- all arguments
 
@@ -62,19 +62,9 @@ all_pass k p ask _ _ _ (pass_more f fs x xs g gs hx hxs) =
     }
 
 -- how many operands they leave
-abbrev pub operands_of : Form → ℕ
-operands_of (ByNumber c) = 1
-operands_of (ByCopy t) = 1
-operands_of (ByName t) = 1
-operands_of (ByArray is_var t) = 2
-
-abbrev pub all_operands : Forms → ℕ
-all_operands [] = 0
-all_operands (f ∷ fs) = operands_of f + all_operands fs
-
-module _ (world : List Ty) (x : Location → ℕ → ℕ) where
-  one_count : (f : Form) (p : Passed) (vs : List Value) → IsPassed world x f p vs → length vs ≡ operands_of f
-  one_count (ByNumber c) (Number v) vs h = ap (λ (vs : List Value). length vs) h.1
+module _ (program : Modules) (world : List Ty) (x : Location → ℕ → ℕ) where
+  one_count : (f : Form) (p : Passed) (vs : List Value) → IsPassed program world x f p vs → length vs ≡ operands_of f
+  one_count (ByNumber c) (Number v) vs h = ap (λ (vs : List Value). length vs) h.2
   one_count (ByNumber c) (Variable l) vs h = absurd h
   one_count (ByNumber c) (Whole l high) vs h = absurd h
   one_count (ByNumber c) (Text text) vs h = absurd h
@@ -91,7 +81,7 @@ module _ (world : List Ty) (x : Location → ℕ → ℕ) where
   one_count (ByArray is_var t) (Whole l high) vs h = ap (λ (vs : List Value). length vs) h.3
   one_count (ByArray is_var t) (Text text) vs h = ap (λ (vs : List Value). length vs) h.4
 
-  pub operands_count : (fs : Forms) (ps : List Passed) (vs : List Value) → ArePassed world x fs ps vs → length vs ≡ all_operands fs
+  pub operands_count : (fs : Forms) (ps : List Passed) (vs : List Value) → ArePassed program world x fs ps vs → length vs ≡ all_operands fs
   operands_count _ _ _ none_passed = refl
   operands_count _ _ _ (more_passed f fs p ps vs ws h hs) =
       let one = one_count f p vs h in
@@ -102,13 +92,13 @@ module _ (world : List Ty) (x : Location → ℕ → ℕ) where
 -- ---- the function is called
 
 module _ (k : Scene) (base : List Ty) (texts : Location → ℕ → ℕ) (top : HasTop k base texts) (p : Modules) (ask : Asks) (c : Callee) (kss : List Kinds) (roots : List ℕ) (chain : IsChain k.world k.hidden kss c.frames roots)
-    (forms : Forms) (result : Result) (j f : ℕ) (t : Typed) (does : DoesAsked base texts k.limit (calls k) ask c kss forms result j f t) (code : List Instr) (is_call : IsCallHere k code j f t)
+    (forms : Forms) (result : Result) (j f : ℕ) (t : Typed) (does : DoesAsked k.program base texts k.limit (calls k) ask c kss forms result j f t) (code : List Instr) (is_call : IsCallHere k code j f t)
     (count : length t.type.params ≡ suc (length (links k.world roots) + all_operands forms)) where
   -- what is passed before the arguments
   abbrev pub front : List Value
   front = I32 (size (row k.world)) ∷ links k.world roots
 
-  back_gives : (s : Source) (st : Target) → Stands k s st → (rest : List Instr) (stack : List Value) (r : Effect) (a : Answer ℤ) → Into (CallGives k.world k.hidden k.limit result st.locals stack) r a
+  back_gives : (s : Source) (st : Target) → Stands k s st → (rest : List Instr) (stack : List Value) (r : Effect) (a : Answer ℤ) → Into (CallGives k.program k.world k.hidden k.limit result st.locals stack) r a
       → Into (GivesResult k result (runs k rest) stack) (then_run r (runs k rest)) a
   back_gives s st h rest stack r (Gave v s') g = record {
     st = record { locals = st.locals; bytes = g.bytes; out = s'.out };
@@ -119,20 +109,20 @@ module _ (k : Scene) (base : List Ty) (texts : Location → ℕ → ℕ) (top : 
   back_gives s st h rest stack r (Ended n out) g = ap (λ (e : Effect). then_run e (runs k rest)) g
   back_gives s st h rest stack r (Running out) g = ap (λ (e : Effect). then_run e (runs k rest)) g
 
-  pub call_goes : (vs : List Passed) (values : List Value) → ArePassed k.world k.hidden forms vs values → (s : Source) (st : Target) → Stands k s st → (rest : List Instr) (stack : List Value)
+  pub call_goes : (vs : List Passed) (values : List Value) → ArePassed k.program k.world k.hidden forms vs values → (s : Source) (st : Target) → Stands k s st → (rest : List Instr) (stack : List Value)
       → Into (GivesResult k result (runs k rest) stack) (runs k (code ++ rest) st ((stack ++ front) ++ values)) (ask (Some c) vs k.around.next k.around.left s)
   call_goes vs values are s st h rest stack =
       let args : List Value = front ++ values in
       let shape : (stack ++ front) ++ values ≡ stack ++ args = append_assoc stack front values in
-      let many : length args ≡ length t.type.params = (let a = operands_count k.world k.hidden forms vs values are in let b = length-append (links k.world roots) values in omega (arith, a, b, count)) in
+      let many : length args ≡ length t.type.params = (let a = operands_count k.program k.world k.hidden forms vs values are in let b = length-append (links k.world roots) values in omega (arith, a, b, count)) in
       let answer : ℕ → Answer ℤ = λ n. ask (Some c) vs n k.around.left s in
       let did : List ℕ → Effect = λ out. back (length t.type.results) st.locals stack (calls k j f t args st.bytes out) in
-      let got : Into (CallGives k.world k.hidden k.limit result st.locals stack) (did s.out) (answer (length k.world)) =
+      let got : Into (CallGives k.program k.world k.hidden k.limit result st.locals stack) (did s.out) (answer (length k.world)) =
       does k.world k.hidden top.based roots chain s st.bytes h.holds h.long vs values are k.around.left top.left st.locals stack in
       subst (λ (r : Effect). Into (GivesResult k result (runs k rest) stack) r (answer k.around.next)) (sym (ap (runs k (code ++ rest) st) shape ∙ is_call s st h rest stack args many))
       (back_gives s st h rest stack (did st.out) (answer k.around.next)
-      (subst (λ (n : ℕ). Into (CallGives k.world k.hidden k.limit result st.locals stack) (did st.out) (answer n)) (sym top.next)
-      (subst (λ (out : List ℕ). Into (CallGives k.world k.hidden k.limit result st.locals stack) (did out) (answer (length k.world))) (sym h.out) got)))
+      (subst (λ (n : ℕ). Into (CallGives k.program k.world k.hidden k.limit result st.locals stack) (did st.out) (answer n)) (sym top.next)
+      (subst (λ (out : List ℕ). Into (CallGives k.program k.world k.hidden k.limit result st.locals stack) (did out) (answer (length k.world))) (sym h.out) got)))
 
   -- with its arguments before it
   module _ (xs : List Coded) (gs : List (Gives Passed)) (args : PassAll k forms xs gs) (call : Coded) (plainly : IsPlain k call code) where
@@ -170,14 +160,14 @@ module _ (k : Scene) (base : List Ty) (texts : Location → ℕ → ℕ) (top : 
 -- ---- what a call is for
 
 -- a function's value
-pub call_agrees : (k : Scene) (t : TypeNo) (code : Coded) (value : Gives ℤ) → Calls k (Some (scalar_at k.setting.home.types t)) code value → Agrees k t code value
-call_agrees k t code value h = record {
+pub call_agrees : (k : Scene) (t : TypeNo) (c : Scalar) (code : Coded) (value : Gives ℤ) → IsCell k.setting.home.types t c → Calls k (Some (tree k.setting.home.types t)) code value → Agrees k t code value
+call_agrees k t c code value cell h = record {
   grows = h.grows;
-  gives = λ e c free full s st stands rest stack. turn (value k.around s) rest stack (runs k ((code (inside k e) c).0 ++ rest) st stack) (h.gives e c free full s st stands rest stack);
+  gives = λ e n free full s st stands rest stack. turn (value k.around s) rest stack (runs k ((code (inside k e) n).0 ++ rest) st stack) (h.gives e n free full s st stands rest stack);
 }
   where
-    turn : (a : Answer ℤ) (rest : List Instr) (stack : List Value) (r : Effect) → Into (GivesResult k (Some (scalar_at k.setting.home.types t)) (runs k rest) stack) r a → Into (GivesNumber k t (runs k rest) stack) r a
-    turn (Gave v s) rest stack r p = record { st = p.st; stands = p.stands; is = p.is; run = p.run }
+    turn : (a : Answer ℤ) (rest : List Instr) (stack : List Value) (r : Effect) → Into (GivesResult k (Some (tree k.setting.home.types t)) (runs k rest) stack) r a → Into (GivesNumber k t (runs k rest) stack) r a
+    turn (Gave v s) rest stack r p = record { st = p.st; stands = p.stands; is = cell.values v (p.is c cell.is).0; run = p.run }
     turn (Ended n out) rest stack r p = p
     turn (Running out) rest stack r p = p
 

@@ -15,6 +15,7 @@ use Rattle.wasm_effect.proofs.Steps.{split_end_at, i32_runs, get_runs, tee_runs,
 use Rattle.m2_layout.specs.Types.{Ty, Scalar, Natural, Cell, Hidden, Array, row, component, IsPlain, IsScalar}
 use Rattle.m2_layout.specs.Sizes.{size, offset}
 use Rattle.m2_layout.specs.Shapes.{tree}
+use Rattle.m2_meaning.specs.Around.{Modules}
 use Rattle.m2_meaning.specs.Store.{Location, Store, behind, copied, placed}
 use Rattle.m2_meaning.specs.Answer.{State as Source, Outcome, Went, with_answer}
 use Rattle.m2_meaning.specs.Expressions.{Gives}
@@ -53,35 +54,36 @@ or_zero_is (c ∷ text) (suc j) = or_zero_is text j
 abbrev pub characters_of : ℕ → Ty
 characters_of n = Array n (Cell (Natural 255))
 
-shows_one : (a : ℕ) (v : ℕ) (m : List ℕ) → byte a m ≡ v → v < 256 → Says (Natural 255) a (pos v) m
+shows_one : (program : Modules) (a : ℕ) (v : ℕ) (m : List ℕ) → byte a m ≡ v → v < 256 → Says program (Natural 255) a (pos v) m
 unfolding number
-shows_one a v m e less = record {
+shows_one program a v m e less = record {
   value = (let n : byte a m + 256 * 0 ≡ v = omega (arith, e) in ap pos n);
   within = record { low = omega (arith, ints); high = omega (arith, ints, less) };
+  means = tt;
 }
 
 -- where the bytes are those of a text, and 0 behind it
-pub text_shows : (n a : ℕ) (text m : List ℕ) → ((j : ℕ) → j < n → byte (a + j) m ≡ get_or text j 0) → ((j : ℕ) → get_or text j 0 < 256) → Shows (characters_of n) a (character text) m
+pub text_shows : (program : Modules) (n a : ℕ) (text m : List ℕ) → ((j : ℕ) → j < n → byte (a + j) m ≡ get_or text j 0) → ((j : ℕ) → get_or text j 0 < 256) → Shows program (characters_of n) a (character text) m
 unfolding component offset size
-text_shows n a text m same small [] c e = absurd (array_cell (some_same (characters_of n) (Cell c) e))
+text_shows program n a text m same small [] c e = absurd (array_cell (some_same (characters_of n) (Cell c) e))
   where
     array_cell : characters_of n ≡ Cell c → ⊥
     array_cell e = cc e
-text_shows n a text m same small (j ∷ []) c e = by (nat_lt j n) refl e
+text_shows program n a text m same small (j ∷ []) c e = by (nat_lt j n) refl e
   where
-    by : (b : Bool) → nat_lt j n ≡ b → (if b then Some (Cell (Natural 255)) else None) ≡ Some (Cell c) → Says c (a + (j * size (Cell (Natural 255)) + offset (Cell (Natural 255)) [])) (or_zero (slice_get text j)) m
+    by : (b : Bool) → nat_lt j n ≡ b → (if b then Some (Cell (Natural 255)) else None) ≡ Some (Cell c) → Says program c (a + (j * size (Cell (Natural 255)) + offset (Cell (Natural 255)) [])) (or_zero (slice_get text j)) m
     by true b e =
         let is : Natural 255 ≡ c = cell_same (Natural 255) c e in
         let less : j < n = grind (arith, b) in
         let at : a + (j * 1 + 0) ≡ a + j = omega arith in
-        subst (λ (c : Scalar). Says c (a + (j * 1 + 0)) (or_zero (slice_get text j)) m) is
-        (subst (λ (v : ℤ). Says (Natural 255) (a + (j * 1 + 0)) v m) (sym (or_zero_is text j))
-        (shows_one (a + (j * 1 + 0)) (get_or text j 0) m (ap (λ (i : ℕ). byte i m) at ∙ same j less) (small j)))
+        subst (λ (c : Scalar). Says program c (a + (j * 1 + 0)) (or_zero (slice_get text j)) m) is
+        (subst (λ (v : ℤ). Says program (Natural 255) (a + (j * 1 + 0)) v m) (sym (or_zero_is text j))
+        (shows_one program (a + (j * 1 + 0)) (get_or text j 0) m (ap (λ (i : ℕ). byte i m) at ∙ same j less) (small j)))
       where
         cell_same : (c d : Scalar) → Some (Cell c) ≡ Some (Cell d) → c ≡ d
         cell_same c d e = cc e
     by false b e = absurd (none_some (Cell c) e)
-text_shows n a text m same small (j ∷ i ∷ p) c e = absurd (by (nat_lt j n) e)
+text_shows program n a text m same small (j ∷ i ∷ p) c e = absurd (by (nat_lt j n) e)
   where
     by : (b : Bool) → (if b then None else None) ≡ Some (Cell c) → ⊥
     by true e = none_some (Cell c) e
@@ -100,7 +102,7 @@ hidden_array b n [] e = differ (some_same (Hidden b) (characters_of n) e)
 hidden_array b n (i ∷ r) e = none_some (characters_of n) e
 
 -- another memory that holds another store
-stands_bytes : (k : Scene) (w : ℕ) (v : Value) (st : Target) (m : List ℕ) (s : Source) (store : Store) → Stands (keeping k w v) s st → Holds k.world k.hidden store m → length m ≡ length st.bytes → Stands (keeping k w v) (record s { store = store }) (record st { bytes = m })
+stands_bytes : (k : Scene) (w : ℕ) (v : Value) (st : Target) (m : List ℕ) (s : Source) (store : Store) → Stands (keeping k w v) s st → Holds k.program k.world k.hidden store m → length m ≡ length st.bytes → Stands (keeping k w v) (record s { store = store }) (record st { bytes = m })
 stands_bytes k w v st m s store h holds same = record { holds = holds; long = same ∙ h.long; count = h.count; kept = h.kept; out = h.out }
 
 -- ---- calls of copy and fill
@@ -140,12 +142,12 @@ module _ (k : Scene) (set : IsSet k) where
   copy_goes : (t : Ty) → IsPlain t → (to from : Location) → component (row k.world) to ≡ Some t → component (row k.world) from ≡ Some t → (s : Source) (st : Target) → Stands k s st → (rest : List Instr) (stack : List Value)
       → GoesTo k (λ st. runs k rest st stack) (record s { store = copied to from s.store }) (runs k (instr.I32Const (size t) ∷ instr.Call 2 ∷ rest) st ((stack ++ I32 (place k to) ∷ []) ++ I32 (place k from) ∷ []))
   copy_goes t whole to from at_to at_from s st h rest stack =
-      let a = lies k.world k.hidden s.store st.bytes h.holds to t at_to in
-      let b = lies k.world k.hidden s.store st.bytes h.holds from t at_from in
+      let a = lies k.program k.world k.hidden s.store st.bytes h.holds to t at_to in
+      let b = lies k.program k.world k.hidden s.store st.bytes h.holds from t at_from in
       record {
         st = record st { bytes = copied_bytes (size t) (place k to) (place k from) st.bytes };
         stands = record {
-          holds = assigns_whole k.world k.hidden s.store st.bytes h.holds to from t whole at_to at_from;
+          holds = assigns_whole k.program k.world k.hidden s.store st.bytes h.holds to from t whole at_to at_from;
           long = copied_length (size t) (place k to) (place k from) st.bytes a ∙ h.long;
           count = h.count;
           kept = h.kept;
@@ -279,8 +281,8 @@ module _ (k : Scene) (set : IsSet k) (at : ℕ) (text : List ℕ) (is : IsText k
       let a : ℕ = place k l in
       let whole : Ty = characters_of n in
       let more : ℕ = n * 1 - bytes in
-      let fits = lies k.world k.hidden s.store st.bytes h.holds l whole type in
-      let there = lies k.world k.hidden s.store st.bytes h.holds is.room (Hidden is.bytes) is.type in
+      let fits = lies k.program k.world k.hidden s.store st.bytes h.holds l whole type in
+      let there = lies k.program k.world k.hidden s.store st.bytes h.holds is.room (Hidden is.bytes) is.type in
       let text_fits = is.fits in
       let same = is.is in
       let all : bytes + more ≡ n * 1 = omega (arith, fewer) in
@@ -295,11 +297,11 @@ module _ (k : Scene) (set : IsSet k) (at : ℕ) (text : List ℕ) (is : IsText k
       let l2 : length m' ≡ length st.bytes = cleared_length more (a + bytes) m1 rest_fits ∙ l1 in
       let only : IsOnly a (n * 1) st.bytes m' = subst (λ (i : ℕ). IsOnly a i st.bytes m') all (string_only a more st.bytes room) in
       let small' : (b : ℕ) → byte b m' < 256 = cleared_small more (a + bytes) m1 rest_fits (copied_small bytes a (is.base + at) st.bytes (omega (arith, room)) h.holds.bytes) in
-      let shown : Shows whole a (character text) m' = text_shows n a text m' (λ j less. string_bytes a more st.bytes room beside (text_there s st h) j (omega (arith, less, all))) is.small in
+      let shown : Shows k.program whole a (character text) m' = text_shows k.program n a text m' (λ j less. string_bytes a more st.bytes room beside (text_there s st h) j (omega (arith, less, all))) is.small in
       record {
         st = written a w more st;
         stands = forgets k w (I32 a) new (record s { store = placed l (character text) s.store }) (written a w more st) (stands_bytes k w (I32 a) (record st { locals = slice_set st.locals w (I32 a) }) m' s (placed l (character text) s.store)
-            (set_keeps k w (I32 a) new inner s st h) (holds_placed k.world k.hidden s.store st.bytes h.holds l whole (character text) m' (char_scalar tt) type only l2 small' shown) l2);
+            (set_keeps k w (I32 a) new inner s st h) (holds_placed k.program k.world k.hidden s.store st.bytes h.holds l whole (character text) m' (char_scalar tt) type only l2 small' shown) l2);
         run = string_path a w more st rest stack (let count = h.count in omega (arith, inner, count)) room source h.holds.bytes (long_enough k set s st h);
       }
 

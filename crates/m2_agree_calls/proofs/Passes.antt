@@ -21,6 +21,7 @@ use Rattle.m2_meaning.specs.Store.{Location}
 use Rattle.m2_meaning.specs.Answer.{State as Source, Answer, Gave, Ended, Running, then_give}
 use Rattle.m2_meaning.specs.Around.{Passed, Number, Variable, Array as Whole, Text, named, location_of, high_of}
 use Rattle.m2_meaning.specs.Expressions.{Gives}
+use Rattle.m2_cells.proofs.Procedures.{number_means}
 use Rattle.m2_cells.proofs.Worlds.{lies}
 use Rattle.m2_scheme.specs.Coded.{Coded, Counts, plain, ◌⨾◌, with_setting, raised, extended}
 use Rattle.m2_scheme.specs.Exprs as code
@@ -53,7 +54,7 @@ value_passes k t c x value cell ha = record {
   gives = λ e counts free full s st h rest stack.
       into_then (GivesNumber k t (runs k rest) stack) (GivesPassed k (ByNumber c) (runs k rest) stack) (runs k ((x (inside k e) counts).0 ++ rest) st stack) (value k.around s) (λ v s. Gave (Number v) s)
       (ha.gives e counts free full s st h rest stack)
-      (λ v s' p. record { st = p.st; stands = p.stands; values = I64 (word v) ∷ []; is = (cell.bounds v p.is, refl); run = p.run });
+      (λ v s' p. record { st = p.st; stands = p.stands; values = I64 (word v) ∷ []; is = (cell.bounds v p.is, number_means k.program c v cell.number, refl); run = p.run });
 }
 
 -- an address first
@@ -74,7 +75,7 @@ module _ (k : Scene) (form : Form) (t : Ty) (d after : Coded) (list : List Instr
   }
 
 module _ (k : Scene) (set : IsSet k) where
-  place_goes : (form : Form) (t : Ty) → ((l : Location) → component (row k.world) l ≡ Some t → 0 < length l → IsPassed k.world k.hidden form (Variable l) (I64 (place k l) ∷ []))
+  place_goes : (form : Form) (t : Ty) → ((l : Location) → component (row k.world) l ≡ Some t → 0 < length l → IsPassed k.program k.world k.hidden form (Variable l) (I64 (place k l) ∷ []))
       → (l : Location) → component (row k.world) l ≡ Some t → 0 < length l → (s : Source) (st : Target) → Stands k s st → (rest : List Instr) (stack : List Value)
       → GivesPassed k form (runs k rest) stack (Variable l) s (runs k (extended ∷ rest) st (stack ++ I32 (place k l) ∷ []))
   place_goes form t is l type some s st h rest stack = record {
@@ -153,7 +154,7 @@ module _ (k : Scene) (set : IsSet k) where
     gives = λ e c free full s st h rest stack.
         let n : ℕ = length (passed text) - 1 in
         let a : ℕ = is.base + at in
-        let there = lies k.world k.hidden s.store st.bytes h.holds is.room (Hidden is.bytes) is.type in
+        let there = lies k.program k.world k.hidden s.store st.bytes h.holds is.room (Hidden is.bytes) is.type in
         let same = is.is in
         let fits = is.fits in
         let long = h.long in

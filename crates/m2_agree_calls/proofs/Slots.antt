@@ -98,7 +98,7 @@ module _ (k : Scene) (set : IsSet k) where
   outwards_runs (suc up) _ _ _ to (r' ∷ roots) (chain_more ks _ ns _ r _ type names link (chain_more ks' kss ns' nss _ _ type' names' link' chain)) e s st h rest stack =
       let n : ℕ = place k (r' ∷ []) in
       let small : n < 2 ^ 32 = place_fits s st h (r' ∷ []) (frame_kinds ks') type' in
-      let p = link_parts k.world k.hidden s.store st.bytes h.holds r (map kind_tree ks) n type link (omega (arith, small)) in
+      let p = link_parts k.program k.world k.hidden s.store st.bytes h.holds r (map kind_tree ks) n type link (omega (arith, small)) in
       let same : n % 2 ^ 32 ≡ n = omega (arith, small) in
       let below : List Instr = outwards up ++ rest in
       load_runs k.modules k.fixed k.turns (calls k) k.own (wrapped ∷ below) st load.I64 (place k (r ∷ [])) p.0 stack (set.helpers.memory st.bytes) p.1
@@ -144,7 +144,7 @@ module _ (k : Scene) (set : IsSet k) where
           → (exit : ℕ) (s : Source) (st : Target) → Stands k s st → (rest : List Instr) (stack : List Value)
           → runs k ((slot_code (inside k exit) slot p ++ load_scalar word_cell) ++ rest) st stack ≡ runs k rest st (stack ++ I64 n ∷ [])
       word_runs p n e keeps small exit s st h rest stack =
-          let q = alias_parts k.world k.hidden s.store st.bytes h.holds (cell p) n (cell_type p (Hidden 4) e) keeps small in
+          let q = alias_parts k.program k.world k.hidden s.store st.bytes h.holds (cell p) n (cell_type p (Hidden 4) e) keeps small in
           ap (λ (code : List Instr). runs k code st stack) (append_assoc (slot_code (inside k exit) slot p) (load_scalar word_cell) rest)
           ∙ cell_runs p (Hidden 4) e exit s st h (load_scalar word_cell ++ rest) stack
           ∙ load_runs k.modules k.fixed k.turns (calls k) k.own rest st load.I64From32U (place k (cell p)) q.0 stack (set.helpers.memory st.bytes) q.1

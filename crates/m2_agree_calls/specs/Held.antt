@@ -1,5 +1,5 @@
 -- Values of procedure types: where they come from, where they go, and calls of them.
-use Rattle.std.specs.Prelude.{◌≡◌, ℕ, suc, ◌<◌, ◌^◌, ℤ, pos, Bool, true, false, List, [], ◌∷◌, ◌++◌, Option, Some, None}
+use Rattle.std.specs.Prelude.{◌≡◌, ℕ, ◌<◌, ◌^◌, ℤ, pos, Bool, true, List, [], ◌∷◌, ◌++◌, Some, None}
 use Rattle.wasm_tree.specs.declared.instr.Instr.{Instr}
 use Rattle.wasm_tree.specs.declared.instr.Instr.TheVariants as instr
 use Rattle.wasm_tree.specs.declared.store.Callee.TheVariants.{Own}
@@ -17,6 +17,7 @@ use Rattle.m2_layout.specs.Frames.{formals_of}
 use Rattle.m2_meaning.specs.Store.{Location}
 use Rattle.m2_meaning.specs.Answer.{State as Source, Gave, Went, Came, then_give, with_answer}
 use Rattle.m2_meaning.specs.Around.{Modules, Callee, Passed, Number, module_place, entry_of, entry_callee}
+use Rattle.m2_meaning.specs.Calls.{is_there}
 use Rattle.m2_meaning.specs.Expressions as meaning
 use Rattle.m2_meaning.specs.Expressions.{Asks, Gives, as_type, asked_if}
 use Rattle.m2_meaning.specs.Statements.{stored}
@@ -29,7 +30,7 @@ use Rattle.m2_scheme.specs.Exprs.{Part, Numbered, behind, all_arguments, has_res
 use Rattle.m2_scheme.specs.Signatures.{signature, of_heading, type_of}
 use Rattle.m2_agree.specs.Scene.{Scene, IsSet, IsCell, calls, runs, word, Stands, keeping, Into, Grows, IsGrowing, IsFree, HasLocals, inside, Agrees, Locates, Executes}
 use Rattle.m2_agree_calls.specs.Laws.{HasSlot}
-use Rattle.m2_agree_calls.specs.Passing.{ByNumber, Result, all_operands, forms_in, heading_result, Passes, PassAll, DoesAsked, HasTop, Calls}
+use Rattle.m2_agree_calls.specs.Passing.{ByNumber, all_operands, forms_in, heading_result, Passes, PassAll, DoesAsked, HasTop, Calls}
 
 -- ---- values of a procedure type
 
@@ -99,10 +100,6 @@ HeldGives =
 
 -- ---- calls of them
 
-abbrev pub is_some : Result → Bool
-is_some None = false
-is_some (Some t) = true
-
 module _ (k : Scene) (ask : Asks) (base : List Ty) (texts : Location → ℕ → ℕ) where
   -- the procedure with this number, which has this heading, and the function in its slot
   pub record HasCallee (h : Heading) (n : ℕ) : Type 0 where
@@ -116,7 +113,7 @@ module _ (k : Scene) (ask : Asks) (base : List Ty) (texts : Location → ℕ →
     pub typed : Typed
     pub filled : (bytes : List ℕ) → callee_in (store_of k.fixed bytes) k.own n ≡ Some (Own own function)
     pub there : own_function k.modules own function ≡ Some typed
-    pub type : typed.type ≡ type_of (signature (all_operands (forms_in h)) (is_some (heading_result h)))
+    pub type : typed.type ≡ type_of (signature (all_operands (forms_in h)) (is_there (heading_result h)))
     pub does : DoesAsked k.program base texts k.limit (calls k) ask callee [] (forms_in h) (heading_result h) own function typed
 
   -- each number of a procedure has one

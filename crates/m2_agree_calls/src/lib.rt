@@ -3,7 +3,18 @@
 //! the laws.
 #![tactic(auto)]
 
-ghost use Rattle.m2_agree_calls.specs.Held.{HeldCalls};
+ghost use Rattle.m2_agree_calls.specs.Held.{
+  HeldAssigns,
+  HeldCalls,
+  HeldGives,
+  HeldLoads,
+  HeldNumbers,
+  HeldPasses,
+  HeldProcedures,
+  HeldResults,
+  HeldTaken,
+  NumberResults,
+};
 ghost use Rattle.m2_agree_calls.specs.Laws.{Aliases, Copies, Gives, Highs, Locals, OpenArrays, OpenElements, ProcedureValues, Strings, Taken};
 
 /// Values, copies and results.
@@ -18,6 +29,8 @@ pub fn value_laws()
     ensures strings { Strings }
     // RETURN with a value.
     ensures gives { Gives }
+    // The result of a function is a number of its type.
+    ensures number_results { NumberResults }
 {}
 
 /// Formals and variables of procedures.
@@ -32,8 +45,19 @@ pub fn slot_laws()
     ensures highs { Highs }
 {}
 
-/// Calls of procedure variables, where what they hold is known.
+/// Values of procedure types.
 pub fn held_laws()
-    // A number of a procedure is kept while its arguments are evaluated, and 0 is fault 7.
-    ensures { HeldCalls }
+    // A procedure variable, a procedure of a module and the result of a function give them.
+    ensures loads { HeldLoads }
+    ensures procedures { HeldProcedures }
+    ensures results { HeldResults }
+    // They are compared as numbers,
+    ensures numbers { HeldNumbers }
+    // and taken without a check, assigned, passed and returned.
+    ensures taken { HeldTaken }
+    ensures assigns { HeldAssigns }
+    ensures passes { HeldPasses }
+    ensures gives { HeldGives }
+    // In a call a procedure's number is kept while its arguments are evaluated, and 0 is fault 7.
+    ensures calls { HeldCalls }
 {}

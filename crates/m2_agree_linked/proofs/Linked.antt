@@ -22,8 +22,9 @@ use Rattle.m2_layout.specs.Shapes.{tree}
 use Rattle.m2_layout.specs.Frames.{module_row}
 use Rattle.m2_layout.specs.Texts.{characters, module_texts}
 use Rattle.m2_meaning.specs.Around.{module_place, entries_before}
+use Rattle.m2_cells.specs.Relation.{value_number}
 use Rattle.m2_scheme.specs.Coded.{body_index}
-use Rattle.m2_scheme.specs.Exprs.{is_own, import_place, slots_global, slot_number, variables_row, imported_row}
+use Rattle.m2_scheme.specs.Exprs.{is_own, import_place, slots_global, variables_row, imported_row}
 use Rattle.m2_scheme.specs.Functions.{routine_of}
 use Rattle.m2_scheme.specs.Modules.{numbered, slots, typed_module}
 use Rattle.m2_valid.proofs.Own.{typed_in}
@@ -31,7 +32,7 @@ use Rattle.m2_links.specs.Linked.{Program, names, all, variables, count, slots_i
 use Rattle.m2_links.proofs.Stores.{text_length}
 use Rattle.m2_agree_runs.specs.Programs.{ground, fixed}
 use Rattle.m2_agree_trees.specs.Typed.{IsVariable, IsNamed}
-use Rattle.m2_agree_bodies.specs.Linked.{function_of, called_by, routine_typed, context, HasVariable, HasProcedure, HasTexts, IsLinked}
+use Rattle.m2_agree_bodies.specs.Linked.{function_of, called_by, routine_typed, context, HasVariable, HasProcedure, HasEntry, HasTexts, IsLinked}
 use Rattle.m2_agree_linked.specs.Knows.{known_variables, imported_variables, IsCoherent}
 use Rattle.m2_agree_linked.proofs.Places.{callee_there, module_there}
 use Rattle.m2_agree_linked.proofs.Globals.{Split, import_of, here, its_place, global_at_place, text_value, base_own, base_imported, own_offset, imported_offset, length_mapped}
@@ -105,6 +106,40 @@ module _ (p : Program) (pages : ℕ) (distinct : AreDistinct (names p)) (few : 1
     same = λ j less. room_byte p pages place distinct m is_coherent j less;
   }
 
+  -- ---- slots of procedures
+
+  module _ (to : ℕ) (home : TypedModule) (number : ℕ) (r : Routine) (found : slice_get p to ≡ Some home) (is : slice_get home.procedures number ≡ Some r) where
+    abbrev at : Split p to home
+    at = here p pages to distinct home (coherent to home found)
+
+    slot_small : suc (slots_in at.before + suc number) < 2 ^ 32
+    slot_small =
+        let inside = slice_get_within home.procedures number r is in
+        let whole : slots_in p ≡ slots_in (at.before ++ home ∷ at.rest) = ap slots_in at.is in
+        let some_slots = slots_within at.before at.rest home in
+        omega (arith, inside, whole, some_slots, few)
+
+    slot_filled : (bytes : List ℕ) → callee_in (store_of (fixed p pages) bytes) (suc place) (suc (slots_in at.before + suc number)) ≡ Some (Own (suc to) (6 + number))
+    slot_filled bytes =
+        let inside = slice_get_within home.procedures number r is in
+        let many = count_is home in
+        let less : suc number < slots home = omega (arith, inside) in
+        let fewer : 5 + suc number < count home = omega (arith, inside, many) in
+        ap (λ (k : ℕ). callee_in (store_of (fixed p pages) bytes) (suc k) (suc (slots_in at.before + suc number))) (sym h.long)
+        ∙ slot_callee p pages h.before h.rest m h.is at.before at.rest home at.is bytes (suc number) less fewer
+        ∙ ap (λ (k : ℕ). Some (Own (suc k) (5 + suc number))) at.long
+        ∙ ap (λ (k : ℕ). Some (Own (suc to) k)) (let j : 5 + suc number ≡ 6 + number = omega arith in j)
+
+    -- the number of a procedure as a value is its slot
+    value_slot : value_number p to number ≡ suc (slots_in at.before + suc number)
+    value_slot = let entry = entry_value p to home at in omega (arith, entry)
+
+    has_entry : HasEntry p (ground p pages).base (ground p pages).texts (all p pages) (fixed p pages) place m to number
+    has_entry = record {
+      small = subst (λ (n : ℕ). n < 2 ^ 32) (sym value_slot) slot_small;
+      filled = λ bytes. ap (callee_in (store_of (fixed p pages) bytes) (suc place)) value_slot ∙ slot_filled bytes;
+    }
+
   -- ---- procedures
 
   own_to : (home : ℕ) → is_own m home ≡ true → module_place p home ≡ place
@@ -126,26 +161,15 @@ module _ (p : Program) (pages : ℕ) (distinct : AreDistinct (names p)) (few : 1
             ∙ ap (λ (n : ℕ). Some (I32 (1 + n))) (entry_value p place m h ∙ ap (λ (j : ℕ). entries_before j p) (sym (own_to f.home e)) ∙ sym (entry_value p to is.home s))
         by false e = tab_elsewhere p pages place distinct m is_coherent bytes f.home e (import_of m f.home e is.known) is.home is.there (coherent to is.home is.there)
 
-    slot_there : (bytes : List ℕ) → suc f.number < slots is.home → 5 + suc f.number < count is.home → callee_in (store_of (fixed p pages) bytes) (suc place) (1 + slots_in s.before + slot_number f) ≡ Some (Own (suc to) (6 + f.number))
-    slot_there bytes less few' =
-        ap (callee_in (store_of (fixed p pages) bytes) (suc place)) (let j : 1 + slots_in s.before + suc f.number ≡ suc (slots_in s.before + suc f.number) = omega arith in j)
-        ∙ ap (λ (k : ℕ). callee_in (store_of (fixed p pages) bytes) (suc k) (suc (slots_in s.before + suc f.number))) (sym h.long)
-        ∙ slot_callee p pages h.before h.rest m h.is s.before s.rest is.home s.is bytes (suc f.number) less few'
-        ∙ ap (λ (k : ℕ). Some (Own (suc k) (5 + suc f.number))) s.long
-        ∙ ap (λ (k : ℕ). Some (Own (suc to) k)) (let j : 5 + suc f.number ≡ 6 + f.number = omega arith in j)
-
     has_procedure : HasProcedure p (ground p pages).base (ground p pages).texts (all p pages) (fixed p pages) place m f
     has_procedure =
-        let inside = slice_get_within is.home.procedures f.number is.routine is.is in
-        let many = count_is is.home in
-        let whole : slots_in p ≡ slots_in (s.before ++ is.home ∷ s.rest) = ap slots_in s.is in
-        let some_slots = slots_within s.before s.rest is.home in
-        let entry = entry_value p to is.home s in record {
+        let entry = entry_value p to is.home s in
+        let small = slot_small to is.home f.number is.routine is.there is.is in record {
           slot = 1 + slots_in s.before;
           there = tab_there;
           is = ap (λ (n : ℕ). pos n) (omega (arith, entry));
-          small = omega (arith, inside, whole, some_slots, few);
-          filled = λ bytes. slot_there bytes (omega (arith, inside)) (omega (arith, inside, many));
+          small = omega (arith, small);
+          filled = λ bytes. ap (callee_in (store_of (fixed p pages) bytes) (suc place)) (let j : 1 + slots_in s.before + suc f.number ≡ suc (slots_in s.before + suc f.number) = omega arith in j) ∙ slot_filled to is.home f.number is.routine is.there is.is bytes;
         }
 
   -- ---- functions
@@ -177,6 +201,7 @@ module _ (p : Program) (pages : ℕ) (distinct : AreDistinct (names p)) (few : 1
     own = is_coherent.own;
     variables = has_variable;
     procedures = has_procedure;
+    entries = λ to home number r found is. has_entry to home number r found is;
     characters = has_texts;
     types = λ s e. ap (λ (o : Option WModule). option_and_then (λ (tree : WModule). slice_get tree.types (numbered m s.arguments s.result)) o) module_here ∙ typed_in m s e;
     called = called;

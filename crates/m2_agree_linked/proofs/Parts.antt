@@ -123,6 +123,7 @@ module _ (p : Program) (pages : ℕ) (most : pages ≤ 1024) (distinct : AreDist
             linked = k.linked;
             frames = frames_are o.home o.routine.level o.routine.around;
           };
+          outermost = λ number e. outermost_kinds o.home o.routine (at_place (λ r. r.around ≡ None) o.home.procedures number o.routine (ap (routine_of o.home) (sym e) ∙ o.is) is.outermost);
           addresses = k.addresses;
           ours = no_helper o.home o.at;
           bound = ap (λ (b : Bool). if b then 2 ^ 32 else 0) (no_helper o.home o.at);

@@ -1,5 +1,5 @@
 -- A frame begins: its storage is taken and cleared, and the link to the frame around it is written.
-use Rattle.std.proofs.Common.{◌≡◌, ◌⊎◌, inl, inr, ⊎_elim, ℕ, zero, suc, ◌+◌, ◌%◌, ◌^◌, ◌<◌, ◌≤◌, Bool, true, false, List, [], ◌∷◌, ◌++◌, map, length, Some, if◌then◌else◌, refl, sym, ap, subst, ◌∙◌, append_assoc, length-append, arith}
+use Rattle.std.proofs.Common.{◌≡◌, ◌⊎◌, inl, inr, ⊎_elim, ℕ, suc, ◌+◌, ◌^◌, ◌<◌, ◌≤◌, Bool, List, [], ◌∷◌, ◌++◌, length, Some, if◌then◌else◌, refl, sym, ap, subst, ◌∙◌, length-append, arith}
 use Rattle.std.specs.Prelude.{get_or, slice_get, slice_set, nat_lt}
 use Rattle.std.specs.Int.{w64, to_le_bytes}
 use Rattle.std.proofs.lemmas.Bool.{le-ltb, lt-ltb, cases_lt}
@@ -9,7 +9,7 @@ use Rattle.wasm_tree.specs.declared.instr.StoreWidth.TheVariants as width
 use Rattle.wasm_tree.specs.declared.store.Value.{Value}
 use Rattle.wasm_tree.specs.declared.store.Value.TheVariants.{I32, I64}
 use Rattle.wasm_tree.specs.Machine.{pasted}
-use Rattle.wasm_effect.specs.Bytes.{byte, cleared_bytes}
+use Rattle.wasm_effect.specs.Bytes.{cleared_bytes}
 use Rattle.wasm_effect.proofs.Bytes.{cleared_length, length-pasted}
 use Rattle.wasm_effect.specs.Effect.{State as Target, Effect, Ended}
 use Rattle.wasm_effect.proofs.Steps.{i32_runs, get_runs, tee_runs, store_runs}
@@ -32,8 +32,8 @@ use Rattle.m2_agree.proofs.Places.{raised_runs}
 use Rattle.m2_agree.proofs.Locals.{get_set, get_other, length_set}
 use Rattle.m2_agree_calls.specs.Frames.{Kind, Kept, Alias, Open, Kinds, frame_kinds, IsNamed, AreNamed, IsLink, IsChain, chain_end, chain_more}
 use Rattle.m2_agree_calls.proofs.Copies.{fill_here}
-use Rattle.m2_agree_procedures.specs.Stage.{HasLimit, Stage}
-use Rattle.m2_agree_procedures.proofs.Rooms.{instance_at, keeps_placed, older_placed, place_more, eight_small}
+use Rattle.m2_agree_procedures.specs.Stage.{HasLimit}
+use Rattle.m2_agree_procedures.proofs.Rooms.{instance_at, place_more, eight_small}
 use Rattle.m2_agree_procedures.proofs.Steps.{OnStage, limit_run}
 
 whole : (t : Ty) → component t [] ≡ Some t
@@ -42,7 +42,7 @@ whole t = refl
 
 -- where a function begins: the frame's address is the end of the instances that live
 pub record Start (k : Scene) (top : ℕ) (given : List Value) (out : List ℕ) (world : List Ty) (x : Location → ℕ → ℕ) (s : Store) (st : Target) : Type 0 where
-  pub holds : Holds world x s st.bytes
+  pub holds : Holds k.program world x s st.bytes
   pub long : length st.bytes ≡ k.limit
   pub count : length st.locals ≡ k.locals
   pub at : slice_get st.locals 0 ≡ Some (I32 (size (row world)))
@@ -84,7 +84,7 @@ module _ (k : Scene) (set : IsSet k) (has : HasLimit k) (top : ℕ) (F : Ty) (gi
       inl (record {
         st' = st2;
         stage = record {
-          holds = begins_frame world x s st.bytes g.holds F fit fits;
+          holds = begins_frame k.program world x s st.bytes g.holds F fit fits;
           long = cleared_length (size F) T st.bytes fits ∙ g.long;
           own = component_new world F [] ∙ whole F;
           below = omega (arith, grown);
@@ -122,13 +122,13 @@ module _ (k : Scene) (set : IsSet k) (has : HasLimit k) (root top : ℕ) (ks : K
       let type : component (row world) here ≡ Some (Hidden 8) = component_append (row world) (frame_kinds ks) (root ∷ []) (0 ∷ 0 ∷ []) g.own in
       let at = offset_append (row world) (frame_kinds ks) (root ∷ []) (0 ∷ 0 ∷ []) g.own in
       let same : offset (row world) here ≡ a = omega (arith, at) in
-      let fits : offset (row world) here + 8 ≤ length st.bytes = lies world x s st.bytes g.holds here (Hidden 8) type in
+      let fits : offset (row world) here + 8 ≤ length st.bytes = lies k.program world x s st.bytes g.holds here (Hidden 8) type in
       let m' : List ℕ = pasted st.bytes a ys in
       let eight : length ys ≡ 8 = refl in
       let room : a + length ys ≤ length st.bytes = omega (arith, fits, same, eight) in (
         m',
         record {
-          holds = subst (λ (a : ℕ). Holds world (placed here (λ r k. get_or ys k 0) x) s (pasted st.bytes a ys)) same (holds_hidden world x s st.bytes g.holds here 8 ys type refl (λ j l. eight_small n j (omega (arith, l, eight))));
+          holds = subst (λ (a : ℕ). Holds k.program world (placed here (λ r k. get_or ys k 0) x) s (pasted st.bytes a ys)) same (holds_hidden k.program world x s st.bytes g.holds here 8 ys type refl (λ j l. eight_small n j (omega (arith, l, eight))));
           long = length-pasted st.bytes a ys room ∙ g.long;
           own = g.own;
           below = g.below;

@@ -1,32 +1,31 @@
 -- All formals, one after another.
-use Rattle.std.proofs.Common.{◌≡◌, ◌⊎◌, inl, inr, ⊎_elim, ℕ, zero, suc, ◌+◌, ◌-◌, ◌*◌, ◌^◌, ◌<◌, ◌≤◌, ℤ, pos, Bool, true, false, List, [], ◌∷◌, ◌++◌, map, length, Option, Some, None, refl, sym, ap, subst, ◌∙◌, append_assoc, append-nil, length-append, arith}
+use Rattle.std.proofs.Common.{◌≡◌, ◌⊎◌, inl, inr, ⊎_elim, ℕ, zero, suc, ◌+◌, ◌-◌, ◌^◌, ◌<◌, ◌≤◌, ℤ, true, false, List, [], ◌∷◌, ◌++◌, map, length, Some, refl, sym, ap, subst, ◌∙◌, append_assoc, append-nil, length-append, arith}
 use Rattle.std.specs.Prelude.{get_or, slice_get}
 use Rattle.wasm_tree.specs.declared.instr.Instr.{Instr}
 use Rattle.wasm_tree.specs.declared.instr.Instr.TheVariants as instr
 use Rattle.wasm_tree.specs.declared.store.Value.{Value}
-use Rattle.wasm_tree.specs.declared.store.Value.TheVariants.{I32, I64}
-use Rattle.wasm_effect.specs.Bytes.{byte, AreMoved}
+use Rattle.wasm_tree.specs.declared.store.Value.TheVariants.{I64}
+use Rattle.wasm_effect.specs.Bytes.{byte}
 use Rattle.wasm_effect.specs.Effect.{State as Target, Effect, Ended}
 use Rattle.wasm_effect.proofs.Steps.{get_runs}
-use Rattle.m2_layout.specs.Types.{Ty, Scalar, Natural, Cell, Hidden, Array, row, component, IsPlain}
+use Rattle.m2_layout.specs.Types.{Ty, Natural, Cell, Hidden, Array, row, component, IsPlain}
 use Rattle.m2_layout.specs.Sizes.{Four, size, offset}
 use Rattle.m2_layout.specs.Texts.{passed}
-use Rattle.m2_meaning.specs.Store.{Location, Store, placed, copied}
+use Rattle.m2_meaning.specs.Store.{Location, Store, placed}
 use Rattle.m2_meaning.specs.Statements.{character}
-use Rattle.m2_meaning.specs.Around.{Named, At, Elements, Passed, Number, Variable, Array as Whole, Text}
+use Rattle.m2_meaning.specs.Around.{Modules, Named, At, Elements, Passed, Number, Variable, Array as Whole, Text}
 use Rattle.m2_meaning.specs.Calls.{Entered, with_passed}
 use Rattle.m2_cells.specs.Cells.{stored_in}
-use Rattle.m2_cells.specs.Relation.{Holds, Shows, Keeps}
+use Rattle.m2_cells.specs.Relation.{Shows, Keeps}
 use Rattle.m2_cells.proofs.Places.{inside}
 use Rattle.m2_cells.proofs.Keeps.{shows_at, shows_moved}
 use Rattle.m2_cells.proofs.Worlds.{lies, component_old, offset_old, component_new, in_world, row_size, size_old, row_no_leaf, is_leaf_hidden}
-use Rattle.m2_scheme.specs.Functions.{word_kept, open_copied}
 use Rattle.m2_agree.specs.Scene.{Scene, IsSet, calls, runs, word}
-use Rattle.m2_agree_calls.specs.Frames.{Kind, Kept, Alias, Open, Kinds, kind_tree, IsNamed, AreNamed}
+use Rattle.m2_agree_calls.specs.Frames.{Kind, Open, kind_tree, IsNamed, AreNamed}
 use Rattle.m2_agree_calls.specs.Passing.{Form, ByNumber, ByCopy, ByName, ByArray, Forms, IsPlaced, IsPassed, ArePassed, none_passed, more_passed}
 use Rattle.m2_agree_calls.proofs.Copies.{text_shows}
-use Rattle.m2_agree_procedures.specs.Stage.{kind_of, IsForm, AreForms, copy_of, copies_of, is_name, with_forms, form_kept, forms_kept, operands_of, HasLimit, Stage, SameBelow}
-use Rattle.m2_agree_procedures.proofs.Rooms.{same_then, same_trans, same_same, same_placed, keeps_placed, place_more, instance_at}
+use Rattle.m2_agree_procedures.specs.Stage.{kind_of, IsForm, AreForms, copy_of, copies_of, is_name, with_forms, form_kept, forms_kept, operands_of, HasLimit, SameBelow}
+use Rattle.m2_agree_procedures.proofs.Rooms.{same_then, same_same, same_placed, keeps_placed, place_more, instance_at}
 use Rattle.m2_agree_procedures.proofs.Steps.{OnStage, IsSource, number_step, copy_step, hidden_step, array_step, open_step, OpenDone}
 
 -- ---- arguments that were passed, where more instances live
@@ -49,23 +48,23 @@ module _ (base more : List Ty) (x x' : Location → ℕ → ℕ) (older : (i : �
     below = h.below;
   }
 
-  pub passed_lift : (f : Form) (p : Passed) (vs : List Value) → IsPassed base x f p vs → IsPassed (base ++ more) x' f p vs
-  passed_lift (ByNumber c) (Number v) vs h = h
-  passed_lift (ByNumber c) (Variable l) vs h = absurd h
-  passed_lift (ByNumber c) (Whole l high) vs h = absurd h
-  passed_lift (ByNumber c) (Text text) vs h = absurd h
-  passed_lift (ByCopy t) (Number v) vs h = absurd h
-  passed_lift (ByCopy t) (Variable l) vs h = let p = place_more base more l t h.0 h.1 in (p.0, h.1, h.2 ∙ ap (λ (a : ℕ). I64 a ∷ []) (sym p.1))
-  passed_lift (ByCopy t) (Whole l high) vs h = absurd h
-  passed_lift (ByCopy t) (Text text) vs h = absurd h
-  passed_lift (ByName t) (Number v) vs h = absurd h
-  passed_lift (ByName t) (Variable l) vs h = let p = place_more base more l t h.0 h.1 in (p.0, h.1, h.2 ∙ ap (λ (a : ℕ). I64 a ∷ []) (sym p.1))
-  passed_lift (ByName t) (Whole l high) vs h = absurd h
-  passed_lift (ByName t) (Text text) vs h = absurd h
-  passed_lift (ByArray is_var t) (Number v) vs h = absurd h
-  passed_lift (ByArray is_var t) (Variable l) vs h = absurd h
-  passed_lift (ByArray is_var t) (Whole l high) vs h = let p = place_more base more l (Array (suc high) t) h.0 h.1 in (p.0, h.1, h.2, h.3 ∙ ap (λ (a : ℕ). I64 a ∷ I64 high ∷ []) (sym p.1))
-  passed_lift (ByArray is_var t) (Text text) vs h = (h.0, h.1, h.2, placed_lift (passed text) h.2 h.3, h.4)
+  pub passed_lift : (program : Modules) (f : Form) (p : Passed) (vs : List Value) → IsPassed program base x f p vs → IsPassed program (base ++ more) x' f p vs
+  passed_lift program (ByNumber c) (Number v) vs h = h
+  passed_lift program (ByNumber c) (Variable l) vs h = absurd h
+  passed_lift program (ByNumber c) (Whole l high) vs h = absurd h
+  passed_lift program (ByNumber c) (Text text) vs h = absurd h
+  passed_lift program (ByCopy t) (Number v) vs h = absurd h
+  passed_lift program (ByCopy t) (Variable l) vs h = let p = place_more base more l t h.0 h.1 in (p.0, h.1, h.2 ∙ ap (λ (a : ℕ). I64 a ∷ []) (sym p.1))
+  passed_lift program (ByCopy t) (Whole l high) vs h = absurd h
+  passed_lift program (ByCopy t) (Text text) vs h = absurd h
+  passed_lift program (ByName t) (Number v) vs h = absurd h
+  passed_lift program (ByName t) (Variable l) vs h = let p = place_more base more l t h.0 h.1 in (p.0, h.1, h.2 ∙ ap (λ (a : ℕ). I64 a ∷ []) (sym p.1))
+  passed_lift program (ByName t) (Whole l high) vs h = absurd h
+  passed_lift program (ByName t) (Text text) vs h = absurd h
+  passed_lift program (ByArray is_var t) (Number v) vs h = absurd h
+  passed_lift program (ByArray is_var t) (Variable l) vs h = absurd h
+  passed_lift program (ByArray is_var t) (Whole l high) vs h = let p = place_more base more l (Array (suc high) t) h.0 h.1 in (p.0, h.1, h.2, h.3 ∙ ap (λ (a : ℕ). I64 a ∷ I64 high ∷ []) (sym p.1))
+  passed_lift program (ByArray is_var t) (Text text) vs h = (h.0, h.1, h.2, placed_lift (passed text) h.2 h.3, h.4)
 
 some_length : (text : List ℕ) → suc (length (passed text) - 1) ≡ length (passed text)
 some_length [] = omega arith
@@ -134,14 +133,14 @@ module _ (k : Scene) (set : IsSet k) (has : HasLimit k) (root top : ℕ) (F : Ty
       plus_one i = omega arith
 
   below_32 : (world : List Ty) (x : Location → ℕ → ℕ) (s : Store) (st : Target) → Staged world x s st → (l : Location) (t : Ty) → component (row world) l ≡ Some t → offset (row world) l < 2 ^ 32
-  below_32 world x s st g l t e = let fits = lies world x s st.bytes g.holds l t e in let long = g.long in let small = has.small in omega (arith, fits, long, small)
+  below_32 world x s st g l t e = let fits = lies k.program world x s st.bytes g.holds l t e in let long = g.long in let small = has.small in omega (arith, fits, long, small)
 
   -- a variable's elements are copied
   variable_source : (world : List Ty) (x : Location → ℕ → ℕ) (s : Store) (st : Target) → Staged world x s st → (l : Location) (t : Ty) → component (row world) l ≡ Some t → IsSource k set has root top F given out first two world st.bytes (offset (row world) l) t (λ r. s (l ++ r))
   variable_source world x s st g l t e = record {
     fits = inside (row world) t l e;
-    shows = λ m' moved. shows_moved t (offset (row world) l) (size (row world)) (λ r. s (l ++ r)) st.bytes m' moved
-        (subst (λ (a : ℕ). Shows t a (λ r. s (l ++ r)) st.bytes) (omega arith) (shows_at (row world) t 0 l s st.bytes e g.holds.cells));
+    shows = λ m' moved. shows_moved k.program t (offset (row world) l) (size (row world)) (λ r. s (l ++ r)) st.bytes m' moved
+        (subst (λ (a : ℕ). Shows k.program t a (λ r. s (l ++ r)) st.bytes) (omega arith) (shows_at k.program (row world) t 0 l s st.bytes e g.holds.cells));
   }
 
   -- and the characters of a string
@@ -154,7 +153,7 @@ module _ (k : Scene) (set : IsSet k) (has : HasLimit k) (root top : ℕ) (F : Ty
       let is = h.is in
       record {
         fits = omega (arith, within, fits, is);
-        shows = λ m' moved. text_shows (length (passed text)) (size (row world)) text m'
+        shows = λ m' moved. text_shows k.program (length (passed text)) (size (row world)) text m'
             (λ j less. moved j (omega (arith, less)) ∙ ap (λ (i : ℕ). byte i st.bytes) (at_room j is) ∙ g.holds.hidden h.room h.bytes (h.at + j) h.type (omega (arith, less, fits)) ∙ h.same j less ∙ same_character text j)
             (λ j. subst (λ (n : ℕ). n < 256) (same_character text j) (h.small j));
       }
@@ -210,12 +209,12 @@ module _ (k : Scene) (set : IsSet k) (has : HasLimit k) (root top : ℕ) (F : Ty
         plus_one : (n : ℕ) → n + 1 ≡ suc n
         plus_one n = omega arith
 
-    pub form_step : (f : Form) (p : Passed) (vs : List Value) → IsForm f → IsPassed world x f p vs → At' vs → i + length vs ≤ top → component F (suc v ∷ []) ≡ Some (kind_tree (kind_of f))
+    pub form_step : (f : Form) (p : Passed) (vs : List Value) → IsForm f → IsPassed k.program world x f p vs → At' vs → i + length vs ≤ top → component F (suc v ∷ []) ≡ Some (kind_tree (kind_of f))
         → FormGoes world x e f p rest (runs k (form_kept top F v i f ++ rest) st [])
     form_step (ByNumber c) (Number z) vs ok h at less type =
-        let at' = subst At' h.1 at in
-        let less' : i + 1 ≤ top = subst (λ (vs : List Value). i + length vs ≤ top) h.1 less in
-        let p = number_step k set has root top F given out first two world x e.store st v i c z rest posi g (omega (arith, less')) (given_one i (I64 (word z)) [] at') ok h.0 type in
+        let at' = subst At' h.2 at in
+        let less' : i + 1 ≤ top = subst (λ (vs : List Value). i + length vs ≤ top) h.2 less in
+        let p = number_step k set has root top F given out first two world x e.store st v i c z rest posi g (omega (arith, less')) (given_one i (I64 (word z)) [] at') ok h.0 h.1 type in
         inl (plain_done world x e (ByNumber c) (Number z) rest _ refl x (record st { bytes = p.0 }) p.1 (same_same root v x) (At (root ∷ suc v ∷ [])) refl newest (λ more y s. refl) p.2)
     form_step (ByCopy t) (Variable l) vs ok h at less type =
         let at' = subst At' h.2 at in
@@ -273,23 +272,23 @@ module _ (k : Scene) (set : IsSet k) (has : HasLimit k) (root top : ℕ) (F : Ty
     form_step (ByArray false t) (Variable l) vs ok h at less type = absurd h
 
 -- how many operands were passed
-pub one_count : (world : List Ty) (x : Location → ℕ → ℕ) (f : Form) (p : Passed) (vs : List Value) → IsPassed world x f p vs → length vs ≡ operands_of f
-one_count world x (ByNumber c) (Number v) vs h = ap (λ (vs : List Value). length vs) h.1
-one_count world x (ByNumber c) (Variable l) vs h = absurd h
-one_count world x (ByNumber c) (Whole l high) vs h = absurd h
-one_count world x (ByNumber c) (Text text) vs h = absurd h
-one_count world x (ByCopy t) (Number v) vs h = absurd h
-one_count world x (ByCopy t) (Variable l) vs h = ap (λ (vs : List Value). length vs) h.2
-one_count world x (ByCopy t) (Whole l high) vs h = absurd h
-one_count world x (ByCopy t) (Text text) vs h = absurd h
-one_count world x (ByName t) (Number v) vs h = absurd h
-one_count world x (ByName t) (Variable l) vs h = ap (λ (vs : List Value). length vs) h.2
-one_count world x (ByName t) (Whole l high) vs h = absurd h
-one_count world x (ByName t) (Text text) vs h = absurd h
-one_count world x (ByArray is_var t) (Number v) vs h = absurd h
-one_count world x (ByArray is_var t) (Variable l) vs h = absurd h
-one_count world x (ByArray is_var t) (Whole l high) vs h = ap (λ (vs : List Value). length vs) h.3
-one_count world x (ByArray is_var t) (Text text) vs h = ap (λ (vs : List Value). length vs) h.4
+pub one_count : (program : Modules) (world : List Ty) (x : Location → ℕ → ℕ) (f : Form) (p : Passed) (vs : List Value) → IsPassed program world x f p vs → length vs ≡ operands_of f
+one_count program world x (ByNumber c) (Number v) vs h = ap (λ (vs : List Value). length vs) h.2
+one_count program world x (ByNumber c) (Variable l) vs h = absurd h
+one_count program world x (ByNumber c) (Whole l high) vs h = absurd h
+one_count program world x (ByNumber c) (Text text) vs h = absurd h
+one_count program world x (ByCopy t) (Number v) vs h = absurd h
+one_count program world x (ByCopy t) (Variable l) vs h = ap (λ (vs : List Value). length vs) h.2
+one_count program world x (ByCopy t) (Whole l high) vs h = absurd h
+one_count program world x (ByCopy t) (Text text) vs h = absurd h
+one_count program world x (ByName t) (Number v) vs h = absurd h
+one_count program world x (ByName t) (Variable l) vs h = ap (λ (vs : List Value). length vs) h.2
+one_count program world x (ByName t) (Whole l high) vs h = absurd h
+one_count program world x (ByName t) (Text text) vs h = absurd h
+one_count program world x (ByArray is_var t) (Number v) vs h = absurd h
+one_count program world x (ByArray is_var t) (Variable l) vs h = absurd h
+one_count program world x (ByArray is_var t) (Whole l high) vs h = ap (λ (vs : List Value). length vs) h.3
+one_count program world x (ByArray is_var t) (Text text) vs h = ap (λ (vs : List Value). length vs) h.4
 
 pub get_first : (vs ws : List Value) (j : ℕ) → j < length vs → slice_get (vs ++ ws) j ≡ slice_get vs j
 get_first [] ws j h = absurd (omega (arith, h))
@@ -324,7 +323,7 @@ module _ (k : Scene) (set : IsSet k) (has : HasLimit k) (root top : ℕ) (F : Ty
   abbrev pub FormsGo : (world : List Ty) (x : Location → ℕ → ℕ) (e : Entered) (fs : Forms) (ps : List Passed) (rest : List Instr) (r : Effect) → Type 0
   FormsGo world x e fs ps rest r = FormsDone world x e fs ps rest r ⊎ ((k.limit < size (row (world ++ copies_of fs ps))) × (r ≡ Ended 8 out))
 
-  pub forms_go : (fs : Forms) (ps : List Passed) (vs : List Value) → ArePassed base x0 fs ps vs → AreForms fs
+  pub forms_go : (fs : Forms) (ps : List Passed) (vs : List Value) → ArePassed k.program base x0 fs ps vs → AreForms fs
       → (world : List Ty) (x : Location → ℕ → ℕ) (e : Entered) (st : Target) (i v : ℕ) (rest : List Instr) → v ≡ length e.names → 0 < i → OnStage' world x e.store st → e.next ≡ length world
       → (more : List Ty) → world ≡ base ++ more → ((i : ℕ) (p : Location) (k : ℕ) → i < length base → x (i ∷ p) k ≡ x0 (i ∷ p) k)
       → ((j : ℕ) → j < length vs → slice_get given (i + j) ≡ slice_get vs j) → i + length vs ≤ top
@@ -343,9 +342,9 @@ module _ (k : Scene) (set : IsSet k) (has : HasLimit k) (root top : ℕ) (F : Ty
         run = refl;
       })
   forms_go _ _ _ (more_passed f fs p ps vs ws h hs) ok world x e st i v rest is_v posi g newest more is older at less types =
-      let count = one_count base x0 f p vs h in
+      let count = one_count k.program base x0 f p vs h in
       let both = length-append vs ws in
-      let here : IsPassed world x f p vs = subst (λ (w : List Ty). IsPassed w x f p vs) (sym is) (passed_lift base more x0 x older f p vs h) in
+      let here : IsPassed k.program world x f p vs = subst (λ (w : List Ty). IsPassed k.program w x f p vs) (sym is) (passed_lift base more x0 x older k.program f p vs h) in
       let type : component F (suc (length e.names) ∷ []) ≡ Some (kind_tree (kind_of f)) = ap (λ (n : ℕ). component F (suc n ∷ [])) (no_more v is_v) ∙ types 0 (kind_of f) refl in
       let code : List Instr = forms_kept top F (suc v) (i + operands_of f) fs in
       let step = form_step k set has root top F given out first two world x e st i (code ++ rest) posi g newest f p vs ok.0 here (λ j l. at j (omega (arith, l, both)) ∙ get_first vs ws j l) (omega (arith, less, both)) type in

@@ -1,5 +1,5 @@
 -- Formals as the scheme and the definition of a run see them, by how they are passed.
-use Rattle.std.proofs.Common.{◌≡◌, ℕ, suc, ◌+◌, ◌*◌, ℤ, Bool, true, false, List, [], ◌∷◌, ◌++◌, map, length, if◌then◌else◌, refl, sym, ap, subst, ◌∙◌, arith}
+use Rattle.std.proofs.Common.{◌≡◌, ℕ, suc, ◌+◌, ◌*◌, ℤ, Bool, true, false, List, [], ◌∷◌, ◌++◌, map, length, if◌then◌else◌, refl, sym, ap, ◌∙◌, arith}
 use Rattle.wasm_tree.specs.declared.instr.Instr.{Instr}
 use Rattle.wasm_tree.specs.declared.instr.Instr.TheVariants.{LocalGet}
 use Rattle.wasm_tree.specs.declared.store.Value.{Value}
@@ -7,18 +7,18 @@ use Rattle.m2_typed.specs.declared.shape.Formal.{Formal}
 use Rattle.m2_typed.specs.declared.types.TypeNo.{TypeNo}
 use Rattle.m2_typed.specs.declared.known_types.Types.{Types}
 use Rattle.m2_typed.specs.declared.typed_module.Routine.{Routine}
-use Rattle.m2_layout.specs.Types.{Ty, Scalar, Natural, Cell, Hidden, Array, Nothing, Field, row, frame_of}
+use Rattle.m2_layout.specs.Types.{Ty, Cell, Hidden, Array, Nothing, Field, row, frame_of}
 use Rattle.m2_layout.specs.Sizes.{size}
 use Rattle.m2_layout.specs.Shapes.{tree}
-use Rattle.m2_layout.specs.Frames.{formals_of, formal_tree, variable_trees, frame}
+use Rattle.m2_layout.specs.Frames.{formals_of, formal_tree, frame}
 use Rattle.m2_layout.specs.Texts.{passed}
 use Rattle.m2_meaning.specs.Store.{Location}
-use Rattle.m2_meaning.specs.Around.{Passed, Number, Variable, Array as Whole, Text}
+use Rattle.m2_meaning.specs.Around.{Modules, Passed, Number, Variable, Array as Whole, Text}
 use Rattle.m2_meaning.specs.Calls.{Entered, with_passed, with_all, copy_size, copies_size}
 use Rattle.m2_scheme.specs.Exprs.{arguments_of, all_arguments}
-use Rattle.m2_scheme.specs.Functions.{formal_kept, formals_kept, value_kept, word_kept, open_copied}
+use Rattle.m2_scheme.specs.Functions.{formals_kept, value_kept, word_kept, open_copied}
 use Rattle.m2_agree_calls.specs.Frames.{Kind, Kept, Alias, Open, Kinds, kind_tree, frame_kinds, formal_kind, kinds_of}
-use Rattle.m2_agree_calls.specs.Passing.{Form, ByNumber, ByCopy, ByName, ByArray, Forms, value_form, form_of, IsPassed, ArePassed, none_passed, more_passed}
+use Rattle.m2_agree_calls.specs.Passing.{Form, ByName, ByArray, Forms, value_form, form_of, IsPassed, ArePassed, none_passed, more_passed}
 use Rattle.m2_agree_procedures.specs.Stage.{kind_of, copy_of, copies_of, is_name, with_forms, form_kept, forms_kept, operands_of}
 
 -- the form of a formal, by whether it is open, whether VAR stands before it, and its type
@@ -100,19 +100,19 @@ one_row : (n : ℕ) (t : Ty) → size (row (Array n t ∷ [])) ≡ n * size t
 unfolding size
 one_row n t = omega arith
 
-value_whole : (world : List Ty) (x : Location → ℕ → ℕ) (t : Ty) (l : Location) (high : ℕ) (vs : List Value) → IsPassed world x (value_form t) (Whole l high) vs → ⊥
-value_whole world x (Cell c) l high vs h = h
-value_whole world x (Hidden n) l high vs h = h
-value_whole world x (Array n t) l high vs h = h
-value_whole world x Nothing l high vs h = h
-value_whole world x (Field t u) l high vs h = h
+value_whole : (program : Modules) (world : List Ty) (x : Location → ℕ → ℕ) (t : Ty) (l : Location) (high : ℕ) (vs : List Value) → IsPassed program world x (value_form t) (Whole l high) vs → ⊥
+value_whole program world x (Cell c) l high vs h = h
+value_whole program world x (Hidden n) l high vs h = h
+value_whole program world x (Array n t) l high vs h = h
+value_whole program world x Nothing l high vs h = h
+value_whole program world x (Field t u) l high vs h = h
 
-value_text : (world : List Ty) (x : Location → ℕ → ℕ) (t : Ty) (text : List ℕ) (vs : List Value) → IsPassed world x (value_form t) (Text text) vs → ⊥
-value_text world x (Cell c) text vs h = h
-value_text world x (Hidden n) text vs h = h
-value_text world x (Array n t) text vs h = h
-value_text world x Nothing text vs h = h
-value_text world x (Field t u) text vs h = h
+value_text : (program : Modules) (world : List Ty) (x : Location → ℕ → ℕ) (t : Ty) (text : List ℕ) (vs : List Value) → IsPassed program world x (value_form t) (Text text) vs → ⊥
+value_text program world x (Cell c) text vs h = h
+value_text program world x (Hidden n) text vs h = h
+value_text program world x (Array n t) text vs h = h
+value_text program world x Nothing text vs h = h
+value_text program world x (Field t u) text vs h = h
 
 no_copy : (o v : Bool) (t : Ty) (n : ℤ) → copy_of (formed o v t) (Number n) ≡ []
 no_copy true true t n = refl
@@ -140,20 +140,20 @@ no_copy_variable false false t l = by t
     by Nothing = refl
     by (Field t u) = refl
 
-bytes_are : (world : List Ty) (x : Location → ℕ → ℕ) (o v : Bool) (t : Ty) (p : Passed) (vs : List Value) → IsPassed world x (formed o v t) p vs → size (row (copy_of (formed o v t) p)) ≡ bytes_of o v t p
-bytes_are world x o v t (Number n) vs h = ap (λ (c : List Ty). size (row c)) (no_copy o v t n) ∙ no_bytes
-bytes_are world x o v t (Variable l) vs h = ap (λ (c : List Ty). size (row c)) (no_copy_variable o v t l) ∙ no_bytes
-bytes_are world x true true t (Whole l high) vs h = no_bytes
-bytes_are world x true false t (Whole l high) vs h = one_row (suc high) t
-bytes_are world x false true t (Whole l high) vs h = absurd h
-bytes_are world x false false t (Whole l high) vs h = absurd (value_whole world x t l high vs h)
-bytes_are world x true true t (Text text) vs h = absurd (true_false h.0)
+bytes_are : (program : Modules) (world : List Ty) (x : Location → ℕ → ℕ) (o v : Bool) (t : Ty) (p : Passed) (vs : List Value) → IsPassed program world x (formed o v t) p vs → size (row (copy_of (formed o v t) p)) ≡ bytes_of o v t p
+bytes_are program world x o v t (Number n) vs h = ap (λ (c : List Ty). size (row c)) (no_copy o v t n) ∙ no_bytes
+bytes_are program world x o v t (Variable l) vs h = ap (λ (c : List Ty). size (row c)) (no_copy_variable o v t l) ∙ no_bytes
+bytes_are program world x true true t (Whole l high) vs h = no_bytes
+bytes_are program world x true false t (Whole l high) vs h = one_row (suc high) t
+bytes_are program world x false true t (Whole l high) vs h = absurd h
+bytes_are program world x false false t (Whole l high) vs h = absurd (value_whole program world x t l high vs h)
+bytes_are program world x true true t (Text text) vs h = absurd (true_false h.0)
   where
     true_false : true ≡ false → ⊥
     true_false e = cc e
-bytes_are world x true false t (Text text) vs h = one_row (length (passed text)) t
-bytes_are world x false true t (Text text) vs h = absurd h
-bytes_are world x false false t (Text text) vs h = absurd (value_text world x t text vs h)
+bytes_are program world x true false t (Text text) vs h = one_row (length (passed text)) t
+bytes_are program world x false true t (Text text) vs h = absurd h
+bytes_are program world x false false t (Text text) vs h = absurd (value_text program world x t text vs h)
 
 pub two_rows : (us vs : List Ty) → size (row (us ++ vs)) ≡ size (row us) + size (row vs)
 unfolding size
@@ -167,12 +167,12 @@ module _ (types : Types) where
   bytes_here a (Whole l high) = refl
   bytes_here a (Text text) = refl
 
-  pub copies_bytes : (world : List Ty) (x : Location → ℕ → ℕ) (fs : List Formal) (ps : List Passed) (vs : List Value) → ArePassed world x (map (form_of types) fs) ps vs → size (row (copies_of (map (form_of types) fs) ps)) ≡ copies_size types fs ps
-  copies_bytes world x [] _ _ none_passed = no_bytes
-  copies_bytes world x (a ∷ fs) _ _ (more_passed f gs p ps vs ws h hs) =
-      let one = bytes_are world x a.is_open a.is_var (tree types a.of) p vs h in
+  pub copies_bytes : (program : Modules) (world : List Ty) (x : Location → ℕ → ℕ) (fs : List Formal) (ps : List Passed) (vs : List Value) → ArePassed program world x (map (form_of types) fs) ps vs → size (row (copies_of (map (form_of types) fs) ps)) ≡ copies_size types fs ps
+  copies_bytes program world x [] _ _ none_passed = no_bytes
+  copies_bytes program world x (a ∷ fs) _ _ (more_passed f gs p ps vs ws h hs) =
+      let one = bytes_are program world x a.is_open a.is_var (tree types a.of) p vs h in
       let here = bytes_here a p in
-      let more = copies_bytes world x fs ps ws hs in
+      let more = copies_bytes program world x fs ps ws hs in
       let both = two_rows (copy_of (form_of types a) p) (copies_of (map (form_of types) fs) ps) in
       omega (arith, one, here, more, both)
 

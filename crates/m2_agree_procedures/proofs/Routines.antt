@@ -1,26 +1,21 @@
 -- A procedure's function: its prologue, its body, and its end.
-use Rattle.std.proofs.Common.{◌≡◌, ◌⊎◌, inl, inr, ⊎_elim, ℕ, zero, suc, ◌+◌, ◌-◌, ◌^◌, ◌<◌, ◌≤◌, ℤ, pos, Bool, true, false, List, [], ◌∷◌, ◌++◌, map, length, Option, Some, None, if◌then◌else◌, refl, sym, ap, subst, ◌∙◌, append_assoc, append-nil, length-append, arith}
-use Rattle.std.specs.Prelude.{get_or, slice_get, nat_eq, nat_lt, option_map, replicate}
+use Rattle.std.proofs.Common.{◌≡◌, ⊎_elim, ℕ, zero, suc, ◌+◌, ◌-◌, ◌^◌, ◌<◌, ◌≤◌, ℤ, pos, Bool, List, [], ◌∷◌, ◌++◌, map, length, Option, Some, None, if◌then◌else◌, refl, sym, ap, subst, ◌∙◌, append_assoc, append-nil, length-append, arith}
+use Rattle.std.specs.Prelude.{get_or, slice_get, nat_eq, nat_lt, replicate}
 use Rattle.std.specs.List.{flat_map}
 use Rattle.std.specs.Int.{w64, to_le_bytes}
-use Rattle.std.proofs.lemmas.Bool.{cases_eq, eq-eqb, ne_eqb, le-ltb, lt-ltb, cases_lt}
+use Rattle.std.proofs.lemmas.Bool.{cases_eq, eq-eqb, ne_eqb, le-ltb, lt-ltb}
 use Rattle.wasm_tree.specs.declared.instr.Instr.{Instr}
 use Rattle.wasm_tree.specs.declared.instr.Instr.TheVariants as instr
 use Rattle.wasm_tree.specs.declared.instr.StoreWidth.TheVariants as width
 use Rattle.wasm_tree.specs.declared.store.Value.{Value}
 use Rattle.wasm_tree.specs.declared.store.Value.TheVariants.{I32, I64}
 use Rattle.wasm_tree.specs.Machine.{Typed, zeros}
-use Rattle.wasm_effect.specs.Effect.{State as Target, Effect, FellThrough, Branched, Returned, Ended, Traps, StillRunning, Calling, or_traps, back_with, back}
+use Rattle.wasm_effect.specs.Effect.{State as Target, Effect, FellThrough, Returned, Ended, Calling, or_traps, back_with, back}
 use Rattle.wasm_effect.proofs.Steps.{i64_runs, stop_runs, split_end_at}
-use Rattle.m2_typed.specs.declared.shape.Scalar.{Scalar as Range}
-use Rattle.m2_typed.specs.declared.shape.Shape.{Shape}
-use Rattle.m2_typed.specs.declared.shape.Shape.TheVariants as shape
-use Rattle.m2_typed.specs.declared.shape.Made.{Made}
 use Rattle.m2_typed.specs.declared.types.TypeNo.{TypeNo}
 use Rattle.m2_typed.specs.declared.known_types.Types.{Types}
 use Rattle.m2_typed.specs.declared.typed_module.Routine.{Routine}
 use Rattle.m2_typed.specs.declared.typed_module.TypedModule.{TypedModule}
-use Rattle.m2_typed.specs.Known.{made_at, scalar_at}
 use Rattle.m2_layout.specs.Types.{Ty, row, component, IsFit}
 use Rattle.m2_layout.specs.Sizes.{size, offset}
 use Rattle.m2_layout.specs.Frames.{formals_of, frame}
@@ -28,49 +23,26 @@ use Rattle.m2_layout.specs.Shapes.{tree}
 use Rattle.m2_meaning.specs.Store.{Location, Store, placed, fresh}
 use Rattle.m2_meaning.specs.Answer as answer
 use Rattle.m2_meaning.specs.Answer.{State as Source, Answer, Gave, Outcome, Went, Left, Came, Stopped, Unfinished}
-use Rattle.m2_meaning.specs.Around.{Modules, Around, Named, At, Elements, Frames, Callee, Passed}
-use Rattle.m2_meaning.specs.Calls.{Entered, with_all, is_function, is_function_made, gives_result, is_there as there_meaning, result, at_end, entered, around_of, variables_from, needed, copies_size, body_does, runs as asked_runs}
+use Rattle.m2_meaning.specs.Around.{Modules, Around, Named, Frames, Passed}
+use Rattle.m2_meaning.specs.Calls.{Entered, with_all, is_function, is_there as there_meaning, result, entered, around_of, variables_from, needed, body_does}
 use Rattle.m2_meaning.specs.Expressions.{Asks}
 use Rattle.m2_cells.specs.Relation.{Holds}
-use Rattle.m2_cells.proofs.Worlds.{row_size, call_ends, component_old, offset_old}
-use Rattle.m2_scheme.specs.Coded.{Counts, Setting, number_local, address_local, fault}
-use Rattle.m2_scheme.specs.Exprs.{Numbered, has_result, result_made, result_in, is_there as there_code}
-use Rattle.m2_scheme.specs.Steps.{body_code}
-use Rattle.m2_scheme.specs.Addresses.{addresses_in}
-use Rattle.m2_scheme.specs.Functions.{link_arguments, numbers_of, enter_code, link_kept, formals_kept, prologue, from_text, locals_of, end_code}
-use Rattle.m2_agree.specs.Scene.{Scene, HasHelpers, IsSet, IsIn, calls, runs, word, Stands, Into, Grows, IsFree, HasLocals, inside, returned, Returns, GoesTo, Ends, Executes}
-use Rattle.m2_agree_calls.specs.Frames.{Kind, Kept, Kinds, kind_tree, frame_kinds, formal_kind, kinds_of, IsNamed, AreNamed, IsLink, IsChain, chain_end, chain_more, AreFrames, HasFrames}
+use Rattle.m2_cells.proofs.Worlds.{row_size, call_ends, offset_old}
+use Rattle.m2_scheme.specs.Coded.{Counts, fault}
+use Rattle.m2_scheme.specs.Exprs.{Numbered}
+use Rattle.m2_scheme.specs.Functions.{link_arguments, enter_code, link_kept, formals_kept, prologue, from_text, locals_of, end_code}
+use Rattle.m2_agree.specs.Scene.{Scene, HasHelpers, IsSet, IsResult, calls, runs, word, Stands, Into, IsFree, HasLocals, Ends}
+use Rattle.m2_agree_calls.specs.Frames.{Kind, Kept, Kinds, kind_tree, frame_kinds, formal_kind, kinds_of, AreNamed, IsLink, IsChain, chain_end, chain_more, HasFrames}
+use Rattle.m2_agree_calls.proofs.Headings.{has_it, means_it}
 use Rattle.m2_agree_calls.proofs.Slots.{frame_component}
-use Rattle.m2_agree_calls.specs.Passing.{Forms, Result, forms_of, form_of, result_of, result_made as results_made, result_in as results_in, IsResult, result_values, ArePassed, none_passed, more_passed, IsBased, CallGives, links, HasTop, DoesAsked}
-use Rattle.m2_agree_procedures.specs.Stage.{kind_of, AreForms, copies_of, with_forms, forms_kept, operands_of, HasLimit, Stage, SameBelow}
-use Rattle.m2_agree_procedures.specs.Laws.{kept_in, or_unranged, top_of, body_scene, is_inner, IsProcedure, coded_body, locals_in, IsFunction, DoesBody, callee_of, RoutineDoes}
-use Rattle.m2_agree_procedures.proofs.Rooms.{keeps_placed, keeps_then, older_placed}
+use Rattle.m2_agree_calls.specs.Passing.{Forms, Result, forms_of, result_of, result_values, ArePassed, none_passed, more_passed, IsBased, CallGives, links, HasTop}
+use Rattle.m2_agree_procedures.specs.Stage.{kind_of, copies_of, with_forms, forms_kept, HasLimit}
+use Rattle.m2_agree_procedures.specs.Laws.{kept_in, top_of, body_scene, is_inner, IsProcedure, coded_body, locals_in, IsFunction, DoesBody, callee_of, RoutineDoes}
+use Rattle.m2_agree_procedures.proofs.Rooms.{keeps_placed, older_placed}
 use Rattle.m2_agree_procedures.proofs.Steps.{OnStage}
 use Rattle.m2_agree_procedures.proofs.Formals.{one_count, get_first, get_second, FormsDone, forms_go}
 use Rattle.m2_agree_procedures.proofs.Formed.{copies_bytes, two_rows, all_names, all_kinds, frame_is, formals_code, total, arguments_are}
-use Rattle.m2_agree_procedures.proofs.Begins.{Start, FrameDone, begin_goes, link_step, link_old, chain_old}
-
--- ---- whether a procedure has a result
-
-abbrev pub is_some : Result → Bool
-is_some None = false
-is_some (Some r) = true
-
-shape_result : (types : Types) (s : Shape) → (result_in s ≡ is_some (results_in types s)) × (gives_result s ≡ is_some (results_in types s))
-shape_result types (shape.Procedure h) = by h.result
-  where
-    by : (o : Option TypeNo) → (there_code o ≡ is_some (option_map (scalar_at types) o)) × (there_meaning o ≡ is_some (option_map (scalar_at types) o))
-    by None = (refl, refl)
-    by (Some t) = (refl, refl)
-shape_result types (shape.Scalar s) = (refl, refl)
-shape_result types shape.Set = (refl, refl)
-shape_result types (shape.Array i e) = (refl, refl)
-shape_result types (shape.Record fs) = (refl, refl)
-shape_result types (shape.Open e) = (refl, refl)
-
-made_result : (types : Types) (o : Option Made) → (result_made o ≡ is_some (results_made types o)) × (is_function_made o ≡ is_some (results_made types o))
-made_result types None = (refl, refl)
-made_result types (Some m) = shape_result types m.shape
+use Rattle.m2_agree_procedures.proofs.Begins.{Start, FrameDone, begin_goes, link_step, chain_old}
 
 -- ---- the locals that are kept
 
@@ -128,17 +100,17 @@ both_named world x root v (k ∷ ks) ls (n ∷ ns) ms h g = (h.0, both_named wor
 -- ---- the end of a function
 
 abbrev pub arity : Result → ℕ
-arity r = if is_some r then 1 else 0
+arity r = if there_meaning r then 1 else 0
 
-module _ (k : Scene) (r : Result) (base : List Ty) (x0 : Location → ℕ → ℕ) (more : List Ty) (is : k.world ≡ base ++ more) (ranged : k.result ≡ or_unranged r)
+module _ (k : Scene) (r : Result) (base : List Ty) (x0 : Location → ℕ → ℕ) (more : List Ty) (is : k.world ≡ base ++ more) (ranged : k.result ≡ r)
     (older : (i : ℕ) (p : Location) (j : ℕ) → i < length base → k.hidden (i ∷ p) j ≡ x0 (i ∷ p) j) (locals below : List Value) where
   abbrev Comes : ℤ → Source → Effect → Type 0
-  Comes = CallGives base x0 k.limit r locals below
+  Comes = CallGives k.program base x0 k.limit r locals below
 
-  holds_again : (s : Source) (st : Target) → Stands k s st → Holds base x0 s.store st.bytes
-  holds_again s st h = call_ends base more x0 k.hidden s.store st.bytes (λ i p j l. older i p j l) (subst (λ (w : List Ty). Holds w k.hidden s.store st.bytes) is h.holds)
+  holds_again : (s : Source) (st : Target) → Stands k s st → Holds k.program base x0 s.store st.bytes
+  holds_again s st h = call_ends k.program base more x0 k.hidden s.store st.bytes (λ i p j l. older i p j l) (subst (λ (w : List Ty). Holds k.program w k.hidden s.store st.bytes) is h.holds)
 
-  came_back : (s : Source) (st : Target) → Stands k s st → (stack values : List Value) (v : ℤ) → length values ≡ arity r → values ≡ result_values r v → IsResult r v → (R : Effect) → R ≡ back_with (arity r) locals below st (stack ++ values) → Comes v s R
+  came_back : (s : Source) (st : Target) → Stands k s st → (stack values : List Value) (v : ℤ) → length values ≡ arity r → values ≡ result_values r v → IsResult k.program r v → (R : Effect) → R ≡ back_with (arity r) locals below st (stack ++ values) → Comes v s R
   came_back s st h stack values v count same is_result R e = record {
     bytes = st.bytes;
     holds = holds_again s st h;
@@ -153,20 +125,20 @@ module _ (k : Scene) (r : Result) (base : List Ty) (x0 : Location → ℕ → �
 
 module _ (k : Scene) (has : HasHelpers k) (base : List Ty) (x0 : Location → ℕ → ℕ) (more : List Ty) (is : k.world ≡ base ++ more) (older : (i : ℕ) (p : Location) (j : ℕ) → i < length base → k.hidden (i ∷ p) j ≡ x0 (i ∷ p) j) (locals below : List Value) where
   abbrev Back : Result → Outcome → Effect → Type 0
-  Back r o R = Into (CallGives base x0 k.limit r locals below) (back (arity r) locals below R) (result (is_some r) o)
+  Back r o R = Into (CallGives k.program base x0 k.limit r locals below) (back (arity r) locals below R) (result (there_meaning r) o)
 
   faults : (st : Target) → runs k (fault 6) st [] ≡ Ended 6 st.out
   faults st =
       i64_runs k.modules k.fixed k.turns (calls k) k.own (instr.Call 1 ∷ instr.Unreachable ∷ []) st 6 []
       ∙ stop_runs k.modules k.fixed k.turns (calls k) k.own (instr.Unreachable ∷ []) st 1 6 [] (has.stop st.bytes)
 
-  pub ends_back : (r : Result) → k.result ≡ or_unranged r → (o : Outcome) (R : Effect) → ((s : Source) → o ≡ Left s → ⊥) → Ends k (is_some r) 0 [] (λ st. runs k (end_code (is_some r)) st []) R o → Back r o R
+  pub ends_back : (r : Result) → k.result ≡ r → (o : Outcome) (R : Effect) → ((s : Source) → o ≡ Left s → ⊥) → Ends k (there_meaning r) 0 [] (λ st. runs k (end_code (there_meaning r)) st []) R o → Back r o R
   ends_back None ranged (Went s) R stays p = came_back k None base x0 more is ranged older locals below s p.st p.stands [] [] (pos 0) refl refl tt _ (ap (back 0 locals below) p.run)
   ends_back None ranged (Came v s) R stays p =
       came_back k None base x0 more is ranged older locals below s p.st p.stands.0 p.below [] v refl refl tt _ (ap (back 0 locals below) (p.run ∙ ap (λ (vs : List Value). Returned p.st vs) (sym (append-nil p.below))))
   ends_back (Some rng) ranged (Went s) R stays p = ap (back 1 locals below) (p.run ∙ faults p.st ∙ ap (λ (out : List ℕ). Ended 6 out) p.stands.out)
   ends_back (Some rng) ranged (Came v s) R stays p =
-      came_back k (Some rng) base x0 more is ranged older locals below s p.st p.stands.0 p.below (I64 (word v) ∷ []) v refl refl (subst (λ (o : Option Range). IsIn o v) ranged (p.stands.1 refl)) _ (ap (back 1 locals below) p.run)
+      came_back k (Some rng) base x0 more is ranged older locals below s p.st p.stands.0 p.below (I64 (word v) ∷ []) v refl refl (subst (λ (o : Option Ty). IsResult k.program o v) ranged (p.stands.1 refl)) _ (ap (back 1 locals below) p.run)
   ends_back None ranged (Left s) R stays p = absurd (stays s refl)
   ends_back (Some rng) ranged (Left s) R stays p = absurd (stays s refl)
   ends_back None ranged (Stopped j out) R stays p = ap (back 0 locals below) p
@@ -189,11 +161,11 @@ pub length_zeros : (n : ℕ) (v : Value) → length (replicate n v) ≡ n
 length_zeros zero v = refl
 length_zeros (suc n) v = ap suc (length_zeros n v)
 
-values_count : (world : List Ty) (x : Location → ℕ → ℕ) (types : Types) (fs : Forms) (ps : List Passed) (vs : List Value) → ArePassed world x fs ps vs → length vs ≡ total types fs
-values_count world x types _ _ _ none_passed = refl
-values_count world x types _ _ _ (more_passed f fs p ps vs ws h hs) =
-    let one = one_count world x f p vs h in
-    let more = values_count world x types fs ps ws hs in
+values_count : (program : Modules) (world : List Ty) (x : Location → ℕ → ℕ) (types : Types) (fs : Forms) (ps : List Passed) (vs : List Value) → ArePassed program world x fs ps vs → length vs ≡ total types fs
+values_count program world x types _ _ _ none_passed = refl
+values_count program world x types _ _ _ (more_passed f fs p ps vs ws h hs) =
+    let one = one_count program world x f p vs h in
+    let more = values_count program world x types fs ps ws hs in
     let both = length-append vs ws in
     omega (arith, one, more, both)
 
@@ -272,13 +244,13 @@ module _ (k : Scene) (p : Modules) (ask asks : Asks) (called : Calling) (numbere
   K0 = scene_at [] (λ l j. 0) 0 nowhere
 
   abbrev after_forms : List Instr
-  after_forms = coded.0 ++ end_code (is_some gives)
+  after_forms = coded.0 ++ end_code (there_meaning gives)
 
   code_is : t.function.body.code ≡ enter_code top (size F) ++ (link_kept r ++ (forms_kept top F 0 (suc (link_arguments r)) forms ++ after_forms))
   code_is =
       let formals = formals_of m.types r.heading in
       fn.code
-      ∙ ap (λ (b : Bool). prologue m.types r top (suc top) ++ (coded.0 ++ end_code b)) (made_result m.types (made_at m.types r.heading)).0
+      ∙ ap (λ (b : Bool). prologue m.types r top (suc top) ++ (coded.0 ++ end_code b)) (has_it m.types r.heading)
       ∙ ap (λ (u : Ty). (enter_code top (size u) ++ (link_kept r ++ formals_kept m.types top (suc top) u 0 (suc (link_arguments r)) formals)) ++ after_forms) (frame_is m.types r)
       ∙ ap (λ (c : List Instr). (enter_code top (size F) ++ (link_kept r ++ c)) ++ after_forms) (formals_code m.types top F 0 (suc (link_arguments r)) formals)
       ∙ append_assoc (enter_code top (size F)) (link_kept r ++ forms_kept top F 0 (suc (link_arguments r)) forms) after_forms
@@ -294,8 +266,8 @@ module _ (k : Scene) (p : Modules) (ask asks : Asks) (called : Calling) (numbere
       let all = length-append args (flat_map zeros t.function.body.locals) in
       omega (arith, all, same, both, one, other, inner, e)
 
-  module _ (nss : Frames) (world : List Ty) (x : Location → ℕ → ℕ) (based : IsBased base texts world x) (roots : List ℕ) (chain : IsChain world x kss nss roots) (s : Source) (bytes : List ℕ) (holds : Holds world x s.store bytes) (long : length bytes ≡ k.limit)
-      (vs : List Passed) (values : List Value) (passed : ArePassed world x forms vs values) (left : ℕ) (whole : size (row world) + left ≡ k.limit) (locals below : List Value) where
+  module _ (nss : Frames) (world : List Ty) (x : Location → ℕ → ℕ) (based : IsBased base texts world x) (roots : List ℕ) (chain : IsChain world x kss nss roots) (s : Source) (bytes : List ℕ) (holds : Holds k.program world x s.store bytes) (long : length bytes ≡ k.limit)
+      (vs : List Passed) (values : List Value) (passed : ArePassed k.program world x forms vs values) (left : ℕ) (whole : size (row world) + left ≡ k.limit) (locals below : List Value) where
     abbrev root : ℕ
     root = length world
 
@@ -305,7 +277,7 @@ module _ (k : Scene) (p : Modules) (ask asks : Asks) (called : Calling) (numbere
     args_many : length args ≡ top
     args_many =
         let one = links_count world x r kss nss roots proc.linked chain in
-        let two' = values_count world x m.types forms vs values passed in
+        let two' = values_count k.program world x m.types forms vs values passed in
         let three = arguments_are m.types (formals_of m.types r.heading) in
         let both = length-append (links world roots) values in
         omega (arith, one, two', three, both)
@@ -393,7 +365,7 @@ module _ (k : Scene) (p : Modules) (ask asks : Asks) (called : Calling) (numbere
     sizes =
         let a = row_size world F in
         let b = two_rows world1 copies in
-        let c = copies_bytes m.types world x (formals_of m.types r.heading) vs values passed in
+        let c = copies_bytes m.types k.program world x (formals_of m.types r.heading) vs values passed in
         let d : size (frame m.types r) ≡ size F = ap size (frame_is m.types r) in
         omega (arith, a, b, c, d)
 
@@ -413,7 +385,7 @@ module _ (k : Scene) (p : Modules) (ask asks : Asks) (called : Calling) (numbere
     answer_body = result (is_function m.types r) (body_does p k.turns ask r.body body_around entered_state)
 
     abbrev Gives : Answer ℤ → Effect → Type 0
-    Gives a R = Into (CallGives world x k.limit gives locals below) (back (arity gives) locals below R) a
+    Gives a R = Into (CallGives k.program world x k.limit gives locals below) (back (arity gives) locals below R) a
 
     abbrev Done : (Location → ℕ → ℕ) → List Instr → Effect → Type 0
     Done y rest R = FormsDone K0 (set_at [] (λ l j. 0) 0 nowhere refl) (limit_at [] (λ l j. 0) 0 nowhere) root top F args s.out posi two world x refl world1 y e0 forms vs rest R
@@ -500,12 +472,12 @@ module _ (k : Scene) (p : Modules) (ask asks : Asks) (called : Calling) (numbere
       succeeds : Gives (if nat_lt left need then answer.Ended 8 s.out else answer_body) R
       succeeds =
           let here = body.executes world2 d.x' root body_around refl refl refl (set_at world2 d.x' root body_around refl) frames_of top_of' in
-          let b : is_function m.types r ≡ is_some gives = (made_result m.types (made_at m.types r.heading)).1 in
-          let goes : Ends K (is_function m.types r) 0 [] (λ st. runs K (end_code (is_some gives)) st []) (runs K after_forms d.st' []) (body_does p k.turns ask r.body body_around entered_state) =
-          subst (λ (q : List Instr × Counts). HasLocals K q.1 → Ends K (is_function m.types r) 0 [] (λ st. runs K (end_code (is_some gives)) st []) (runs K (q.0 ++ end_code (is_some gives)) d.st' []) (body_does p k.turns ask r.body body_around entered_state)) body.same
-          (λ full'. here.goes 0 (from_text text) free_of full' entered_state d.st' stands (end_code (is_some gives)) []) full
+          let b : is_function m.types r ≡ there_meaning gives = means_it m.types r.heading in
+          let goes : Ends K (is_function m.types r) 0 [] (λ st. runs K (end_code (there_meaning gives)) st []) (runs K after_forms d.st' []) (body_does p k.turns ask r.body body_around entered_state) =
+          subst (λ (q : List Instr × Counts). HasLocals K q.1 → Ends K (is_function m.types r) 0 [] (λ st. runs K (end_code (there_meaning gives)) st []) (runs K (q.0 ++ end_code (there_meaning gives)) d.st' []) (body_does p k.turns ask r.body body_around entered_state)) body.same
+          (λ full'. here.goes 0 (from_text text) free_of full' entered_state d.st' stands (end_code (there_meaning gives)) []) full
           in
-          let goes' = subst (λ (b : Bool). Ends K b 0 [] (λ st. runs K (end_code (is_some gives)) st []) (runs K after_forms d.st' []) (body_does p k.turns ask r.body body_around entered_state)) b goes in
+          let goes' = subst (λ (b : Bool). Ends K b 0 [] (λ st. runs K (end_code (there_meaning gives)) st []) (runs K after_forms d.st' []) (body_does p k.turns ask r.body body_around entered_state)) b goes in
           let came = ends_back K (helpers_at world2 d.x' root body_around) world x (F ∷ copies) joined older2 locals below gives refl (body_does p k.turns ask r.body body_around entered_state) (runs K after_forms d.st' []) (λ s'. body.stays body_around entered_state s') goes' in
           subst (λ (c : Bool). Gives (if c then answer.Ended 8 s.out else answer_body) R) (sym (le-ltb left need room))
           (subst (λ (R : Effect). Gives answer_body R) (sym d.run)
@@ -553,13 +525,13 @@ module _ (k : Scene) (p : Modules) (ask asks : Asks) (called : Calling) (numbere
 
 pub routine_does : RoutineDoes
 routine_does k p ask asks called numbered m place r outer text kss base texts f t proc fn body enters nss asked world x based roots chain s bytes holds long vs values passed left whole locals below =
-    let results : length t.type.results ≡ arity (result_of m.types r.heading) = fn.results ∙ ap (λ (b : Bool). if b then 1 else 0) (made_result m.types (made_at m.types r.heading)).0 in
+    let results : length t.type.results ≡ arity (result_of m.types r.heading) = fn.results ∙ ap (λ (b : Bool). if b then 1 else 0) (has_it m.types r.heading) in
     let args : List Value = I32 (size (row world)) ∷ (links world roots ++ values) in
-    let on : ℕ → Effect → Type 0 = λ n R. Into (CallGives world x k.limit (result_of m.types r.heading) locals below) (back n locals below R) (asks (Some (callee_of place m r nss)) vs (length world) left s) in
+    let on : ℕ → Effect → Type 0 = λ n R. Into (CallGives k.program world x k.limit (result_of m.types r.heading) locals below) (back n locals below R) (asks (Some (callee_of place m r nss)) vs (length world) left s) in
     subst (λ (n : ℕ). on n (called k.own f t args bytes s.out)) (sym results)
     (subst (λ (R : Effect). on (arity (result_of m.types r.heading)) R) (sym (enters args bytes s.out))
-    (subst (λ (a : Answer ℤ). Into (CallGives world x k.limit (result_of m.types r.heading) locals below) (back (arity (result_of m.types r.heading)) locals below (runs k t.function.body.code (record { locals = args ++ flat_map zeros t.function.body.locals; bytes = bytes; out = s.out }) [])) a) (sym (asked vs (length world) left s))
-    (subst (λ (e : Entered). Into (CallGives world x k.limit (result_of m.types r.heading) locals below) (back (arity (result_of m.types r.heading)) locals below (runs k t.function.body.code (record { locals = args ++ flat_map zeros t.function.body.locals; bytes = bytes; out = s.out }) []))
+    (subst (λ (a : Answer ℤ). Into (CallGives k.program world x k.limit (result_of m.types r.heading) locals below) (back (arity (result_of m.types r.heading)) locals below (runs k t.function.body.code (record { locals = args ++ flat_map zeros t.function.body.locals; bytes = bytes; out = s.out }) [])) a) (sym (asked vs (length world) left s))
+    (subst (λ (e : Entered). Into (CallGives k.program world x k.limit (result_of m.types r.heading) locals below) (back (arity (result_of m.types r.heading)) locals below (runs k t.function.body.code (record { locals = args ++ flat_map zeros t.function.body.locals; bytes = bytes; out = s.out }) []))
     (if nat_lt left (needed m.types r vs) then answer.Ended 8 s.out else result (is_function m.types r) (body_does p k.turns ask r.body (around_of (callee_of place m r nss) (length world) e (left - needed m.types r vs)) (record s { store = e.store }))))
     (sym (entered_is k p ask asks called numbered m place r outer text kss base texts f t proc fn body nss world x based roots chain s bytes holds long vs values passed left whole locals below))
     (goes_on k p ask asks called numbered m place r outer text kss base texts f t proc fn body nss world x based roots chain s bytes holds long vs values passed left whole locals below))))

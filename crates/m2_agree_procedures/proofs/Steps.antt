@@ -1,5 +1,5 @@
 -- What each formal leaves: a number, a whole copy, a name, or an open array with its copy.
-use Rattle.std.proofs.Common.{◌≡◌, ◌⊎◌, inl, inr, ⊎_elim, ℕ, zero, suc, ◌+◌, ◌-◌, ◌*◌, ◌%◌, ◌^◌, ◌<◌, ◌≤◌, ℤ, pos, Bool, true, false, List, [], ◌∷◌, ◌++◌, map, length, Option, Some, None, if◌then◌else◌, refl, sym, ap, subst, ◌∙◌, append_assoc, append-nil, length-append, arith}
+use Rattle.std.proofs.Common.{◌≡◌, ◌⊎◌, inl, inr, ⊎_elim, ℕ, suc, ◌+◌, ◌*◌, ◌%◌, ◌^◌, ◌<◌, ◌≤◌, ℤ, pos, Bool, true, false, List, [], ◌∷◌, ◌++◌, map, length, Some, None, if◌then◌else◌, refl, sym, ap, ◌∙◌, append_assoc, length-append, arith}
 use Rattle.std.specs.Prelude.{get_or, slice_get, slice_set, nat_lt}
 use Rattle.std.proofs.lemmas.Int.{ints}
 use Rattle.std.proofs.lemmas.Bool.{le-ltb, lt-ltb, cases_lt}
@@ -12,19 +12,19 @@ use Rattle.wasm_tree.specs.declared.store.Value.{Value}
 use Rattle.wasm_tree.specs.declared.store.Value.TheVariants.{I32, I64}
 use Rattle.wasm_tree.specs.Numbers.{truth, compares}
 use Rattle.std.specs.Int.{w32}
-use Rattle.wasm_effect.specs.Bytes.{byte, copied_bytes, AreMoved}
+use Rattle.wasm_effect.specs.Bytes.{copied_bytes, AreMoved}
 use Rattle.wasm_effect.proofs.Bytes.{copied_length, copied_small, copied_only, copied_moved}
-use Rattle.wasm_effect.specs.Effect.{State as Target, Effect, Ended, FellThrough, then_run, out_of, exec, picked, does}
+use Rattle.wasm_effect.specs.Effect.{State as Target, Effect, Ended, then_run, out_of, exec, picked, does}
 use Rattle.wasm_effect.proofs.Steps.{i32_runs, i64_runs, get_runs, set_runs, tee_runs, global_runs, number_runs, two_32, if_one_runs, stop_runs}
 use Rattle.m2_layout.specs.Types.{Ty, Scalar, Natural, Cell, Hidden, Array, row, component, IsPlain, IsScalar, IsOf}
-use Rattle.m2_layout.specs.Sizes.{Four, size, offset, width}
+use Rattle.m2_layout.specs.Sizes.{Four, size, offset}
 use Rattle.m2_meaning.specs.Store.{Location, Store, assigned, copied, placed}
 use Rattle.m2_cells.specs.Cells as cells
 use Rattle.m2_cells.specs.Cells.{stored_in}
-use Rattle.m2_cells.specs.Relation.{Holds, Shows, Keeps}
+use Rattle.m2_cells.specs.Relation.{Means, Holds, Shows, Keeps}
 use Rattle.m2_cells.proofs.Cells.{length-put}
 use Rattle.m2_cells.proofs.Places.{component_append, offset_append}
-use Rattle.m2_cells.proofs.Worlds.{lies, holds_assigned, holds_pushed, component_old, offset_old, component_new, row_size, size_old, plain_hidden, placed_else}
+use Rattle.m2_cells.proofs.Worlds.{lies, holds_assigned, holds_pushed, component_old, offset_old, row_size, plain_hidden, placed_else}
 use Rattle.m2_cells.proofs.Frames.{holds_hidden}
 use Rattle.m2_cells.proofs.Assigns.{assigns_whole}
 use Rattle.m2_scheme.specs.Coded.{raised, operation, wrapped, extended, fault}
@@ -45,7 +45,7 @@ module _ (k : Scene) (set : IsSet k) (has : HasLimit k) (root top : ℕ) (F : Ty
   abbrev pub OnStage : List Ty → (Location → ℕ → ℕ) → Store → Target → Type 0
   OnStage = Stage k root top F given out
 
-  stage_bytes : (world : List Ty) (x x' : Location → ℕ → ℕ) (s s' : Store) (st : Target) (m' : List ℕ) → OnStage world x s st → Holds world x' s' m' → length m' ≡ length st.bytes → OnStage world x' s' (record st { bytes = m' })
+  stage_bytes : (world : List Ty) (x x' : Location → ℕ → ℕ) (s s' : Store) (st : Target) (m' : List ℕ) → OnStage world x s st → Holds k.program world x' s' m' → length m' ≡ length st.bytes → OnStage world x' s' (record st { bytes = m' })
   stage_bytes world x x' s s' st m' g h l = record {
     holds = h;
     long = l ∙ g.long;
@@ -63,7 +63,7 @@ module _ (k : Scene) (set : IsSet k) (has : HasLimit k) (root top : ℕ) (F : Ty
       → (component (row world) (root ∷ q) ≡ Some t) × (offset (row world) (root ∷ []) + offset F q ≡ offset (row world) (root ∷ q)) × (offset (row world) (root ∷ q) + size t ≤ length st.bytes)
   own_place world x s st q t g e =
       let type : component (row world) (root ∷ q) ≡ Some t = component_append (row world) F (root ∷ []) q g.own ∙ e in
-      (type, sym (offset_append (row world) F (root ∷ []) q g.own), lies world x s st.bytes g.holds (root ∷ q) t type)
+      (type, sym (offset_append (row world) F (root ∷ []) q g.own), lies k.program world x s st.bytes g.holds (root ∷ q) t type)
 
   pub base_run : (world : List Ty) (x : Location → ℕ → ℕ) (s : Store) (st : Target) (q : Location) (t : Ty) (rest : List Instr) (stack : List Value) → OnStage world x s st → component F q ≡ Some t
       → runs k ((instr.LocalGet 0 ∷ raised (offset F q)) ++ rest) st stack ≡ runs k rest st (stack ++ I32 (offset (row world) (root ∷ q)) ∷ [])
@@ -87,14 +87,14 @@ module _ (k : Scene) (set : IsSet k) (has : HasLimit k) (root top : ℕ) (F : Ty
 
   -- ---- a number
 
-  pub number_step : (world : List Ty) (x : Location → ℕ → ℕ) (s : Store) (st : Target) (v i : ℕ) (c : Scalar) (z : ℤ) (rest : List Instr) → 0 < i → OnStage world x s st → i < top → slice_get given i ≡ Some (I64 (word z)) → IsScalar c → IsOf c z → component F (suc v ∷ []) ≡ Some (Cell c)
+  pub number_step : (world : List Ty) (x : Location → ℕ → ℕ) (s : Store) (st : Target) (v i : ℕ) (c : Scalar) (z : ℤ) (rest : List Instr) → 0 < i → OnStage world x s st → i < top → slice_get given i ≡ Some (I64 (word z)) → IsScalar c → IsOf c z → Means k.program c z → component F (suc v ∷ []) ≡ Some (Cell c)
       → (m' : List ℕ) × OnStage world x (assigned (root ∷ suc v ∷ []) z s) (record st { bytes = m' }) × (runs k ((formal_address F v [] ++ (instr.LocalGet i ∷ store_scalar c)) ++ rest) st [] ≡ runs k rest (record st { bytes = m' }) [])
   unfolding size
-  number_step world x s st v i c z rest posi g less e ok is type =
+  number_step world x s st v i c z rest posi g less e ok is means type =
       let p = own_place world x s st (suc v ∷ []) (Cell c) g type in
       let a : ℕ = offset (row world) (root ∷ suc v ∷ []) in (
         cells.put c a (word z) st.bytes,
-        stage_bytes world x x s (assigned (root ∷ suc v ∷ []) z s) st (cells.put c a (word z) st.bytes) g (holds_assigned world x s st.bytes g.holds (root ∷ suc v ∷ []) c z ok is p.0) (length-put c a (word z) st.bytes p.2),
+        stage_bytes world x x s (assigned (root ∷ suc v ∷ []) z s) st (cells.put c a (word z) st.bytes) g (holds_assigned k.program world x s st.bytes g.holds (root ∷ suc v ∷ []) c z ok is means p.0) (length-put c a (word z) st.bytes p.2),
         base_run world x s st (suc v ∷ []) (Cell c) ((instr.LocalGet i ∷ store_scalar c) ++ rest) [] g type
             ∙ given_run world x s st i (I64 (word z)) (store_scalar c ++ rest) (I32 a ∷ []) g posi less e
             ∙ scalar_stores k set.helpers set.small set.room c z a rest st [] (number_wide c z ok is) p.2,
@@ -110,11 +110,11 @@ module _ (k : Scene) (set : IsSet k) (has : HasLimit k) (root top : ℕ) (F : Ty
       let a : ℕ = offset (row world) (root ∷ suc v ∷ []) in
       let b : ℕ = offset (row world) l in
       let to = p.2 in
-      let from = lies world x s st.bytes g.holds l t source in
+      let from = lies k.program world x s st.bytes g.holds l t source in
       let long = g.long in let small = has.small in
       let after : List Instr = instr.I32Const (size t) ∷ instr.Call 2 ∷ rest in (
         copied_bytes (size t) a b st.bytes,
-        stage_bytes world x x s (copied (root ∷ suc v ∷ []) l s) st (copied_bytes (size t) a b st.bytes) g (assigns_whole world x s st.bytes g.holds (root ∷ suc v ∷ []) l t whole p.0 source) (copied_length (size t) a b st.bytes p.2),
+        stage_bytes world x x s (copied (root ∷ suc v ∷ []) l s) st (copied_bytes (size t) a b st.bytes) g (assigns_whole k.program world x s st.bytes g.holds (root ∷ suc v ∷ []) l t whole p.0 source) (copied_length (size t) a b st.bytes p.2),
         base_run world x s st (suc v ∷ []) t (instr.LocalGet i ∷ wrapped ∷ after) [] g type
             ∙ given_run world x s st i (I64 b) (wrapped ∷ after) (I32 a ∷ []) g posi less e
             ∙ wrap_run b st after (I32 a ∷ []) (omega (arith, from, long, small))
@@ -135,7 +135,7 @@ module _ (k : Scene) (set : IsSet k) (has : HasLimit k) (root top : ℕ) (F : Ty
       let as_word : n ≡ word (pos n) = omega (arith, ints, small) in
       let wide : IsWide (pos n) = record { low = omega (arith, ints); high = omega (arith, ints, small) } in (
         m',
-        stage_bytes world x (placed (root ∷ suc v ∷ q) (λ r k. get_or (stored_in Four n) k 0) x) s s st m' g (holds_hidden world x s st.bytes g.holds (root ∷ suc v ∷ q) 4 (stored_in Four n) p.0 refl (λ j l. four_small n j small l)) (length-put (Natural 4294967295) a n st.bytes p.2),
+        stage_bytes world x (placed (root ∷ suc v ∷ q) (λ r k. get_or (stored_in Four n) k 0) x) s s st m' g (holds_hidden k.program world x s st.bytes g.holds (root ∷ suc v ∷ q) 4 (stored_in Four n) p.0 refl (λ j l. four_small n j small l)) (length-put (Natural 4294967295) a n st.bytes p.2),
         base_run world x s st (suc v ∷ q) (Hidden 4) ((value ++ store_scalar word_cell) ++ rest) [] g type
             ∙ ap (λ (code : List Instr). runs k code st (I32 a ∷ [])) (append_assoc value (store_scalar word_cell) rest)
             ∙ gets (store_scalar word_cell ++ rest) (I32 a ∷ [])
@@ -168,7 +168,7 @@ module _ (k : Scene) (set : IsSet k) (has : HasLimit k) (root top : ℕ) (F : Ty
   -- elements that stand in the memory, from address n on: what a copy of them shows
   pub record IsSource (world : List Ty) (m : List ℕ) (n : ℕ) (t : Ty) (f : Location → ℤ) : Type 0 where
     pub fits : n + size t ≤ size (row world)
-    pub shows : (m' : List ℕ) → AreMoved (size t) n (size (row world)) m m' → Shows t (size (row world)) f m'
+    pub shows : (m' : List ℕ) → AreMoved (size t) n (size (row world)) m m' → Shows k.program t (size (row world)) f m'
 
   -- the storage behind the top is taken: top and p are set
   abbrev taken_locals : List Value → (a b : ℕ) → List Value
@@ -243,7 +243,7 @@ module _ (k : Scene) (set : IsSet k) (has : HasLimit k) (root top : ℕ) (F : Ty
       let below = g.below in
       let more = length-append world (t ∷ []) in
       record {
-        holds = holds_pushed world x s st.bytes g.holds t m' (λ b less. copied_only (size t) T n st.bytes fits b (inl less)) f (λ r k. 0) (omega (arith, fits, same)) (copied_small (size t) T n st.bytes fits g.holds.bytes)
+        holds = holds_pushed k.program world x s st.bytes g.holds t m' (λ b less. copied_only (size t) T n st.bytes fits b (inl less)) f (λ r k. 0) (omega (arith, fits, same)) (copied_small (size t) T n st.bytes fits g.holds.bytes)
             (source.shows m' (copied_moved (size t) T n st.bytes fits (inr within))) (λ r j i e less. absurd (plain_hidden t r j whole e));
         long = same ∙ g.long;
         own = component_old world (t ∷ []) root [] F g.own;

@@ -1,23 +1,23 @@
 -- While a procedure begins: what the state is, and what each formal leaves.
-use Rattle.std.specs.Prelude.{◌≡◌, ℕ, suc, ◌+◌, ◌-◌, ◌*◌, ◌<◌, ◌≤◌, ◌^◌, Bool, true, false, List, [], ◌∷◌, ◌++◌, map, length, slice_get, Some}
+use Rattle.std.specs.Prelude.{◌≡◌, ℕ, suc, ◌+◌, ◌<◌, ◌^◌, Bool, true, false, List, [], ◌∷◌, ◌++◌, length, slice_get, Some}
 use Rattle.wasm_tree.specs.declared.instr.Instr.{Instr}
 use Rattle.wasm_tree.specs.declared.instr.Instr.TheVariants.{Call, LocalGet, I32Const}
 use Rattle.wasm_tree.specs.declared.store.Value.{Value}
 use Rattle.wasm_tree.specs.declared.store.Value.TheVariants.{I32}
 use Rattle.wasm_tree.specs.Machine.{global_at}
 use Rattle.wasm_effect.specs.Effect.{State as Target, store_of}
-use Rattle.m2_layout.specs.Types.{Ty, Natural, Cell, Array, row, component, IsScalar, IsPlain}
+use Rattle.m2_layout.specs.Types.{Ty, Cell, Array, row, component, IsScalar, IsPlain}
 use Rattle.m2_layout.specs.Sizes.{size, offset}
 use Rattle.m2_layout.specs.Texts.{passed}
 use Rattle.m2_meaning.specs.Store.{Location, Store}
-use Rattle.m2_meaning.specs.Around.{Named, Passed, Number, Variable, Array as Whole, Text}
+use Rattle.m2_meaning.specs.Around.{Passed, Array as Whole, Text}
 use Rattle.m2_meaning.specs.Calls.{Entered, with_passed}
 use Rattle.m2_cells.specs.Relation.{Holds}
 use Rattle.m2_scheme.specs.Coded.{copy, wrapped}
 use Rattle.m2_scheme.specs.Cells.{store_scalar}
 use Rattle.m2_scheme.specs.Functions.{formal_address, word_kept, open_copied}
 use Rattle.m2_agree.specs.Scene.{Scene}
-use Rattle.m2_agree_calls.specs.Frames.{Kind, Kept, Alias, Open, Kinds, frame_kinds}
+use Rattle.m2_agree_calls.specs.Frames.{Kind, Kept, Alias, Open}
 use Rattle.m2_agree_calls.specs.Passing.{Form, ByNumber, ByCopy, ByName, ByArray, Forms}
 
 -- ---- formals by how they are passed

@@ -72,16 +72,16 @@ row_cell [] c e = cc e
 row_cell (u ∷ us) c e = cc e
 
 -- so it leaves the store alone
-holds_same : (base : List Ty) (x : Location → ℕ → ℕ) (f s : Location → ℤ) (m : List ℕ) → Holds (base ++ body_row ∷ []) x (placed (length base ∷ []) f s) m → Holds (base ++ body_row ∷ []) x s m
-holds_same base x f s m h = record {
+holds_same : (program : Modules) (base : List Ty) (x : Location → ℕ → ℕ) (f s : Location → ℤ) (m : List ℕ) → Holds program (base ++ body_row ∷ []) x (placed (length base ∷ []) f s) m → Holds program (base ++ body_row ∷ []) x s m
+holds_same program base x f s m h = record {
   bytes = h.bytes;
   room = h.room;
   cells = λ r c e. by r c e (where_is base body_row (Cell c) r e);
   hidden = h.hidden;
 }
   where
-    by : (r : Location) (c : Scalar) (e : component (row (base ++ body_row ∷ [])) r ≡ Some (Cell c)) → Where base body_row (Cell c) r → Says c (0 + offset (row (base ++ body_row ∷ [])) r) (s r) m
-    by (i ∷ q) c e (Old less there) = subst (λ (v : ℤ). Says c (0 + offset (row (base ++ body_row ∷ [])) (i ∷ q)) v m) (placed_else (length base ∷ []) (i ∷ q) f s (other_behind (length base) i q less)) (h.cells (i ∷ q) c e)
+    by : (r : Location) (c : Scalar) (e : component (row (base ++ body_row ∷ [])) r ≡ Some (Cell c)) → Where base body_row (Cell c) r → Says program c (0 + offset (row (base ++ body_row ∷ [])) r) (s r) m
+    by (i ∷ q) c e (Old less there) = subst (λ (v : ℤ). Says program c (0 + offset (row (base ++ body_row ∷ [])) (i ∷ q)) v m) (placed_else (length base ∷ []) (i ∷ q) f s (other_behind (length base) i q less)) (h.cells (i ∷ q) c e)
     by (_ ∷ q) c e (New there) = absurd (no_cell q c there)
     by [] c e (All there) = absurd (row_cell base c there)
 
@@ -153,7 +153,7 @@ module _ (k : Scene) (p : Modules) (ask : Asks) (m : TypedModule) (place text : 
       let all = length-append args (flat_map zeros t.function.body.locals) in
       omega (arith, all, same, both, one, other, inner)
 
-  module _ (s : Source) (bytes : List ℕ) (holds : Holds base texts s.store bytes) (long : length bytes ≡ k.limit) (locals below : List Value) where
+  module _ (s : Source) (bytes : List ℕ) (holds : Holds k.program base texts s.store bytes) (long : length bytes ≡ k.limit) (locals below : List Value) where
     abbrev st0 : Target
     st0 = record { locals = args ++ flat_map zeros t.function.body.locals; bytes = bytes; out = s.out }
 
@@ -168,12 +168,12 @@ module _ (k : Scene) (p : Modules) (ask : Asks) (m : TypedModule) (place text : 
     }
 
     abbrev Back : Effect → Outcome → Type 0
-    Back R o = BodyEnds (record { base = base; texts = texts; limit = k.limit }) locals below (back 0 locals below R) o
+    Back R o = BodyEnds (record { program = k.program; base = base; texts = texts; limit = k.limit }) locals below (back 0 locals below R) o
 
-    again : (s' : Source) (st : Target) → Stands K s' st → Holds base texts s'.store st.bytes
-    again s' st h = call_ends base (body_row ∷ []) texts K.hidden s'.store st.bytes (λ i q j less. older_placed (length base) [] (λ q j. 0) texts i q j less) h.holds
+    again : (s' : Source) (st : Target) → Stands K s' st → Holds k.program base texts s'.store st.bytes
+    again s' st h = call_ends k.program base (body_row ∷ []) texts K.hidden s'.store st.bytes (λ i q j less. older_placed (length base) [] (λ q j. 0) texts i q j less) h.holds
 
-    came : (s' : Source) (st : Target) → Stands K s' st → (stack : List Value) (R : Effect) → R ≡ back_with 0 locals below st stack → IsBack (record { base = base; texts = texts; limit = k.limit }) locals below s' R
+    came : (s' : Source) (st : Target) → Stands K s' st → (stack : List Value) (R : Effect) → R ≡ back_with 0 locals below st stack → IsBack (record { program = k.program; base = base; texts = texts; limit = k.limit }) locals below s' R
     came s' st h stack R e = record {
       bytes = st.bytes;
       held = record { holds = again s' st h; long = h.long };
@@ -218,7 +218,7 @@ module _ (k : Scene) (p : Modules) (ask : Asks) (m : TypedModule) (place text : 
         ⊎_elim
         (λ (d : FrameDone K set_here limit_here 1 body_row args s.out posi two base texts s.store body_fit (omega (arith, bytes_16)) rest (runs K (enter_code 1 (size body_row) ++ rest) st0 [])).
         let stands : Stands K s d.st' = record {
-          holds = holds_same base K.hidden (fresh body_row) s.store d.st'.bytes d.stage.holds;
+          holds = holds_same k.program base K.hidden (fresh body_row) s.store d.st'.bytes d.stage.holds;
           long = d.stage.long;
           count = d.stage.count;
           kept = kept_is (offset (row (base ++ body_row ∷ [])) (length base ∷ [])) (size (row (base ++ body_row ∷ []))) 1 d.st'.locals d.stage.at d.stage.free;
@@ -241,7 +241,7 @@ module _ (k : Scene) (p : Modules) (ask : Asks) (m : TypedModule) (place text : 
 pub main_does : MainDoes
 main_does modules fx serves extra limit p pages base texts n own place text f m t count room ours bound is s bytes held locals below =
     let left : ℕ = storage p pages - body_frame in
-    let g : Ground = record { base = base; texts = texts; limit = limit } in
+    let g : Ground = record { program = p; base = base; texts = texts; limit = limit } in
     subst (λ (r : Effect). BodyEnds g locals below (back 0 locals below r) (body_does p n (calling p n n) m.body (around_body p place m left) s))
     (sym (one_more modules fx serves extra n limit p base texts n own f t (I32 (size (row base)) ∷ []) bytes s.out ours bound))
     (body_goes (core modules fx serves extra n limit p base texts own place m n) p (calling p n n) m place text base texts left t is count room s bytes held.holds held.long locals below)

@@ -63,15 +63,15 @@ unfolding component
 nothing_cell c [] h = absurd (cc h)
 nothing_cell c (i ∷ r) h = absurd (cc h)
 
-ground_shows : (p : Program) (a : ℕ) (bytes : List ℕ) → AllZero a p bytes → All IsSound p → Shows (row (map module_type p)) a (fresh (row (map module_row p))) bytes
+ground_shows : (program p : Program) (a : ℕ) (bytes : List ℕ) → AllZero a p bytes → All IsSound p → Shows program (row (map module_type p)) a (fresh (row (map module_row p))) bytes
 unfolding component offset fresh
-ground_shows [] a bytes zeros sound r c h = absurd (nothing_cell c r h)
-ground_shows (m ∷ ms) a bytes zeros sound [] c h = absurd (no_row_cell c (module_type m) (row (map module_type ms)) h)
-ground_shows (m ∷ ms) a bytes zeros sound (zero ∷ r) c h =
+ground_shows program [] a bytes zeros sound r c h = absurd (nothing_cell c r h)
+ground_shows program (m ∷ ms) a bytes zeros sound [] c h = absurd (no_row_cell c (module_type m) (row (map module_type ms)) h)
+ground_shows program (m ∷ ms) a bytes zeros sound (zero ∷ r) c h =
     let w = trimmed (map (tree m.types) m.variables) (characters (module_texts m)) r c h in
-    subst (λ (o : ℕ). Says c (a + o) (fresh (module_row m) r) bytes) (sym w.1) (zero_shows (module_row m) a bytes (All-head IsSound m ms sound).fit zeros.0 r c w.0)
-ground_shows (m ∷ ms) a bytes zeros sound (suc i ∷ r) c h =
-    subst (λ (o : ℕ). Says c o (fresh (row (map module_row ms)) (i ∷ r)) bytes) (omega arith) (ground_shows ms (a + size (module_type m)) bytes zeros.1 (All-tail IsSound m ms sound) (i ∷ r) c h)
+    subst (λ (o : ℕ). Says program c (a + o) (fresh (module_row m) r) bytes) (sym w.1) (zero_shows program (module_row m) a bytes (All-head IsSound m ms sound).fit zeros.0 r c w.0)
+ground_shows program (m ∷ ms) a bytes zeros sound (suc i ∷ r) c h =
+    subst (λ (o : ℕ). Says program c o (fresh (row (map module_row ms)) (i ∷ r)) bytes) (omega arith) (ground_shows program ms (a + size (module_type m)) bytes zeros.1 (All-tail IsSound m ms sound) (i ∷ r) c h)
 
 -- ---- the image has these zeros
 
@@ -145,7 +145,7 @@ first_held p pages sound room =
       holds = record {
         bytes = append_small (image p) spare (image_small p sound) (zeros_small (65536 * pages - bytes_in p));
         room = (let s = base_size p in omega (arith, s, long, room));
-        cells = ground_shows p 0 (first_bytes p pages) (image_zero p [] spare) sound;
+        cells = ground_shows p p 0 (first_bytes p pages) (image_zero p [] spare) sound;
         hidden = λ r n k h less. ap (λ (o : ℕ). byte (o + k) (first_bytes p pages)) (omega arith);
       };
       long = long;

@@ -23,7 +23,7 @@ use Rattle.m2_typed.specs.declared.statement.TypedStmt.TheVariants as stmt
 use Rattle.m2_typed.specs.declared.types.TypeNo.{TypeNo}
 use Rattle.m2_typed.specs.Types.{boolean, char, bitset}
 use Rattle.m2_typed.specs.Known.{scalar_at}
-use Rattle.m2_layout.specs.Types.{Ty, Scalar, Natural, Cell, Array, row, component, IsPlain}
+use Rattle.m2_layout.specs.Types.{Ty, Scalar, Natural, Callable, Cell, Array, Heading, row, component, IsPlain}
 use Rattle.m2_layout.specs.Sizes.{size}
 use Rattle.m2_layout.specs.Shapes.{tree}
 use Rattle.m2_meaning.specs.Store.{Location, copied, placed}
@@ -53,12 +53,13 @@ use Rattle.m2_agree_calls.specs.Frames.{Kept, IsNamed}
 use Rattle.m2_agree_calls.specs.Passing.{Result}
 use Rattle.m2_agree_calls.proofs.Called.{call_executes}
 use Rattle.m2_agree_calls.proofs.Copies.{copies, strings}
+use Rattle.m2_agree_calls.proofs.Procedures.{held_assigns, held_gives}
 use Rattle.m2_agree_calls.proofs.Slots.{here as slot_here, cell_type, cell_runs}
 use Rattle.m2_agree_calls.proofs.Values.{results}
 use Rattle.m2_agree_trees.specs.Placed.{Pins}
 use Rattle.m2_agree_trees.specs.Typed.{Context, HasText}
 use Rattle.m2_agree_trees.specs.Fitting.{Fits}
-use Rattle.m2_agree_trees.proofs.Exprs.{MadeExpr, MadePlace, MadeCall, as_part, here, agrees_as, agrees_beside, taken_agrees, expr_made, place_made, call_made}
+use Rattle.m2_agree_trees.proofs.Exprs.{MadeExpr, MadeHeld, MadePlace, MadeCall, as_part, here, agrees_as, agrees_beside, taken_agrees, given_held, expr_made, held_made, place_made, call_made}
 use Rattle.m2_agree_trees.proofs.Fitted.{fits_keeping, fits_opening}
 use Rattle.m2_agree_trees.proofs.Opened.{component_code, armed, step_opened, step_at, arm_at, place_at}
 use Rattle.m2_agree_trees.proofs.Meant.{component_value, place_means}
@@ -110,10 +111,10 @@ module _ (x : Context) (ask : Asks) (result : Result) (n : ℕ) where
   Suited ws k = Suits x ask result n ws k
 
   suits_keeping : (ws : List Ty) (k : Scene) (w : ℕ) (v : Operand) → k.kept w ≡ None → Suited ws k → Suited ws (keeping k w v)
-  suits_keeping ws k w v new h = record { fits = fits_keeping x ask ws k w v new h.fits; turns = h.turns; ranged = h.ranged }
+  suits_keeping ws k w v new h = record { fits = fits_keeping x ask ws k w v new h.fits; turns = h.turns; typed = h.typed }
 
   suits_opening : (ws : List Ty) (k : Scene) (w : ℕ) (l : Location) (t : Ty) → k.kept w ≡ None → component (row k.world) l ≡ Some t → 0 < length l → Suited ws k → Suited (ws ++ t ∷ []) (opening k w l)
-  suits_opening ws k w l t new type some h = record { fits = fits_opening x ask ws k w l t new type some h.fits; turns = h.turns; ranged = h.ranged }
+  suits_opening ws k w l t new type some h = record { fits = fits_opening x ask ws k w l t new type some h.fits; turns = h.turns; typed = h.typed }
 
   -- ---- what is shown of a statement
 
@@ -139,6 +140,9 @@ module _ (x : Context) (ask : Asks) (result : Result) (n : ℕ) where
   abbrev Expr : (ws : List Ty) (a b : ℕ) → TypedExpr → TypeNo → Type 0
   Expr ws a b e t = MadeExpr x ask ws a b t (expr_part N e) (value P ask e)
 
+  abbrev Held : (ws : List Ty) (a b : ℕ) → TypedExpr → Heading → Type 0
+  Held ws a b e h = MadeHeld x ask ws a b h (expr_part N e).code (value P ask e)
+
   abbrev Placed : (ws : List Ty) (a b : ℕ) → Place → Ty → Type 0
   Placed ws a b d t = MadePlace x ask ws a b t (place_code N d) (locate P ask d)
 
@@ -160,6 +164,9 @@ module _ (x : Context) (ask : Asks) (result : Result) (n : ℕ) where
   given_pins : {ws : List Ty} {a b : ℕ} {e : TypedExpr} {t : TypeNo} (m : MadeGiven ws a b e t) → Pins a b (given_code t e (expr_part N e).code) (given_code t e m.placed)
   given_pins {b = b} {e = e} {t = t} m = pins_then m.pins (pins_setting (λ s. pins_plain b (check_taken s.home.types t (expr_part N e).constant (expr_part N e).of)))
 
+  held_pins : {ws : List Ty} {a b : ℕ} {h : Heading} (t : TypeNo) (e : TypedExpr) (m : Held ws a b e h) → Pins a b (given_code t e (expr_part N e).code) (given_code t e m.placed)
+  held_pins {b = b} t e m = pins_then m.pins (pins_setting (λ s. pins_plain b (check_taken s.home.types t (expr_part N e).constant (expr_part N e).of)))
+
   record MadeTest (ws : List Ty) (a b : ℕ) (e : TypedExpr) : Type 0 where
     placed : Coded
     pins : Pins a b (expr_part N e).code placed
@@ -179,19 +186,39 @@ module _ (x : Context) (ask : Asks) (result : Result) (n : ℕ) where
   module _ (ws : List Ty) (l : Bool) where
     -- ---- simple statements
 
+    -- the value is located, taken as one of the type, and stored
+    assigned_alike : (k : Scene) (c : Coded) (d : Place) (t : TypeNo) (e : TypedExpr) → Executes k F c (λ a s. with_answer (locate P ask d a s) (λ l s. with_answer (given_value t e a s) (λ v s. Went (stored l v s))))
+        → Executes k F c (λ a s. with_answer (locate P ask d a s) (λ l s. with_answer (value P ask e a s) (λ v s. with_answer (as_type a.types t v s) (λ v s. Went (stored l v s)))))
+    assigned_alike k c d t e h =
+        executes_alike k F c
+        (λ a s. with_answer (locate P ask d a s) (λ l s. with_answer (given_value t e a s) (λ v s. Went (stored l v s))))
+        (λ a s. with_answer (locate P ask d a s) (λ l s. with_answer (value P ask e a s) (λ v s. with_answer (as_type a.types t v s) (λ v s. Went (stored l v s)))))
+        (λ s. answer_alike (locate P ask d k.around s) (λ l s. with_answer (given_value t e k.around s) (λ v s. Went (stored l v s))) (λ l s. with_answer (value P ask e k.around s) (λ v s. with_answer (as_type k.around.types t v s) (λ v s. Went (stored l v s))))
+        (λ l s. answer_assoc (value P ask e k.around s) (λ v s. as_type k.around.types t v s) (λ v s. Went (stored l v s))))
+        h
+
+    assigned_stays : (d : Place) (t : TypeNo) (e : TypedExpr) → Stays (λ a s. with_answer (locate P ask d a s) (λ l s. with_answer (value P ask e a s) (λ v s. with_answer (as_type a.types t v s) (λ v s. Went (stored l v s)))))
+    assigned_stays d t e a s = with_stays (locate P ask d a s) (λ l s. with_answer (value P ask e a s) (λ v s. with_answer (as_type a.types t v s) (λ v s. Went (stored l v s))))
+        (λ l s. with_stays (value P ask e a s) (λ v s. with_answer (as_type a.types t v s) (λ v s. Went (stored l v s))) (λ v s. with_stays (as_type a.types t v s) (λ v s. Went (stored l v s)) (λ v s. refl)))
+
     assign_made : (a b c : ℕ) (d : Place) (t : TypeNo) (r : Scalar) (e : TypedExpr) → IsCell x.home.types t r → Placed ws a b d (Cell r) → MadeGiven ws b c e t → Stmt ws l a c (stmt.Assign d t e)
     assign_made a b c d t r e cell m q = from_stmt ws l a c (stmt.Assign d t e) (step.Assign d t e) (stmt.outs-Assign d t e) (record {
       placed = m.placed ⨾ given_code t e q.placed ⨾ with_setting (λ s. plain (cells.stored s.home.types t));
       pins = pins_then m.pins (pins_then (given_pins q) (pins_setting (λ s. pins_plain c (cells.stored s.home.types t))));
       executes = λ k fit.
-          executes_alike k F (m.placed ⨾ given_code t e q.placed ⨾ with_setting (λ s. plain (cells.stored s.home.types t)))
-          (λ a s. with_answer (locate P ask d a s) (λ l s. with_answer (given_value t e a s) (λ v s. Went (stored l v s))))
-          (λ a s. with_answer (locate P ask d a s) (λ l s. with_answer (value P ask e a s) (λ v s. with_answer (as_type a.types t v s) (λ v s. Went (stored l v s)))))
-          (λ s. answer_alike (locate P ask d k.around s) (λ l s. with_answer (given_value t e k.around s) (λ v s. Went (stored l v s))) (λ l s. with_answer (value P ask e k.around s) (λ v s. with_answer (as_type k.around.types t v s) (λ v s. Went (stored l v s))))
-          (λ l s. answer_assoc (value P ask e k.around s) (λ v s. as_type k.around.types t v s) (λ v s. Went (stored l v s))))
+          assigned_alike k (m.placed ⨾ given_code t e q.placed ⨾ with_setting (λ s. plain (cells.stored s.home.types t))) d t e
           (laws.assigns k fit.fits.set F t r m.placed (given_code t e q.placed) (locate P ask d) (given_value t e) (here x ask ws k fit.fits (λ h. IsCell h.types t r) cell) (m.locates k fit.fits) (q.agrees k fit.fits));
-      stays = λ e' a s. with_stays (locate P ask d a s) (λ l s. with_answer (value P ask e a s) (λ v s. with_answer (as_type a.types t v s) (λ v s. Went (stored l v s))))
-          (λ l s. with_stays (value P ask e a s) (λ v s. with_answer (as_type a.types t v s) (λ v s. Went (stored l v s))) (λ v s. with_stays (as_type a.types t v s) (λ v s. Went (stored l v s)) (λ v s. refl)));
+      stays = λ e' a s. assigned_stays d t e a s;
+    })
+
+    assign_procedure_made : (a b c : ℕ) (d : Place) (t : TypeNo) (h : Heading) (e : TypedExpr) → tree x.home.types t ≡ Cell (Callable h) → scalar_at x.home.types t ≡ None → Placed ws a b d (Cell (Callable h)) → Held ws b c e h → Stmt ws l a c (stmt.Assign d t e)
+    assign_procedure_made a b c d t h e type none m q = from_stmt ws l a c (stmt.Assign d t e) (step.Assign d t e) (stmt.outs-Assign d t e) (record {
+      placed = m.placed ⨾ given_code t e q.placed ⨾ with_setting (λ s. plain (cells.stored s.home.types t));
+      pins = pins_then m.pins (pins_then (held_pins t e q) (pins_setting (λ s. pins_plain c (cells.stored s.home.types t))));
+      executes = λ k fit.
+          assigned_alike k (m.placed ⨾ given_code t e q.placed ⨾ with_setting (λ s. plain (cells.stored s.home.types t))) d t e
+          (held_assigns k fit.fits.set F t h m.placed (given_code t e q.placed) (locate P ask d) (given_value t e) (here x ask ws k fit.fits (λ o. tree o.types t ≡ Cell (Callable h)) type) (m.locates k fit.fits) (given_held x ask ws b c t h e q none k fit.fits));
+      stays = λ e' a s. assigned_stays d t e a s;
     })
 
     copy_made : (a b c : ℕ) (d e : Place) (t : TypeNo) → IsPlain (tree x.home.types t) → Placed ws a b d (tree x.home.types t) → Placed ws b c e (tree x.home.types t) → Stmt ws l a c (stmt.Copy d e t)
@@ -272,18 +299,37 @@ module _ (x : Context) (ask : Asks) (result : Result) (n : ℕ) where
       stays = λ e' a s. refl;
     })
 
-    give_made : (a b : ℕ) (t : TypeNo) (e : TypedExpr) → result ≡ Some (scalar_at x.home.types t) → MadeGiven ws a b e t → Stmt ws l a b (stmt.Give t e)
-    give_made a b t e is q = from_stmt ws l a b (stmt.Give t e) (step.Give t e) (stmt.outs-Give t e) (record {
+    given_alike : (k : Scene) (c : Coded) (t : TypeNo) (e : TypedExpr) → Executes k true c (λ a s. with_answer (given_value t e a s) (λ v s. Came v s)) → Executes k true c (λ a s. with_answer (value P ask e a s) (λ v s. with_answer (as_type a.types t v s) (λ v s. Came v s)))
+    given_alike k c t e h =
+        executes_alike k true c
+        (λ a s. with_answer (given_value t e a s) (λ v s. Came v s))
+        (λ a s. with_answer (value P ask e a s) (λ v s. with_answer (as_type a.types t v s) (λ v s. Came v s)))
+        (λ s. answer_assoc (value P ask e k.around s) (λ v s. as_type k.around.types t v s) (λ v s. Came v s))
+        h
+
+    given_stays : (t : TypeNo) (e : TypedExpr) → Stays (λ a s. with_answer (value P ask e a s) (λ v s. with_answer (as_type a.types t v s) (λ v s. Came v s)))
+    given_stays t e a s = with_stays (value P ask e a s) (λ v s. with_answer (as_type a.types t v s) (λ v s. Came v s)) (λ v s. with_stays (as_type a.types t v s) (λ v s. Came v s) (λ v s. refl))
+
+    give_made : (a b : ℕ) (t : TypeNo) (r : Scalar) (e : TypedExpr) → result ≡ Some (tree x.home.types t) → IsCell x.home.types t r → MadeGiven ws a b e t → Stmt ws l a b (stmt.Give t e)
+    give_made a b t r e is cell q = from_stmt ws l a b (stmt.Give t e) (step.Give t e) (stmt.outs-Give t e) (record {
       placed = given_code t e q.placed ⨾ plain (instr.Return ∷ []);
       pins = pins_then (given_pins q) (pins_plain b (instr.Return ∷ []));
       executes = λ k fit.
-          executes_alike k F (given_code t e q.placed ⨾ plain (instr.Return ∷ []))
-          (λ a s. with_answer (given_value t e a s) (λ v s. Came v s))
-          (λ a s. with_answer (value P ask e a s) (λ v s. with_answer (as_type a.types t v s) (λ v s. Came v s)))
-          (λ s. answer_assoc (value P ask e k.around s) (λ v s. as_type k.around.types t v s) (λ v s. Came v s))
-          (subst (λ (r : Result). Executes k (is_there r) (given_code t e q.placed ⨾ plain (instr.Return ∷ [])) (λ a s. with_answer (given_value t e a s) (λ v s. Came v s))) (sym is)
-          (results k t (given_code t e q.placed) (given_value t e) (here x ask ws k fit.fits (λ h. scalar_at h.types t ≡ k.result) (sym (fit.ranged (scalar_at x.home.types t) is))) (q.agrees k fit.fits)));
-      stays = λ e' a s. with_stays (value P ask e a s) (λ v s. with_answer (as_type a.types t v s) (λ v s. Came v s)) (λ v s. with_stays (as_type a.types t v s) (λ v s. Came v s) (λ v s. refl));
+          subst (λ (r : Result). Executes k (is_there r) (given_code t e q.placed ⨾ plain (instr.Return ∷ [])) (λ a s. with_answer (value P ask e a s) (λ v s. with_answer (as_type a.types t v s) (λ v s. Came v s)))) (sym is)
+          (given_alike k (given_code t e q.placed ⨾ plain (instr.Return ∷ [])) t e
+          (results k t r (given_code t e q.placed) (given_value t e) (here x ask ws k fit.fits (λ h. k.result ≡ Some (tree h.types t)) (fit.typed ∙ is)) (here x ask ws k fit.fits (λ h. IsCell h.types t r) cell) (q.agrees k fit.fits)));
+      stays = λ e' a s. given_stays t e a s;
+    })
+
+    give_procedure_made : (a b : ℕ) (t : TypeNo) (h : Heading) (e : TypedExpr) → result ≡ Some (Cell (Callable h)) → scalar_at x.home.types t ≡ None → Held ws a b e h → Stmt ws l a b (stmt.Give t e)
+    give_procedure_made a b t h e is none q = from_stmt ws l a b (stmt.Give t e) (step.Give t e) (stmt.outs-Give t e) (record {
+      placed = given_code t e q.placed ⨾ plain (instr.Return ∷ []);
+      pins = pins_then (held_pins t e q) (pins_plain b (instr.Return ∷ []));
+      executes = λ k fit.
+          subst (λ (r : Result). Executes k (is_there r) (given_code t e q.placed ⨾ plain (instr.Return ∷ [])) (λ a s. with_answer (value P ask e a s) (λ v s. with_answer (as_type a.types t v s) (λ v s. Came v s)))) (sym is)
+          (given_alike k (given_code t e q.placed ⨾ plain (instr.Return ∷ [])) t e
+          (held_gives k h (given_code t e q.placed) (given_value t e) (fit.typed ∙ is) (given_held x ask ws a b t h e q none k fit.fits)));
+      stays = λ e' a s. given_stays t e a s;
     })
 
     -- ---- rows
@@ -576,6 +622,7 @@ module _ (x : Context) (ask : Asks) (result : Result) (n : ℕ) where
   mutual
     pub stmt_made : (ws : List Ty) (l : Bool) (a b : ℕ) (s : TypedStmt) → typed.IsStmt x result ws l a b s → Stmt ws l a b s
     stmt_made _ _ _ _ _ (typed.Assign ws l a b c d t r e cell h g) = assign_made ws l a b c d t r e cell (place_made x ask ws a b d (Cell r) h) (given_made ws b c e t g)
+    stmt_made _ _ _ _ _ (typed.AssignProcedure ws l a b c d t h e type none g is) = assign_procedure_made ws l a b c d t h e type none (place_made x ask ws a b d (Cell (Callable h)) g) (held_made x ask ws b c e h is)
     stmt_made _ _ _ _ _ (typed.Copy ws l a b c d e t is h g) = copy_made ws l a b c d e t is (place_made x ask ws a b d (tree x.home.types t) h) (place_made x ask ws b c e (tree x.home.types t) g)
     stmt_made _ _ _ _ _ (typed.CopyText ws l a b i d t text array less has h) = copy_text_made ws l a b i d t text array less has (place_made x ask ws a b d (tree x.home.types t) h)
     stmt_made _ _ _ _ _ (typed.ProcedureCall ws l a b c h) = call_stmt_made ws l a b c (call_made x ask ws a b c None h)
@@ -592,7 +639,8 @@ module _ (x : Context) (ask : Asks) (result : Result) (n : ℕ) where
     stmt_made _ _ _ _ _ (typed.Loop ws l a b body hs) = loop_made ws l a b body (rows_made ws true a b body hs)
     stmt_made _ _ _ _ _ (typed.Exit ws a) = exit_made ws a
     stmt_made _ _ _ _ _ (typed.Return ws l a none) = return_made ws l a none
-    stmt_made _ _ _ _ _ (typed.Give ws l a b t e is g) = give_made ws l a b t e is (given_made ws a b e t g)
+    stmt_made _ _ _ _ _ (typed.Give ws l a b t r e is cell g) = give_made ws l a b t r e is cell (given_made ws a b e t g)
+    stmt_made _ _ _ _ _ (typed.GiveProcedure ws l a b t h e is none g) = give_procedure_made ws l a b t h e is none (held_made x ask ws a b e h g)
     stmt_made _ _ _ _ _ (typed.For ws l a b c z d t u r start limit by body cell ranged control low high g h hs) =
         for_made ws l a b c z d t u r start limit by body cell ranged control low high (given_made ws a b start t g) (expr_made x ask ws b c limit u h) (rows_made ws l c z body hs)
     stmt_made _ _ _ _ _ (typed.With ws l a b c t d body h hs) = with_made ws l a b c t d body (place_made x ask ws a b d t h) (rows_made (ws ++ t ∷ []) l b c body hs)

@@ -6,6 +6,7 @@ use Rattle.wasm_tree.specs.declared.instr.Instr.TheVariants as instr
 use Rattle.wasm_tree.specs.declared.instr.Operation.TheVariants.{Sub, And as AndOp, ShrU}
 use Rattle.wasm_tree.specs.declared.store.Value.{Value as Operand}
 use Rattle.wasm_tree.specs.declared.store.Value.TheVariants.{I32, I64}
+use Rattle.wasm_tree.specs.Machine.{type_at}
 use Rattle.wasm_effect.specs.Effect.{Effect}
 use Rattle.wasm_effect.proofs.Steps.{get_runs}
 use Rattle.m2_typed.specs.declared.computed.Argument.{Argument, Argument-F, out-Argument}
@@ -37,21 +38,24 @@ use Rattle.m2_typed.specs.declared.types.TypeNo.{TypeNo}
 use Rattle.m2_typed.specs.declared.known_types.Types.{Types}
 use Rattle.m2_typed.specs.Types.{are_same, integer, cardinal, boolean, char, bitset}
 use Rattle.m2_typed.specs.Known.{scalar_at}
-use Rattle.m2_layout.specs.Types.{Ty, Scalar, Natural, Cell, Array, row, component}
+use Rattle.m2_layout.specs.Types.{Ty, Scalar, Natural, Callable, Cell, Array, Heading, row, component}
 use Rattle.m2_layout.specs.Sizes.{size, offset}
 use Rattle.m2_layout.specs.Shapes.{tree, elements_of}
+use Rattle.m2_layout.specs.Frames.{formals_of}
 use Rattle.m2_layout.specs.Texts.{passed}
 use Rattle.m2_meaning.specs.Store.{Location}
 use Rattle.m2_meaning.specs.Answer.{State as Source, Gave, then_give}
-use Rattle.m2_meaning.specs.Around.{Modules, Callee, Frames, Passed, Number, Array as Whole, nested_in, named, high_of}
+use Rattle.m2_meaning.specs.Around.{Modules, Callee, Frames, Passed, Number, Array as Whole, entry_of, entry_callee, module_place, nested_in, named, high_of}
 use Rattle.m2_meaning.specs.Expressions as meaning
 use Rattle.m2_meaning.specs.Expressions.{Asks, Gives, Reaches as Reached, Continues, value, locate, called}
 use Rattle.m2_scheme.specs.Coded.{Coded, top_local, plain, ◌⨾◌, all_coded, with_setting, with_number, number, operation, extended, wrapped, relation, checked, raised}
 use Rattle.m2_scheme.specs.Cells as cells
 use Rattle.m2_scheme.specs.Cells.{base_of, in_type, check_taken, is_free}
 use Rattle.m2_scheme.specs.Exprs as code
-use Rattle.m2_scheme.specs.Exprs.{Part, Linked, Numbered, behind, computed, linked, chain_type, chain_code, expr_part, place_code, call_code, index_of}
+use Rattle.m2_cells.specs.Relation.{NamesProcedure, heading_at, value_number}
+use Rattle.m2_scheme.specs.Exprs.{Part, Linked, Numbered, behind, computed, linked, chain_type, chain_code, all_arguments, has_result, expr_part, place_code, call_code, index_of}
 use Rattle.m2_scheme.specs.Modules.{numbered}
+use Rattle.m2_scheme.specs.Signatures.{needed, of_heading, is_among, type_of}
 use Rattle.m2_agree.specs.Scene.{Scene, calls as scene_calls, place as scene_place, IsValue, AreAmong, AreNatural, IsCell, runs, inside, keeping, Into, GivesNumber, Agrees, GoesOn, Reaches, Locates}
 use Rattle.m2_agree.specs.Laws.{AreLinked, no_links as none_linked, more_links as more_linked, AreReached, no_components as none_reached, more_components as more_reached}
 use Rattle.m2_agree.proofs.Laws as laws
@@ -59,19 +63,30 @@ use Rattle.m2_agree.proofs.Unary.{among_agrees}
 use Rattle.m2_agree.proofs.Relations.{extended_runs}
 use Rattle.m2_agree.proofs.Components.{same_index}
 use Rattle.m2_agree_calls.specs.Frames.{Kinds, Open, kind_at, IsChain, chain_end, chain_more}
-use Rattle.m2_agree_calls.specs.Passing.{Form, ByNumber, ByCopy, ByName, ByArray, Forms, Result, forms_of, result_of, links, GivesResult, Passes, PassAll, pass_none, pass_more, Calls}
-use Rattle.m2_agree_calls.proofs.Values.{taken, procedure_values}
+use Rattle.m2_agree_calls.specs.Held.{GivesHeld, AgreesHeld, held_call}
+use Rattle.m2_agree_calls.specs.Laws.{HasSlot}
+use Rattle.m2_agree_calls.specs.Passing.{Form, ByNumber, ByCopy, ByName, ByArray, Forms, Result, forms_of, result_of, heading_result, links, GivesResult, Passes, PassAll, pass_none, pass_more, Calls}
+use Rattle.m2_agree_calls.proofs.Headings.{forms_same, result_same}
+use Rattle.m2_agree_calls.proofs.Held.{held_calls}
+use Rattle.m2_agree_calls.proofs.Procedures.{held_loads, held_procedures, held_results, held_numbers, held_taken, held_passes}
+use Rattle.m2_agree_calls.proofs.Values.{taken}
 use Rattle.m2_agree_calls.proofs.Slots.{frame_runs, kept_locates, alias_locates, open_locates, open_reaches, high_agrees}
 use Rattle.m2_agree_calls.proofs.Passes.{give_assoc, passes_alike, value_passes, name_passes, copy_passes, array_passes, open_passes, text_passes}
-use Rattle.m2_agree_calls.proofs.Called.{all_operands as called_operands, call_agrees, front_calls}
+use Rattle.m2_agree_calls.proofs.Called.{call_agrees, front_calls}
 use Rattle.m2_agree_trees.proofs.Opened.{argument_code, component_code, link_part, expr_opened, expr_at, link_opened, link_at, component_opened, component_at, place_at, call_opened, call_at, argument_opened, argument_at}
 use Rattle.m2_agree_trees.specs.Placed.{Pins}
 use Rattle.m2_agree_trees.specs.Typed as typed
 use Rattle.m2_agree_trees.specs.Typed.{Context, IsNamed, IsCallable, IsInner, IsTaken}
-use Rattle.m2_agree_trees.specs.Fitting.{all_operands, Fits}
+use Rattle.m2_agree_trees.specs.Fitting.{Fits}
 use Rattle.m2_agree_trees.proofs.Pinned.{pins_plain, pins_then, pins_setting, pins_number, pins_within, pins_text}
 use Rattle.m2_agree_trees.proofs.Meant.{argument_value, component_value, link_value, expr_meant, expr_means, link_meant, link_means, component_meant, component_means, place_means, call_meant, call_means, argument_meant, argument_means}
 use Rattle.m2_agree_trees.proofs.Fitted.{fits_keeping}
+
+held_alike : (k : Scene) (h : Heading) (code : Coded) (f g : Gives ℤ) → ((s : Source) → f k.around s ≡ g k.around s) → AgreesHeld k h code f → AgreesHeld k h code g
+held_alike k h code f g same is = record {
+  grows = is.grows;
+  gives = λ e c free full s st stands rest stack. subst (Into (GivesHeld k h (runs k rest) stack) (runs k ((code (inside k e) c).0 ++ rest) st stack)) (same s) (is.gives e c free full s st stands rest stack);
+}
 
 -- what begins with a value of one type begins with one of another, whose values are among them
 goes_among : (k : Scene) (t u w : TypeNo) (x : Coded) (f : Continues) → AreAmong k.setting.home.types t u → GoesOn k u w x f → GoesOn k t w x f
@@ -91,6 +106,12 @@ module _ (x : Context) (ask : Asks) where
     pub placed : Coded
     pub pins : Pins a b part.code placed
     pub agrees : (k : Scene) → Fits x ask ws k → Agrees k part.of placed v
+
+  -- of one of a procedure type
+  pub record MadeHeld (ws : List Ty) (a b : ℕ) (h : Heading) (c : Coded) (v : Gives ℤ) : Type 0 where
+    pub placed : Coded
+    pub pins : Pins a b c placed
+    pub agrees : (k : Scene) → Fits x ask ws k → AgreesHeld k h placed v
 
   pub record MadePlace (ws : List Ty) (a b : ℕ) (t : Ty) (c : Coded) (found : Gives Location) : Type 0 where
     pub placed : Coded
@@ -126,6 +147,10 @@ module _ (x : Context) (ask : Asks) where
   pub here : (ws : List Ty) (k : Scene) → Fits x ask ws k → (Q : TypedModule → Type 0) → Q x.home → Q k.setting.home
   here ws k fit Q q = subst Q fit.home q
 
+  -- in the program of the scene
+  pub in_program : (ws : List Ty) (k : Scene) → Fits x ask ws k → (Q : Modules → Type 0) → Q k.program → Q P
+  in_program ws k fit Q q = subst Q fit.program q
+
   module _ {ws : List Ty} {a b : ℕ} {t : TypeNo} {part : Part} {v : Gives ℤ} (m : MadeExpr ws a b t part v) where
     -- the values of a type are among those of another
     pub among : (u : TypeNo) → AreAmong x.home.types t u → (k : Scene) → Fits x ask ws k → AreAmong k.setting.home.types part.of u
@@ -149,9 +174,18 @@ module _ (x : Context) (ask : Asks) where
       subst (λ (part : Part). MadeExpr ws a b t part (value P ask e)) (sym (expr_at N e y h))
       (subst (λ (v : Gives ℤ). MadeExpr ws a b t (code.expr_layer (expr_opened N y)) v) (sym (expr_means P ask e y h)) m)
 
+  from_held : (ws : List Ty) (a b : ℕ) (h : Heading) (e : TypedExpr) (y : TypedExpr-F Argument Call Component Link TypedExpr Place) → out-TypedExpr e ≡ y
+      → MadeHeld ws a b h (code.expr_layer (expr_opened N y)).code (meaning.expr_layer P ask (expr_meant P ask y)) → MadeHeld ws a b h (expr_part N e).code (value P ask e)
+  from_held ws a b h e y is m =
+      subst (λ (part : Part). MadeHeld ws a b h part.code (value P ask e)) (sym (expr_at N e y is))
+      (subst (λ (v : Gives ℤ). MadeHeld ws a b h (code.expr_layer (expr_opened N y)).code v) (sym (expr_means P ask e y is)) m)
+
   module _ (ws : List Ty) where
     abbrev pub Expr : (a b : ℕ) → TypedExpr → TypeNo → Type 0
     Expr a b e t = MadeExpr ws a b t (expr_part N e) (value P ask e)
+
+    abbrev pub Held : (a b : ℕ) → TypedExpr → Heading → Type 0
+    Held a b e h = MadeHeld ws a b h (expr_part N e).code (value P ask e)
 
     abbrev pub Placed : (a b : ℕ) → Place → Ty → Type 0
     Placed a b d t = MadePlace ws a b t (place_code N d) (locate P ask d)
@@ -172,12 +206,38 @@ module _ (x : Context) (ask : Asks) where
       agrees = λ k fit. laws.loads k fit.set P ask t c m.placed (locate P ask d) (here ws k fit (λ m. IsCell m.types t c) cell) (m.locates k fit);
     })
 
-    procedure_made : (a : ℕ) (f : Procedure) → IsNamed x f → scalar_at x.home.types f.heading ≡ None → Expr a a (expr.Procedure f) f.heading
-    procedure_made a f known none = from_expr ws a a f.heading (expr.Procedure f) (layer.Procedure f) (expr.outs-Procedure f) (record {
-      of = refl;
+    -- a value of a procedure type is compared as a number
+    procedure_made : (a b : ℕ) (t : TypeNo) (h : Heading) (e : TypedExpr) → Held a b e h → (expr_part N e).of ≡ t → scalar_at x.home.types t ≡ None → Expr a b e t
+    procedure_made a b t h e m of none = record {
+      of = of;
+      placed = m.placed;
+      pins = m.pins;
+      agrees = λ k fit. held_numbers k (expr_part N e).of h m.placed (value P ask e) (here ws k fit (λ m. scalar_at m.types (expr_part N e).of ≡ None) (ap (scalar_at x.home.types) of ∙ none)) (m.agrees k fit);
+    }
+
+    loaded_made : (a b : ℕ) (t : TypeNo) (h : Heading) (d : Place) → tree x.home.types t ≡ Cell (Callable h) → Placed a b d (Cell (Callable h)) → Held a b (expr.Load t d) h
+    loaded_made a b t h d type m = from_held ws a b h (expr.Load t d) (layer.Load t d) (expr.outs-Load t d) (record {
+      placed = behind m.placed (λ types. cells.loaded types t);
+      pins = pins_then m.pins (pins_setting (λ s. pins_plain b (cells.loaded s.home.types t)));
+      agrees = λ k fit. held_loads k fit.set P ask t h m.placed (locate P ask d) (here ws k fit (λ m. tree m.types t ≡ Cell (Callable h)) type) (m.locates k fit);
+    })
+
+    named_procedure : (f : Procedure) (h : Heading) (is : IsNamed x f) → heading_at x.home.types f.heading ≡ Some h → NamesProcedure P h (value_number P (module_place P f.home) f.number)
+    named_procedure f h is e = record { place = module_place P f.home; home = is.home; there = is.there; number = f.number; routine = is.routine; is = is.is; value = refl; heading = is.heading ∙ e }
+
+    named_made : (a : ℕ) (f : Procedure) (h : Heading) → IsNamed x f → heading_at x.home.types f.heading ≡ Some h → Held a a (expr.Procedure f) h
+    named_made a f h is e = from_held ws a a h (expr.Procedure f) (layer.Procedure f) (expr.outs-Procedure f) (record {
       placed = with_setting (λ s. plain (code.procedure_code s.home f));
       pins = pins_setting (λ s. pins_plain a (code.procedure_code s.home f));
-      agrees = λ k fit. procedure_values k fit.set P ask f (fit.slots f known) (here ws k fit (λ m. scalar_at m.types f.heading ≡ None) none);
+      agrees = λ k fit. in_program ws k fit (λ p. HasSlot k p f → NamesProcedure p h (value_number p (module_place p f.home) f.number) → AgreesHeld k h (with_setting (λ s. plain (code.procedure_code s.home f))) (meaning.expr_layer p ask (layer.Procedure f)))
+          (λ slot names. held_procedures k fit.set ask f h slot names) (fit.slots f is) (named_procedure f h is e);
+    })
+
+    result_made : (a b : ℕ) (t : TypeNo) (h : Heading) (c : Call) → MadeCall ws a b (Some (Cell (Callable h))) (call_code N c) (called P ask c) → Held a b (expr.Call t c) h
+    result_made a b t h c m = from_held ws a b h (expr.Call t c) (layer.Call t c) (expr.outs-Call t c) (record {
+      placed = m.placed;
+      pins = m.pins;
+      agrees = λ k fit. held_results k h m.placed (called P ask c) (m.calls k fit);
     })
 
     plus_made : (a b : ℕ) (t u : TypeNo) (e : TypedExpr) → Expr a b e u → AreAmong x.home.types u t → Expr a b (expr.Plus t e) t
@@ -295,12 +355,12 @@ module _ (x : Context) (ask : Asks) where
       agrees = λ k fit. high_agrees k fit.set x.kinds fit.frames slot t there;
     })
 
-    function_made : (a b : ℕ) (t : TypeNo) (c : Call) → MadeCall ws a b (Some (scalar_at x.home.types t)) (call_code N c) (called P ask c) → Expr a b (expr.Call t c) t
-    function_made a b t c m = from_expr ws a b t (expr.Call t c) (layer.Call t c) (expr.outs-Call t c) (record {
+    function_made : (a b : ℕ) (t : TypeNo) (r : Scalar) (c : Call) → MadeCall ws a b (Some (tree x.home.types t)) (call_code N c) (called P ask c) → IsCell x.home.types t r → Expr a b (expr.Call t c) t
+    function_made a b t r c m cell = from_expr ws a b t (expr.Call t c) (layer.Call t c) (expr.outs-Call t c) (record {
       of = refl;
       placed = m.placed;
       pins = m.pins;
-      agrees = λ k fit. call_agrees k t m.placed (called P ask c) (here ws k fit (λ h. Calls k (Some (scalar_at h.types t)) m.placed (called P ask c)) (m.calls k fit));
+      agrees = λ k fit. call_agrees k t r m.placed (called P ask c) (here ws k fit (λ h. IsCell h.types t r) cell) (here ws k fit (λ h. Calls k (Some (tree h.types t)) m.placed (called P ask c)) (m.calls k fit));
     })
 
   -- ---- operators of chains
@@ -527,6 +587,10 @@ module _ (x : Context) (ask : Asks) where
       (is'.free (subst (λ (h : TypedModule). is_free k.setting.home.types t (expr_part (numbered h) e).constant part.of ≡ true) fit.home q)))
       is'.unranged
 
+  pub given_held : (ws : List Ty) (a b : ℕ) (t : TypeNo) (h : Heading) (e : TypedExpr) → (m : Held ws a b e h) → scalar_at x.home.types t ≡ None → (k : Scene) → Fits x ask ws k
+      → AgreesHeld k h (behind m.placed (λ types. check_taken types t (expr_part N e).constant (expr_part N e).of)) (λ s st. then_give (value P ask e s st) (λ v st. meaning.as_type s.types t v st))
+  given_held ws a b t h e m none k fit = held_taken k fit.set t h (as_part (expr_part N e) m.placed) (value P ask e) (here ws k fit (λ m. scalar_at m.types t ≡ None) none) (m.agrees k fit)
+
   -- ---- arguments
 
   module _ (ws : List Ty) where
@@ -546,6 +610,18 @@ module _ (x : Context) (ask : Asks) where
           (λ st. give_assoc (value P ask e k.around st) (λ v st. meaning.as_type k.around.types t v st) (λ v st. Gave (Number v) st))
           (value_passes k t c (behind m.placed (λ types. check_taken types t (expr_part N e).constant (expr_part N e).of)) (λ s st. then_give (value P ask e s st) (λ v st. meaning.as_type s.types t v st))
           (here ws k fit (λ h. IsCell h.types t c) cell) (taken_agrees ws a b t u e m is k fit));
+    })
+
+    actual_made : (a b : ℕ) (t : TypeNo) (h : Heading) (e : TypedExpr) → Held ws a b e h → scalar_at x.home.types t ≡ None → MadeArgument ws a b (ByNumber (Callable h)) (argument_code N (argument.Value t e)) (argument_value P ask (argument.Value t e))
+    actual_made a b t h e m none = from_argument a b (ByNumber (Callable h)) (argument.Value t e) (layer.Value t e) (argument.outs-Value t e) (record {
+      placed = behind m.placed (λ types. check_taken types t (expr_part N e).constant (expr_part N e).of);
+      pins = pins_then m.pins (pins_setting (λ s. pins_plain b (check_taken s.home.types t (expr_part N e).constant (expr_part N e).of)));
+      passes = λ k fit.
+          passes_alike k (ByNumber (Callable h)) (behind m.placed (λ types. check_taken types t (expr_part N e).constant (expr_part N e).of))
+          (λ s st. then_give (then_give (value P ask e s st) (λ v st. meaning.as_type s.types t v st)) (λ v st. Gave (Number v) st)) (meaning.argument_layer P ask (layer.Value t (value P ask e)))
+          (λ st. give_assoc (value P ask e k.around st) (λ v st. meaning.as_type k.around.types t v st) (λ v st. Gave (Number v) st))
+          (held_passes k h (behind m.placed (λ types. check_taken types t (expr_part N e).constant (expr_part N e).of)) (λ s st. then_give (value P ask e s st) (λ v st. meaning.as_type s.types t v st))
+          (given_held ws a b t h e m none k fit));
     })
 
     name_made : (a b : ℕ) (d : Place) (t : Ty) → Placed ws a b d t → MadeArgument ws a b (ByName t) (argument_code N (argument.Place d)) (argument_value P ask (argument.Place d))
@@ -613,13 +689,6 @@ module _ (x : Context) (ask : Asks) where
     gives = λ e c free full s st stands rest stack. subst (Into (GivesResult k r (runs k rest) stack) (runs k ((y (inside k e) c).0 ++ rest) st stack)) (same s) (h.gives e c free full s st stands rest stack);
   }
 
-  same_operands : (fs : Forms) → all_operands fs ≡ called_operands fs
-  same_operands [] = refl
-  same_operands (ByNumber c ∷ fs) = ap (λ (n : ℕ). 1 + n) (same_operands fs)
-  same_operands (ByCopy t ∷ fs) = ap (λ (n : ℕ). 1 + n) (same_operands fs)
-  same_operands (ByName t ∷ fs) = ap (λ (n : ℕ). 1 + n) (same_operands fs)
-  same_operands (ByArray is_var t ∷ fs) = ap (λ (n : ℕ). 2 + n) (same_operands fs)
-
   chain_drop : (world : List Ty) (y : Location → ℕ → ℕ) (u : ℕ) (kss : List Kinds) (nss : Frames) (roots : List ℕ) → IsChain world y kss nss roots → IsChain world y (drop u kss) (drop u nss) (drop u roots)
   chain_drop world y zero kss nss roots h = h
   chain_drop world y (suc u) _ _ _ chain_end = chain_end
@@ -656,10 +725,9 @@ module _ (x : Context) (ask : Asks) where
           let gs : List (Gives Passed) = map (argument_value P ask) args in
           let forms : Forms = forms_of x.home.types f.heading in
           let chain : IsChain k.world k.hidden [] q.0.frames [] = subst (λ (nss : Frames). IsChain k.world k.hidden [] nss []) (sym q.2) chain_end in
-          let count = g.count in let same = same_operands forms in
           calls_alike k (result_of x.home.types f.heading) (code.top_code ⨾ (all_coded m.placed ⨾ with_setting (λ s. plain (code.module_call N s.home f)))) (λ s st. meaning.asked P ask (Some q.0) gs s st) (meaning.call_layer P ask (layer.Module f gs))
           (λ st. ap (λ (o : Option Callee). meaning.asked P ask o gs k.around st) (sym q.1))
-          (front_calls k x.base x.texts fit.top P ask q.0 [] [] chain forms (result_of x.home.types f.heading) g.own g.function g.typed g.does (code.module_call N k.setting.home f) (λ s st h. g.is_call st) (omega (arith, count, same))
+          (front_calls k x.base x.texts fit.top P ask q.0 [] [] chain forms (result_of x.home.types f.heading) g.own g.function g.typed g.does (code.module_call N k.setting.home f) (λ s st h. g.is_call st) g.count
           m.placed gs (m.passed_all k fit) (with_setting (λ s. plain (code.module_call N s.home f))) (λ e c. refl)
           (instr.LocalGet (top_local k.setting) ∷ []) (λ s st h rest stack. get_runs k.modules k.fixed k.turns (scene_calls k) k.own rest st (top_local k.setting) (I32 (size (row k.world))) stack (h.kept (top_local k.setting) (I32 (size (row k.world))) fit.top.kept))
           code.top_code (λ e c. refl));
@@ -678,13 +746,13 @@ module _ (x : Context) (ask : Asks) where
           let first = chain_first k.world k.hidden f.up x.kinds k.around.frames roots fit.frames.chain inner.less in
           let chain : IsChain k.world k.hidden (drop f.up x.kinds) q.0.frames (drop f.up roots) = subst (λ (nss : Frames). IsChain k.world k.hidden (drop f.up x.kinds) nss (drop f.up roots)) (sym q.2) (chain_drop k.world k.hidden f.up x.kinds k.around.frames roots fit.frames.chain) in
           let one : length (links k.world (drop f.up roots)) ≡ 1 = ap (λ (rs : List ℕ). length (links k.world rs)) first.3 in
-          let count = g.count in let same = same_operands forms in
+          let count = g.count in
           let address : ℕ = scene_place k (first.0 ∷ []) in
           let front : List Operand = I32 (size (row k.world)) ∷ links k.world (drop f.up roots) in
           let list : List Instr = instr.LocalGet (top_local k.setting) ∷ code.link_code N f.up in
           calls_alike k (result_of x.home.types f.heading) ((code.top_code ⨾ plain (code.link_code N f.up)) ⨾ (all_coded m.placed ⨾ with_setting (λ s. plain (code.nested_call N s.home f)))) (λ s st. meaning.asked P ask (Some q.0) gs s st) (meaning.call_layer P ask (layer.Nested f gs))
           (λ st. ap (λ (o : Option Callee). meaning.asked P ask o gs k.around st) (sym (ap (λ (n : ℕ). nested_in n (slice_get P n) (drop f.up k.around.frames) f.number) fit.place ∙ q.1)))
-          (front_calls k x.base x.texts fit.top P ask q.0 (drop f.up x.kinds) (drop f.up roots) chain forms (result_of x.home.types f.heading) g.own g.function g.typed g.does (code.nested_call N k.setting.home f) (λ s st h. g.is_call st) (omega (arith, count, same, one))
+          (front_calls k x.base x.texts fit.top P ask q.0 (drop f.up x.kinds) (drop f.up roots) chain forms (result_of x.home.types f.heading) g.own g.function g.typed g.does (code.nested_call N k.setting.home f) (λ s st h. g.is_call st) (omega (arith, count, one))
           m.placed gs (m.passed_all k fit) (with_setting (λ s. plain (code.nested_call N s.home f))) (λ e c. refl)
           list
           (λ s st h rest stack.
@@ -696,13 +764,34 @@ module _ (x : Context) (ask : Asks) where
           (code.top_code ⨾ plain (code.link_code N f.up)) (λ e c. refl));
     })
 
+    variable_made : (a b c : ℕ) (t : TypeNo) (h : Heading) (d : Place) (args : List Argument) → heading_at x.home.types t ≡ Some h → tree x.home.types t ≡ Cell (Callable h) → Placed ws a b d (Cell (Callable h)) → is_among (needed x.home) (of_heading x.home.types t) ≡ true
+        → ArgumentsOf b c args (forms_of x.home.types t) → MadeCall ws a c (result_of x.home.types t) (call_code N (call.Variable t d args)) (called P ask (call.Variable t d args))
+    variable_made a b c t h d args is type m signed ms = from_call a c (result_of x.home.types t) (call.Variable t d args) (layer.Variable t d args) (call.outs-Variable t d args) (record {
+      placed = held_call N t (code.loaded_from m.placed t) ms.placed;
+      pins = pins_then (pins_then m.pins (pins_setting (λ s. pins_plain b (cells.loaded s.home.types t)))) (pins_then (pins_plain b (checked (pos 1) (pos 4294967295) 7))
+          (pins_number (λ n. pins_then (pins_plain b (instr.LocalSet n ∷ [])) (pins_then (pins_setting (λ s. pins_plain b (instr.LocalGet (top_local s) ∷ []))) (pins_then ms.pins (pins_setting (λ s. pins_plain c (instr.LocalGet n ∷ wrapped ∷ code.indirect N s.home.types t ∷ []))))))));
+      calls = λ k fit.
+          let gs : List (Gives Passed) = map (argument_value P ask) args in
+          let list : Coded = held_call N t (code.loaded_from m.placed t) ms.placed in
+          let load : Gives ℤ = meaning.expr_layer P ask (layer.Load t (locate P ask d)) in
+          calls_alike k (result_of x.home.types t) list (λ s st. then_give (load s st) (λ v st. meaning.asked_if P ask (entry_callee P (entry_of P v)) gs s st)) (meaning.call_layer P ask (layer.Variable t (locate P ask d) gs))
+          (λ st. give_assoc (locate P ask d k.around st) (λ l st. Gave (st.store l) st) (λ v st. meaning.asked_if P ask (entry_callee P (entry_of P v)) gs k.around st))
+          (subst (λ (r : Result). Calls k r list (λ s st. then_give (load s st) (λ v st. meaning.asked_if P ask (entry_callee P (entry_of P v)) gs s st))) (sym (result_same x.home.types t h is))
+          (in_program ws k fit (λ p. Calls k (heading_result h) list (λ s st. then_give (load s st) (λ v st. meaning.asked_if p ask (entry_callee p (entry_of p v)) gs s st)))
+          (held_calls k fit.set ask N x.base x.texts fit.top fit.callees t h (here ws k fit (λ m. heading_at m.types t ≡ Some h) is)
+          (here ws k fit (λ m. type_at k.modules k.own (N (all_arguments (formals_of m.types t)) (has_result m.types t)) ≡ Some (type_of (of_heading m.types t))) (fit.signed t signed))
+          (code.loaded_from m.placed t) load (held_loads k fit.set P ask t h m.placed (locate P ask d) (here ws k fit (λ m. tree m.types t ≡ Cell (Callable h)) type) (m.locates k fit))
+          ms.placed gs (λ e c. ms.pins.grows (inside k e) c)
+          (λ n v new. subst (λ (fs : Forms). PassAll (keeping k n v) fs ms.placed gs) (forms_same x.home.types t h is) (ms.passed_all (keeping k n v) (fits_keeping x ask ws k n v new fit))))));
+    })
+
   -- ---- all of them
 
   mutual
     pub expr_made : (ws : List Ty) (a b : ℕ) (e : TypedExpr) (t : TypeNo) → typed.IsExpr x ws a b e t → Expr ws a b e t
     expr_made ws _ _ _ _ (typed.Constant a t n is) = constant_made ws a t n is
     expr_made ws _ _ _ _ (typed.Load a b t c d cell h) = load_made ws a b t c d cell (place_made ws a b d (Cell c) h)
-    expr_made ws _ _ _ _ (typed.ProcedureValue a f known none) = procedure_made ws a f known none
+    expr_made ws _ _ _ _ (typed.ProcedureValue a b t h e is of none) = procedure_made ws a b t h e (held_made ws a b e h is) of none
     expr_made ws _ _ _ _ (typed.Plus a b t u e h g) = plus_made ws a b t u e (expr_made ws a b e u h) g
     expr_made ws _ _ _ _ (typed.Negate a b u e h) = negate_made ws a b u e (expr_made ws a b e u h)
     expr_made ws _ _ _ _ (typed.Chain a b c u t e ls h hs) = chain_made ws a b c u t e ls (expr_made ws a b e u h) (links_made ws b c u ls t hs)
@@ -717,7 +806,12 @@ module _ (x : Context) (ask : Asks) where
     expr_made ws _ _ _ _ (typed.Ord a b u e h i j) = ord_made ws a b u e (expr_made ws a b e u h) i j
     expr_made ws _ _ _ _ (typed.Val a b t u e h i) = val_made ws a b t u e (expr_made ws a b e u h) i
     expr_made ws _ _ _ _ (typed.High a slot t there) = high_made ws a slot t there
-    expr_made ws _ _ _ _ (typed.FunctionCall a b t c h) = function_made ws a b t c (call_made ws a b c (Some (scalar_at x.home.types t)) h)
+    expr_made ws _ _ _ _ (typed.FunctionCall a b t r c h cell) = function_made ws a b t r c (call_made ws a b c (Some (tree x.home.types t)) h) cell
+
+    pub held_made : (ws : List Ty) (a b : ℕ) (e : TypedExpr) (h : Heading) → typed.IsProcedureExpr x ws a b e h → Held ws a b e h
+    held_made ws _ _ _ _ (typed.LoadedProcedure a b t h d type g) = loaded_made ws a b t h d type (place_made ws a b d (Cell (Callable h)) g)
+    held_made ws _ _ _ _ (typed.NamedProcedure a f h known is) = named_made ws a f h known is
+    held_made ws _ _ _ _ (typed.GivenProcedure a b t h c g) = result_made ws a b t h c (call_made ws a b c (Some (Cell (Callable h))) g)
 
     links_made : (ws : List Ty) (a b : ℕ) (t : TypeNo) (ls : List Link) (u : TypeNo) → typed.AreLinks x ws a b t ls u → MadeLinks ws a b t u (map (link_part N) ls) (map (link_value P ask) ls)
     links_made ws _ _ _ _ _ (typed.no_links a t) = no_links_made ws a t
@@ -749,6 +843,7 @@ module _ (x : Context) (ask : Asks) where
     pub call_made : (ws : List Ty) (a b : ℕ) (c : Call) (r : Result) → typed.IsCall x ws a b c r → MadeCall ws a b r (call_code N c) (called P ask c)
     call_made ws _ _ _ _ (typed.OfModule a b f args known hs) = module_made ws a b f args known (arguments_made ws a b args (forms_of x.home.types f.heading) hs)
     call_made ws _ _ _ _ (typed.OfProcedure a b f args less hs) = nested_made ws a b f args less (arguments_made ws a b args (forms_of x.home.types f.heading) hs)
+    call_made ws _ _ _ _ (typed.OfVariable a b c t h d args is type g signed hs) = variable_made ws a b c t h d args is type (place_made ws a b d (Cell (Callable h)) g) signed (arguments_made ws b c args (forms_of x.home.types t) hs)
 
     arguments_made : (ws : List Ty) (a b : ℕ) (args : List Argument) (fs : Forms) → typed.AreArguments x ws a b args fs → ArgumentsOf ws a b args fs
     arguments_made ws _ _ _ _ (typed.no_arguments a) = no_arguments_made ws a
@@ -757,6 +852,7 @@ module _ (x : Context) (ask : Asks) where
 
     argument_made : (ws : List Ty) (a b : ℕ) (g : Argument) (f : Form) → typed.IsArgument x ws a b g f → MadeArgument ws a b f (argument_code N g) (argument_value P ask g)
     argument_made ws _ _ _ _ (typed.Value a b t u c e h cell is) = value_made ws a b t u c e (expr_made ws a b e u h) cell is
+    argument_made ws _ _ _ _ (typed.ProcedureActual a b t h e g none) = actual_made ws a b t h e (held_made ws a b e h g) none
     argument_made ws _ _ _ _ (typed.ActualName a b d t h) = name_made ws a b d t (place_made ws a b d t h)
     argument_made ws _ _ _ _ (typed.ActualCopy a b d t h) = copy_made ws a b d t (place_made ws a b d t h)
     argument_made ws _ _ _ _ (typed.ActualArray a b t r u is_var d range narrow array h) = array_made ws a b t r u is_var d range narrow array (place_made ws a b d (tree x.home.types t) h)

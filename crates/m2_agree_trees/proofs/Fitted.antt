@@ -6,7 +6,7 @@ use Rattle.wasm_tree.specs.declared.instr.Instr.{Instr}
 use Rattle.wasm_tree.specs.declared.store.Value.{Value}
 use Rattle.wasm_tree.specs.declared.store.Value.TheVariants.{I32}
 use Rattle.m2_typed.specs.declared.types.TypeNo.{TypeNo}
-use Rattle.m2_layout.specs.Types.{Ty, row, component}
+use Rattle.m2_layout.specs.Types.{Ty, Heading, row, component}
 use Rattle.m2_layout.specs.Sizes.{size}
 use Rattle.m2_meaning.specs.Store.{Location}
 use Rattle.m2_meaning.specs.Around.{Callee}
@@ -15,6 +15,7 @@ use Rattle.m2_scheme.specs.Coded.{top_local}
 use Rattle.m2_agree.specs.Scene.{Scene, IsWith, place, keeping, opening}
 use Rattle.m2_agree.proofs.Locals.{helpers_beside}
 use Rattle.m2_agree_calls.specs.Frames.{IsOwnFrame}
+use Rattle.m2_agree_calls.specs.Held.{HasCallee}
 use Rattle.m2_agree_trees.specs.Typed.{Context}
 use Rattle.m2_agree_trees.specs.Fitting.{IsCalled, Fits}
 
@@ -41,10 +42,14 @@ module _ (x : Context) (ask : Asks) (ws : List Ty) (k : Scene) (n : ℕ) (v : Va
   called_kept : (c : Callee) (kinds : _) (heading : TypeNo) (code : List Instr) (links : ℕ) → IsCalled x ask k c kinds heading code links → IsCalled x ask (keeping k n v) c kinds heading code links
   called_kept c kinds heading code links g = record { own = g.own; function = g.function; typed = g.typed; does = g.does; is_call = g.is_call; count = g.count }
 
+  callee_kept : (heading : Heading) (i : ℕ) → HasCallee k ask x.base x.texts heading i → HasCallee (keeping k n v) ask x.base x.texts heading i
+  callee_kept heading i g = record { some = g.some; small = g.small; callee = g.callee; is = g.is; outermost = g.outermost; own = g.own; function = g.function; typed = g.typed; filled = g.filled; there = g.there; type = g.type; does = g.does }
+
   pub fits_keeping : Fits x ask ws (keeping k n v)
   fits_keeping = record {
     set = record { helpers = helpers_beside k n v h.set.helpers; types = h.set.types; small = h.set.small; room = h.set.room };
     home = h.home;
+    program = h.program;
     place = h.place;
     frames = record { roots = h.frames.roots; chain = h.frames.chain; frames = h.frames.frames; own = own_kept h.frames.roots h.frames.own };
     top = record { kept = still_kept k.kept n v new (top_local k.setting) (I32 _) h.top.kept; next = h.top.next; left = h.top.left; based = h.top.based };
@@ -55,6 +60,8 @@ module _ (x : Context) (ask : Asks) (ws : List Ty) (k : Scene) (n : ℕ) (v : Va
     texts = λ at text has. let q = h.texts at text has in record { base = q.base; there = q.there; room = q.room; bytes = q.bytes; type = q.type; is = q.is; fits = q.fits; same = q.same; small = q.small };
     modules = λ f known. let q = h.modules f known in (q.0, q.1, q.2, called_kept q.0 _ _ _ _ q.3);
     nested = λ f less. let q = h.nested f less in (q.0, q.1, q.2, called_kept q.0 _ _ _ _ q.3);
+    callees = λ heading i is. callee_kept heading i (h.callees heading i is);
+    signed = h.signed;
   }
 
 -- ---- inside of a WITH
@@ -81,6 +88,9 @@ module _ (x : Context) (ask : Asks) (ws : List Ty) (k : Scene) (w : ℕ) (l : Lo
 
   called_opened : (c : Callee) (kinds : _) (heading : TypeNo) (code : List Instr) (links : ℕ) → IsCalled x ask k c kinds heading code links → IsCalled x ask (opening k w l) c kinds heading code links
   called_opened c kinds heading code links g = record { own = g.own; function = g.function; typed = g.typed; does = g.does; is_call = g.is_call; count = g.count }
+
+  callee_opened : (heading : Heading) (i : ℕ) → HasCallee k ask x.base x.texts heading i → HasCallee (opening k w l) ask x.base x.texts heading i
+  callee_opened heading i g = record { some = g.some; small = g.small; callee = g.callee; is = g.is; outermost = g.outermost; own = g.own; function = g.function; typed = g.typed; filled = g.filled; there = g.there; type = g.type; does = g.does }
 
   abbrev Found : ℕ → Ty → Type 0
   Found j u = (m : Location) × IsWith (opening k w l) j m u
@@ -156,6 +166,7 @@ module _ (x : Context) (ask : Asks) (ws : List Ty) (k : Scene) (w : ℕ) (l : Lo
       room = h.set.room;
     };
     home = h.home;
+    program = h.program;
     place = h.place;
     frames = record { roots = h.frames.roots; chain = h.frames.chain; frames = h.frames.frames; own = own_opened h.frames.roots h.frames.own };
     top = record { kept = still_kept k.kept w address new (top_local k.setting) (I32 (size (row k.world))) h.top.kept; next = h.top.next; left = h.top.left; based = h.top.based };
@@ -166,4 +177,6 @@ module _ (x : Context) (ask : Asks) (ws : List Ty) (k : Scene) (w : ℕ) (l : Lo
     texts = λ at text has. let q = h.texts at text has in record { base = q.base; there = q.there; room = q.room; bytes = q.bytes; type = q.type; is = q.is; fits = q.fits; same = q.same; small = q.small };
     modules = λ f known. let q = h.modules f known in (q.0, q.1, q.2, called_opened q.0 _ _ _ _ q.3);
     nested = λ f less. let q = h.nested f less in (q.0, q.1, q.2, called_opened q.0 _ _ _ _ q.3);
+    callees = λ heading i is. callee_opened heading i (h.callees heading i is);
+    signed = h.signed;
   }

@@ -128,7 +128,7 @@ module _ (x : Context) where
     pub data IsExpr (ws : List Ty) : (from to : ℕ) → TypedExpr → TypeNo → Type 0 where
       Constant : (a : ℕ) (t : TypeNo) (n : ℤ) → IsValue types t n → IsExpr ws a a (expr.Constant t n) t
       Load : (a b : ℕ) (t : TypeNo) (c : Scalar) (d : Place) → IsCell types t c → IsPlace ws a b d (Cell c) → IsExpr ws a b (expr.Load t d) t
-      ProcedureValue : (a b : ℕ) (t : TypeNo) (h : Heading) (e : TypedExpr) → IsProcedureExpr ws a b e h → scalar_at types t ≡ None → IsExpr ws a b e t
+      ProcedureValue : (a b : ℕ) (t : TypeNo) (h : Heading) (e : TypedExpr) → IsProcedureExpr ws a b e h → (expr_part (numbered x.home) e).of ≡ t → scalar_at types t ≡ None → IsExpr ws a b e t
       Plus : (a b : ℕ) (t u : TypeNo) (e : TypedExpr) → IsExpr ws a b e u → AreAmong types u t → IsExpr ws a b (expr.Plus t e) t
       Negate : (a b : ℕ) (u : TypeNo) (e : TypedExpr) → IsExpr ws a b e u → IsExpr ws a b (expr.Negate e) integer
       Chain : (a b c : ℕ) (u t : TypeNo) (e : TypedExpr) (ls : List Link) → IsExpr ws a b e u → AreLinks ws b c u ls t → IsExpr ws a c (expr.Chain e ls) t

@@ -39,7 +39,7 @@ scalar_in : Scalar → Option Ty → Scalar
 scalar_in d (Some (Cell c)) = c
 scalar_in d _ = d
 
-same_cell : (c d : Scalar) → Some (Cell c) ≡ Some (Cell d) → c ≡ d
+pub same_cell : (c d : Scalar) → Some (Cell c) ≡ Some (Cell d) → c ≡ d
 unfolding scalar_in
 same_cell c d e = ap (scalar_in c) e
 

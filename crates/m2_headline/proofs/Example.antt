@@ -88,7 +88,7 @@ module _ (bytes : List ℕ) (long : length bytes ≡ 65536) (small : (a : ℕ) �
   abbrev bytes3 : List ℕ
   bytes3 = pasted bytes2 0 (stored width.One (word (pos 65)))
 
-  holds0 : Holds [] none (λ l. pos 0) bytes
+  holds0 : Holds [] [] none (λ l. pos 0) bytes
   unfolding component size
   holds0 = record {
     bytes = small;
@@ -105,22 +105,22 @@ module _ (bytes : List ℕ) (long : length bytes ≡ 65536) (small : (a : ℕ) �
       nowhere [] n e = cc e
       nowhere (i ∷ p) n e = none-some (Hidden n) e
 
-  holds1 : Holds world none' store1 bytes1
+  holds1 : Holds [] world none' store1 bytes1
   unfolding size
-  holds1 = begins_frame [] none (λ l. pos 0) bytes holds0 pair pair_fit (omega (arith, long))
+  holds1 = begins_frame [] [] none (λ l. pos 0) bytes holds0 pair pair_fit (omega (arith, long))
 
-  holds2 : Holds world none' store2 bytes2
+  holds2 : Holds [] world none' store2 bytes2
   unfolding component offset size
-  holds2 = holds_assigned world none' store1 bytes1 holds1 number Integer (negsuc 6) integer_is (record { low = omega (arith, ints); high = omega (arith, ints) }) refl
+  holds2 = holds_assigned [] world none' store1 bytes1 holds1 number Integer (negsuc 6) integer_is (record { low = omega (arith, ints); high = omega (arith, ints) }) tt refl
 
-  holds3 : Holds world none' store3 bytes3
+  holds3 : Holds [] world none' store3 bytes3
   unfolding component offset size
-  holds3 = holds_assigned world none' store2 bytes2 holds2 letter (Natural 255) (pos 65) char_is (record { low = omega (arith, ints); high = omega (arith, ints) }) refl
+  holds3 = holds_assigned [] world none' store2 bytes2 holds2 letter (Natural 255) (pos 65) char_is (record { low = omega (arith, ints); high = omega (arith, ints) }) tt refl
 
   -- the CHAR is read as it was written
   read : fetched (Natural 255) 0 bytes3 ≡ Some 65
   unfolding component offset size placed behind
-  read = holds_fetched world none' store3 bytes3 holds3 letter (Natural 255) char_is refl
+  read = holds_fetched [] world none' store3 bytes3 holds3 letter (Natural 255) char_is refl
 
   parts : (o : Option (List ℕ)) → option_map (λ ys. loaded load.I64From8U ys) o ≡ Some 65 → (ys : List ℕ) × (o ≡ Some ys) × (loaded load.I64From8U ys ≡ 65)
   parts None e = absurd (none-some 65 e)

@@ -1,5 +1,6 @@
 use Rattle.m2_agree_calls.proofs.Values.{taken, procedure_values, results}
 use Rattle.m2_agree_calls.proofs.Copies.{copies, strings}
+use Rattle.m2_agree_calls.proofs.Procedures.{number_results}
 use Rattle.m2_agree_calls.proofs.value_laws.Goals as goal
 
 pub returns-clause-taken : goal.returns-clause-taken
@@ -16,3 +17,6 @@ returns-clause-strings c = strings
 
 pub returns-clause-gives : goal.returns-clause-gives
 returns-clause-gives c = results
+
+pub returns-clause-number_results : goal.returns-clause-number_results
+returns-clause-number_results c = number_results
