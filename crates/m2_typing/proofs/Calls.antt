@@ -84,6 +84,7 @@ module _ (x : Context) (ws : List Ty) (h : TypesTyped x.home.types) (g : Gathers
   loaded_typed t d class.Procedure e p = record {
     heading = e.heading;
     is = e.is;
+    of = made.type_of_load m t d;
     word = e.none;
     typed = made.loaded_procedure_typed x ws t e.heading d (routine_tree types h t e) (subst (λ (u : Ty). PlaceTyped x ws d u) (routine_tree types h t e) p);
   }
@@ -98,6 +99,7 @@ module _ (x : Context) (ws : List Ty) (h : TypesTyped x.home.types) (g : Gathers
   given_as_typed t c class.Procedure e p = record {
     heading = e.heading;
     is = e.is;
+    of = made.type_of_call m t c;
     word = e.none;
     typed = made.given_procedure_typed x ws t e.heading c (subst (λ (u : Ty). CallTyped x ws c (Some u)) (routine_tree types h t e) p);
   }

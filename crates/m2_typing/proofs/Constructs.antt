@@ -56,6 +56,19 @@ module _ (m : TypedModule) where
   run_by : (e : TypedExpr) (y : TypedExpr-F Argument Call Component Link TypedExpr Place) → out-TypedExpr e ≡ y → (expr_layer (expr_opened (numbered m) y)).constant ≡ false → IsRun e
   run_by e y h k = ap (λ (p : Part). p.constant) (expr_at (numbered m) e y h) ∙ k
 
+  -- the type that the code takes it for
+  abbrev pub IsTypeOf : TypedExpr → TypeNo → Type 0
+  IsTypeOf e t = (expr_part (numbered m) e).of ≡ t
+
+  pub type_of_load : (t : TypeNo) (d : Place) → IsTypeOf (expr.Load t d) t
+  type_of_load t d = ap (λ (p : Part). p.of) (expr_at (numbered m) (expr.Load t d) (layer.Load t d) (expr.outs-Load t d))
+
+  pub type_of_procedure : (f : Procedure) → IsTypeOf (expr.Procedure f) f.heading
+  type_of_procedure f = ap (λ (p : Part). p.of) (expr_at (numbered m) (expr.Procedure f) (layer.Procedure f) (expr.outs-Procedure f))
+
+  pub type_of_call : (t : TypeNo) (c : Call) → IsTypeOf (expr.Call t c) t
+  type_of_call t c = ap (λ (p : Part). p.of) (expr_at (numbered m) (expr.Call t c) (layer.Call t c) (expr.outs-Call t c))
+
   pub run_load : (t : TypeNo) (d : Place) → IsRun (expr.Load t d)
   run_load t d = run_by (expr.Load t d) (layer.Load t d) (expr.outs-Load t d) refl
 
@@ -150,15 +163,15 @@ module _ (x : Context) (ws : List Ty) where
   links_more _ _ z _ _ w _ y (typed.more_links a b c t u v l ls h hs) k = typed.more_links a b z t u w l (ls ++ y ∷ []) h (links_more b c z u v w ls y hs k)
 
   -- a value of a procedure type is no chain
-  procedure_linked : (a b z : ℕ) (t w : TypeNo) (h : Heading) (e : TypedExpr) (l : Link) → IsProcedureExpr x ws a b e h → scalar_at types t ≡ None → IsLink x ws b z t l w → IsExpr x ws a z (linked e l) w
-  procedure_linked _ _ z t w _ _ l (typed.LoadedProcedure a b u h d tr p) n k = subst (λ (y : TypedExpr-F Argument Call Component Link TypedExpr Place). IsExpr x ws a z (linked_to y (expr.Load u d) l) w) (sym (expr.outs-Load u d)) (typed.Chain a b z t w (expr.Load u d) (l ∷ []) (typed.ProcedureValue a b t h (expr.Load u d) (typed.LoadedProcedure a b u h d tr p) n) (one_link b z t w l k))
-  procedure_linked _ _ z t w _ _ l (typed.NamedProcedure a f h known is) n k = subst (λ (y : TypedExpr-F Argument Call Component Link TypedExpr Place). IsExpr x ws a z (linked_to y (expr.Procedure f) l) w) (sym (expr.outs-Procedure f)) (typed.Chain a a z t w (expr.Procedure f) (l ∷ []) (typed.ProcedureValue a a t h (expr.Procedure f) (typed.NamedProcedure a f h known is) n) (one_link a z t w l k))
-  procedure_linked _ _ z t w _ _ l (typed.GivenProcedure a b u h c p) n k = subst (λ (y : TypedExpr-F Argument Call Component Link TypedExpr Place). IsExpr x ws a z (linked_to y (expr.Call u c) l) w) (sym (expr.outs-Call u c)) (typed.Chain a b z t w (expr.Call u c) (l ∷ []) (typed.ProcedureValue a b t h (expr.Call u c) (typed.GivenProcedure a b u h c p) n) (one_link b z t w l k))
+  procedure_linked : (a b z : ℕ) (t w : TypeNo) (h : Heading) (e : TypedExpr) (l : Link) → IsProcedureExpr x ws a b e h → IsTypeOf m e t → scalar_at types t ≡ None → IsLink x ws b z t l w → IsExpr x ws a z (linked e l) w
+  procedure_linked _ _ z t w _ _ l (typed.LoadedProcedure a b u h d tr p) o n k = subst (λ (y : TypedExpr-F Argument Call Component Link TypedExpr Place). IsExpr x ws a z (linked_to y (expr.Load u d) l) w) (sym (expr.outs-Load u d)) (typed.Chain a b z t w (expr.Load u d) (l ∷ []) (typed.ProcedureValue a b t h (expr.Load u d) (typed.LoadedProcedure a b u h d tr p) o n) (one_link b z t w l k))
+  procedure_linked _ _ z t w _ _ l (typed.NamedProcedure a f h known is) o n k = subst (λ (y : TypedExpr-F Argument Call Component Link TypedExpr Place). IsExpr x ws a z (linked_to y (expr.Procedure f) l) w) (sym (expr.outs-Procedure f)) (typed.Chain a a z t w (expr.Procedure f) (l ∷ []) (typed.ProcedureValue a a t h (expr.Procedure f) (typed.NamedProcedure a f h known is) o n) (one_link a z t w l k))
+  procedure_linked _ _ z t w _ _ l (typed.GivenProcedure a b u h c p) o n k = subst (λ (y : TypedExpr-F Argument Call Component Link TypedExpr Place). IsExpr x ws a z (linked_to y (expr.Call u c) l) w) (sym (expr.outs-Call u c)) (typed.Chain a b z t w (expr.Call u c) (l ∷ []) (typed.ProcedureValue a b t h (expr.Call u c) (typed.GivenProcedure a b u h c p) o n) (one_link b z t w l k))
 
   linked_is : (a b z : ℕ) (t w : TypeNo) (e : TypedExpr) (l : Link) → IsExpr x ws a b e t → IsLink x ws b z t l w → IsExpr x ws a z (linked e l) w
   linked_is _ _ z _ w _ l (typed.Constant a t n is) k = subst (λ (y : TypedExpr-F Argument Call Component Link TypedExpr Place). IsExpr x ws a z (linked_to y (expr.Constant t n) l) w) (sym (expr.outs-Constant t n)) (typed.Chain a a z t w (expr.Constant t n) (l ∷ []) (typed.Constant a t n is) (one_link a z t w l k))
   linked_is _ _ z _ w _ l (typed.Load a b t c d cell h) k = subst (λ (y : TypedExpr-F Argument Call Component Link TypedExpr Place). IsExpr x ws a z (linked_to y (expr.Load t d) l) w) (sym (expr.outs-Load t d)) (typed.Chain a b z t w (expr.Load t d) (l ∷ []) (typed.Load a b t c d cell h) (one_link b z t w l k))
-  linked_is _ _ z _ w _ l (typed.ProcedureValue a b t h e p none) k = procedure_linked a b z t w h e l p none k
+  linked_is _ _ z _ w _ l (typed.ProcedureValue a b t h e p of none) k = procedure_linked a b z t w h e l p of none k
   linked_is _ _ z _ w _ l (typed.Plus a b t u e h g) k = subst (λ (y : TypedExpr-F Argument Call Component Link TypedExpr Place). IsExpr x ws a z (linked_to y (expr.Plus t e) l) w) (sym (expr.outs-Plus t e)) (typed.Chain a b z t w (expr.Plus t e) (l ∷ []) (typed.Plus a b t u e h g) (one_link b z t w l k))
   linked_is _ _ z _ w _ l (typed.Negate a b u e h) k = subst (λ (y : TypedExpr-F Argument Call Component Link TypedExpr Place). IsExpr x ws a z (linked_to y (expr.Negate e) l) w) (sym (expr.outs-Negate e)) (typed.Chain a b z integer w (expr.Negate e) (l ∷ []) (typed.Negate a b u e h) (one_link b z integer w l k))
   linked_is _ _ z _ w _ l (typed.Chain a b c u t e ls h hs) k = subst (λ (y : TypedExpr-F Argument Call Component Link TypedExpr Place). IsExpr x ws a z (linked_to y (expr.Chain e ls) l) w) (sym (expr.outs-Chain e ls)) (typed.Chain a b z u w e (ls ++ l ∷ []) h (links_more b c z u t w ls l hs k))
@@ -251,8 +264,8 @@ module _ (x : Context) (ws : List Ty) where
   pub given_procedure_typed : (t : TypeNo) (h : Heading) (c : Call) → CallTyped x ws c (Some (Cell (Callable h))) → ProcedureTyped x ws (expr.Call t c) h
   given_procedure_typed t h c p = procedure_by (expr.Call t c) (wanted_called m c) h (wants_call m t c) (λ a k. typed.GivenProcedure a _ t h c (p a k))
 
-  pub routine_expr_typed : (t : TypeNo) (h : Heading) (e : TypedExpr) → scalar_at types t ≡ None → ProcedureTyped x ws e h → ExprTyped x ws e t
-  routine_expr_typed t h e n p = λ a k. typed.ProcedureValue a _ t h e (p a k) n
+  pub routine_expr_typed : (t : TypeNo) (h : Heading) (e : TypedExpr) → IsTypeOf m e t → scalar_at types t ≡ None → ProcedureTyped x ws e h → ExprTyped x ws e t
+  routine_expr_typed t h e o n p = λ a k. typed.ProcedureValue a _ t h e (p a k) o n
 
   pub plus_typed : (t u : TypeNo) (e : TypedExpr) → ExprTyped x ws e u → AreAmong types u t → ExprTyped x ws (expr.Plus t e) t
   plus_typed t u e p h = expr_by (expr.Plus t e) (wanted_of m e) t (wants_plus m t e) (λ a k. typed.Plus a _ t u e (p a k) h)

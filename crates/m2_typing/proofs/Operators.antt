@@ -563,11 +563,11 @@ module _ (x : Context) (ws : List Ty) (h : TypesTyped x.home.types) where
           let made_so = signature_known scope types grows f.heading h i in
           record {
             of = f.heading;
-            typed = made.routine_expr_typed x ws f.heading _ (expr.Procedure f) (heading_is types f.heading h made_so) (made.procedure_typed x ws f _ k (heading_by_signature types f.heading h made_so));
+            typed = made.routine_expr_typed x ws f.heading _ (expr.Procedure f) (made.type_of_procedure m f) (heading_is types f.heading h made_so) (made.procedure_typed x ws f _ k (heading_by_signature types f.heading h made_so));
           }
 
       routine_some : (t : TypeNo) (e : TypedExpr) → RoutineTyped x ws t e → SomeTyped e
-      routine_some t e p = record { of = t; typed = made.routine_expr_typed x ws t p.heading e p.word p.typed }
+      routine_some t e p = record { of = t; typed = made.routine_expr_typed x ws t p.heading e p.of p.word p.typed }
 
       partner_pair : (t : TypeNo) (e : TypedExpr) (y : Option Side) → RoutineTyped x ws t e → SideTyped y → PairTyped e (partner_of scope t y)
       partner_pair t e None p q = tt
@@ -659,10 +659,22 @@ module _ (x : Context) (ws : List Ty) (h : TypesTyped x.home.types) where
           let two = heading_by_signature types f.heading j.second (signature_known scope types grows f.heading j.second j.other) in
           fine (expr.Procedure f) (made.procedure_typed x ws f e.heading p (two ∙ ap (λ (z : Heading). Some z) (sym (j.same (known_trees types))) ∙ sym one ∙ e.is)))
 
+      -- and as one of its own type, the values of which are the same numbers
+      routine_given : (number : ℕ) (t : TypeNo) (at : Pos) (v : Option Side) → scalar_at types t ≡ None → SideTyped v → Given_ t (procedure_suited g number scope t at v)
+      unfolding routine_some named_some
+      routine_given number t at None e p = told_holds g at number
+      routine_given number t at (Some (side.Scalar a)) e p = told_holds g at number
+      routine_given number t at (Some (side.Set f)) e p = told_holds g at number
+      routine_given number t at (Some (side.Routine u f)) e p = where_not g (are_same u t) at number (λ k. fine f (given_among t u f (routine_some u f p).typed (among_words types u t p.word e)))
+      routine_given number t at (Some (side.Procedure f)) e p =
+          where_not g (headings_agree scope t f.heading) at number (λ k.
+          let j = agree_one (signature_at scope t) (signature_at scope f.heading) k in
+          fine (expr.Procedure f) (given_among t f.heading (expr.Procedure f) (named_some f j.second p j.other).typed (among_words types f.heading t (heading_is types f.heading j.second (signature_known scope types grows f.heading j.second j.other)) e)))
+
       value_given : (number : ℕ) (t : TypeNo) (at : Pos) (v : Option Side) (c : Class) → ClassIs types t c → SideTyped v → Given_ t (value_in g number scope t at v c)
       value_given number t at v (class.Scalar s) e p = scalar_given number t s at v e p
       value_given number t at v class.Set e p = set_given number t at v e.none p
-      value_given number t at v class.Procedure e p = holds_weaker (λ f k. given_among t t f (made.routine_expr_typed x ws t e.heading f e.none k) (among_itself types t t refl)) (procedure_given number t at v e p)
+      value_given number t at v class.Procedure e p = routine_given number t at v e.none p
       value_given number t at v class.Whole e p = told_holds g at number
 
       pub suited_typed : (number : ℕ) (t : TypeNo) (at : Pos) (v : Computed) → ValueTyped x ws v → Given_ t (value_suited g number scope t at v)

@@ -163,6 +163,7 @@ module _ (x : Context) (ws : List Ty) where
   pub record RoutineTyped (t : TypeNo) (e : TypedExpr) : Type 0 where
     pub heading : Heading
     pub is : heading_at x.home.types t ≡ Some heading
+    pub of : (expr_part (numbered x.home) e).of ≡ t
     pub word : scalar_at x.home.types t ≡ None
     pub typed : ProcedureTyped e heading
 
