@@ -1,26 +1,18 @@
 -- What is known of the modules of a graph, put together.
-use Rattle.std.proofs.Common.{◌≡◌, ℕ, zero, suc, ◌+◌, ◌<◌, ◌≤◌, Bool, true, false, ◌&&◌, List, [], ◌∷◌, length, Option, Some, None, Result, Ok, refl, sym, ap, subst, ◌∙◌, arith, eqb-true}
+use Rattle.std.proofs.Common.{◌≡◌, ℕ, zero, suc, ◌+◌, ◌≤◌, Bool, true, false, ◌&&◌, List, [], ◌∷◌, length, Some, Result, Ok, refl, sym, ap, subst, ◌∙◌, arith}
 use Rattle.std.specs.Prelude.{◌*◌, ◌^◌, slice_get, slice_index_or}
 use Rattle.std.specs.List.{AllByRecursion, list_all}
 use Rattle.m2_tree.specs.declared.decl.Block.{Block}
-use Rattle.m2_tree.specs.declared.decl.Contents.{Contents}
-use Rattle.m2_tree.specs.declared.decl.Contents.TheVariants as contents
 use Rattle.m2_tree.specs.declared.decl.Module.{Module}
 use Rattle.m2_graph.specs.Files.{numbered}
 use Rattle.m2_graph.specs.Graph.{IsGraph, CompileEach}
-use Rattle.m2_typed.specs.declared.known_types.Types.{Types}
-use Rattle.m2_typed.specs.declared.shape.Made.{Made}
 use Rattle.m2_typed.specs.declared.table.Table.{Table}
-use Rattle.m2_typed.specs.declared.typed_module.Imported.{Imported}
 use Rattle.m2_typed.specs.declared.typed_module.TypedModule.{TypedModule}
-use Rattle.m2_typed.specs.declared.types.TypeNo.{TypeNo}
-use Rattle.m2_typed.specs.Known.{made_at}
-use Rattle.m2_judged.specs.declared.fault.Fault.{Fault}
 use Rattle.m2_judged.specs.declared.scope.Scope.{Scope}
 use Rattle.m2_judged.specs.Judged.{least}
 use Rattle.m2_layout.specs.Texts.{characters, module_texts}
 use Rattle.m2_scheme.specs.Modules.{all_characters}
-use Rattle.m2_links.specs.Linked.{Program, text, bytes_in}
+use Rattle.m2_links.specs.Linked.{Program, bytes_in}
 use Rattle.m2_links.proofs.Stores.{text_length}
 use Rattle.m2_formed.specs.Formed.{Holds, fine, broken}
 use Rattle.m2_formed_known.specs.FormedKnown.{fits_module}
@@ -33,11 +25,10 @@ use Rattle.m2_compile.specs.Own.{own_table, tables_behind}
 use Rattle.m2_compile.specs.Compiling.{tables_of, typed_body}
 use Rattle.m2_jobs.specs.Spelled.{needed_of}
 use Rattle.m2_agree_trees.specs.Typed.{Context}
-use Rattle.m2_agree_runs.specs.Programs.{ground}
-use Rattle.m2_agree_linked.specs.Modules.{IsTypedModule, AreTypedModules}
+use Rattle.m2_agree_linked.specs.Modules.{AreTypedModules}
 use Rattle.m2_typing.specs.Carried.{NamesPlaced, NamesSlots}
 use Rattle.m2_typing.specs.Names.{HasInstance}
-use Rattle.m2_typing_bodies.specs.TypingBodies.{fits_whole_block, Stage, stands, StageTyped, HasModule, NamesThere, AreBodiesTyped}
+use Rattle.m2_typing_bodies.specs.TypingBodies.{fits_whole_block, Stage, HasModule, NamesThere, AreBodiesTyped}
 use Rattle.m2_typing_bodies.proofs.Modules.{modules_typed}
 use Rattle.m2_typing_wants.specs.TypingWants.{AreOrdered, placed}
 use Rattle.m2_typing_wants.proofs.Orders.{bodies_ordered}

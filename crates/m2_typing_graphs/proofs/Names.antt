@@ -1,7 +1,6 @@
 -- The names of a module's block are typed, behind its declarations.
-use Rattle.std.proofs.Common.{◌≡◌, ℕ, zero, suc, ◌<◌, Bool, true, false, List, [], ◌∷◌, map, Option, Some, None, Result, refl, sym, ap, subst, ◌∙◌, arith}
+use Rattle.std.proofs.Common.{◌≡◌, ℕ, ◌<◌, Bool, List, [], ◌∷◌, Some, Result, sym, ap, ◌∙◌, arith}
 use Rattle.std.specs.Prelude.{slice_get}
-use Rattle.m2_typed.specs.declared.meaning.LocalKind.{LocalKind}
 use Rattle.m2_typed.specs.declared.meaning.Meaning.{Meaning}
 use Rattle.m2_typed.specs.declared.meaning.Meaning.TheVariants as meaning
 use Rattle.m2_typed.specs.declared.known_types.Types.{Types}
@@ -15,7 +14,7 @@ use Rattle.m2_formed.specs.Formed.{Holds, fine, broken}
 use Rattle.m2_formed_ranges.specs.FormedRanges.{NamesRanged}
 use Rattle.m2_typing.specs.Carried.{NamesPlaced, NamesWords, NamesSlots}
 use Rattle.m2_typing.specs.Scopes.{MeaningIn, KnownIn, NamesIn}
-use Rattle.m2_typing.specs.Names.{HasInstance, NamesElse, BlockFound}
+use Rattle.m2_typing.specs.Names.{HasInstance, NamesElse}
 use Rattle.m2_typing.proofs.Naming.{block_typed}
 use Rattle.m2_typing_bodies.specs.TypingBodies.{MeaningThere, KnownThere, NamesThere}
 

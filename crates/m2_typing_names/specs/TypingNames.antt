@@ -1,5 +1,5 @@
 -- The names of a module of a graph mean what is there: its own procedures, and what other modules export.
-use Rattle.std.specs.Prelude.{◌≡◌, ℕ, ◌<◌, ◌==◌, Bool, true, ◌||◌, List, [], ◌∷◌, ◌++◌, length, map, Option, Some, None, codes, slice_get}
+use Rattle.std.specs.Prelude.{◌≡◌, ℕ, ◌==◌, Bool, true, ◌||◌, List, [], ◌∷◌, ◌++◌, Option, Some, None, codes, slice_get}
 use Rattle.std.specs.List.{AllByRecursion, list_any, list_all}
 use Rattle.m2_tree.specs.declared.name.Ident.{Ident}
 use Rattle.m2_tree.specs.declared.decl.Block.{Block, out-Block}
@@ -7,39 +7,30 @@ use Rattle.m2_tree.specs.declared.decl.Contents.TheVariants as contents
 use Rattle.m2_tree.specs.declared.decl.Module.{Module}
 use Rattle.m2_graph.specs.Files.{numbered}
 use Rattle.m2_graph.specs.Graph.{IsGraph, CompileEach}
-use Rattle.m2_typed.specs.declared.meaning.Meaning.{Meaning}
-use Rattle.m2_typed.specs.declared.meaning.Meaning.TheVariants as meaning
 use Rattle.m2_typed.specs.declared.table.Table.{Table}
 use Rattle.m2_typed.specs.declared.typed_module.Imported.{Imported}
 use Rattle.m2_typed.specs.declared.typed_module.TypedModule.{TypedModule}
-use Rattle.m2_typed.specs.declared.types.TypeNo.{TypeNo}
 use Rattle.m2_typed.specs.Names.{same_name}
 use Rattle.m2_judged.specs.declared.fault.Fault.{Fault}
 use Rattle.m2_judged.specs.declared.scope.Scope.{Scope}
 use Rattle.m2_judged.specs.Judged.{least}
 use Rattle.m2_constants.specs.Denote.{member}
-use Rattle.m2_layout.specs.Types.{Ty, row}
-use Rattle.m2_layout.specs.Shapes.{tree}
 use Rattle.m2_types.specs.Predeclared.{console, first_scope}
 use Rattle.m2_types.specs.Importing.{numbered_modules}
 use Rattle.m2_blocks.specs.Nesting.{procedure_ends}
 use Rattle.m2_blocks.specs.Declarations.{declared_module}
-use Rattle.m2_modules.specs.Own.{exported_variables, implementation_scope}
-use Rattle.m2_meaning.specs.Around.{module_place}
+use Rattle.m2_modules.specs.Own.{implementation_scope}
 use Rattle.m2_links.specs.Linked.{Program}
 use Rattle.m2_agree_runs.specs.Programs.{ground}
 use Rattle.m2_agree_trees.specs.Typed.{Context}
 use Rattle.m2_agree_bodies.specs.Linked.{context}
 use Rattle.m2_formed.specs.Formed.{Holds}
 use Rattle.m2_formed_known.specs.FormedKnown.{fits_module}
-use Rattle.m2_compile.specs.declared.outcome.Compiled.TheVariants.{Defined}
 use Rattle.m2_compile.specs.Own.{own_table, tables_behind}
 use Rattle.m2_compile.specs.Compiling.{tables_of}
 use Rattle.m2_jobs.specs.Spelled.{needed_of}
-use Rattle.m2_formed_reach.specs.FormedReach.{result_of}
 use Rattle.m2_formed_coherent.specs.FormedCoherent.{trees_of, IsBodyOf, AreBodiesIn}
 use Rattle.m2_typing.specs.Names.{HasInstance, NamesElse}
-use Rattle.m2_typing.specs.Carried.{ExportsWords}
 use Rattle.m2_typing_bodies.specs.TypingBodies.{MeaningThere, BlocksThere}
 
 -- ---- open modules: Console, and those that are imported
