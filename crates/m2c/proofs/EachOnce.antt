@@ -1,10 +1,10 @@
 -- Each file has one job.
-use Rattle.std.proofs.Common.{◌≡◌, ℕ, zero, suc, ◌+◌, ◌<◌, ◌≤◌, Bool, true, false, cond, ◌==◌, List, [], ◌∷◌, length, map, Option, Some, None, refl, sym, ap, subst, ◌∙◌, arith, inl, inr}
+use Rattle.std.proofs.Common.{◌≡◌, ℕ, zero, suc, ◌+◌, ◌<◌, ◌≤◌, Bool, true, false, cond, ◌==◌, List, [], ◌∷◌, length, map, Some, refl, sym, ap, ◌∙◌, arith, inl, inr}
 use Rattle.std.specs.Prelude.{All, slice_get}
 use Rattle.std.specs.List.{sum_by}
 use Rattle.std.specs.List.Sorted.{IsPermutation}
 use Rattle.std.specs.Option.{option_map}
-use Rattle.std.proofs.lemmas.Bool.{cases_eq, ne_eqb, eq-eqb, eqb-true}
+use Rattle.std.proofs.lemmas.Bool.{cases_eq, ne_eqb, eq-eqb}
 use Rattle.std.proofs.lemmas.Option.{same_Some, none-some}
 use Rattle.std.proofs.lemmas.List.Elements.{All-nil, All-cons}
 use Rattle.std.proofs.lemmas.List.Sorted.{sum_by_pushed, sum_by-IsPermutation, IsPermutation-refl, All-permutation}
@@ -13,7 +13,7 @@ use Rattle.graph_walk.specs.Links.{times}
 use Rattle.m2_graph.specs.Files.{numbered}
 use Rattle.m2_graph.specs.Graph.{CompileEach}
 use Rattle.m2_graph.specs.Jobs.{number_of}
-use Rattle.m2_graph_laws.proofs.Lists.{Among, among-permutation}
+use Rattle.m2_graph_laws.proofs.Lists.{among-permutation}
 
 -- ---- how often a number is in a list
 

@@ -1,5 +1,5 @@
 -- The trees of a build fit, and the bodies of its program are those of its graph.
-use Rattle.std.proofs.Common.{◌≡◌, ℕ, Bool, true, false, List, [], ◌∷◌, refl, sym, subst}
+use Rattle.std.proofs.Common.{◌≡◌, ℕ, Bool, true, List, [], ◌∷◌, refl, sym, subst}
 use Rattle.std.specs.List.{list_all}
 use Rattle.std.specs.Arc.{arc_value}
 use Rattle.m2_tree.specs.declared.decl.Module.{Module}
@@ -10,12 +10,12 @@ use Rattle.m2_formed_fits.proofs.Spelled.{module_fits}
 use Rattle.m2_formed_fits.proofs.Tokens.{tokens_fit}
 use Rattle.m2_formed_trees.specs.FormedTrees.{fits_contents}
 use Rattle.m2_formed_trees.proofs.Rules.{text_whole}
-use Rattle.m2_formed_coherent.specs.FormedCoherent.{IsBodyIn, AreBodiesIn}
+use Rattle.m2_formed_coherent.specs.FormedCoherent.{AreBodiesIn}
 use Rattle.m2_read.specs.declared.file.SourceFile.{SourceFile}
 use Rattle.m2_read.specs.declared.reading.Read.{Read}
 use Rattle.m2_read.specs.declared.reading.Read.TheVariants as read
 use Rattle.m2_read.specs.Reading.{HasTree, AreRead}
-use Rattle.m2c.specs.Modules.{IsTyped, AreTyped}
+use Rattle.m2c.specs.Modules.{AreTyped}
 use Rattle.m2c.specs.Build.{modules, trees_of, AreTrees}
 
 one_fits : (text : List ℕ) (m : Module) → HasTree text m → fits_module m ≡ true

@@ -7,8 +7,7 @@ use Rattle.std.specs.Option.{option_and_then}
 use Rattle.std.specs.Borrow.{Bor}
 use Rattle.m2_tree.specs.declared.decl.Module.{Module}
 use Rattle.wasm_binary.specs.Binary.{module_spelling, Spells}
-use Rattle.m2_graph.specs.Graph.{IsGraph}
-use Rattle.m2_graph.specs.Jobs.{ArePlaces, place_of, number_of}
+use Rattle.m2_graph.specs.Jobs.{ArePlaces, place_of}
 use Rattle.m2_graph_laws.specs.Started.{AreStarted, at_places}
 use Rattle.m2_graph_laws.proofs.Started.{are_started}
 use Rattle.std.proofs.lemmas.List.{length-map}

@@ -1,8 +1,7 @@
 -- The modules of a program link: each imports modules of the program alone.
-use Rattle.std.proofs.Common.{◌≡◌, ◌⊎◌, inl, inr, ℕ, ◌+◌, ◌<◌, ◌≤◌, Bool, true, false, cond, ◌||◌, List, [], ◌∷◌, ◌++◌, length, map, Option, Some, None, Result, Ok, Err, refl, sym, ap, subst, ◌∙◌, arith}
+use Rattle.std.proofs.Common.{◌≡◌, ◌⊎◌, inl, inr, ℕ, Bool, true, false, cond, ◌||◌, List, [], ◌∷◌, ◌++◌, map, Option, Some, None, Result, Ok, Err, refl, sym, ap, subst, ◌∙◌}
 use Rattle.std.specs.Prelude.{All, slice_get, slice_index_or, IfOk, codes}
 use Rattle.std.specs.List.{list_any, list_all}
-use Rattle.std.specs.Str.{bytes_eq}
 use Rattle.std.specs.Cmp.Lexicographic.{bytes_decides}
 use Rattle.std.proofs.lemmas.Bool.{false≢true}
 use Rattle.std.proofs.lemmas.List.Elements.{All-nil, All-cons, All-head, All-tail}
@@ -17,7 +16,7 @@ use Rattle.m2_graph.specs.Files.{numbered}
 use Rattle.m2_graph.specs.Graph.{IsGraph}
 use Rattle.m2_graph.specs.Imports.{imported, is_definition, is_definition_part, definition_of}
 use Rattle.m2_graph.specs.Refused.{is_console}
-use Rattle.m2_graph_laws.specs.Started.{at_places, names_of, is_named, definition_imported, all_imported}
+use Rattle.m2_graph_laws.specs.Started.{at_places, is_named, definition_imported, all_imported}
 use Rattle.m2_graph_laws.proofs.Defined.{one_definition}
 use Rattle.m2_typed.specs.declared.table.Table.{Table}
 use Rattle.m2_typed.specs.declared.typed_module.Imported.{Imported}
@@ -28,11 +27,10 @@ use Rattle.m2_judged.specs.Judged.{least}
 use Rattle.m2_layout.specs.Layouts.{too_large}
 use Rattle.m2_types.specs.Compiled as types
 use Rattle.m2_check.specs.Checks.{judged}
-use Rattle.m2_bodies.specs.Checked as bodies
 use Rattle.m2_meaning.specs.Around.{Modules}
 use Rattle.m2_formed_imports.specs.FormedImports.{is_imported, is_imported_by, IsImport, NamesImports, StandsOnImports}
 use Rattle.m2_formed_imports.proofs.Imports.{tables_named, modules_stand}
-use Rattle.m2_links.specs.Linked.{IsAmong, imported_names, names}
+use Rattle.m2_links.specs.Linked.{imported_names}
 use Rattle.m2_compile.specs.declared.outcome.Compiled.{Compiled}
 use Rattle.m2_compile.specs.declared.outcome.Compiled.TheVariants.{Defined, Built, Refused, Blocked}
 use Rattle.m2_compile.specs.Own.{own_table, tables_behind}

@@ -7,7 +7,7 @@ use Rattle.std.proofs.lemmas.List.{length-map}
 use Rattle.std.proofs.lemmas.Option.{slice_get_within, get_or_from_slice_get}
 use Rattle.std.proofs.lemmas.List.Elements.{All-head, All-tail}
 use Rattle.m2_tree.specs.declared.pos.Pos.{Pos}
-use Rattle.m2_tree.specs.declared.decl.Block.{Block, out-Block}
+use Rattle.m2_tree.specs.declared.decl.Block.{out-Block}
 use Rattle.m2_tree.specs.declared.decl.Contents.{Contents}
 use Rattle.m2_tree.specs.declared.decl.Contents.TheVariants as contents
 use Rattle.m2_tree.specs.declared.decl.Module.{Module}
@@ -16,7 +16,6 @@ use Rattle.wasm_binary.specs.Binary.{module_fits}
 use Rattle.m2_graph.specs.Files.{numbered}
 use Rattle.m2_graph.specs.Graph.{CompileEach}
 use Rattle.m2_graph.specs.Imports.{is_definition, is_definition_part}
-use Rattle.m2_graph.specs.Jobs.{number_of}
 use Rattle.m2_graph_laws.specs.Started.{at_places, names_of, AreApart, AreStarted}
 use Rattle.m2_graph_laws.proofs.Lists.{some_at}
 use Rattle.m2_typed.specs.declared.table.Table.{Table}
@@ -38,10 +37,10 @@ use Rattle.m2_blocks.specs.Nesting.{procedure_ends}
 use Rattle.m2_bodies.specs.Checked as bodies
 use Rattle.m2_bodies.specs.Bodies.{Checked}
 use Rattle.m2_modules.specs.Routines as routines
-use Rattle.m2_check.specs.Checks.{judged, checked}
+use Rattle.m2_check.specs.Checks.{judged}
 use Rattle.m2_compile.specs.declared.outcome.Compiled.{Compiled}
 use Rattle.m2_compile.specs.declared.outcome.Compiled.TheVariants.{Built}
-use Rattle.m2_compile.specs.Own.{own_table, tables_behind}
+use Rattle.m2_compile.specs.Own.{own_table}
 use Rattle.m2_compile.specs.Compiling.{is_sound, tables_of, of_fit, of_checked, of_contents, typed_body, compiled}
 use Rattle.m2_compile.specs.Spelled.{IsSpelled, fit_spelled, checked_spelled, contents_spelled}
 use Rattle.m2_jobs.specs.Jobs.{compiled_in}

@@ -1,5 +1,5 @@
 -- Sums over modules, of which there are at most 1024.
-use Rattle.std.proofs.Common.{ℕ, suc, ◌+◌, ◌*◌, ◌≤◌, ◌<◌, ◌^◌, arith}
+use Rattle.std.proofs.Common.{ℕ, suc, ◌+◌, ◌*◌, ◌≤◌, ◌<◌, arith}
 
 pub one_more : (n a r : ℕ) → a ≤ 8589934592 → r ≤ n * 8589934592 → a + r ≤ suc n * 8589934592
 one_more n a r h k = omega (arith, h, k)

@@ -1,5 +1,5 @@
 -- Where no module breaks a rule, none is blocked.
-use Rattle.std.proofs.Common.{◌≡◌, ◌≢◌, ℕ, zero, suc, ◌+◌, ◌<◌, ◌≤◌, Bool, true, false, cond, List, [], ◌∷◌, ◌++◌, length, map, Option, Some, None, Result, Ok, Err, refl, sym, ap, subst, ◌∙◌, arith, inl, inr}
+use Rattle.std.proofs.Common.{◌≡◌, ◌≢◌, ℕ, zero, suc, ◌+◌, ◌<◌, Bool, true, cond, List, [], ◌∷◌, ◌++◌, length, Option, Some, None, Result, Ok, Err, refl, sym, ap, subst, ◌∙◌, arith, inl, inr}
 use Rattle.std.specs.Prelude.{slice_get, slice_index_or}
 use Rattle.std.specs.Option.{option_and_then}
 use Rattle.std.specs.List.{list_all}
@@ -14,20 +14,18 @@ use Rattle.m2_worker.specs.Results.{results_below, picked, with_item}
 use Rattle.m2_worker.proofs.Resulting.{results-length}
 use Rattle.m2_graph.specs.Files.{numbered}
 use Rattle.m2_graph.specs.Graph.{CompileEach}
-use Rattle.m2_graph.specs.Jobs.{number_of}
 use Rattle.m2_typed.specs.declared.table.Table.{Table}
 use Rattle.m2_judged.specs.declared.fault.Fault.{Fault}
 use Rattle.m2_layout.specs.Layouts.{too_large}
 use Rattle.m2_compile.specs.declared.outcome.Compiled.{Compiled}
-use Rattle.m2_compile.specs.declared.outcome.Compiled.TheVariants.{Defined, Built, Refused, Blocked}
+use Rattle.m2_compile.specs.declared.outcome.Compiled.TheVariants.{Refused, Blocked}
 use Rattle.m2_compile.specs.Compiling.{is_sound, tables_of, of_definition, of_fit, of_checked, of_contents, typed_body, compiled}
 use Rattle.m2_judged.specs.Judged.{least}
 use Rattle.m2_types.specs.Compiled as types
 use Rattle.std.proofs.lemmas.List.{length-map}
 use Rattle.m2_graph_laws.proofs.Lists.{some_at}
 use Rattle.m2_typed.specs.declared.typed_module.TypedModule.{TypedModule}
-use Rattle.m2_jobs.specs.Jobs.{compiled_in, compiled_at, all_compiled}
-use Rattle.m2c.specs.Modules.{result_of}
+use Rattle.m2_jobs.specs.Jobs.{compiled_in, compiled_at}
 use Rattle.m2c.specs.Build.{refusal_in, refused_from, refused_by, result_at, modules}
 use Rattle.m2c.proofs.EachOnce.{job_of}
 
