@@ -26,10 +26,11 @@ IsKnown m home = (is_own m home || list_any (λ i. i.number == home) m.imports) 
 
 -- ---- modules
 
--- the module stands there among the others, and its first variables are those that are known of it
+-- the module with this number stands there among the others, and its first variables are those that are known of it
 pub record Knows (p : Program) (m : TypedModule) (i : Imported) : Type 0 where
   pub home : TypedModule
   pub there : slice_get p (module_place p i.number) ≡ Some home
+  pub number : home.types.home ≡ i.number
   pub name : i.name ≡ home.name
   pub more : List Ty
   pub variables : map (tree home.types) home.variables ≡ map (tree m.types) i.variables ++ more
