@@ -1,0 +1,4 @@
+pub mod Worlds
+pub mod Same
+pub mod Frames
+pub mod Meant
