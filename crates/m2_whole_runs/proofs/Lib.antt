@@ -3,3 +3,5 @@ pub mod Same
 pub mod Frames
 pub mod Meant
 pub mod Exprs
+pub mod Does
+pub mod Stmts

@@ -1,5 +1,5 @@
 -- What statements do, where nothing that they ask for may be missing.
-use Rattle.std.specs.Prelude.{ℕ, ℤ, pos, Bool, true, false, unsigned_abs, List, [], ◌∷◌, ◌++◌, Option, Some, None, if◌then◌else◌}
+use Rattle.std.specs.Prelude.{ℕ, ℤ, pos, Bool, true, false, unsigned_abs, List, [], ◌∷◌, ◌++◌, length, Option, Some, None, if◌then◌else◌}
 use Rattle.m2_typed.specs.declared.computed.Place.{Place}
 use Rattle.m2_typed.specs.declared.statement.TypedStmt.{TypedStmt, TypedStmt-F, fold-TypedStmt}
 use Rattle.m2_typed.specs.declared.statement.TypedStmt.TheOpen as step
@@ -12,7 +12,7 @@ use Rattle.m2_meaning.specs.Around.{Modules}
 use Rattle.m2_meaning.specs.Expressions.{Asks, Gives, within, as_type}
 use Rattle.m2_meaning.specs.Statements.{Does, Arm, in_turn, if_there, or_else, chosen, stored, character, while_true, until_true, looped, for_all, changed, rechecked, with_element}
 use Rattle.m2_layout.specs.Types.{Ty}
-use Rattle.m2_whole_runs.specs.Worlds.{World, type_at, is_like}
+use Rattle.m2_whole_runs.specs.Worlds.{World, type_at, has_room, is_like}
 use Rattle.m2_whole_runs.specs.Expressions.{lacks, provided, needs, at_cell, value, locate, called}
 
 -- in the body of a function, or of what gives no value
@@ -26,12 +26,16 @@ module _ (lacking : ℕ) (p : Modules) (ask : Asks) (world : World) (n : ℕ) (f
   copied_from None l l' st = lacks lacking st
   copied_from (Some t) l l' st = provided lacking (is_like (type_at world l') t) (Gave l') st
 
+  -- so many characters have room
+  abbrev pub at_room : ℕ → Location → State → Answer Location
+  at_room k l st = provided lacking (has_room (type_at world l) k) (Gave l) st
+
   abbrev pub step_layer : TypedStmt-F Does Arm → Does
   step_layer (step.Assign d t e) a st =
       with_answer (cell d a st) (λ l st. with_answer (value lacking p ask world e a st) (λ v st. with_answer (as_type a.types t v st) (λ v st. Went (stored l v st))))
   step_layer (step.Copy to from t) a st =
       with_answer (locate lacking p ask world to a st) (λ l st. with_answer (then_give (locate lacking p ask world from a st) (copied_from (type_at world l) l)) (λ l' st. Went (record st { store = copied l l' st.store })))
-  step_layer (step.CopyText d t text) a st = with_answer (locate lacking p ask world d a st) (λ l st. Went (record st { store = placed l (character text) st.store }))
+  step_layer (step.CopyText d t text) a st = with_answer (then_give (locate lacking p ask world d a st) (at_room (length text))) (λ l st. Went (record st { store = placed l (character text) st.store }))
   step_layer (step.Call c) a st = with_answer (called lacking p ask world c false a st) (λ v st. Went st)
   step_layer (step.Put e) a st =
       with_answer (value lacking p ask world e a st) (λ v st. with_answer (as_type a.types char v st) (λ v st. Went (record st { out = st.out ++ unsigned_abs v ∷ [] })))

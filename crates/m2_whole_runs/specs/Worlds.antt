@@ -1,5 +1,5 @@
 -- What is there while a program runs: the instances that live, by their types.
-use Rattle.std.specs.Prelude.{ℕ, nat_eq, Bool, true, false, ◌&&◌, List, [], ◌∷◌, Option, Some, None, slice_get}
+use Rattle.std.specs.Prelude.{ℕ, nat_eq, nat_lt, Bool, true, false, not, ◌&&◌, List, [], ◌∷◌, Option, Some, None, slice_get}
 use Rattle.m2_layout.specs.Types.{Ty, Cell, Hidden, Array, Nothing, Field, component}
 use Rattle.m2_meaning.specs.Store.{Location}
 
@@ -23,6 +23,11 @@ is_cell (Some (Hidden n)) = false
 is_cell (Some (Array n t)) = false
 is_cell (Some Nothing) = false
 is_cell (Some (Field t others)) = false
+
+-- an array of so many scalars, or of more
+abbrev pub has_room : Option Ty → ℕ → Bool
+has_room (Some (Array n (Cell c))) k = not (nat_lt n k)
+has_room o k = false
 
 -- types with the same components, whatever numbers their cells hold
 unfoldable pub are_alike : Ty → Ty → Bool
