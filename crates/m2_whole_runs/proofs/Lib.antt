@@ -5,3 +5,4 @@ pub mod Meant
 pub mod Exprs
 pub mod Does
 pub mod Stmts
+pub mod Formals
