@@ -4,21 +4,22 @@ use Rattle.std.specs.Prelude.{slice_get, ◌&&◌}
 use Rattle.m2_typed.specs.declared.shape.Formal.{Formal}
 use Rattle.m2_typed.specs.declared.types.TypeNo.{TypeNo}
 use Rattle.m2_typed.specs.declared.known_types.Types.{Types}
+use Rattle.m2_typed.specs.declared.typed_module.Routine.{Routine}
 use Rattle.m2_layout.specs.Types.{Ty, Scalar, Natural, Callable, Cell, Hidden, Array, Nothing, Field, Heading, row, frame_of, component, first}
 use Rattle.m2_layout.specs.Shapes.{tree}
-use Rattle.m2_layout.specs.Frames.{formal_tree}
+use Rattle.m2_layout.specs.Frames.{formals_of, formal_tree, frame}
 use Rattle.m2_layout.specs.Texts.{passed}
 use Rattle.m2_meaning.specs.Store.{Location, Store, placed, assigned, copied, fresh, first_in}
 use Rattle.m2_meaning.specs.Around.{Modules, Named, At, Elements, Passed, Number, Variable, Array as Whole, Text}
 use Rattle.m2_meaning.specs.Statements.{character}
-use Rattle.m2_meaning.specs.Calls.{Entered, variable_at, with_passed, with_all, variables_from}
+use Rattle.m2_meaning.specs.Calls.{Entered, variable_at, with_passed, with_all, variables_from, entered}
 use Rattle.m2_cells.specs.Relation.{IsProcedureValue, Empty}
-use Rattle.m2_agree_calls.specs.Frames.{Kind, Kept, Alias, Open, Kinds, formal_kind}
+use Rattle.m2_agree_calls.specs.Frames.{Kind, Kept, Alias, Open, Kinds, formal_kind, kinds_of}
 use Rattle.m2_agree_calls.specs.Passing.{Form, ByNumber, ByCopy, ByName, ByArray, Forms, value_form, form_of}
 use Rattle.m2_whole_runs.specs.Worlds.{World, type_at, is_like, is_cell}
 use Rattle.m2_whole_runs.specs.Calls.{suits, all_suit, copy_of, copies_of}
 use Rattle.m2_whole_runs.proofs.Worlds.{none_some, some_same, there_more, there_behind, there_new, whole, alike_itself, HoldsProcedures, IsFine, fine_placed, fine_new}
-use Rattle.m2_whole_runs.proofs.Frames.{Pairs, no_pairs, more_pairs, pairs_append, IsName, kept_name, alias_name, open_name, AreNames, name_more, names_more, IsGiven, given_number, given_copy, given_name, given_array, given_text}
+use Rattle.m2_whole_runs.proofs.Frames.{Pairs, no_pairs, more_pairs, pairs_append, pairs_length, IsName, kept_name, alias_name, open_name, AreNames, name_more, names_more, IsGiven, given_number, given_copy, given_name, given_array, given_text}
 use Rattle.m2_whole_runs.proofs.Stmts.{cell_holds, text_holds}
 
 some_length : (text : List ℕ) → suc (length (passed text) - 1) ≡ length (passed text)
@@ -36,6 +37,17 @@ PairParts R (x ∷ xs) (y ∷ ys) = R x y × Pairs R xs ys
 pair_parts : {A B : Type 0} (R : A → B → Type 0) (xs : List A) (ys : List B) → Pairs R xs ys → PairParts R xs ys
 pair_parts R _ _ no_pairs = tt
 pair_parts R _ _ (more_pairs x xs y ys r rs) = (r, rs)
+
+-- ---- where variables stand in a frame
+
+row_own : (before rest : List Ty) (t : Ty) → component (row (before ++ t ∷ rest)) (length before ∷ []) ≡ Some t
+unfolding component
+row_own [] rest t = refl
+row_own (u ∷ before) rest t = row_own before rest t
+
+frame_own : (before rest : List Ty) (t : Ty) → component (frame_of (before ++ t ∷ rest)) (suc (length before) ∷ []) ≡ Some t
+unfolding component
+frame_own before rest t = row_own before rest t
 
 module _ (p : Modules) where
   -- what is given, by cases
@@ -229,3 +241,74 @@ module _ (p : Modules) where
       formal_begun : (q : Passed) → Given base (form_of types f) q → (world : World) (ks : Kinds) (e : Entered) → Begun world ks e → component F (suc (length e.names) ∷ []) ≡ Some (formal_tree types f)
           → Begun (world ++ copy_of types f q) (ks ++ formal_kind types f ∷ []) (with_passed f.is_var activation e q)
       formal_begun q g world ks e b own = formal_as f.is_open f.is_var q g world ks e b own
+
+    -- all formals, of which some are there
+    pub formals_begun : (fs : List Formal) (vs : List Passed) → Pairs (IsGiven p base) (map (form_of types) fs) vs → (before rest : List Ty) → F ≡ frame_of (before ++ (map (formal_tree types) fs ++ rest))
+        → (world : World) (ks : Kinds) (e : Entered) → length before ≡ length ks → Begun world ks e
+        → Begun (world ++ copies_of types fs vs) (ks ++ map (formal_kind types) fs) (with_all activation fs vs e)
+    formals_begun [] [] h before rest is world ks e long b = subst (λ (w : World). Begun w (ks ++ []) e) (sym (append-nil world)) (subst (λ (ks : Kinds). Begun world ks e) (sym (append-nil ks)) b)
+    formals_begun [] (v ∷ vs) h before rest is world ks e long b = absurd (pair_parts (IsGiven p base) [] (v ∷ vs) h)
+    formals_begun (f ∷ fs) [] h before rest is world ks e long b = absurd (pair_parts (IsGiven p base) (map (form_of types) (f ∷ fs)) [] h)
+    formals_begun (f ∷ fs) (v ∷ vs) h before rest is world ks e long b =
+        let q = pair_parts (IsGiven p base) (map (form_of types) (f ∷ fs)) (v ∷ vs) h in
+        let others : List Ty = map (formal_tree types) fs ++ rest in
+        let many = pairs_length (IsName world) ks e.names b.names in
+        let own : component F (suc (length e.names) ∷ []) ≡ Some (formal_tree types f) =
+            ap (λ (n : ℕ). component F (suc n ∷ [])) (sym many ∙ sym long) ∙ ap (λ (t : Ty). component t (suc (length before) ∷ [])) is ∙ frame_own before others (formal_tree types f) in
+        let one = formal_begun f v (given_is base (form_of types f) v q.0) world ks e b own in
+        let more : length (before ++ formal_tree types f ∷ []) ≡ length (ks ++ formal_kind types f ∷ []) =
+            (let x = length-append before (formal_tree types f ∷ []) in let y = length-append ks (formal_kind types f ∷ []) in omega (arith, x, y, long)) in
+        let all = formals_begun fs vs q.1 (before ++ formal_tree types f ∷ []) rest (is ∙ ap frame_of (sym (append_assoc before (formal_tree types f ∷ []) others))) (world ++ copy_of types f v) (ks ++ formal_kind types f ∷ []) (with_passed f.is_var activation e v) more one in
+        subst (λ (w : World). Begun w (ks ++ map (formal_kind types) (f ∷ fs)) (with_all activation (f ∷ fs) (v ∷ vs) e)) (append_assoc world (copy_of types f v) (copies_of types fs vs))
+        (subst (λ (ks : Kinds). Begun ((world ++ copy_of types f v) ++ copies_of types fs vs) ks (with_all activation (f ∷ fs) (v ∷ vs) e)) (append_assoc ks (formal_kind types f ∷ []) (map (formal_kind types) fs)) all)
+
+    -- the variables behind them
+    pub variables_there : (ts : List TypeNo) (before : List Ty) → F ≡ frame_of (before ++ map (tree types) ts) → (world : World) → type_at world (activation ∷ []) ≡ Some F → (v : ℕ) → length before ≡ v
+        → AreNames world (map (λ t. Kept (tree types t)) ts) (variables_from activation v ts)
+    variables_there [] before is world frame v long = no_pairs
+    variables_there (t ∷ ts) before is world frame v long =
+        let at : type_at world (variable_at activation v) ≡ Some (tree types t) =
+            own_there world v (tree types t) frame (ap (λ (n : ℕ). component F (suc n ∷ [])) (sym long) ∙ ap (λ (u : Ty). component u (suc (length before) ∷ [])) is ∙ frame_own before (map (tree types) ts) (tree types t)) in
+        more_pairs (Kept (tree types t)) (map (λ t. Kept (tree types t)) ts) (At (variable_at activation v)) (variables_from activation (suc v) ts) (kept_name (tree types t) (variable_at activation v) at)
+        (variables_there ts (before ++ tree types t ∷ []) (is ∙ ap frame_of (sym (append_assoc before (tree types t ∷ []) (map (tree types) ts)))) world frame (suc v) (let x = length-append before (tree types t ∷ []) in omega (arith, x, long)))
+
+  -- ---- an activation
+
+  fresh_holds : (t : Ty) → HoldsProcedures p t (fresh t)
+  unfolding fresh
+  fresh_holds t = record { each = λ r h e. subst (λ (v : ℤ). IsProcedureValue p h v) (sym (ap first_in e)) Empty }
+
+  length_map : {A B : Type 0} (f : A → B) (xs : List A) → length (map f xs) ≡ length xs
+  length_map f [] = refl
+  length_map f (x ∷ xs) = ap suc (length_map f xs)
+
+  -- what the body of a procedure finds
+  pub record IsEntered (types : Types) (r : Routine) (world : World) (vs : List Passed) (s : Store) (w : World) : Type 0 where
+    pub fine : IsFine p w (entered types r (length world) vs s).store
+    pub next : (entered types r (length world) vs s).next ≡ length w
+    pub names : AreNames w (kinds_of types r) ((entered types r (length world) vs s).names ++ variables_from (length world) (length (entered types r (length world) vs s).names) r.variables)
+
+  pub is_entered : (types : Types) (r : Routine) (world : World) (vs : List Passed) (s : Store) → IsFine p world s → Pairs (IsGiven p world) (map (form_of types) (formals_of types r.heading)) vs
+      → IsEntered types r world vs s (world ++ frame types r ∷ copies_of types (formals_of types r.heading) vs)
+  is_entered types r world vs s fine h =
+      let fs : List Formal = formals_of types r.heading in
+      let F : Ty = frame types r in
+      let act : ℕ = length world in
+      let e0 : Entered = record { names = []; next = suc act; store = placed (act ∷ []) (fresh F) s } in
+      let start : Begun types world act F (world ++ F ∷ []) [] e0 = record {
+        more = F ∷ [];
+        is = refl;
+        fine = fine_new p world s F (fresh F) fine (fresh_holds F);
+        next = (let x = length-append world (F ∷ []) in omega (arith, x));
+        names = no_pairs;
+        frame = there_new world [] F [] ∙ whole F;
+      } in
+      let b = formals_begun types world act F fs vs h [] (map (tree types) r.variables) refl (world ++ F ∷ []) [] e0 refl start in
+      let many = pairs_length (IsName ((world ++ F ∷ []) ++ copies_of types fs vs)) (map (formal_kind types) fs) (with_all act fs vs e0).names b.names in
+      let long : length (map (formal_tree types) fs) ≡ length (with_all act fs vs e0).names = length_map (formal_tree types) fs ∙ sym (length_map (formal_kind types) fs) ∙ many in
+      let own = variables_there types world act F r.variables (map (formal_tree types) fs) refl ((world ++ F ∷ []) ++ copies_of types fs vs) b.frame (length (with_all act fs vs e0).names) long in
+      subst (λ (w : World). IsEntered types r world vs s w) (append_assoc world (F ∷ []) (copies_of types fs vs)) (record {
+        fine = b.fine;
+        next = b.next;
+        names = pairs_append (IsName ((world ++ F ∷ []) ++ copies_of types fs vs)) (map (formal_kind types) fs) (with_all act fs vs e0).names (map (λ t. Kept (tree types t)) r.variables) (variables_from act (length (with_all act fs vs e0).names) r.variables) b.names own;
+      })
