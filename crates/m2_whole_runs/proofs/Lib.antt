@@ -6,3 +6,5 @@ pub mod Exprs
 pub mod Does
 pub mod Stmts
 pub mod Formals
+pub mod Procedures
+pub mod Programs

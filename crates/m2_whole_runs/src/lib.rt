@@ -6,9 +6,9 @@
 //! - `specs/Laws` has the law.
 #![tactic(auto)]
 
-//ghost use Rattle.m2_whole_runs.specs.Laws.{LacksNothing};
+ghost use Rattle.m2_whole_runs.specs.Laws.{LacksNothing};
 
 /// The run of a program lacks nothing.
 pub fn whole_run_laws()
-    //ensures nothing { LacksNothing }
+    ensures programs { LacksNothing }
 {}
