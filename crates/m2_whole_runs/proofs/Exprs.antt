@@ -165,7 +165,7 @@ module _ (x : Context) (lacking : ℕ) (world : World) (sask ask : Asks) (knows 
 
   pub cell_there : {c : Scalar} {y z : Answer Location} → Same P world (IsAt (Cell c)) y z → Same P world (IsAt (Cell c)) (then_give y (at_cell lacking P sask world)) z
   cell_there (gives l st fine at) = same_provided P world lacking (is_cell (type_at world l)) (Gave l) st (ap is_cell at) (gives l st fine at)
-  cell_there (ends k out) = ends k out
+  cell_there (ends k out e) = ends k out e
   cell_there (still out) = still out
 
   there_then : {B : Type 0} {G : B → Type 0} (t : Ty) (l : Location) (f : Location → State → Answer B) (st : State) (y : Answer B) → IsAt t l → Same P world G (f l st) y → Same P world G (then_give (at_there lacking P sask world l st) f) y
@@ -237,7 +237,7 @@ module _ (x : Context) (lacking : ℕ) (world : World) (sask ask : Asks) (knows 
 
     negate_same : (e : TypedExpr) → E e → E (expr.Negate e)
     negate_same e m = from_expr ws Any (expr.Negate e) (layer.Negate e) (expr.outs-Negate e)
-        (unary_same Any e (λ a v st. meaning.in_base a.types integer (pos 0 -ℤ v) st) m (λ a v st fine. same_range P world (scalar_at a.types integer) overflow (pos 0 -ℤ v) st fine tt))
+        (unary_same Any e (λ a v st. meaning.in_base a.types integer (pos 0 -ℤ v) st) m (λ a v st fine. same_range P world (scalar_at a.types integer) overflow (pos 0 -ℤ v) st refl fine tt))
 
     compare_same : (o : Comparison) (e e' : TypedExpr) → E e → E e' → E (expr.Compare o e e')
     compare_same o e e' m m' = from_expr ws Any (expr.Compare o e e') (layer.Compare o e e') (expr.outs-Compare o e e') (binary_same Any e e' _ m m' (λ a v w st fine. gives _ st fine tt))
@@ -250,30 +250,30 @@ module _ (x : Context) (lacking : ℕ) (world : World) (sask ask : Asks) (knows 
 
     in_same : (e e' : TypedExpr) → E e → E e' → E (expr.In e e')
     in_same e e' m m' = from_expr ws Any (expr.In e e') (layer.In e e') (expr.outs-In e e')
-        (λ a fit st fine. same_then P world (m a fit st fine) (λ v st fine good. same_then P world (same_within P world {G = Any} (pos 0) (pos 31) range_fault v st fine tt)
+        (λ a fit st fine. same_then P world (m a fit st fine) (λ v st fine good. same_then P world (same_within P world {G = Any} (pos 0) (pos 31) range_fault v st refl fine tt)
         (λ v st fine good. same_then P world (m' a fit st fine) (λ w st fine good. gives _ st fine tt))))
 
     abs_same : (t : TypeNo) (e : TypedExpr) → E e → E (expr.Abs t e)
     abs_same t e m = from_expr ws Any (expr.Abs t e) (layer.Abs t e) (expr.outs-Abs t e)
-        (unary_same Any e (λ a v st. meaning.in_base a.types t (absolute v) st) m (λ a v st fine. same_range P world (scalar_at a.types t) overflow (absolute v) st fine tt))
+        (unary_same Any e (λ a v st. meaning.in_base a.types t (absolute v) st) m (λ a v st fine. same_range P world (scalar_at a.types t) overflow (absolute v) st refl fine tt))
 
     cap_same : (e : TypedExpr) → E e → E (expr.Cap e)
     cap_same e m = from_expr ws Any (expr.Cap e) (layer.Cap e) (expr.outs-Cap e) (unary_same Any e _ m (λ a v st fine. gives _ st fine tt))
 
     chr_same : (e : TypedExpr) → E e → E (expr.Chr e)
     chr_same e m = from_expr ws Any (expr.Chr e) (layer.Chr e) (expr.outs-Chr e)
-        (unary_same Any e (λ a v st. meaning.within (pos 0) (pos 255) range_fault v st) m (λ a v st fine. same_within P world (pos 0) (pos 255) range_fault v st fine tt))
+        (unary_same Any e (λ a v st. meaning.within (pos 0) (pos 255) range_fault v st) m (λ a v st fine. same_within P world (pos 0) (pos 255) range_fault v st refl fine tt))
 
     odd_same : (e : TypedExpr) → E e → E (expr.Odd e)
     odd_same e m = from_expr ws Any (expr.Odd e) (layer.Odd e) (expr.outs-Odd e) (unary_same Any e _ m (λ a v st fine. gives _ st fine tt))
 
     ord_same : (e : TypedExpr) → E e → E (expr.Ord e)
     ord_same e m = from_expr ws Any (expr.Ord e) (layer.Ord e) (expr.outs-Ord e)
-        (unary_same Any e (λ a v st. meaning.ordinal v st) m (λ a v st fine. same_if P world (int_lt v (pos 0)) (ends range_fault st.out) (gives v st fine tt)))
+        (unary_same Any e (λ a v st. meaning.ordinal v st) m (λ a v st fine. same_if P world (int_lt v (pos 0)) (ends range_fault st.out refl) (gives v st fine tt)))
 
     val_same : (t : TypeNo) (e : TypedExpr) → E e → E (expr.Val t e)
     val_same t e m = from_expr ws Any (expr.Val t e) (layer.Val t e) (expr.outs-Val t e)
-        (unary_same Any e (λ a v st. as_type a.types t v st) m (λ a v st fine. same_range P world (scalar_at a.types t) range_fault v st fine tt))
+        (unary_same Any e (λ a v st. as_type a.types t v st) m (λ a v st fine. same_range P world (scalar_at a.types t) range_fault v st refl fine tt))
 
     high_same : (slot : Slot) (t : Ty) → kind_at x.kinds slot ≡ Some (Open t) → E (expr.High slot)
     high_same slot t e = from_expr ws Any (expr.High slot) (layer.High slot) (expr.outs-High slot)
@@ -296,11 +296,11 @@ module _ (x : Context) (lacking : ℕ) (world : World) (sask ask : Asks) (knows 
         (subst (λ (f : Continues). (v : ℤ) → Both ws Any (strict.link_layer lacking P sask world (strictly.link_meant lacking P sask world y) v) (f v)) (sym (link_means P ask l y h)) m)
 
     operated_same : (ts : Types) (o : Arithmetic) (t : TypeNo) (v w : ℤ) (st : State) → IsFine P world st.store → Same P world Any (operated ts o t v w st) (operated ts o t v w st)
-    operated_same ts op.Add t v w st fine = same_range P world (scalar_at ts t) overflow _ st fine tt
-    operated_same ts op.Subtract t v w st fine = same_range P world (scalar_at ts t) overflow _ st fine tt
-    operated_same ts op.Multiply t v w st fine = same_range P world (scalar_at ts t) overflow _ st fine tt
-    operated_same ts op.Divide t v w st fine = same_if P world (int_lt (pos 0) w) (gives (quotient v w) st fine tt) (ends divisor_fault st.out)
-    operated_same ts op.Remainder t v w st fine = same_if P world (int_lt (pos 0) w) (gives (remainder v w) st fine tt) (ends divisor_fault st.out)
+    operated_same ts op.Add t v w st fine = same_range P world (scalar_at ts t) overflow _ st refl fine tt
+    operated_same ts op.Subtract t v w st fine = same_range P world (scalar_at ts t) overflow _ st refl fine tt
+    operated_same ts op.Multiply t v w st fine = same_range P world (scalar_at ts t) overflow _ st refl fine tt
+    operated_same ts op.Divide t v w st fine = same_if P world (int_lt (pos 0) w) (gives (quotient v w) st fine tt) (ends divisor_fault st.out refl)
+    operated_same ts op.Remainder t v w st fine = same_if P world (int_lt (pos 0) w) (gives (remainder v w) st fine tt) (ends divisor_fault st.out refl)
 
     arithmetic_same : (o : Arithmetic) (t : TypeNo) (e : TypedExpr) → E e → L (link.Arithmetic o t e)
     arithmetic_same o t e m = from_link (link.Arithmetic o t e) (layer.Arithmetic o t e) (link.outs-Arithmetic o t e)
@@ -369,7 +369,7 @@ module _ (x : Context) (lacking : ℕ) (world : World) (sask ask : Asks) (knows 
         to = l ++ unsigned_abs (v -ℤ low) ∷ []
 
         go : (b : Bool) → is_between low v high ≡ b → Same P world (IsAt u) (then_give (element l low high v st) (at_there lacking P sask world)) (element l low high v st)
-        go false e = subst (λ (b : Bool). Same P world (IsAt u) (then_give (if b then Gave to st else Ended index_fault st.out) (at_there lacking P sask world)) (if b then Gave to st else Ended index_fault st.out)) (sym e) (ends index_fault st.out)
+        go false e = subst (λ (b : Bool). Same P world (IsAt u) (then_give (if b then Gave to st else Ended index_fault st.out) (at_there lacking P sask world)) (if b then Gave to st else Ended index_fault st.out)) (sym e) (ends index_fault st.out refl)
         go true e =
             let q = between_in low high v e in
             let is : IsAt u to = there_behind world l (Array n u) (unsigned_abs (v -ℤ low) ∷ []) at ∙ element_there n (unsigned_abs (v -ℤ low)) u (less q.0 q.1) in
@@ -447,12 +447,12 @@ module _ (x : Context) (lacking : ℕ) (world : World) (sask ask : Asks) (knows 
 
     value_same : (t : TypeNo) (c : Scalar) (e : TypedExpr) → E e → IsCell types t c → A (argument.Value t e) (ByNumber c)
     value_same t c e m cell = from_argument (ByNumber c) (argument.Value t e) (layer.Value t e) (argument.outs-Value t e)
-        (λ a fit st fine. same_then P world (m a fit st fine) (λ v st fine good. same_then P world (same_range P world {G = Any} (scalar_at a.types t) range_fault v st fine tt)
+        (λ a fit st fine. same_then P world (m a fit st fine) (λ v st fine good. same_then P world (same_range P world {G = Any} (scalar_at a.types t) range_fault v st refl fine tt)
         (λ v st fine good. gives (Number v) st fine (given_number c v (no_procedure P c v cell.number)))))
 
     actual_same : (t : TypeNo) (h : Heading) (e : TypedExpr) → H e h → A (argument.Value t e) (ByNumber (Callable h))
     actual_same t h e m = from_argument (ByNumber (Callable h)) (argument.Value t e) (layer.Value t e) (argument.outs-Value t e)
-        (λ a fit st fine. same_then P world (m a fit st fine) (λ v st fine good. same_then P world (same_range P world {G = IsProcedureValue P h} (scalar_at a.types t) range_fault v st fine good)
+        (λ a fit st fine. same_then P world (m a fit st fine) (λ v st fine good. same_then P world (same_range P world {G = IsProcedureValue P h} (scalar_at a.types t) range_fault v st refl fine good)
         (λ v st fine good. gives (Number v) st fine (given_number (Callable h) v (λ g e. subst (λ (g : Heading). IsProcedureValue P g v) (callable_same h g e) good)))))
 
     name_same : (d : Place) (t : Ty) → D d t → A (argument.Place d) (ByName t)
@@ -535,7 +535,7 @@ module _ (x : Context) (lacking : ℕ) (world : World) (sask ask : Asks) (knows 
     held_same : (t : TypeNo) (h : Heading) → heading_at types t ≡ Some h → (args : List Argument) → As args (forms_of types t) → (wanted : Bool) → (wanted ≡ true → is_there (result_of types t) ≡ true) → (v : ℤ) → IsProcedureValue P h v
         → (a : Around) → Fits x world ws a → (st : State) → IsFine P world st.store
         → Same P world (IsGood P (result_of types t)) (strict.asked_value lacking P sask world wanted v (map sg args) a st) (meaning.asked_if P ask (entry_callee P (entry_of P v)) (map (argument_value P ask) args) a st)
-    held_same t h e args ms wanted ok _ Empty a fit st fine = ends empty_procedure st.out
+    held_same t h e args ms wanted ok _ Empty a fit st fine = ends empty_procedure st.out refl
     held_same t h e args ms wanted ok _ (Full n names) a fit st fine =
         let v : ℤ = pos (value_number P names.place names.number) in
         let o : Spot P = record { place = names.place; home = names.home; there = names.there; at = which.Module names.number; routine = names.routine; is = names.is } in

@@ -43,12 +43,12 @@ base_more p world more b = record { more = b.more ++ more; is = ap (λ (w : Worl
 -- the end of a body is the answer of the call, where the activation's instances end
 result_same : (p : Modules) (lacking : ℕ) (world more : World) (function : Bool) (r : Result) → function ≡ is_there r → (y z : Outcome) → SameEnd p (world ++ more) false (IsGood p r) y z
     → Same p world (IsGood p r) (strict.result lacking function y) (meaning.result function z)
-result_same p lacking world more true r kind _ _ (goes st fine) = ends no_return st.out
+result_same p lacking world more true r kind _ _ (goes st fine) = ends no_return st.out refl
 result_same p lacking world more false None kind _ _ (goes st fine) = gives (pos 0) st (fine_less p world more st.store fine) tt
 result_same p lacking world more false (Some t) kind _ _ (goes st fine) = cc kind
 result_same p lacking world more function r kind _ _ (leaves st fine e) = cc e
 result_same p lacking world more function r kind _ _ (returns v st fine good) = gives v st (fine_less p world more st.store fine) good
-result_same p lacking world more function r kind _ _ (stops k out) = ends k out
+result_same p lacking world more function r kind _ _ (stops k out e) = ends k out e
 result_same p lacking world more function r kind _ _ (unfinished out) = still out
 
 -- the bodies of the procedures are typed, and what they may name is there
@@ -94,7 +94,7 @@ module _ (p : Modules) (lacking n : ℕ) (base : List Ty) (texts : Location → 
         [] false t.0 t.1 r.body t.2 a fit (record st { store = e.store }) q.fine in
         let fresh : (nat_eq (length world) (length world) && all_suit m.types world fs vs) ≡ true = ap (λ (b : Bool). b && all_suit m.types world fs vs) (eq-eqb (length world) (length world) refl) ∙ all_given_suit p m.types world fs vs given in
         same_provided p world lacking (nat_eq (length world) (length world) && all_suit m.types world fs vs) (strict.runs_with lacking p n (strict_calling lacking p n d) world c vs (length world) left) st fresh
-        (same_if p world (nat_lt left (needed m.types r vs)) (ends storage_fault st.out) (result_same p lacking world more (is_function m.types r) result kind _ _ body))
+        (same_if p world (nat_lt left (needed m.types r vs)) (ends storage_fault st.out refl) (result_same p lacking world more (is_function m.types r) result kind _ _ body))
 
     pub all_calls_same : (d : ℕ) (world : World) → HasBase p world → AllSame p world (strict_calling lacking p n d world) (calling p n d)
     unfolding strict_calling calling

@@ -1,8 +1,8 @@
 -- Whole programs: the strict run is the run.
-use Rattle.std.proofs.Common.{◌≡◌, ℕ, zero, suc, ◌+◌, ◌-◌, ℤ, pos, Bool, true, false, ◌==◌, ◌||◌, List, [], ◌∷◌, ◌++◌, map, length, Option, Some, None, if◌then◌else◌, refl, sym, ap, subst, ◌∙◌, append_assoc, length-append, arith}
+use Rattle.std.proofs.Common.{◌≡◌, ℕ, zero, suc, ◌+◌, ◌-◌, ◌<◌, ℤ, pos, Bool, true, false, ◌==◌, ◌||◌, List, [], ◌∷◌, ◌++◌, map, length, Option, Some, None, if◌then◌else◌, refl, sym, ap, subst, ◌∙◌, append_assoc, length-append, arith}
 use Rattle.std.specs.Prelude.{slice_get, All}
 use Rattle.std.specs.List.{list_any}
-use Rattle.std.proofs.lemmas.Bool.{eqb-true, eq-eqb}
+use Rattle.std.proofs.lemmas.Bool.{eqb-true, eq-eqb, ltb-true}
 use Rattle.m2_typed.specs.declared.meaning.Variable.{Variable}
 use Rattle.m2_typed.specs.declared.typed_module.Imported.{Imported}
 use Rattle.m2_typed.specs.declared.typed_module.Routine.{Routine}
@@ -38,13 +38,25 @@ use Rattle.m2_whole_runs.specs.Expressions.{is_module}
 use Rattle.m2_whole_runs.specs.Calls.{calling as strict_calling}
 use Rattle.m2_whole_runs.specs.Runs as strict
 use Rattle.m2_whole_runs.specs.Runs.{first_world, strict_run}
-use Rattle.m2_whole_runs.specs.Laws.{IsThere, AreThere, LacksNothing}
+use Rattle.m2_whole_runs.specs.Laws.{IsThere, AreThere, StrictRuns, NothingLacks}
 use Rattle.m2_whole_runs.proofs.Worlds.{none_some, there_more, IsFine}
-use Rattle.m2_whole_runs.proofs.Same.{SameEnd, goes, leaves, returns, stops, unfinished}
+use Rattle.m2_whole_runs.proofs.Same.{IsEnd, SameEnd, goes, leaves, returns, stops, unfinished}
 use Rattle.m2_whole_runs.proofs.Frames.{Pairs, no_pairs, IsGood}
 use Rattle.m2_whole_runs.proofs.Exprs.{AllSame, Knows, Fits}
 use Rattle.m2_whole_runs.proofs.Stmts.{stmts_same}
 use Rattle.m2_whole_runs.proofs.Procedures.{HasBase, AreTyped, AreKnown, all_calls_same}
+
+-- the same outcome, and a number of the language, where it is one
+abbrev IsWithin : Outcome → Type 0
+IsWithin (Went st) = Unit {0}
+IsWithin (Left st) = Unit {0}
+IsWithin (Came v st) = Unit {0}
+IsWithin (Stopped k out) = IsEnd k
+IsWithin (Unfinished out) = Unit {0}
+
+record SameRun (y z : Outcome) : Type 0 where
+  pub is : y ≡ z
+  pub within : IsWithin y
 
 -- ---- lists
 
@@ -144,18 +156,18 @@ module _ (p : Program) (pages : ℕ) (modules : AreModules p) (there : AreThere 
     all_asked = all_calls_same p lacking n base texts all_typed (all_known lacking n) n (first_world p) first_base
 
     -- what comes after a body
-    body_then : (y z : Outcome) (f g : State → Outcome) → SameEnd p (first_world p) false (IsGood p None) y z → ((st : State) → IsFine p (first_world p) st.store → f st ≡ g st) → strict.then_body lacking y f ≡ meaning.then_body z g
+    body_then : (y z : Outcome) (f g : State → Outcome) → SameEnd p (first_world p) false (IsGood p None) y z → ((st : State) → IsFine p (first_world p) st.store → SameRun (f st) (g st)) → SameRun (strict.then_body lacking y f) (meaning.then_body z g)
     body_then _ _ f g (goes st fine) next = next st fine
     body_then _ _ f g (leaves st fine e) next = cc e
     body_then _ _ f g (returns v st fine good) next = next st fine
-    body_then _ _ f g (stops k out) next = refl
-    body_then _ _ f g (unfinished out) next = refl
+    body_then _ _ f g (stops k out e) next = record { is = refl; within = e }
+    body_then _ _ f g (unfinished out) next = record { is = refl; within = tt }
 
     next_place : suc (length p) ≡ length (first_world p)
     next_place = let x = length-append (map module_row p) (frame_of [] ∷ []) in let y = length_map module_row p in omega (arith, x, y)
 
-    bodies_same : (left : ℕ) (before ms : Program) → p ≡ before ++ ms → (st : State) → IsFine p (first_world p) st.store → strict.bodies lacking p n left (length before) ms st ≡ meaning.bodies p n left (length before) ms st
-    bodies_same left before [] is st fine = refl
+    bodies_same : (left : ℕ) (before ms : Program) → p ≡ before ++ ms → (st : State) → IsFine p (first_world p) st.store → SameRun (strict.bodies lacking p n left (length before) ms st) (meaning.bodies p n left (length before) ms st)
+    bodies_same left before [] is st fine = record { is = refl; within = refl }
     bodies_same left before (m ∷ ms) is st fine =
         let place : ℕ = length before in
         let at : slice_get p place ≡ Some m = ap (λ (q : Program). slice_get q place) is ∙ get_here before ms m in
@@ -166,12 +178,20 @@ module _ (p : Program) (pages : ℕ) (modules : AreModules p) (there : AreThere 
         [] false _ t.0 m.body t.1 a fit st fine in
         let more : length (before ++ m ∷ []) ≡ suc place = (let x = length-append before (m ∷ []) in omega (arith, x)) in
         body_then _ _ (strict.bodies lacking p n left (suc place) ms) (meaning.bodies p n left (suc place) ms) body
-        (λ st fine. subst (λ (k : ℕ). strict.bodies lacking p n left k ms st ≡ meaning.bodies p n left k ms st) more (bodies_same left (before ++ m ∷ []) ms (is ∙ sym (append_assoc before (m ∷ []) ms)) st fine))
+        (λ st fine. subst (λ (k : ℕ). SameRun (strict.bodies lacking p n left k ms st) (meaning.bodies p n left k ms st)) more (bodies_same left (before ++ m ∷ []) ms (is ∙ sym (append_assoc before (m ∷ []) ms)) st fine))
       where
         get_here : (before rest : Program) (m : TypedModule) → slice_get (before ++ m ∷ rest) (length before) ≡ Some m
         get_here [] rest m = refl
         get_here (x ∷ before) rest m = get_here before rest m
 
-pub lacks_nothing : LacksNothing
+same_run : (p : Program) (pages : ℕ) → AreModules p → AreTypedModules p pages → AreThere p → (lacking n : ℕ) → SameRun (strict_run lacking p pages n) (run p pages n)
 unfolding strict_run run
-lacks_nothing p pages modules typed there lacking n = bodies_same p pages modules there typed lacking n (storage p pages - body_frame) [] p refl (first_state p) (first_fine p)
+same_run p pages modules typed there lacking n = bodies_same p pages modules there typed lacking n (storage p pages - body_frame) [] p refl (first_state p) (first_fine p)
+
+pub strict_runs : StrictRuns
+strict_runs p pages modules typed there lacking n = (same_run p pages modules typed there lacking n).is
+
+pub nothing_lacks : NothingLacks
+nothing_lacks p pages modules typed there lacking n above out e =
+    let below : lacking < 10 = ltb-true lacking 10 (subst IsWithin e (same_run p pages modules typed there lacking n).within) in
+    absurd (omega (arith, above, below))

@@ -137,19 +137,19 @@ module _ (x : Context) (lacking : ℕ) (world : World) (sask ask : Asks) (knows 
 
   assign_same : (ws : List Ty) (l : Bool) (d : Place) (t : TypeNo) (c : Scalar) (e : TypedExpr) → IsCell types t c → Dx ws d (Cell c) → Ex ws e → S ws l (stmt.Assign d t e)
   assign_same ws l d t c e cell m q = from_stmt ws l (stmt.Assign d t e) (step.Assign d t e) (stmt.outs-Assign d t e)
-      (λ a fit st fine. end_with P world (cells (m a fit st fine)) (λ at st fine is. end_with P world (q a fit st fine) (λ v st fine good. end_with P world (same_range P world {G = Any} (scalar_at a.types t) range_fault v st fine tt)
+      (λ a fit st fine. end_with P world (cells (m a fit st fine)) (λ at st fine is. end_with P world (q a fit st fine) (λ v st fine good. end_with P world (same_range P world {G = Any} (scalar_at a.types t) range_fault v st refl fine tt)
       (λ v st fine good. store_goes l c at v st fine is (no_procedure P c v cell.number)))))
 
   assign_procedure_same : (ws : List Ty) (l : Bool) (d : Place) (t : TypeNo) (h : Heading) (e : TypedExpr) → Dx ws d (Cell (Callable h)) → Hx ws e h → S ws l (stmt.Assign d t e)
   assign_procedure_same ws l d t h e m q = from_stmt ws l (stmt.Assign d t e) (step.Assign d t e) (stmt.outs-Assign d t e)
-      (λ a fit st fine. end_with P world (cells (m a fit st fine)) (λ at st fine is. end_with P world (q a fit st fine) (λ v st fine good. end_with P world (same_range P world {G = IsProcedureValue P h} (scalar_at a.types t) range_fault v st fine good)
+      (λ a fit st fine. end_with P world (cells (m a fit st fine)) (λ at st fine is. end_with P world (q a fit st fine) (λ v st fine good. end_with P world (same_range P world {G = IsProcedureValue P h} (scalar_at a.types t) range_fault v st refl fine good)
       (λ v st fine good. store_goes l (Callable h) at v st fine is (λ g e. subst (λ (g : Heading). IsProcedureValue P g v) (callable_in h g e) good)))))
 
   like_there : (t : Ty) (l : Location) {y z : Answer Location} → IsAt t l → Same P world (IsAt t) y z → Same P world (IsAt t) (then_give y (strict.copied_from lacking P sask world n function (type_at world l) l)) z
   like_there t l is (gives k st fine at) =
       subst (λ (o : Option Ty). Same P world (IsAt t) (strict.copied_from lacking P sask world n function o l k st) (Gave k st)) (sym is)
       (same_provided P world lacking (is_like (type_at world k) t) (Gave k) st (ap (λ (o : Option Ty). is_like o t) at ∙ alike_itself t) (gives k st fine at))
-  like_there t l is (ends k out) = ends k out
+  like_there t l is (ends k out e) = ends k out e
   like_there t l is (still out) = still out
 
   copy_same : (ws : List Ty) (l : Bool) (d e : Place) (t : TypeNo) → Dx ws d (tree types t) → Dx ws e (tree types t) → S ws l (stmt.Copy d e t)
@@ -160,7 +160,7 @@ module _ (x : Context) (lacking : ℕ) (world : World) (sask ask : Asks) (knows 
   room_there : (k m : ℕ) {y z : Answer Location} → k ≤ m → Same P world (IsAt (Array m (Cell (Natural 255)))) y z → Same P world (IsAt (Array m (Cell (Natural 255)))) (then_give y (strict.at_room lacking P sask world n function k)) z
   room_there k m less (gives l st fine at) =
       same_provided P world lacking (has_room (type_at world l) k) (Gave l) st (ap (λ (o : Option Ty). has_room o k) at ∙ ap not (le-ltb m k less)) (gives l st fine at)
-  room_there k m less (ends j out) = ends j out
+  room_there k m less (ends j out e) = ends j out e
   room_there k m less (still out) = still out
 
   copy_text_same : (ws : List Ty) (l : Bool) (d : Place) (t : TypeNo) (m : ℕ) (text : List ℕ) → tree types t ≡ Array m (Cell (Natural 255)) → length text ≤ m → Dx ws d (tree types t) → S ws l (stmt.CopyText d t text)
@@ -176,12 +176,12 @@ module _ (x : Context) (lacking : ℕ) (world : World) (sask ask : Asks) (knows 
 
   put_same : (ws : List Ty) (l : Bool) (e : TypedExpr) → Ex ws e → S ws l (stmt.Put e)
   put_same ws l e m = from_stmt ws l (stmt.Put e) (step.Put e) (stmt.outs-Put e)
-      (λ a fit st fine. end_with P world (m a fit st fine) (λ v st fine good. end_with P world (same_range P world {G = Any} (scalar_at a.types char) range_fault v st fine tt)
+      (λ a fit st fine. end_with P world (m a fit st fine) (λ v st fine good. end_with P world (same_range P world {G = Any} (scalar_at a.types char) range_fault v st refl fine tt)
       (λ v st fine good. goes (record st { out = st.out ++ unsigned_abs v ∷ [] }) fine)))
 
   rechecked_same : (types : Types) (t : TypeNo) (v : ℤ) (st : State) → IsFine P world st.store → Same P world Any (rechecked types t v st) (rechecked types t v st)
   rechecked_same types t v st fine =
-      same_then P world (same_range P world {G = Any} (scalar_at types (base_of t (scalar_at types t))) overflow v st fine tt) (λ v st fine good. same_range P world {G = Any} (scalar_at types t) range_fault v st fine tt)
+      same_then P world (same_range P world {G = Any} (scalar_at types (base_of t (scalar_at types t))) overflow v st refl fine tt) (λ v st fine good. same_range P world {G = Any} (scalar_at types t) range_fault v st refl fine tt)
 
   change_same : (ws : List Ty) (l : Bool) (o : Change) (d : Place) (t : TypeNo) (c : Scalar) (e : TypedExpr) → IsCell types t c → Dx ws d (Cell c) → Ex ws e → S ws l (stmt.Change o d t e)
   change_same ws l o d t c e cell m q = from_stmt ws l (stmt.Change o d t e) (step.Change o d t e) (stmt.outs-Change o d t e)
@@ -190,11 +190,11 @@ module _ (x : Context) (lacking : ℕ) (world : World) (sask ask : Asks) (knows 
 
   member_same : (ws : List Ty) (l : Bool) (o : Membership) (d : Place) (t : TypeNo) (c : Scalar) (e : TypedExpr) → IsCell types t c → Dx ws d (Cell c) → Ex ws e → S ws l (stmt.Membership o d e)
   member_same ws l o d t c e cell m q = from_stmt ws l (stmt.Membership o d e) (step.Membership o d e) (stmt.outs-Membership o d e)
-      (λ a fit st fine. end_with P world (cells (m a fit st fine)) (λ at st fine is. end_with P world (q a fit st fine) (λ v st fine good. end_with P world (same_within P world {G = Any} (pos 0) (pos 31) range_fault v st fine tt)
+      (λ a fit st fine. end_with P world (cells (m a fit st fine)) (λ at st fine is. end_with P world (q a fit st fine) (λ v st fine good. end_with P world (same_within P world {G = Any} (pos 0) (pos 31) range_fault v st refl fine tt)
       (λ v st fine good. store_goes l c at (with_element o (st.store at) v) st fine is (no_procedure P c (with_element o (st.store at) v) cell.number)))))
 
   halt_same : (ws : List Ty) (l : Bool) → S ws l stmt.Halt
-  halt_same ws l = from_stmt ws l stmt.Halt step.Halt stmt.outs-Halt (λ a fit st fine. stops halted st.out)
+  halt_same ws l = from_stmt ws l stmt.Halt step.Halt stmt.outs-Halt (λ a fit st fine. stops halted st.out refl)
 
   exit_same : (ws : List Ty) → S ws true stmt.Exit
   exit_same ws = from_stmt ws true stmt.Exit step.Exit stmt.outs-Exit (λ a fit st fine. leaves st fine refl)
@@ -213,7 +213,7 @@ module _ (x : Context) (lacking : ℕ) (world : World) (sask ask : Asks) (knows 
   give_same ws l t e G r some m good = from_stmt ws l (stmt.Give t e) (step.Give t e) (stmt.outs-Give t e)
       (λ a fit st fine. subst (λ (b : Bool). End l (if b then with_answer (places.value lacking P sask world e a st) (λ v st. with_answer (as_type a.types t v st) (λ v st. Came v st)) else Stopped lacking st.out)
       (with_answer (value P ask e a st) (λ v st. with_answer (as_type a.types t v st) (λ v st. Came v st)))) (sym (kind ∙ ap (λ (r : Result). is_there r) some))
-      (end_with P world (m a fit st fine) (λ v st fine is. end_with P world (same_range P world {G = G} (scalar_at a.types t) range_fault v st fine is)
+      (end_with P world (m a fit st fine) (λ v st fine is. end_with P world (same_range P world {G = G} (scalar_at a.types t) range_fault v st refl fine is)
       (λ v st fine is. returns v st fine (subst (λ (r : Result). IsGood P r v) (sym some) (good v is))))))
 
   -- ---- rows of statements
@@ -238,7 +238,7 @@ module _ (x : Context) (lacking : ℕ) (world : World) (sask ask : Asks) (knows 
   loop_goes l (goes st fine) next = next st fine
   loop_goes l (leaves st fine e) next = goes st fine
   loop_goes l (returns v st fine good) next = returns v st fine good
-  loop_goes l (stops k out) next = stops k out
+  loop_goes l (stops k out e) next = stops k out e
   loop_goes l (unfinished out) next = unfinished out
 
   looped_same : (l : Bool) (k : ℕ) (f g : State → Outcome) → Turn true f g → Turn l (looped k f) (looped k g)
@@ -282,11 +282,11 @@ module _ (x : Context) (lacking : ℕ) (world : World) (sask ask : Asks) (knows 
 
   for_same : (ws : List Ty) (l : Bool) (d : Place) (t : TypeNo) (c : Scalar) (start limit : TypedExpr) (by : ℤ) (body : List TypedStmt) → IsCell types t c → Dx ws d (Cell c) → Ex ws start → Ex ws limit → Ss ws l body → S ws l (stmt.For d t start limit by body)
   for_same ws l d t c start limit by body cell m q v h = from_stmt ws l (stmt.For d t start limit by body) (step.For d t start limit by body) (stmt.outs-For d t start limit by body)
-      (λ a fit st fine. end_with P world (cells (m a fit st fine)) (λ at st fine is. end_with P world (q a fit st fine) (λ first st fine good. end_with P world (same_range P world {G = Any} (scalar_at a.types t) range_fault first st fine tt)
+      (λ a fit st fine. end_with P world (cells (m a fit st fine)) (λ at st fine is. end_with P world (q a fit st fine) (λ first st fine good. end_with P world (same_range P world {G = Any} (scalar_at a.types t) range_fault first st refl fine tt)
       (λ first st fine good. end_with P world (v a fit st fine) (λ last st fine good.
       let fine' : IsFine P world (stored at first st).store = fine_placed P world st.store at (Cell c) (λ r. first) fine is (cell_holds P c first (no_procedure P c first cell.number)) in
       end_if P world (has_passed by last ((stored at first st).store at)) (goes (stored at first st) fine')
-      (for_steps l n (as_type a.types t) c at by last _ _ is (λ h v e. no_procedure P c v cell.number h e) (λ v st fine. same_range P world {G = Any} (scalar_at a.types t) range_fault v st fine tt) (h a fit) (stored at first st) fine'))))))
+      (for_steps l n (as_type a.types t) c at by last _ _ is (λ h v e. no_procedure P c v cell.number h e) (λ v st fine. same_range P world {G = Any} (scalar_at a.types t) range_fault v st refl fine tt) (h a fit) (stored at first st) fine'))))))
 
   with_same : (ws : List Ty) (l : Bool) (t : Ty) (d : Place) (body : List TypedStmt) → Dx ws d t → Ss (ws ++ t ∷ []) l body → S ws l (stmt.With d body)
   with_same ws l t d body m h = from_stmt ws l (stmt.With d body) (step.With d body) (stmt.outs-With d body)
@@ -310,7 +310,7 @@ module _ (x : Context) (lacking : ℕ) (world : World) (sask ask : Asks) (knows 
 
   case_same : (ws : List Ty) (l : Bool) (e : TypedExpr) (arms : List TypedArm) → Ex ws e → Arms ws l arms → S ws l (stmt.Case e arms None)
   case_same ws l e arms q m = from_stmt ws l (stmt.Case e arms None) (step.Case e arms None) (stmt.outs-Case e arms None)
-      (λ a fit st fine. end_with P world (q a fit st fine) (λ v st fine good. m v (or_else None) (or_else None) (λ a fit st fine. stops case_fault st.out) a fit st fine))
+      (λ a fit st fine. end_with P world (q a fit st fine) (λ v st fine good. m v (or_else None) (or_else None) (λ a fit st fine. stops case_fault st.out refl) a fit st fine))
 
   case_else_same : (ws : List Ty) (l : Bool) (e : TypedExpr) (arms : List TypedArm) (others : List TypedStmt) → Ex ws e → Arms ws l arms → Ss ws l others → S ws l (stmt.Case e arms (Some others))
   case_else_same ws l e arms others q m o = from_stmt ws l (stmt.Case e arms (Some others)) (step.Case e arms (Some others)) (stmt.outs-Case e arms (Some others))

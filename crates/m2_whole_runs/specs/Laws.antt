@@ -1,8 +1,9 @@
 -- What is proved: the run of a program whose modules are as the checker leaves them lacks nothing.
-use Rattle.std.specs.Prelude.{◌≡◌, ℕ, All, Some, slice_get}
+use Rattle.std.specs.Prelude.{◌≡◌, ℕ, ◌<◌, List, All, Some, slice_get}
 use Rattle.m2_typed.specs.declared.typed_module.Imported.{Imported}
 use Rattle.m2_typed.specs.declared.typed_module.TypedModule.{TypedModule}
-use Rattle.m2_meaning.specs.Around.{Modules, module_place}
+use Rattle.m2_meaning.specs.Answer.{Stopped, halted}
+use Rattle.m2_meaning.specs.Around.{module_place}
 use Rattle.m2_meaning.specs.Runs.{run}
 use Rattle.m2_links.specs.Linked.{Program}
 use Rattle.m2_agree_linked.specs.Modules.{AreModules, AreTypedModules}
@@ -17,8 +18,14 @@ pub record IsThere (p : Program) (i : Imported) : Type 0 where
 abbrev pub AreThere : Program → Type 0
 AreThere p = (place : ℕ) (m : TypedModule) → slice_get p place ≡ Some m → All (IsThere p) m.imports
 
--- with whatever number a run ends that lacks something, it is the program's run: so nothing is missing
-abbrev pub LacksNothing : Type 0
-LacksNothing =
+-- whatever number stands for a lack, the strict run is the run
+abbrev pub StrictRuns : Type 0
+StrictRuns =
     (p : Program) (pages : ℕ) → AreModules p → AreTypedModules p pages → AreThere p → (lacking n : ℕ)
     → strict_run lacking p pages n ≡ run p pages n
+
+-- and where it is no number of the language, which are 0, the faults and HALT, no run ends with it: so nothing is lacking
+abbrev pub NothingLacks : Type 0
+NothingLacks =
+    (p : Program) (pages : ℕ) → AreModules p → AreTypedModules p pages → AreThere p → (lacking n : ℕ) → halted < lacking
+    → (out : List ℕ) → strict_run lacking p pages n ≡ Stopped lacking out → ⊥

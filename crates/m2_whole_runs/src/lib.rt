@@ -6,9 +6,12 @@
 //! - `specs/Laws` has the law.
 #![tactic(auto)]
 
-ghost use Rattle.m2_whole_runs.specs.Laws.{LacksNothing};
+ghost use Rattle.m2_whole_runs.specs.Laws.{StrictRuns, NothingLacks};
 
-/// The run of a program lacks nothing.
+/// The strict run of a program, which ends with a number of its own where something is lacking.
 pub fn whole_run_laws()
-    ensures programs { LacksNothing }
+    // It is the run, whatever that number is.
+    ensures runs { StrictRuns }
+    // It does not end with that number.
+    ensures nothing { NothingLacks }
 {}
