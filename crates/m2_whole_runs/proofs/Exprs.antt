@@ -1,5 +1,5 @@
 -- Expressions, designators and calls of typed trees: the strict meaning is the meaning.
-use Rattle.std.proofs.Common.{◌≡◌, ℕ, zero, suc, ◌+◌, ◌-◌, ◌<◌, ℤ, pos, ◌-ℤ◌, ◌≤ℤ◌, Bool, true, false, List, [], ◌∷◌, ◌++◌, map, length, Option, Some, None, if◌then◌else◌, refl, sym, ap, subst, ◌∙◌, arith}
+use Rattle.std.proofs.Common.{◌≡◌, ℕ, suc, ◌+◌, ◌-◌, ◌<◌, ℤ, pos, ◌-ℤ◌, ◌≤ℤ◌, Bool, true, false, List, [], ◌∷◌, ◌++◌, map, length, Option, Some, None, if◌then◌else◌, refl, sym, ap, subst, ◌∙◌, arith}
 use Rattle.std.specs.Prelude.{drop, slice_get, nat_lt, int_lt, unsigned_abs, not, ◌||◌}
 use Rattle.std.proofs.lemmas.Int.{ints}
 use Rattle.std.proofs.lemmas.Bool.{lt-ltb}
@@ -36,7 +36,6 @@ use Rattle.m2_typed.specs.Types.{integer}
 use Rattle.m2_typed.specs.Known.{scalar_at}
 use Rattle.m2_layout.specs.Types.{Ty, Scalar, Natural, Callable, Cell, Array, Heading, component}
 use Rattle.m2_layout.specs.Shapes.{tree, elements_of}
-use Rattle.m2_layout.specs.Texts.{passed}
 use Rattle.m2_meaning.specs.Store.{Location}
 use Rattle.m2_meaning.specs.Answer.{State, Answer, Gave, Ended, then_give, range_fault, overflow, index_fault, divisor_fault, empty_procedure}
 use Rattle.m2_meaning.specs.Around.{Modules, Around, Callee, Frames, Named, At, Elements, Passed, Number, Variable as Place', Array as Whole, Text, entry_of, entry_callee, module_place, module_callee, procedure_in, nested_in, callee_with, named, location_of, high_of, or_root}
@@ -51,7 +50,7 @@ use Rattle.m2_agree.specs.Scene.{IsCell}
 use Rattle.m2_agree.proofs.Components.{same_index}
 use Rattle.m2_agree.proofs.Operators.{between_in}
 use Rattle.m2_agree_calls.specs.Frames.{Kind, Kept, Alias, Open, Kinds, kind_at}
-use Rattle.m2_agree_calls.specs.Passing.{Form, ByNumber, ByCopy, ByName, ByArray, Forms, Result, forms_of, forms_in, result_of, heading_result}
+use Rattle.m2_agree_calls.specs.Passing.{Form, ByNumber, ByCopy, ByName, ByArray, Forms, Result, forms_of, result_of}
 use Rattle.m2_agree_calls.proofs.Headings.{forms_same, result_same, means_it}
 use Rattle.m2_agree_procedures.specs.Laws.{callee_of}
 use Rattle.m2_agree_trees.specs.Typed as typed
@@ -62,7 +61,7 @@ use Rattle.m2_whole_runs.specs.Worlds.{World, type_at, is_cell}
 use Rattle.m2_whole_runs.specs.Expressions as strict
 use Rattle.m2_whole_runs.specs.Expressions.{Calls, is_module, variable_of, elements_named, first_of, provided, needs, at_there, at_cell, suits_call}
 use Rattle.m2_whole_runs.proofs.Meant as strictly
-use Rattle.m2_whole_runs.proofs.Worlds.{none_some, some_same, there_behind, IsFine}
+use Rattle.m2_whole_runs.proofs.Worlds.{there_behind, IsFine}
 use Rattle.m2_whole_runs.proofs.Same.{Any, Same, gives, ends, still, same_weak, same_then, same_if, same_provided, same_needs, same_within, same_range}
 use Rattle.m2_whole_runs.proofs.Frames.{Pairs, no_pairs, more_pairs, pair_at, pairs_drop, pairs_length, IsName, kept_name, alias_name, open_name, AreNames, AreFrames, named_at, IsGiven, given_number, given_copy, given_name, given_array, given_text, IsGood}
 
@@ -227,7 +226,7 @@ module _ (x : Context) (lacking : ℕ) (world : World) (sask ask : Asks) (knows 
     procedure_same f h is e = from_expr ws (IsProcedureValue P h) (expr.Procedure f) (layer.Procedure f) (expr.outs-Procedure f)
         (λ a fit st fine.
         let names : NamesProcedure P h (value_number P (module_place P f.home) f.number) =
-            record { place = module_place P f.home; home = is.home; there = is.there; number = f.number; routine = is.routine; is = is.is; value = refl; heading = is.heading ∙ e } in
+        record { place = module_place P f.home; home = is.home; there = is.there; number = f.number; routine = is.routine; is = is.is; value = refl; heading = is.heading ∙ e } in
         same_provided P world lacking (is_module P f.home) _ st (knows.modules f.home is.known)
         (same_provided P world lacking (is_there (module_callee P (module_place P f.home) f.number)) _ st (ap is_there (named_callee f is))
         (gives (pos (value_number P (module_place P f.home) f.number)) st fine (Full (value_number P (module_place P f.home) f.number) names))))
@@ -504,7 +503,7 @@ module _ (x : Context) (lacking : ℕ) (world : World) (sask ask : Asks) (knows 
         let c : Callee = callee_of o.place o.home o.routine frames in
         let suits : suits_call lacking P sask world wanted c ≡ true = suits_same wanted _ (λ e. means_it o.home.types o.routine.heading ∙ ap (λ (r : Result). is_there r) result ∙ ok e) in
         let all' : CalleeSame P world sask ask c fs r =
-            subst (λ (fs : Forms). CalleeSame P world sask ask c fs r) forms (subst (λ (r : Result). CalleeSame P world sask ask c (forms_of o.home.types o.routine.heading) r) result (all o frames is)) in
+        subst (λ (fs : Forms). CalleeSame P world sask ask c fs r) forms (subst (λ (r : Result). CalleeSame P world sask ask c (forms_of o.home.types o.routine.heading) r) result (all o frames is)) in
         same_provided P world lacking (suits_call lacking P sask world wanted c) (meaning.asked P sask (Some c) (map sg gs) a) st suits
         (same_then P world (ms a fit st fine) (λ vs st fine given.
         subst (λ (n : ℕ). Same P world (IsGood P r) (sask (Some c) vs n a.left st) (ask (Some c) vs n a.left st)) (sym fit.next) (all' vs given a.left st fine)))
@@ -526,7 +525,7 @@ module _ (x : Context) (lacking : ℕ) (world : World) (sask ask : Asks) (knows 
         let is : AreFrames world (around_of x.home h.routine) frames = subst (λ (kss : List Kinds). AreFrames world kss frames) (sym h.kinds) (pairs_drop (AreNames world) f.up x.kinds a.frames fit.frames) in
         let less : f.up < length a.frames = subst (λ (n : ℕ). f.up < n) (pairs_length (AreNames world) x.kinds a.frames fit.frames) h.less in
         let found : nested_in a.place (slice_get P a.place) frames f.number ≡ Some (callee_of x.place x.home h.routine frames) =
-            ap (λ (n : ℕ). nested_in n (slice_get P n) frames f.number) fit.place ∙ ap (λ (q : Option TypedModule). nested_in x.place q frames f.number) h.there ∙ ap (λ (q : Option Routine). callee_with x.place types frames q) h.is in
+        ap (λ (n : ℕ). nested_in n (slice_get P n) frames f.number) fit.place ∙ ap (λ (q : Option TypedModule). nested_in x.place q frames f.number) h.there ∙ ap (λ (q : Option Routine). callee_with x.place types frames q) h.is in
         same_provided P world lacking (nat_lt f.up (length a.frames)) _ st (lt-ltb f.up (length a.frames) less)
         (subst (λ (q : Option Callee). Same P world (IsGood P (result_of types f.heading)) (strict.asked lacking P sask world wanted q (map sg args) a st) (meaning.asked P ask q (map (argument_value P ask) args) a st)) (sym found)
         (asked_same o frames is (forms_of types f.heading) (result_of types f.heading) h.forms h.result args ms wanted ok a fit st fine)))
@@ -543,9 +542,9 @@ module _ (x : Context) (lacking : ℕ) (world : World) (sask ask : Asks) (knows 
         let forms : forms_of names.home.types names.routine.heading ≡ forms_of types t = forms_same names.home.types names.routine.heading h names.heading ∙ sym (forms_same types t h e) in
         let result : result_of names.home.types names.routine.heading ≡ result_of types t = result_same names.home.types names.routine.heading h names.heading ∙ sym (result_same types t h e) in
         let found : entry_callee P (entry_of P v) ≡ Some (callee_of names.place names.home names.routine []) =
-            ap (entry_callee P) (entry_there P names.place names.number names.home names.routine names.there names.is)
-            ∙ ap (λ (q : Option TypedModule). procedure_in names.place q names.number) names.there
-            ∙ ap (λ (q : Option Routine). callee_with names.place names.home.types [] q) names.is in
+        ap (entry_callee P) (entry_there P names.place names.number names.home names.routine names.there names.is)
+        ∙ ap (λ (q : Option TypedModule). procedure_in names.place q names.number) names.there
+        ∙ ap (λ (q : Option Routine). callee_with names.place names.home.types [] q) names.is in
         subst (λ (n : ℕ). Same P world (IsGood P (result_of types t)) (strict.asked_value lacking P sask world wanted (pos n) (map sg args) a st) (meaning.asked_if P ask (entry_callee P (entry_of P (pos n))) (map (argument_value P ask) args) a st)) (sym names.value)
         (subst (λ (q : Option Callee). Same P world (IsGood P (result_of types t)) (strict.asked lacking P sask world wanted q (map sg args) a st) (meaning.asked_if P ask q (map (argument_value P ask) args) a st)) (sym found)
         (asked_same o [] none (forms_of types t) (result_of types t) forms result args ms wanted ok a fit st fine))

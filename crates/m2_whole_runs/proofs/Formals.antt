@@ -1,25 +1,25 @@
 -- Formals: the arguments suit them, and with them an activation's names and its store are as its body asks.
-use Rattle.std.proofs.Common.{◌≡◌, ℕ, zero, suc, ◌+◌, ◌-◌, ◌<◌, ℤ, pos, Bool, true, false, List, [], ◌∷◌, ◌++◌, map, length, Option, Some, None, if◌then◌else◌, refl, sym, ap, subst, ◌∙◌, append_assoc, append-nil, length-append, arith}
-use Rattle.std.specs.Prelude.{slice_get, ◌&&◌}
+use Rattle.std.proofs.Common.{◌≡◌, ℕ, suc, ◌+◌, ◌-◌, ℤ, Bool, true, false, List, [], ◌∷◌, ◌++◌, map, length, Option, Some, refl, sym, ap, subst, ◌∙◌, append_assoc, append-nil, length-append, arith}
+use Rattle.std.specs.Prelude.{◌&&◌}
 use Rattle.m2_typed.specs.declared.shape.Formal.{Formal}
 use Rattle.m2_typed.specs.declared.types.TypeNo.{TypeNo}
 use Rattle.m2_typed.specs.declared.known_types.Types.{Types}
 use Rattle.m2_typed.specs.declared.typed_module.Routine.{Routine}
-use Rattle.m2_layout.specs.Types.{Ty, Scalar, Natural, Callable, Cell, Hidden, Array, Nothing, Field, Heading, row, frame_of, component, first}
+use Rattle.m2_layout.specs.Types.{Ty, Natural, Callable, Cell, Hidden, Array, Nothing, Field, Heading, row, frame_of, component}
 use Rattle.m2_layout.specs.Shapes.{tree}
 use Rattle.m2_layout.specs.Frames.{formals_of, formal_tree, frame}
 use Rattle.m2_layout.specs.Texts.{passed}
-use Rattle.m2_meaning.specs.Store.{Location, Store, placed, assigned, copied, fresh, first_in}
+use Rattle.m2_meaning.specs.Store.{Location, Store, placed, fresh, first_in}
 use Rattle.m2_meaning.specs.Around.{Modules, Named, At, Elements, Passed, Number, Variable, Array as Whole, Text}
 use Rattle.m2_meaning.specs.Statements.{character}
 use Rattle.m2_meaning.specs.Calls.{Entered, variable_at, with_passed, with_all, variables_from, entered}
 use Rattle.m2_cells.specs.Relation.{IsProcedureValue, Empty}
 use Rattle.m2_agree_calls.specs.Frames.{Kind, Kept, Alias, Open, Kinds, formal_kind, kinds_of}
-use Rattle.m2_agree_calls.specs.Passing.{Form, ByNumber, ByCopy, ByName, ByArray, Forms, value_form, form_of}
+use Rattle.m2_agree_calls.specs.Passing.{Form, ByNumber, ByCopy, ByName, ByArray, value_form, form_of}
 use Rattle.m2_whole_runs.specs.Worlds.{World, type_at, is_like, is_cell}
 use Rattle.m2_whole_runs.specs.Calls.{suits, all_suit, copy_of, copies_of}
-use Rattle.m2_whole_runs.proofs.Worlds.{none_some, some_same, there_more, there_behind, there_new, whole, alike_itself, HoldsProcedures, IsFine, fine_placed, fine_new}
-use Rattle.m2_whole_runs.proofs.Frames.{Pairs, no_pairs, more_pairs, pairs_append, pairs_length, IsName, kept_name, alias_name, open_name, AreNames, name_more, names_more, IsGiven, given_number, given_copy, given_name, given_array, given_text}
+use Rattle.m2_whole_runs.proofs.Worlds.{there_more, there_behind, there_new, whole, alike_itself, HoldsProcedures, IsFine, fine_placed, fine_new}
+use Rattle.m2_whole_runs.proofs.Frames.{Pairs, no_pairs, more_pairs, pairs_append, pairs_length, IsName, kept_name, alias_name, open_name, AreNames, names_more, IsGiven, given_number, given_copy, given_name, given_array, given_text}
 use Rattle.m2_whole_runs.proofs.Stmts.{cell_holds, text_holds}
 
 some_length : (text : List ℕ) → suc (length (passed text) - 1) ≡ length (passed text)
@@ -171,7 +171,7 @@ module _ (p : Modules) where
         let long : length (world ++ Array (suc high) u ∷ []) ≡ length world + 1 = length-append world (Array (suc high) u ∷ []) in
         let next = b.next in
         let at : type_at (world ++ Array (suc high) u ∷ []) (e.next ∷ []) ≡ Some (Array (suc high) u) =
-            ap (λ (n : ℕ). type_at (world ++ Array (suc high) u ∷ []) (n ∷ [])) b.next ∙ there_new world [] (Array (suc high) u) [] ∙ whole (Array (suc high) u) in
+        ap (λ (n : ℕ). type_at (world ++ Array (suc high) u ∷ []) (n ∷ [])) b.next ∙ there_new world [] (Array (suc high) u) [] ∙ whole (Array (suc high) u) in
         record {
           more = b.more ++ Array (suc high) u ∷ [];
           is = ap (λ (w : World). w ++ Array (suc high) u ∷ []) b.is ∙ append_assoc base b.more (Array (suc high) u ∷ []);
@@ -254,10 +254,10 @@ module _ (p : Modules) where
         let others : List Ty = map (formal_tree types) fs ++ rest in
         let many = pairs_length (IsName world) ks e.names b.names in
         let own : component F (suc (length e.names) ∷ []) ≡ Some (formal_tree types f) =
-            ap (λ (n : ℕ). component F (suc n ∷ [])) (sym many ∙ sym long) ∙ ap (λ (t : Ty). component t (suc (length before) ∷ [])) is ∙ frame_own before others (formal_tree types f) in
+        ap (λ (n : ℕ). component F (suc n ∷ [])) (sym many ∙ sym long) ∙ ap (λ (t : Ty). component t (suc (length before) ∷ [])) is ∙ frame_own before others (formal_tree types f) in
         let one = formal_begun f v (given_is base (form_of types f) v q.0) world ks e b own in
         let more : length (before ++ formal_tree types f ∷ []) ≡ length (ks ++ formal_kind types f ∷ []) =
-            (let x = length-append before (formal_tree types f ∷ []) in let y = length-append ks (formal_kind types f ∷ []) in omega (arith, x, y, long)) in
+        (let x = length-append before (formal_tree types f ∷ []) in let y = length-append ks (formal_kind types f ∷ []) in omega (arith, x, y, long)) in
         let all = formals_begun fs vs q.1 (before ++ formal_tree types f ∷ []) rest (is ∙ ap frame_of (sym (append_assoc before (formal_tree types f ∷ []) others))) (world ++ copy_of types f v) (ks ++ formal_kind types f ∷ []) (with_passed f.is_var activation e v) more one in
         subst (λ (w : World). Begun w (ks ++ map (formal_kind types) (f ∷ fs)) (with_all activation (f ∷ fs) (v ∷ vs) e)) (append_assoc world (copy_of types f v) (copies_of types fs vs))
         (subst (λ (ks : Kinds). Begun ((world ++ copy_of types f v) ++ copies_of types fs vs) ks (with_all activation (f ∷ fs) (v ∷ vs) e)) (append_assoc ks (formal_kind types f ∷ []) (map (formal_kind types) fs)) all)
@@ -268,7 +268,7 @@ module _ (p : Modules) where
     variables_there [] before is world frame v long = no_pairs
     variables_there (t ∷ ts) before is world frame v long =
         let at : type_at world (variable_at activation v) ≡ Some (tree types t) =
-            own_there world v (tree types t) frame (ap (λ (n : ℕ). component F (suc n ∷ [])) (sym long) ∙ ap (λ (u : Ty). component u (suc (length before) ∷ [])) is ∙ frame_own before (map (tree types) ts) (tree types t)) in
+        own_there world v (tree types t) frame (ap (λ (n : ℕ). component F (suc n ∷ [])) (sym long) ∙ ap (λ (u : Ty). component u (suc (length before) ∷ [])) is ∙ frame_own before (map (tree types) ts) (tree types t)) in
         more_pairs (Kept (tree types t)) (map (λ t. Kept (tree types t)) ts) (At (variable_at activation v)) (variables_from activation (suc v) ts) (kept_name (tree types t) (variable_at activation v) at)
         (variables_there ts (before ++ tree types t ∷ []) (is ∙ ap frame_of (sym (append_assoc before (tree types t ∷ []) (map (tree types) ts)))) world frame (suc v) (let x = length-append before (tree types t ∷ []) in omega (arith, x, long)))
 

@@ -1,5 +1,5 @@
 -- Names, arguments and values of the types that are asked for.
-use Rattle.std.proofs.Common.{◌≡◌, ℕ, zero, suc, ℤ, Bool, false, List, [], ◌∷◌, ◌++◌, length, Option, Some, None, refl, sym, ap, subst, ◌∙◌}
+use Rattle.std.proofs.Common.{◌≡◌, ℕ, zero, suc, ℤ, Bool, false, List, [], ◌∷◌, ◌++◌, length, Option, Some, None, refl, ap, subst, ◌∙◌}
 use Rattle.std.specs.Prelude.{slice_get, drop}
 use Rattle.m2_typed.specs.declared.computed.Slot.{Slot}
 use Rattle.m2_layout.specs.Types.{Ty, Scalar, Natural, Callable, Cell, Array, Heading}
@@ -7,7 +7,7 @@ use Rattle.m2_meaning.specs.Around.{Modules, Named, At, Elements, Frames, Around
 use Rattle.m2_meaning.specs.Store.{Location}
 use Rattle.m2_cells.specs.Relation.{IsProcedureValue}
 use Rattle.m2_agree_calls.specs.Frames.{Kind, Kept, Alias, Open, Kinds, or_none, kind_at}
-use Rattle.m2_agree_calls.specs.Passing.{Form, ByNumber, ByCopy, ByName, ByArray, Forms, Result}
+use Rattle.m2_agree_calls.specs.Passing.{Form, ByNumber, ByCopy, ByName, ByArray, Result}
 use Rattle.m2_whole_runs.specs.Worlds.{World, type_at}
 use Rattle.m2_whole_runs.proofs.Worlds.{none_some, some_same, there_more}
 

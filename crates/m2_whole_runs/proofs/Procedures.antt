@@ -1,17 +1,15 @@
 -- Procedures of typed modules, to every depth of calls: the strict meaning is the meaning.
-use Rattle.std.proofs.Common.{◌≡◌, ℕ, zero, suc, ◌+◌, ◌-◌, ℤ, pos, Bool, true, false, List, [], ◌∷◌, ◌++◌, map, length, Option, Some, None, if◌then◌else◌, refl, sym, ap, subst, ◌∙◌, append_assoc}
+use Rattle.std.proofs.Common.{◌≡◌, ℕ, zero, suc, ◌-◌, pos, Bool, true, false, List, [], ◌∷◌, ◌++◌, map, length, Some, None, refl, ap, ◌∙◌, append_assoc}
 use Rattle.std.specs.Prelude.{slice_get, ◌&&◌, nat_lt, nat_eq}
 use Rattle.std.proofs.lemmas.Bool.{eq-eqb}
 use Rattle.m2_typed.specs.declared.shape.Formal.{Formal}
-use Rattle.m2_typed.specs.declared.known_types.Types.{Types}
 use Rattle.m2_typed.specs.declared.typed_module.Routine.{Routine}
 use Rattle.m2_typed.specs.declared.typed_module.TypedModule.{TypedModule}
-use Rattle.m2_layout.specs.Types.{Ty, row}
+use Rattle.m2_layout.specs.Types.{Ty}
 use Rattle.m2_layout.specs.Frames.{formals_of, frame, module_row}
-use Rattle.m2_meaning.specs.Store.{Location, Store}
-use Rattle.m2_meaning.specs.Answer.{State, Answer, Gave, Ended, Outcome, storage_fault, no_return}
-use Rattle.m2_meaning.specs.Around.{Modules, Around, Callee, Frames, Passed}
-use Rattle.m2_meaning.specs.Expressions.{Asks}
+use Rattle.m2_meaning.specs.Store.{Location}
+use Rattle.m2_meaning.specs.Answer.{Outcome, storage_fault, no_return}
+use Rattle.m2_meaning.specs.Around.{Modules, Around, Callee, Frames}
 use Rattle.m2_meaning.specs.Calls as meaning
 use Rattle.m2_meaning.specs.Calls.{Entered, calling, entered, around_of, needed, is_function, is_there, variables_from}
 use Rattle.m2_agree_calls.specs.Frames.{Kinds, kinds_of}
@@ -25,12 +23,12 @@ use Rattle.m2_agree_bodies.specs.Linked.{Spot, context}
 use Rattle.m2_whole_runs.specs.Worlds.{World}
 use Rattle.m2_whole_runs.specs.Calls as strict
 use Rattle.m2_whole_runs.specs.Calls.{all_suit, copies_of, calling as strict_calling}
-use Rattle.m2_whole_runs.proofs.Worlds.{IsFine, fine_less}
+use Rattle.m2_whole_runs.proofs.Worlds.{fine_less}
 use Rattle.m2_whole_runs.proofs.Same.{Same, gives, ends, still, SameEnd, goes, leaves, returns, stops, unfinished, same_if, same_provided}
-use Rattle.m2_whole_runs.proofs.Frames.{Pairs, no_pairs, more_pairs, AreNames, AreFrames, frames_more, IsGiven, IsGood}
+use Rattle.m2_whole_runs.proofs.Frames.{no_pairs, more_pairs, AreFrames, frames_more, IsGood}
 use Rattle.m2_whole_runs.proofs.Exprs.{CalleeSame, AllSame, Knows, Fits}
 use Rattle.m2_whole_runs.proofs.Stmts.{stmts_same}
-use Rattle.m2_whole_runs.proofs.Formals.{all_given_suit, IsEntered, is_entered}
+use Rattle.m2_whole_runs.proofs.Formals.{all_given_suit, is_entered}
 
 -- the world begins with the variables of all modules
 pub record HasBase (p : Modules) (world : World) : Type 0 where

@@ -1,21 +1,19 @@
 -- Whole programs: the strict run is the run.
-use Rattle.std.proofs.Common.{◌≡◌, ℕ, zero, suc, ◌+◌, ◌-◌, ◌<◌, ℤ, pos, Bool, true, false, ◌==◌, ◌||◌, List, [], ◌∷◌, ◌++◌, map, length, Option, Some, None, if◌then◌else◌, refl, sym, ap, subst, ◌∙◌, append_assoc, length-append, arith}
-use Rattle.std.specs.Prelude.{slice_get, All}
+use Rattle.std.proofs.Common.{◌≡◌, ℕ, zero, suc, ◌-◌, ◌<◌, ℤ, pos, Bool, true, false, ◌==◌, ◌||◌, List, [], ◌∷◌, ◌++◌, map, length, Option, Some, None, if◌then◌else◌, refl, sym, ap, subst, ◌∙◌, append_assoc, length-append, arith}
+use Rattle.std.specs.Prelude.{slice_get}
 use Rattle.std.specs.List.{list_any}
 use Rattle.std.proofs.lemmas.Bool.{eqb-true, eq-eqb, ltb-true}
 use Rattle.m2_typed.specs.declared.meaning.Variable.{Variable}
 use Rattle.m2_typed.specs.declared.typed_module.Imported.{Imported}
-use Rattle.m2_typed.specs.declared.typed_module.Routine.{Routine}
 use Rattle.m2_typed.specs.declared.typed_module.TypedModule.{TypedModule}
-use Rattle.m2_typed.specs.declared.typed_module.Which.{Which}
 use Rattle.m2_typed.specs.declared.typed_module.Which.TheVariants as which
-use Rattle.m2_layout.specs.Types.{Ty, Callable, Cell, Nothing, Field, Heading, row, frame_of, component, first}
+use Rattle.m2_layout.specs.Types.{Ty, Callable, Cell, Heading, row, frame_of, component}
 use Rattle.m2_layout.specs.Shapes.{tree}
 use Rattle.m2_layout.specs.Frames.{module_row}
 use Rattle.m2_meaning.specs.Store.{Location, fresh, first_in}
 use Rattle.m2_meaning.specs.Answer.{State, Outcome, Went, Left, Came, Stopped, Unfinished}
 use Rattle.m2_meaning.specs.Around.{Modules, Around, module_place}
-use Rattle.m2_meaning.specs.Calls.{calling, is_there}
+use Rattle.m2_meaning.specs.Calls.{calling}
 use Rattle.m2_meaning.specs.Runs as meaning
 use Rattle.m2_meaning.specs.Runs.{run, storage, body_frame, first_state, around_body}
 use Rattle.m2_cells.specs.Relation.{IsProcedureValue, Empty}
@@ -25,9 +23,8 @@ use Rattle.m2_scheme.specs.Functions.{routine_of}
 use Rattle.m2_links.specs.Linked.{Program}
 use Rattle.m2_valid.proofs.Numbers.{mapped_at}
 use Rattle.m2_valid.proofs.Own.{at_place}
-use Rattle.m2_agree_calls.specs.Frames.{Kinds, kinds_of}
-use Rattle.m2_agree_trees.specs.Typed.{Context, IsVariable, kinds_around}
-use Rattle.m2_agree_stmts.specs.Typed.{AreStmts}
+use Rattle.m2_agree_calls.specs.Frames.{Kinds}
+use Rattle.m2_agree_trees.specs.Typed.{IsVariable, kinds_around}
 use Rattle.m2_agree_bodies.specs.Linked.{Spot, context, text_of, around_of}
 use Rattle.m2_agree_runs.specs.Programs.{ground}
 use Rattle.m2_agree_linked.specs.Knows.{IsKnown, Knows as KnowsImport}
@@ -41,8 +38,8 @@ use Rattle.m2_whole_runs.specs.Runs.{first_world, strict_run}
 use Rattle.m2_whole_runs.specs.Laws.{IsThere, AreThere, StrictRuns, NothingLacks}
 use Rattle.m2_whole_runs.proofs.Worlds.{none_some, there_more, IsFine}
 use Rattle.m2_whole_runs.proofs.Same.{IsEnd, SameEnd, goes, leaves, returns, stops, unfinished}
-use Rattle.m2_whole_runs.proofs.Frames.{Pairs, no_pairs, IsGood}
-use Rattle.m2_whole_runs.proofs.Exprs.{AllSame, Knows, Fits}
+use Rattle.m2_whole_runs.proofs.Frames.{no_pairs, IsGood}
+use Rattle.m2_whole_runs.proofs.Exprs.{AllSame, Fits}
 use Rattle.m2_whole_runs.proofs.Stmts.{stmts_same}
 use Rattle.m2_whole_runs.proofs.Procedures.{HasBase, AreTyped, AreKnown, all_calls_same}
 
@@ -125,9 +122,9 @@ module _ (p : Program) (pages : ℕ) (modules : AreModules p) (there : AreThere 
         let i = import_of m v.home e is.known in
         let k = each_at (KnowsImport p m) m.imports (import_place m v.home) i.import i.there (modules place m at).coherent.imports in
         let first : component (row (map (tree m.types) i.import.variables)) (v.number ∷ []) ≡ Some t =
-            ap (λ (o : Option Imported). component (imported_row m.types o) (v.number ∷ [])) (sym i.there)
-            ∙ ap (λ (b : Bool). component (if b then module_row m else imported_row m.types (slice_get m.imports (import_place m v.home))) (v.number ∷ [])) (sym e)
-            ∙ is.type in
+        ap (λ (o : Option Imported). component (imported_row m.types o) (v.number ∷ [])) (sym i.there)
+        ∙ ap (λ (b : Bool). component (if b then module_row m else imported_row m.types (slice_get m.imports (import_place m v.home))) (v.number ∷ [])) (sym e)
+        ∙ is.type in
         row_there v.home k.home v.number t world has (ap (λ (n : ℕ). slice_get p (module_place p n)) (sym i.number) ∙ k.there)
         (ap (λ (ts : List Ty). component (row ts) (v.number ∷ [])) k.variables ∙ component_old (map (tree m.types) i.import.variables) k.more v.number [] t first)
 

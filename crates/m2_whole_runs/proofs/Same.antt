@@ -1,5 +1,5 @@
 -- Two meanings that end alike, in a state whose procedure variables hold procedures.
-use Rattle.std.proofs.Common.{◌≡◌, ℕ, ℤ, nat_lt, Bool, true, false, List, Option, Some, None, if◌then◌else◌, refl, sym, ap, subst, ◌∙◌}
+use Rattle.std.proofs.Common.{◌≡◌, ℕ, ℤ, nat_lt, Bool, true, false, List, Option, Some, None, if◌then◌else◌, refl, sym, subst}
 use Rattle.m2_typed.specs.declared.shape.Scalar.{Scalar as Range}
 use Rattle.m2_meaning.specs.Answer.{State, Answer, Gave, Ended, Running, then_give, Outcome, Went, Left, Came, Stopped, Unfinished, then_go, with_answer}
 use Rattle.m2_meaning.specs.Around.{Modules}

@@ -1,5 +1,5 @@
 -- Typed statements: the strict meaning is the meaning.
-use Rattle.std.proofs.Common.{◌≡◌, ℕ, zero, suc, ◌+◌, ◌<◌, ◌≤◌, ℤ, pos, ◌+ℤ◌, Bool, true, false, List, [], ◌∷◌, ◌++◌, map, length, Option, Some, None, if◌then◌else◌, refl, sym, ap, subst, ◌∙◌, arith}
+use Rattle.std.proofs.Common.{◌≡◌, ℕ, zero, suc, ◌≤◌, ℤ, pos, ◌+ℤ◌, Bool, true, false, List, [], ◌∷◌, ◌++◌, map, length, Option, Some, None, if◌then◌else◌, refl, sym, ap, subst, ◌∙◌}
 use Rattle.std.specs.Prelude.{nat_lt, not, unsigned_abs}
 use Rattle.std.specs.List.{list_any}
 use Rattle.std.proofs.lemmas.Bool.{le-ltb}
@@ -7,10 +7,8 @@ use Rattle.m2_typed.specs.declared.computed.Call.{Call}
 use Rattle.m2_typed.specs.declared.computed.Component.{Component}
 use Rattle.m2_typed.specs.declared.computed.Place.{Place}
 use Rattle.m2_typed.specs.declared.computed.Root.{Root}
-use Rattle.m2_typed.specs.declared.computed.Root.TheVariants as root
 use Rattle.m2_typed.specs.declared.computed.TypedExpr.{TypedExpr}
 use Rattle.m2_typed.specs.declared.statement.Change.{Change}
-use Rattle.m2_typed.specs.declared.statement.Label.{Label}
 use Rattle.m2_typed.specs.declared.statement.Membership.{Membership}
 use Rattle.m2_typed.specs.declared.statement.TypedArm.{TypedArm, out-TypedArm}
 use Rattle.m2_typed.specs.declared.statement.TypedStmt.{TypedStmt, TypedStmt-F, out-TypedStmt}
@@ -23,11 +21,11 @@ use Rattle.m2_typed.specs.Known.{scalar_at}
 use Rattle.m2_layout.specs.Types.{Ty, Scalar, Natural, Callable, Cell, Array, Heading, component}
 use Rattle.m2_layout.specs.Shapes.{tree}
 use Rattle.m2_meaning.specs.Store.{Location, copied, placed}
-use Rattle.m2_meaning.specs.Answer.{State, Answer, Gave, Ended, then_give, Outcome, Went, Left, Came, Stopped, Unfinished, then_go, with_answer, range_fault, overflow, case_fault, halted}
+use Rattle.m2_meaning.specs.Answer.{State, Answer, Gave, then_give, Outcome, Went, Came, Stopped, with_answer, range_fault, overflow, case_fault, halted}
 use Rattle.m2_meaning.specs.Around.{Modules, Around}
 use Rattle.m2_meaning.specs.Operators.{is_true}
 use Rattle.m2_meaning.specs.Calls.{is_there}
-use Rattle.m2_meaning.specs.Expressions.{Asks, Gives, value, locate, called, as_type}
+use Rattle.m2_meaning.specs.Expressions.{Asks, Gives, value, locate, as_type}
 use Rattle.m2_meaning.specs.Statements as meaning
 use Rattle.m2_meaning.specs.Statements.{Does, Arm, does, in_turn, if_there, or_else, chosen, is_labelled, stored, character, loop_left, looped, while_true, until_true, has_passed, for_turns, for_all, base_of, changed, rechecked, with_element}
 use Rattle.m2_cells.specs.Relation.{IsProcedureValue}
@@ -44,9 +42,9 @@ use Rattle.m2_whole_runs.specs.Expressions as places
 use Rattle.m2_whole_runs.specs.Expressions.{provided, at_cell}
 use Rattle.m2_whole_runs.specs.Statements as strict
 use Rattle.m2_whole_runs.proofs.Does as strictly
-use Rattle.m2_whole_runs.proofs.Worlds.{none_some, some_same, there_behind, alike_itself, HoldsProcedures, IsFine, fine_placed}
+use Rattle.m2_whole_runs.proofs.Worlds.{none_some, there_behind, alike_itself, HoldsProcedures, IsFine, fine_placed}
 use Rattle.m2_whole_runs.proofs.Same.{Any, Same, gives, ends, still, SameEnd, goes, leaves, returns, stops, unfinished, same_then, end_with, end_then, end_if, same_provided, same_within, same_range}
-use Rattle.m2_whole_runs.proofs.Frames.{Pairs, no_pairs, more_pairs, pairs_append, IsGood}
+use Rattle.m2_whole_runs.proofs.Frames.{no_pairs, more_pairs, pairs_append, IsGood}
 use Rattle.m2_whole_runs.proofs.Exprs.{AllSame, Knows, Fits, Both, E, H, D, C, no_procedure, cell_there, expr_same, procedure_expr_same, place_same, calls_same}
 
 -- ---- what variables hold

@@ -11,10 +11,9 @@ use Rattle.m2_typed.specs.declared.computed.Place.{Place, Place-F, fold-Place}
 use Rattle.m2_typed.specs.declared.computed.Root.{Root}
 use Rattle.m2_typed.specs.declared.computed.Root.TheVariants as root
 use Rattle.m2_typed.specs.declared.computed.TypedExpr.{TypedExpr, TypedExpr-F, fold-TypedExpr, map-TypedExpr}
-use Rattle.m2_typed.specs.declared.shape.Scalar.{Scalar as Range}
 use Rattle.m2_layout.specs.Shapes.{elements_of}
 use Rattle.m2_meaning.specs.Store.{Location}
-use Rattle.m2_meaning.specs.Answer.{State, Answer, Gave, Ended, then_give, range_fault, empty_procedure}
+use Rattle.m2_meaning.specs.Answer.{State, Answer, Gave, Ended, then_give, empty_procedure}
 use Rattle.m2_meaning.specs.Around.{Modules, Around, Named, At, Elements, Callee, Passed, Number, Variable, Array, Text, module_place, procedure_value, entry_of, entry_callee, module_callee, nested_in, named}
 use Rattle.m2_meaning.specs.Calls.{is_there, is_function}
 use Rattle.m2_meaning.specs.Expressions as meaning

@@ -4,7 +4,6 @@ use Rattle.m2_layout.specs.Types.{frame_of}
 use Rattle.m2_layout.specs.Frames.{module_row}
 use Rattle.m2_meaning.specs.Answer.{State, Outcome, Went, Left, Came, Stopped, Unfinished}
 use Rattle.m2_meaning.specs.Around.{Modules}
-use Rattle.m2_meaning.specs.Runs as meaning
 use Rattle.m2_meaning.specs.Runs.{storage, body_frame, first_state, around_body}
 use Rattle.m2_whole_runs.specs.Worlds.{World}
 use Rattle.m2_whole_runs.specs.Calls.{body_does, calling}

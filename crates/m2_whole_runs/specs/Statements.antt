@@ -1,19 +1,19 @@
 -- What statements do, where nothing that they ask for may be missing.
-use Rattle.std.specs.Prelude.{ℕ, ℤ, pos, Bool, true, false, unsigned_abs, List, [], ◌∷◌, ◌++◌, length, Option, Some, None, if◌then◌else◌}
+use Rattle.std.specs.Prelude.{ℕ, pos, Bool, false, unsigned_abs, [], ◌∷◌, ◌++◌, length, Option, Some, None, if◌then◌else◌}
 use Rattle.m2_typed.specs.declared.computed.Place.{Place}
 use Rattle.m2_typed.specs.declared.statement.TypedStmt.{TypedStmt, TypedStmt-F, fold-TypedStmt}
 use Rattle.m2_typed.specs.declared.statement.TypedStmt.TheOpen as step
 use Rattle.m2_typed.specs.declared.statement.TypedArm.{TypedArm-F}
 use Rattle.m2_typed.specs.Types.{char}
-use Rattle.m2_meaning.specs.Store.{Location, assigned, copied, placed}
-use Rattle.m2_meaning.specs.Answer.{State, Answer, Gave, Ended, then_give, Outcome, Went, Left, Came, Stopped, Unfinished, then_go, with_answer, range_fault, halted}
+use Rattle.m2_meaning.specs.Store.{Location, copied, placed}
+use Rattle.m2_meaning.specs.Answer.{State, Answer, Gave, then_give, Went, Left, Came, Stopped, with_answer, range_fault, halted}
 use Rattle.m2_meaning.specs.Operators.{is_true}
 use Rattle.m2_meaning.specs.Around.{Modules}
 use Rattle.m2_meaning.specs.Expressions.{Asks, Gives, within, as_type}
 use Rattle.m2_meaning.specs.Statements.{Does, Arm, in_turn, if_there, or_else, chosen, stored, character, while_true, until_true, looped, for_all, changed, rechecked, with_element}
 use Rattle.m2_layout.specs.Types.{Ty}
 use Rattle.m2_whole_runs.specs.Worlds.{World, type_at, has_room, is_like}
-use Rattle.m2_whole_runs.specs.Expressions.{lacks, provided, needs, at_cell, value, locate, called}
+use Rattle.m2_whole_runs.specs.Expressions.{lacks, provided, at_cell, value, locate, called}
 
 -- in the body of a function, or of what gives no value
 module _ (lacking : ℕ) (p : Modules) (ask : Asks) (world : World) (n : ℕ) (function : Bool) where
