@@ -30,7 +30,9 @@ use Rattle.m2c.specs.Build.{AreSpelled as BytesSpell}
 use Rattle.m2c.specs.Build.{Told, AreTold, told_at, built_of, named_bytes, modules, refusal_in, refused_from, refused_by, started, data_and_stack, program_file, HaveGraph, IsTooLarge, IsProgram}
 use Rattle.m2_jobs.specs.Spelled.{AreSpelled}
 use Rattle.m2_links.specs.Linked.{IsLinkable, imported_names}
+use Rattle.m2_agree_linked.specs.Modules.{AreModules, AreTypedModules}
 use Rattle.m2_agree_linked.proofs.Programs.{typed_behave}
+use Rattle.m2_whole_runs.proofs.Programs.{strict_runs, nothing_lacks}
 use Rattle.m2_links.proofs.Placed.{modules_link}
 use Rattle.m2_formed_programs.proofs.Links.{slots_few, link_valid}
 use Rattle.m2_formed_graphs.proofs.Modules.{are_modules}
@@ -149,6 +151,12 @@ module _ (files : List SourceFile) (fs : List (List ℕ × Module)) (numbers : L
         room = omega (arith, fits_all);
       }
       in
+      let modules_are : AreModules p =
+      are_modules fs numbers jobs starts have.is_graph have.each (trees_fit files fs have.are_trees) p (bodies_in fs numbers jobs starts p whole.typed) whole.small
+      in
+      let typed_are : AreTypedModules p pages =
+      are_typed fs numbers jobs starts have.is_graph have.each (trees_fit files fs have.are_trees) (trees_whole files fs have.are_trees) p (bodies_in fs numbers jobs starts p whole.typed) whole.small pages fits_all most
+      in
       let codes : map (λ m. m.1) built ≡ map module_bytes (map typed_module p) = ap (λ (ms : List (List ℕ × List ℕ)). map (λ m. m.1) ms) built_whole ∙ seconds p in record {
         trees = fs;
         numbers = numbers;
@@ -165,9 +173,9 @@ module _ (files : List SourceFile) (fs : List (List ℕ × Module)) (numbers : L
           spelled = subst (λ (bs : List (List ℕ)). BytesSpell bs (map typed_module p)) (sym codes) (all_spelled p whole.fit);
         };
         links = (_, modules_link p pages linkable);
-        behaves = typed_behave p pages linkable fits_all most (slots_few p pages link_spelled.fits)
-            (are_modules fs numbers jobs starts have.is_graph have.each (trees_fit files fs have.are_trees) p (bodies_in fs numbers jobs starts p whole.typed) whole.small)
-            (are_typed fs numbers jobs starts have.is_graph have.each (trees_fit files fs have.are_trees) (trees_whole files fs have.are_trees) p (bodies_in fs numbers jobs starts p whole.typed) whole.small pages fits_all most);
+        behaves = typed_behave p pages linkable fits_all most (slots_few p pages link_spelled.fits) modules_are typed_are;
+        strict = λ lacking n. strict_runs p pages modules_are typed_are lacking n;
+        whole = λ lacking n above out e. nothing_lacks p pages modules_are typed_are lacking n above out e;
         valid = All-cons IsValid (typed_link p pages) (map typed_module p)
             (link_valid p pages (omega (arith, most)) link_spelled.fits (distinct_all fs numbers jobs have.each as_many none spelled starts are))
             (all_valid fs numbers jobs starts have.is_graph starts p whole.typed);

@@ -17,7 +17,9 @@ use Rattle.m2_graph.specs.Files.{numbered}
 use Rattle.m2_graph.specs.Graph.{CompileEach, IsGraph, IsRefusal}
 use Rattle.m2_typed.specs.declared.typed_module.TypedModule.{TypedModule}
 use Rattle.m2_meaning.specs.Around.{Modules}
+use Rattle.m2_meaning.specs.Answer.{Stopped, halted}
 use Rattle.m2_meaning.specs.Runs.{run}
+use Rattle.m2_whole_runs.specs.Runs.{strict_run}
 use Rattle.m2_scheme.specs.Modules.{typed_module, typed_link, part_of, stack_begin}
 use Rattle.m2_emit.specs.declared.emitted.ModuleBytes.{ModuleBytes}
 use Rattle.m2_agree_runs.specs.Behaves.{Behaves}
@@ -197,7 +199,8 @@ pub record IsTooLarge (files : List SourceFile) (pages : ℕ) (refusals : List R
   pub told : AreTold (told_at (program_file trees) 1 1 61 ∷ []) refusals
 
 -- No module breaks a rule. Those that are reached are compiled to valid modules, which link and do what the program does by
--- the language's definition: they print the same bytes and end with the same number, and they go on where it goes on.
+-- the language's definition: they print the same bytes and end with the same number, and they go on where it goes on. Nothing
+-- that the program's run asks for is missing: it is the strict run, and ends with no number that stands for a lack.
 pub record IsProgram (files : List SourceFile) (pages : ℕ) (link : List ℕ) (built : List (List ℕ × List ℕ)) : Type 0 where
   pub trees : List (List ℕ × Module)
   pub numbers : List ℕ
@@ -212,6 +215,8 @@ pub record IsProgram (files : List SourceFile) (pages : ℕ) (link : List ℕ) (
   pub links : (c : Config) × (linked (typed_link program pages ∷ map typed_module program) ≡ Ok c)
   pub valid : All IsValid (typed_link program pages ∷ map typed_module program)
   pub behaves : (c : Config) × (linked (typed_link program pages ∷ map typed_module program) ≡ Ok c) × Behaves (typed_link program pages ∷ map typed_module program) c (run program pages)
+  pub strict : (lacking n : ℕ) → strict_run lacking program pages n ≡ run program pages n
+  pub whole : (lacking n : ℕ) → halted < lacking → (out : List ℕ) → strict_run lacking program pages n ≢ Stopped lacking out
 
 -- The outcome of a build of these files. Rules of tokens and of the grammar come first, then those of imports, then those
 -- of modules, and then what does not fit into the memory.

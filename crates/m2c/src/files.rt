@@ -92,7 +92,7 @@ impl From<AllocError> for BuildFault {
 ///
 /// A program of which nothing is told is compiled to the module link and, in start order, the modules that are reached
 /// from the program module. They are valid, they link, and they do what the program does: they print the same bytes and
-/// end with the same number, and they go on where it goes on.
+/// end with the same number, and they go on where it goes on. Nothing that its run asks for is missing.
 ///
 /// The work goes in two rounds of jobs over so many threads: a job for each file, in the order in which they are given,
 /// and then the jobs of the graph. The gate lets workers in to the jobs of both. What is answered does not depend on how

@@ -1,0 +1,10 @@
+pub mod Worlds
+pub mod Same
+pub mod Frames
+pub mod Meant
+pub mod Exprs
+pub mod Does
+pub mod Stmts
+pub mod Formals
+pub mod Procedures
+pub mod Programs

@@ -1,0 +1,8 @@
+use Rattle.m2_whole_runs.proofs.Programs.{strict_runs, nothing_lacks}
+use Rattle.m2_whole_runs.proofs.whole_run_laws.Goals as goal
+
+pub returns-clause-runs : goal.returns-clause-runs
+returns-clause-runs c = strict_runs
+
+pub returns-clause-nothing : goal.returns-clause-nothing
+returns-clause-nothing c = nothing_lacks
