@@ -59,11 +59,15 @@ use Rattle.m2_agree_trees.proofs.Meant.{argument_value, component_value, link_va
 use Rattle.m2_agree_bodies.specs.Linked.{Spot, around_of}
 use Rattle.m2_whole_runs.specs.Worlds.{World, type_at, is_cell}
 use Rattle.m2_whole_runs.specs.Expressions as strict
-use Rattle.m2_whole_runs.specs.Expressions.{Calls, is_module, variable_of, elements_named, first_of, provided, needs, at_there, at_cell, suits_call}
+use Rattle.m2_whole_runs.specs.Expressions.{Calls, is_module, is_ranged, has_range, variable_of, elements_named, first_of, provided, needs, at_there, at_cell, suits_call}
 use Rattle.m2_whole_runs.proofs.Meant as strictly
 use Rattle.m2_whole_runs.proofs.Worlds.{there_behind, IsFine}
 use Rattle.m2_whole_runs.proofs.Same.{Any, Same, gives, ends, still, same_weak, same_then, same_if, same_provided, same_needs, same_within, same_range}
 use Rattle.m2_whole_runs.proofs.Frames.{Pairs, no_pairs, more_pairs, pair_at, pairs_drop, pairs_length, IsName, kept_name, alias_name, open_name, AreNames, AreFrames, named_at, IsGiven, given_number, given_copy, given_name, given_array, given_text, IsGood}
+
+pub ranged : (o : Option Range) → (o ≡ None → ⊥) → is_there o ≡ true
+ranged None some = absurd (some refl)
+ranged (Some r) some = refl
 
 callable_same : (g h : Heading) → Callable g ≡ Callable h → g ≡ h
 callable_same g h e = cc e
@@ -270,9 +274,10 @@ module _ (x : Context) (lacking : ℕ) (world : World) (sask ask : Asks) (knows 
     ord_same e m = from_expr ws Any (expr.Ord e) (layer.Ord e) (expr.outs-Ord e)
         (unary_same Any e (λ a v st. meaning.ordinal v st) m (λ a v st fine. same_if P world (int_lt v (pos 0)) (ends range_fault st.out refl) (gives v st fine tt)))
 
-    val_same : (t : TypeNo) (e : TypedExpr) → E e → E (expr.Val t e)
-    val_same t e m = from_expr ws Any (expr.Val t e) (layer.Val t e) (expr.outs-Val t e)
-        (unary_same Any e (λ a v st. as_type a.types t v st) m (λ a v st fine. same_range P world (scalar_at a.types t) range_fault v st refl fine tt))
+    val_same : (t : TypeNo) (e : TypedExpr) → is_ranged types t ≡ true → E e → E (expr.Val t e)
+    val_same t e ok m = from_expr ws Any (expr.Val t e) (layer.Val t e) (expr.outs-Val t e)
+        (λ a fit st fine. same_then P world (m a fit st fine) (λ v st fine good.
+        same_provided P world lacking (is_ranged a.types t) (as_type a.types t v) st (ap (λ (ts : Types). is_ranged ts t) fit.types ∙ ok) (same_range P world (scalar_at a.types t) range_fault v st refl fine tt)))
 
     high_same : (slot : Slot) (t : Ty) → kind_at x.kinds slot ≡ Some (Open t) → E (expr.High slot)
     high_same slot t e = from_expr ws Any (expr.High slot) (layer.High slot) (expr.outs-High slot)
@@ -301,9 +306,10 @@ module _ (x : Context) (lacking : ℕ) (world : World) (sask ask : Asks) (knows 
     operated_same ts op.Divide t v w st fine = same_if P world (int_lt (pos 0) w) (gives (quotient v w) st fine tt) (ends divisor_fault st.out refl)
     operated_same ts op.Remainder t v w st fine = same_if P world (int_lt (pos 0) w) (gives (remainder v w) st fine tt) (ends divisor_fault st.out refl)
 
-    arithmetic_same : (o : Arithmetic) (t : TypeNo) (e : TypedExpr) → E e → L (link.Arithmetic o t e)
-    arithmetic_same o t e m = from_link (link.Arithmetic o t e) (layer.Arithmetic o t e) (link.outs-Arithmetic o t e)
-        (λ v a fit st fine. same_then P world (m a fit st fine) (λ w st fine good. operated_same a.types o t v w st fine))
+    arithmetic_same : (o : Arithmetic) (t : TypeNo) (e : TypedExpr) → has_range lacking P sask world types o t ≡ true → E e → L (link.Arithmetic o t e)
+    arithmetic_same o t e ok m = from_link (link.Arithmetic o t e) (layer.Arithmetic o t e) (link.outs-Arithmetic o t e)
+        (λ v a fit st fine. same_then P world (m a fit st fine) (λ w st fine good.
+        same_provided P world lacking (has_range lacking P sask world a.types o t) (operated a.types o t v w) st (ap (λ (ts : Types). has_range lacking P sask world ts o t) fit.types ∙ ok) (operated_same a.types o t v w st fine)))
 
     and_same : (e : TypedExpr) → E e → L (link.And e)
     and_same e m = from_link (link.And e) (layer.And e) (link.outs-And e) (λ v a fit st fine. same_if P world (is_true v) (m a fit st fine) (gives _ st fine tt))
@@ -572,7 +578,7 @@ module _ (x : Context) (lacking : ℕ) (world : World) (sask ask : Asks) (knows 
     expr_same ws _ _ _ _ (typed.Chr a b u e h) = chr_same ws e (expr_same ws a b e u h)
     expr_same ws _ _ _ _ (typed.Odd a b u e h) = odd_same ws e (expr_same ws a b e u h)
     expr_same ws _ _ _ _ (typed.Ord a b u e h i j) = ord_same ws e (expr_same ws a b e u h)
-    expr_same ws _ _ _ _ (typed.Val a b t u e h i) = val_same ws t e (expr_same ws a b e u h)
+    expr_same ws _ _ _ _ (typed.Val a b t u e h i) = val_same ws t e (ranged (scalar_at types t) i) (expr_same ws a b e u h)
     expr_same ws _ _ _ _ (typed.High a slot t there) = high_same ws slot t there
     expr_same ws _ _ _ _ (typed.FunctionCall a b t r c h cell) = λ q fit st fine. same_weak P world (λ v good. tt) (call_same ws t (tree types t) c (calls_same ws a b c (Some (tree types t)) h) q fit st fine)
 
@@ -586,11 +592,11 @@ module _ (x : Context) (lacking : ℕ) (world : World) (sask ask : Asks) (knows 
     links_same ws _ _ _ _ _ (typed.more_links a b c t u v l ls h hs) = λ z q fit st fine. same_then P world (link_same ws a b t l u h z q fit st fine) (λ z st fine good. links_same ws b c u ls v hs z q fit st fine)
 
     link_same : (ws : List Ty) (a b : ℕ) (t : TypeNo) (l : Link) (u : TypeNo) → typed.IsLink x ws a b t l u → L ws l
-    link_same ws _ _ _ _ _ (typed.Sum a b t u w e h i) = arithmetic_same ws op.Add w e (expr_same ws a b e u h)
-    link_same ws _ _ _ _ _ (typed.Difference a b t u w e h i) = arithmetic_same ws op.Subtract w e (expr_same ws a b e u h)
-    link_same ws _ _ _ _ _ (typed.Product a b t u w e h i) = arithmetic_same ws op.Multiply w e (expr_same ws a b e u h)
-    link_same ws _ _ _ _ _ (typed.Quotient a b t u w e h i j) = arithmetic_same ws op.Divide w e (expr_same ws a b e u h)
-    link_same ws _ _ _ _ _ (typed.Remainder a b t u w e h i j) = arithmetic_same ws op.Remainder w e (expr_same ws a b e u h)
+    link_same ws _ _ _ _ _ (typed.Sum a b t u w e h i) = arithmetic_same ws op.Add w e (ranged (scalar_at types w) i) (expr_same ws a b e u h)
+    link_same ws _ _ _ _ _ (typed.Difference a b t u w e h i) = arithmetic_same ws op.Subtract w e (ranged (scalar_at types w) i) (expr_same ws a b e u h)
+    link_same ws _ _ _ _ _ (typed.Product a b t u w e h i) = arithmetic_same ws op.Multiply w e (ranged (scalar_at types w) i) (expr_same ws a b e u h)
+    link_same ws _ _ _ _ _ (typed.Quotient a b t u w e h i j) = arithmetic_same ws op.Divide w e refl (expr_same ws a b e u h)
+    link_same ws _ _ _ _ _ (typed.Remainder a b t u w e h i j) = arithmetic_same ws op.Remainder w e refl (expr_same ws a b e u h)
     link_same ws _ _ _ _ _ (typed.And a b t u e h i j) = and_same ws e (expr_same ws a b e u h)
     link_same ws _ _ _ _ _ (typed.Or a b t u e h i j) = or_same ws e (expr_same ws a b e u h)
     link_same ws _ _ _ _ _ (typed.Combine a b t u o e h i j) = combine_same ws o e (expr_same ws a b e u h)
