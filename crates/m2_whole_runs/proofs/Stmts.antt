@@ -155,9 +155,9 @@ module _ (x : Context) (lacking : ℕ) (world : World) (sask ask : Asks) (knows 
       end_with P world (scalar_checked (IsProcedureValue P h) (Callable h) t v a fit st fine type good)
       (λ v st fine good. store_goes l (Callable h) at v st fine is (λ g e. subst (λ (g : Heading). IsProcedureValue P g v) (callable_in h g e) good)))))
 
-  like_there : (t : Ty) (l : Location) {y z : Answer Location} → IsAt t l → Same P world (IsAt t) y z → Same P world (IsAt t) (then_give y (strict.copied_from lacking P sask world n function (type_at world l) l)) z
+  like_there : (t : Ty) (l : Location) {y z : Answer Location} → IsAt t l → Same P world (IsAt t) y z → Same P world (IsAt t) (then_give y (strict.copied_from lacking P sask world n function (type_at world l))) z
   like_there t l is (gives k st fine at) =
-      subst (λ (o : Option Ty). Same P world (IsAt t) (strict.copied_from lacking P sask world n function o l k st) (Gave k st)) (sym is)
+      subst (λ (o : Option Ty). Same P world (IsAt t) (strict.copied_from lacking P sask world n function o k st) (Gave k st)) (sym is)
       (same_provided P world lacking (is_like (type_at world k) t) (Gave k) st (ap (λ (o : Option Ty). is_like o t) at ∙ alike_itself t) (gives k st fine at))
   like_there t l is (ends k out e) = ends k out e
   like_there t l is (still out) = still out

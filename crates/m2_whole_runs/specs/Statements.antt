@@ -29,10 +29,10 @@ module _ (lacking : ℕ) (p : Modules) (ask : Asks) (world : World) (n : ℕ) (f
   abbrev pub cell : Place → Gives Location
   cell d a st = then_give (locate lacking p ask world d a st) (at_cell lacking p ask world)
 
-  -- what stands at the second location has the components of what stands at the first
-  abbrev pub copied_from : Option Ty → Location → Location → State → Answer Location
-  copied_from None l l' st = lacks lacking st
-  copied_from (Some t) l l' st = provided lacking (is_like (type_at world l') t) (Gave l') st
+  -- what is copied has the components of what it is copied to
+  abbrev pub copied_from : Option Ty → Location → State → Answer Location
+  copied_from None l st = lacks lacking st
+  copied_from (Some t) l st = provided lacking (is_like (type_at world l) t) (Gave l) st
 
   -- so many characters have room
   abbrev pub at_room : ℕ → Location → State → Answer Location
@@ -42,7 +42,7 @@ module _ (lacking : ℕ) (p : Modules) (ask : Asks) (world : World) (n : ℕ) (f
   step_layer (step.Assign d t e) a st =
       with_answer (cell d a st) (λ l st. with_answer (value lacking p ask world e a st) (λ v st. with_answer (provided lacking (is_cell (Some (tree a.types t))) (as_type a.types t v) st) (λ v st. Went (stored l v st))))
   step_layer (step.Copy to from t) a st =
-      with_answer (locate lacking p ask world to a st) (λ l st. with_answer (then_give (locate lacking p ask world from a st) (copied_from (type_at world l) l)) (λ l' st. Went (record st { store = copied l l' st.store })))
+      with_answer (locate lacking p ask world to a st) (λ l st. with_answer (then_give (locate lacking p ask world from a st) (copied_from (type_at world l))) (λ l' st. Went (record st { store = copied l l' st.store })))
   step_layer (step.CopyText d t text) a st = with_answer (then_give (locate lacking p ask world d a st) (at_room (length text))) (λ l st. Went (record st { store = placed l (character text) st.store }))
   step_layer (step.Call c) a st = with_answer (called lacking p ask world c false a st) (λ v st. Went st)
   step_layer (step.Put e) a st =
