@@ -30,6 +30,7 @@ IsKnown m home = (is_own m home || list_any (λ i. i.number == home) m.imports) 
 pub record Knows (p : Program) (m : TypedModule) (i : Imported) : Type 0 where
   pub home : TypedModule
   pub there : slice_get p (module_place p i.number) ≡ Some home
+  pub number : home.types.home ≡ i.number
   pub name : i.name ≡ home.name
   pub more : List Ty
   pub variables : map (tree home.types) home.variables ≡ map (tree m.types) i.variables ++ more

@@ -340,6 +340,7 @@ module _ (trees : List Module) (files : List ℕ) (jobs : List (List ℕ)) (fit 
           record {
             home = home;
             there = ap (λ (n : ℕ). slice_get p n) found ∙ at;
+            number = its_home;
             name = sym named;
             more = v.0;
             variables = v.1;

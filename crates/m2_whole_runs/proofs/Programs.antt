@@ -35,7 +35,7 @@ use Rattle.m2_whole_runs.specs.Expressions.{is_module}
 use Rattle.m2_whole_runs.specs.Calls.{calling as strict_calling}
 use Rattle.m2_whole_runs.specs.Runs as strict
 use Rattle.m2_whole_runs.specs.Runs.{first_world, strict_run}
-use Rattle.m2_whole_runs.specs.Laws.{IsThere, AreThere, StrictRuns, NothingLacks}
+use Rattle.m2_whole_runs.specs.Laws.{StrictRuns, NothingLacks}
 use Rattle.m2_whole_runs.proofs.Worlds.{none_some, there_more, IsFine}
 use Rattle.m2_whole_runs.proofs.Same.{IsEnd, SameEnd, goes, leaves, returns, stops, unfinished}
 use Rattle.m2_whole_runs.proofs.Frames.{no_pairs, IsGood}
@@ -91,7 +91,7 @@ first_fine p = record { each = λ l h e. subst (λ (v : ℤ). IsProcedureValue p
 
 -- ---- what the trees of a module may name
 
-module _ (p : Program) (pages : ℕ) (modules : AreModules p) (there : AreThere p) where
+module _ (p : Program) (pages : ℕ) (modules : AreModules p) where
   abbrev base : List Ty
   base = (ground p pages).base
 
@@ -103,7 +103,7 @@ module _ (p : Program) (pages : ℕ) (modules : AreModules p) (there : AreThere 
     known_module home true e k = any_place (λ m. m.types.home == home) p place m at (eq-eqb m.types.home home (sym (eqb-true home m.types.home e)))
     known_module home false e k =
         let i = import_of m home e k in
-        let t = each_at (IsThere p) m.imports (import_place m home) i.import i.there (there place m at) in
+        let t = each_at (KnowsImport p m) m.imports (import_place m home) i.import i.there (modules place m at).coherent.imports in
         any_place (λ m. m.types.home == home) p (module_place p i.import.number) t.home t.there (eq-eqb t.home.types.home home (t.number ∙ i.number))
 
     -- a variable is there, where the row of its module has it
@@ -181,14 +181,14 @@ module _ (p : Program) (pages : ℕ) (modules : AreModules p) (there : AreThere 
         get_here [] rest m = refl
         get_here (x ∷ before) rest m = get_here before rest m
 
-same_run : (p : Program) (pages : ℕ) → AreModules p → AreTypedModules p pages → AreThere p → (lacking n : ℕ) → SameRun (strict_run lacking p pages n) (run p pages n)
+same_run : (p : Program) (pages : ℕ) → AreModules p → AreTypedModules p pages → (lacking n : ℕ) → SameRun (strict_run lacking p pages n) (run p pages n)
 unfolding strict_run run
-same_run p pages modules typed there lacking n = bodies_same p pages modules there typed lacking n (storage p pages - body_frame) [] p refl (first_state p) (first_fine p)
+same_run p pages modules typed lacking n = bodies_same p pages modules typed lacking n (storage p pages - body_frame) [] p refl (first_state p) (first_fine p)
 
 pub strict_runs : StrictRuns
-strict_runs p pages modules typed there lacking n = (same_run p pages modules typed there lacking n).is
+strict_runs p pages modules typed lacking n = (same_run p pages modules typed lacking n).is
 
 pub nothing_lacks : NothingLacks
-nothing_lacks p pages modules typed there lacking n above out e =
-    let below : lacking < 10 = ltb-true lacking 10 (subst IsWithin e (same_run p pages modules typed there lacking n).within) in
+nothing_lacks p pages modules typed lacking n above out e =
+    let below : lacking < 10 = ltb-true lacking 10 (subst IsWithin e (same_run p pages modules typed lacking n).within) in
     absurd (omega (arith, above, below))
