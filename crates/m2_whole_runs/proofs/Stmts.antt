@@ -37,9 +37,9 @@ use Rattle.m2_agree_trees.specs.Typed as trees
 use Rattle.m2_agree_trees.specs.Typed.{Context}
 use Rattle.m2_agree_stmts.specs.Typed as typed
 use Rattle.m2_agree_stmts.proofs.Meant.{arm_does, step_meant, step_means, arm_means}
-use Rattle.m2_whole_runs.specs.Worlds.{World, type_at, is_cell, is_like, has_room}
+use Rattle.m2_whole_runs.specs.Worlds.{World, type_at, is_like, has_room}
 use Rattle.m2_whole_runs.specs.Expressions as places
-use Rattle.m2_whole_runs.specs.Expressions.{is_ranged, provided, at_cell}
+use Rattle.m2_whole_runs.specs.Expressions.{is_ranged, is_taken, provided, at_cell}
 use Rattle.m2_whole_runs.specs.Statements as strict
 use Rattle.m2_whole_runs.specs.Statements.{are_ranged}
 use Rattle.m2_scheme.specs.Cells.{base_in}
@@ -48,7 +48,7 @@ use Rattle.m2_whole_runs.proofs.Does as strictly
 use Rattle.m2_whole_runs.proofs.Worlds.{none_some, there_behind, alike_itself, HoldsProcedures, IsFine, fine_placed}
 use Rattle.m2_whole_runs.proofs.Same.{Any, Same, gives, ends, still, SameEnd, goes, leaves, returns, stops, unfinished, same_then, end_with, end_then, end_if, same_provided, same_within, same_range}
 use Rattle.m2_whole_runs.proofs.Frames.{no_pairs, more_pairs, pairs_append, IsGood}
-use Rattle.m2_whole_runs.proofs.Exprs.{ranged, AllSame, Knows, Fits, Both, E, H, D, C, no_procedure, cell_there, expr_same, procedure_expr_same, place_same, calls_same}
+use Rattle.m2_whole_runs.proofs.Exprs.{ranged, AllSame, Knows, Fits, Both, E, H, D, C, no_procedure, cell_there, type_checked, cell_taken, procedure_taken, expr_same, procedure_expr_same, place_same, calls_same}
 
 -- ---- what variables hold
 
@@ -136,23 +136,16 @@ module _ (x : Context) (lacking : ℕ) (world : World) (sask ask : Asks) (knows 
 
   -- ---- simple statements
 
-  -- a value that is taken as one of a scalar type
-  scalar_checked : (G : ℤ → Type 0) (c : Scalar) (t : TypeNo) (v : ℤ) (a : Around) {ws : List Ty} → Fits x world ws a → (st : State) → IsFine P world st.store → tree types t ≡ Cell c → G v
-      → Same P world G (provided lacking (is_cell (Some (tree a.types t))) (as_type a.types t v) st) (as_type a.types t v st)
-  scalar_checked G c t v a fit st fine type good =
-      same_provided P world lacking (is_cell (Some (tree a.types t))) (as_type a.types t v) st (ap (λ (ts : Types). is_cell (Some (tree ts t))) fit.types ∙ ap (λ (t : Ty). is_cell (Some t)) type)
-      (same_range P world (scalar_at a.types t) range_fault v st refl fine good)
-
   assign_same : (ws : List Ty) (l : Bool) (d : Place) (t : TypeNo) (c : Scalar) (e : TypedExpr) → IsCell types t c → Dx ws d (Cell c) → Ex ws e → S ws l (stmt.Assign d t e)
   assign_same ws l d t c e cell m q = from_stmt ws l (stmt.Assign d t e) (step.Assign d t e) (stmt.outs-Assign d t e)
       (λ a fit st fine. end_with P world (cells (m a fit st fine)) (λ at st fine is. end_with P world (q a fit st fine) (λ v st fine good.
-      end_with P world (scalar_checked Any c t v a fit st fine cell.is tt)
+      end_with P world (type_checked x lacking world sask ask knows all Any ws t v a fit st fine (cell_taken x lacking world sask ask knows all t c v cell.is) tt)
       (λ v st fine good. store_goes l c at v st fine is (no_procedure P c v cell.number)))))
 
   assign_procedure_same : (ws : List Ty) (l : Bool) (d : Place) (t : TypeNo) (h : Heading) (e : TypedExpr) → tree types t ≡ Cell (Callable h) → Dx ws d (Cell (Callable h)) → Hx ws e h → S ws l (stmt.Assign d t e)
   assign_procedure_same ws l d t h e type m q = from_stmt ws l (stmt.Assign d t e) (step.Assign d t e) (stmt.outs-Assign d t e)
       (λ a fit st fine. end_with P world (cells (m a fit st fine)) (λ at st fine is. end_with P world (q a fit st fine) (λ v st fine good.
-      end_with P world (scalar_checked (IsProcedureValue P h) (Callable h) t v a fit st fine type good)
+      end_with P world (type_checked x lacking world sask ask knows all (IsProcedureValue P h) ws t v a fit st fine (cell_taken x lacking world sask ask knows all t (Callable h) v type) good)
       (λ v st fine good. store_goes l (Callable h) at v st fine is (λ g e. subst (λ (g : Heading). IsProcedureValue P g v) (callable_in h g e) good)))))
 
   like_there : (t : Ty) (l : Location) {y z : Answer Location} → IsAt t l → Same P world (IsAt t) y z → Same P world (IsAt t) (then_give y (strict.copied_from lacking P sask world n function (type_at world l))) z
@@ -225,11 +218,11 @@ module _ (x : Context) (lacking : ℕ) (world : World) (sask ask : Asks) (knows 
       (λ a fit st fine. subst (λ (b : Bool). End l (if b then Stopped lacking st.out else Came (pos 0) st) (Came (pos 0) st)) (sym (kind ∙ ap (λ (r : Result). is_there r) none)) (returns (pos 0) st fine (good_none (pos 0) none)))
 
   give_same : (ws : List Ty) (l : Bool) (t : TypeNo) (e : TypedExpr) (G : ℤ → Type 0) (r : Ty) → result ≡ Some r
-      → Both x lacking world sask ask knows all ws G (places.value lacking P sask world e) (value P ask e) → ((v : ℤ) → G v → IsGood P (Some r) v) → S ws l (stmt.Give t e)
-  give_same ws l t e G r some m good = from_stmt ws l (stmt.Give t e) (step.Give t e) (stmt.outs-Give t e)
-      (λ a fit st fine. subst (λ (b : Bool). End l (if b then with_answer (places.value lacking P sask world e a st) (λ v st. with_answer (as_type a.types t v st) (λ v st. Came v st)) else Stopped lacking st.out)
+      → Both x lacking world sask ask knows all ws G (places.value lacking P sask world e) (value P ask e) → ((v : ℤ) → G v → is_taken lacking P sask world types t v ≡ true) → ((v : ℤ) → G v → IsGood P (Some r) v) → S ws l (stmt.Give t e)
+  give_same ws l t e G r some m ok good = from_stmt ws l (stmt.Give t e) (step.Give t e) (stmt.outs-Give t e)
+      (λ a fit st fine. subst (λ (b : Bool). End l (if b then with_answer (places.value lacking P sask world e a st) (λ v st. with_answer (places.as_type lacking P sask world a.types t v st) (λ v st. Came v st)) else Stopped lacking st.out)
       (with_answer (value P ask e a st) (λ v st. with_answer (as_type a.types t v st) (λ v st. Came v st)))) (sym (kind ∙ ap (λ (r : Result). is_there r) some))
-      (end_with P world (m a fit st fine) (λ v st fine is. end_with P world (same_range P world {G = G} (scalar_at a.types t) range_fault v st refl fine is)
+      (end_with P world (m a fit st fine) (λ v st fine is. end_with P world (type_checked x lacking world sask ask knows all G ws t v a fit st fine (ok v is) is)
       (λ v st fine is. returns v st fine (subst (λ (r : Result). IsGood P r v) (sym some) (good v is))))))
 
   -- ---- rows of statements
@@ -365,9 +358,9 @@ module _ (x : Context) (lacking : ℕ) (world : World) (sask ask : Asks) (knows 
     stmt_same _ _ _ _ _ (typed.Exit ws a) = exit_same ws
     stmt_same _ _ _ _ _ (typed.Return ws l a none) = return_same ws l none
     stmt_same _ _ _ _ _ (typed.Give ws l a b t r e some cell g) =
-        give_same ws l t e Any (tree types t) some (ex ws a b e g.of g.is) (λ v any h e. no_procedure P r v cell.number h (cell_in (tree types t) r (Callable h) cell.is e))
+        give_same ws l t e Any (tree types t) some (ex ws a b e g.of g.is) (λ v any. cell_taken x lacking world sask ask knows all t r v cell.is) (λ v any h e. no_procedure P r v cell.number h (cell_in (tree types t) r (Callable h) cell.is e))
     stmt_same _ _ _ _ _ (typed.GiveProcedure ws l a b t h e some none is) =
-        give_same ws l t e (IsProcedureValue P h) (Cell (Callable h)) some (hx ws a b e h is) (λ v good g e. subst (λ (g : Heading). IsProcedureValue P g v) (callable_in h g (same_cell (Callable h) (Callable g) (ap Some e))) good)
+        give_same ws l t e (IsProcedureValue P h) (Cell (Callable h)) some (hx ws a b e h is) (λ v good. procedure_taken x lacking world sask ask knows all t h v good) (λ v good g e. subst (λ (g : Heading). IsProcedureValue P g v) (callable_in h g (same_cell (Callable h) (Callable g) (ap Some e))) good)
     stmt_same _ _ _ _ _ (typed.For ws l a b c z d t u r start limit by body cell ranged' control low high g h hs) =
         for_same ws l d t r start limit by body cell (ranged (scalar_at types t) ranged') (control_same ws d (Cell r) control) (ex ws a b start g.of g.is) (ex ws b c limit u h) (stmts_same ws l c z body hs)
     stmt_same _ _ _ _ _ (typed.With ws l a b c t d body h hs) = with_same ws l t d body (dx ws a b d t h) (stmts_same (ws ++ t ∷ []) l b c body hs)

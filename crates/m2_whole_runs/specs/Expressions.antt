@@ -16,13 +16,13 @@ use Rattle.m2_typed.specs.declared.computed.Arithmetic.TheVariants as op
 use Rattle.m2_typed.specs.declared.types.TypeNo.{TypeNo}
 use Rattle.m2_typed.specs.declared.known_types.Types.{Types}
 use Rattle.m2_typed.specs.Known.{scalar_at}
-use Rattle.m2_layout.specs.Shapes.{elements_of}
+use Rattle.m2_layout.specs.Shapes.{tree, elements_of}
 use Rattle.m2_meaning.specs.Store.{Location}
 use Rattle.m2_meaning.specs.Answer.{State, Answer, Gave, Ended, then_give, empty_procedure}
 use Rattle.m2_meaning.specs.Around.{Modules, Around, Named, At, Elements, Callee, Passed, Number, Variable, Array, Text, module_place, procedure_value, entry_of, entry_callee, module_callee, nested_in, named}
 use Rattle.m2_meaning.specs.Calls.{is_there, is_function}
 use Rattle.m2_meaning.specs.Expressions as meaning
-use Rattle.m2_meaning.specs.Expressions.{Asks, Gives, Reaches, Continues, as_type, index_range, element, operated, one_by_one}
+use Rattle.m2_meaning.specs.Expressions.{Asks, Gives, Reaches, Continues, index_range, element, operated, one_by_one}
 use Rattle.m2_whole_runs.specs.Worlds.{World, type_at, is_cell}
 
 -- a call, and whether its value is wanted
@@ -87,6 +87,18 @@ module _ (lacking : ℕ) where
     asked_value wanted (pos (suc k)) args a st = asked wanted (entry_callee p (entry_of p (pos (suc k)))) args a st
     asked_value wanted (negsuc k) args a st = lacks st
 
+    abbrev pub is_procedure : ℤ → Bool
+    is_procedure (pos zero) = true
+    is_procedure (pos (suc k)) = is_there (entry_callee p (entry_of p (pos (suc k))))
+    is_procedure (negsuc k) = false
+
+    -- the type as one of which a value is taken is a scalar type that is there, or the value is that of a procedure
+    abbrev pub is_taken : Types → TypeNo → ℤ → Bool
+    is_taken types t v = is_cell (Some (tree types t)) || is_procedure v
+
+    abbrev pub as_type : Types → TypeNo → ℤ → State → Answer ℤ
+    as_type types t v st = provided (is_taken types t v) (meaning.as_type types t v) st
+
     abbrev pub argument_layer : Argument-F (Gives Passed) Calls Reaches Continues (Gives ℤ) (Gives Location) → Gives Passed
     argument_layer (layer.Value t e) a st = then_give (e a st) (λ v st. then_give (as_type a.types t v st) (λ v st. Gave (Number v) st))
     argument_layer (layer.Place d) a st = then_give (d a st) (λ l st. Gave (Variable l) st)
@@ -140,7 +152,7 @@ module _ (lacking : ℕ) where
     expr_layer (layer.Procedure f) a st =
         provided (is_module p f.home) (λ st. provided (is_there (module_callee p (module_place p f.home) f.number)) (Gave (procedure_value p f.home f.number)) st) st
     expr_layer (layer.High slot) a st = needs (elements_named (named a slot)) (λ e st. Gave (pos e.1) st) st
-    expr_layer (layer.Val t e) a st = then_give (e a st) (λ v st. provided (is_ranged a.types t) (as_type a.types t v) st)
+    expr_layer (layer.Val t e) a st = then_give (e a st) (λ v st. provided (is_ranged a.types t) (meaning.as_type a.types t v) st)
     expr_layer other a st = meaning.expr_layer p ask (wanting other) a st
 
     unfoldable pub value : TypedExpr → Gives ℤ

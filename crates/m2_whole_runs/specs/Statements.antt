@@ -15,9 +15,8 @@ use Rattle.m2_meaning.specs.Around.{Modules}
 use Rattle.m2_meaning.specs.Expressions.{Asks, Gives, within, as_type}
 use Rattle.m2_meaning.specs.Statements.{Does, Arm, in_turn, if_there, or_else, chosen, stored, character, while_true, until_true, looped, for_all, base_of, changed, rechecked, with_element}
 use Rattle.m2_layout.specs.Types.{Ty}
-use Rattle.m2_layout.specs.Shapes.{tree}
-use Rattle.m2_whole_runs.specs.Worlds.{World, type_at, is_cell, has_room, is_like}
-use Rattle.m2_whole_runs.specs.Expressions.{is_ranged, lacks, provided, at_cell, value, locate, called}
+use Rattle.m2_whole_runs.specs.Worlds.{World, type_at, has_room, is_like}
+use Rattle.m2_whole_runs.specs.Expressions.{is_ranged, lacks, provided, at_cell, as_type as taken_as, value, locate, called}
 
 -- a type with a range, whose base has one
 abbrev pub are_ranged : Types → TypeNo → Bool
@@ -40,7 +39,7 @@ module _ (lacking : ℕ) (p : Modules) (ask : Asks) (world : World) (n : ℕ) (f
 
   abbrev pub step_layer : TypedStmt-F Does Arm → Does
   step_layer (step.Assign d t e) a st =
-      with_answer (cell d a st) (λ l st. with_answer (value lacking p ask world e a st) (λ v st. with_answer (provided lacking (is_cell (Some (tree a.types t))) (as_type a.types t v) st) (λ v st. Went (stored l v st))))
+      with_answer (cell d a st) (λ l st. with_answer (value lacking p ask world e a st) (λ v st. with_answer (taken_as lacking p ask world a.types t v st) (λ v st. Went (stored l v st))))
   step_layer (step.Copy to from t) a st =
       with_answer (locate lacking p ask world to a st) (λ l st. with_answer (then_give (locate lacking p ask world from a st) (copied_from (type_at world l))) (λ l' st. Went (record st { store = copied l l' st.store })))
   step_layer (step.CopyText d t text) a st = with_answer (then_give (locate lacking p ask world d a st) (at_room (length text))) (λ l st. Went (record st { store = placed l (character text) st.store }))
@@ -61,7 +60,7 @@ module _ (lacking : ℕ) (p : Modules) (ask : Asks) (world : World) (n : ℕ) (f
   -- a function returns with a value
   step_layer step.Return a st = if function then Stopped lacking st.out else Came (pos 0) st
   step_layer (step.Give t e) a st =
-      if function then with_answer (value lacking p ask world e a st) (λ v st. with_answer (as_type a.types t v st) (λ v st. Came v st)) else Stopped lacking st.out
+      if function then with_answer (value lacking p ask world e a st) (λ v st. with_answer (taken_as lacking p ask world a.types t v st) (λ v st. Came v st)) else Stopped lacking st.out
   step_layer (step.For d t start limit by body) a st =
       with_answer (cell d a st) (λ l st. with_answer (value lacking p ask world start a st) (λ v st. with_answer (provided lacking (is_ranged a.types t) (as_type a.types t v) st) (λ v st. with_answer (value lacking p ask world limit a st) (λ last st.
       for_all n (as_type a.types t) l by last (in_turn body a) (stored l v st)))))
