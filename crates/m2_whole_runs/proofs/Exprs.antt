@@ -59,11 +59,15 @@ use Rattle.m2_agree_trees.proofs.Meant.{argument_value, component_value, link_va
 use Rattle.m2_agree_bodies.specs.Linked.{Spot, around_of}
 use Rattle.m2_whole_runs.specs.Worlds.{World, type_at, is_cell}
 use Rattle.m2_whole_runs.specs.Expressions as strict
-use Rattle.m2_whole_runs.specs.Expressions.{Calls, is_module, variable_of, elements_named, first_of, provided, needs, at_there, at_cell, suits_call}
+use Rattle.m2_whole_runs.specs.Expressions.{Calls, is_module, is_ranged, is_procedure, is_taken, has_range, variable_of, elements_named, first_of, provided, needs, at_there, at_cell, suits_call}
 use Rattle.m2_whole_runs.proofs.Meant as strictly
 use Rattle.m2_whole_runs.proofs.Worlds.{there_behind, IsFine}
 use Rattle.m2_whole_runs.proofs.Same.{Any, Same, gives, ends, still, same_weak, same_then, same_if, same_provided, same_needs, same_within, same_range}
 use Rattle.m2_whole_runs.proofs.Frames.{Pairs, no_pairs, more_pairs, pair_at, pairs_drop, pairs_length, IsName, kept_name, alias_name, open_name, AreNames, AreFrames, named_at, IsGiven, given_number, given_copy, given_name, given_array, given_text, IsGood}
+
+pub ranged : (o : Option Range) → (o ≡ None → ⊥) → is_there o ≡ true
+ranged None some = absurd (some refl)
+ranged (Some r) some = refl
 
 callable_same : (g h : Heading) → Callable g ≡ Callable h → g ≡ h
 callable_same g h e = cc e
@@ -173,6 +177,35 @@ module _ (x : Context) (lacking : ℕ) (world : World) (sask ask : Asks) (knows 
   open_at : (ws : List Ty) (a : Around) → Fits x world ws a → (slot : Slot) (t : Ty) → kind_at x.kinds slot ≡ Some (Open t) → OpenName world t (named a slot)
   open_at ws a fit slot t e = let n = named_at world x.kinds a fit.frames slot (Open t) e in open_named world (named a slot) (Open t) n.0 t n.1 n.2 refl
 
+  -- a value that is taken as one of a type
+  pub type_checked : (G : ℤ → Type 0) (ws : List Ty) (t : TypeNo) (v : ℤ) (a : Around) → Fits x world ws a → (st : State) → IsFine P world st.store → is_taken lacking P sask world types t v ≡ true → G v
+      → Same P world G (strict.as_type lacking P sask world a.types t v st) (as_type a.types t v st)
+  type_checked G ws t v a fit st fine ok good =
+      same_provided P world lacking (is_taken lacking P sask world a.types t v) (as_type a.types t v) st (ap (λ (ts : Types). is_taken lacking P sask world ts t v) fit.types ∙ ok)
+      (same_range P world (scalar_at a.types t) range_fault v st refl fine good)
+
+  -- of a scalar type
+  pub cell_taken : (t : TypeNo) (c : Scalar) (v : ℤ) → tree types t ≡ Cell c → is_taken lacking P sask world types t v ≡ true
+  cell_taken t c v e = ap (λ (u : Ty). is_cell (Some u) || is_procedure lacking P sask world v) e
+
+  found_at : (h : Heading) (n : ℕ) (names : NamesProcedure P h n) → entry_callee P (entry_of P (pos (value_number P names.place names.number))) ≡ Some (callee_of names.place names.home names.routine [])
+  found_at h n names =
+      ap (entry_callee P) (entry_there P names.place names.number names.home names.routine names.there names.is)
+      ∙ ap (λ (q : Option TypedModule). procedure_in names.place q names.number) names.there
+      ∙ ap (λ (q : Option Routine). callee_with names.place names.home.types [] q) names.is
+
+  procedure_there : (h : Heading) (v : ℤ) → IsProcedureValue P h v → is_procedure lacking P sask world v ≡ true
+  procedure_there h _ Empty = refl
+  procedure_there h _ (Full n names) = subst (λ (n : ℕ). is_procedure lacking P sask world (pos n) ≡ true) (sym names.value) (ap (λ (o : Option Callee). is_there o) (found_at h n names))
+
+  -- of a procedure type
+  pub procedure_taken : (t : TypeNo) (h : Heading) (v : ℤ) → IsProcedureValue P h v → is_taken lacking P sask world types t v ≡ true
+  procedure_taken t h v is = either (is_cell (Some (tree types t))) (is_procedure lacking P sask world v) (procedure_there h v is)
+    where
+      either : (b c : Bool) → c ≡ true → (b || c) ≡ true
+      either true c e = refl
+      either false c e = e
+
   -- ---- one layer
 
   from_expr : (ws : List Ty) (G : ℤ → Type 0) (e : TypedExpr) (y : TypedExpr-F Argument Call Component Link TypedExpr Place) → out-TypedExpr e ≡ y
@@ -270,9 +303,10 @@ module _ (x : Context) (lacking : ℕ) (world : World) (sask ask : Asks) (knows 
     ord_same e m = from_expr ws Any (expr.Ord e) (layer.Ord e) (expr.outs-Ord e)
         (unary_same Any e (λ a v st. meaning.ordinal v st) m (λ a v st fine. same_if P world (int_lt v (pos 0)) (ends range_fault st.out refl) (gives v st fine tt)))
 
-    val_same : (t : TypeNo) (e : TypedExpr) → E e → E (expr.Val t e)
-    val_same t e m = from_expr ws Any (expr.Val t e) (layer.Val t e) (expr.outs-Val t e)
-        (unary_same Any e (λ a v st. as_type a.types t v st) m (λ a v st fine. same_range P world (scalar_at a.types t) range_fault v st refl fine tt))
+    val_same : (t : TypeNo) (e : TypedExpr) → is_ranged types t ≡ true → E e → E (expr.Val t e)
+    val_same t e ok m = from_expr ws Any (expr.Val t e) (layer.Val t e) (expr.outs-Val t e)
+        (λ a fit st fine. same_then P world (m a fit st fine) (λ v st fine good.
+        same_provided P world lacking (is_ranged a.types t) (as_type a.types t v) st (ap (λ (ts : Types). is_ranged ts t) fit.types ∙ ok) (same_range P world (scalar_at a.types t) range_fault v st refl fine tt)))
 
     high_same : (slot : Slot) (t : Ty) → kind_at x.kinds slot ≡ Some (Open t) → E (expr.High slot)
     high_same slot t e = from_expr ws Any (expr.High slot) (layer.High slot) (expr.outs-High slot)
@@ -301,9 +335,10 @@ module _ (x : Context) (lacking : ℕ) (world : World) (sask ask : Asks) (knows 
     operated_same ts op.Divide t v w st fine = same_if P world (int_lt (pos 0) w) (gives (quotient v w) st fine tt) (ends divisor_fault st.out refl)
     operated_same ts op.Remainder t v w st fine = same_if P world (int_lt (pos 0) w) (gives (remainder v w) st fine tt) (ends divisor_fault st.out refl)
 
-    arithmetic_same : (o : Arithmetic) (t : TypeNo) (e : TypedExpr) → E e → L (link.Arithmetic o t e)
-    arithmetic_same o t e m = from_link (link.Arithmetic o t e) (layer.Arithmetic o t e) (link.outs-Arithmetic o t e)
-        (λ v a fit st fine. same_then P world (m a fit st fine) (λ w st fine good. operated_same a.types o t v w st fine))
+    arithmetic_same : (o : Arithmetic) (t : TypeNo) (e : TypedExpr) → has_range lacking P sask world types o t ≡ true → E e → L (link.Arithmetic o t e)
+    arithmetic_same o t e ok m = from_link (link.Arithmetic o t e) (layer.Arithmetic o t e) (link.outs-Arithmetic o t e)
+        (λ v a fit st fine. same_then P world (m a fit st fine) (λ w st fine good.
+        same_provided P world lacking (has_range lacking P sask world a.types o t) (operated a.types o t v w) st (ap (λ (ts : Types). has_range lacking P sask world ts o t) fit.types ∙ ok) (operated_same a.types o t v w st fine)))
 
     and_same : (e : TypedExpr) → E e → L (link.And e)
     and_same e m = from_link (link.And e) (layer.And e) (link.outs-And e) (λ v a fit st fine. same_if P world (is_true v) (m a fit st fine) (gives _ st fine tt))
@@ -446,12 +481,12 @@ module _ (x : Context) (lacking : ℕ) (world : World) (sask ask : Asks) (knows 
 
     value_same : (t : TypeNo) (c : Scalar) (e : TypedExpr) → E e → IsCell types t c → A (argument.Value t e) (ByNumber c)
     value_same t c e m cell = from_argument (ByNumber c) (argument.Value t e) (layer.Value t e) (argument.outs-Value t e)
-        (λ a fit st fine. same_then P world (m a fit st fine) (λ v st fine good. same_then P world (same_range P world {G = Any} (scalar_at a.types t) range_fault v st refl fine tt)
+        (λ a fit st fine. same_then P world (m a fit st fine) (λ v st fine good. same_then P world (type_checked Any ws t v a fit st fine (cell_taken t c v cell.is) tt)
         (λ v st fine good. gives (Number v) st fine (given_number c v (no_procedure P c v cell.number)))))
 
     actual_same : (t : TypeNo) (h : Heading) (e : TypedExpr) → H e h → A (argument.Value t e) (ByNumber (Callable h))
     actual_same t h e m = from_argument (ByNumber (Callable h)) (argument.Value t e) (layer.Value t e) (argument.outs-Value t e)
-        (λ a fit st fine. same_then P world (m a fit st fine) (λ v st fine good. same_then P world (same_range P world {G = IsProcedureValue P h} (scalar_at a.types t) range_fault v st refl fine good)
+        (λ a fit st fine. same_then P world (m a fit st fine) (λ v st fine good. same_then P world (type_checked (IsProcedureValue P h) ws t v a fit st fine (procedure_taken t h v good) good)
         (λ v st fine good. gives (Number v) st fine (given_number (Callable h) v (λ g e. subst (λ (g : Heading). IsProcedureValue P g v) (callable_same h g e) good)))))
 
     name_same : (d : Place) (t : Ty) → D d t → A (argument.Place d) (ByName t)
@@ -536,17 +571,12 @@ module _ (x : Context) (lacking : ℕ) (world : World) (sask ask : Asks) (knows 
         → Same P world (IsGood P (result_of types t)) (strict.asked_value lacking P sask world wanted v (map sg args) a st) (meaning.asked_if P ask (entry_callee P (entry_of P v)) (map (argument_value P ask) args) a st)
     held_same t h e args ms wanted ok _ Empty a fit st fine = ends empty_procedure st.out refl
     held_same t h e args ms wanted ok _ (Full n names) a fit st fine =
-        let v : ℤ = pos (value_number P names.place names.number) in
         let o : Spot P = record { place = names.place; home = names.home; there = names.there; at = which.Module names.number; routine = names.routine; is = names.is } in
         let none : AreFrames world (around_of names.home names.routine) [] = subst (λ (kss : List Kinds). AreFrames world kss []) (sym (knows.outermost o names.number refl)) no_pairs in
         let forms : forms_of names.home.types names.routine.heading ≡ forms_of types t = forms_same names.home.types names.routine.heading h names.heading ∙ sym (forms_same types t h e) in
         let result : result_of names.home.types names.routine.heading ≡ result_of types t = result_same names.home.types names.routine.heading h names.heading ∙ sym (result_same types t h e) in
-        let found : entry_callee P (entry_of P v) ≡ Some (callee_of names.place names.home names.routine []) =
-        ap (entry_callee P) (entry_there P names.place names.number names.home names.routine names.there names.is)
-        ∙ ap (λ (q : Option TypedModule). procedure_in names.place q names.number) names.there
-        ∙ ap (λ (q : Option Routine). callee_with names.place names.home.types [] q) names.is in
         subst (λ (n : ℕ). Same P world (IsGood P (result_of types t)) (strict.asked_value lacking P sask world wanted (pos n) (map sg args) a st) (meaning.asked_if P ask (entry_callee P (entry_of P (pos n))) (map (argument_value P ask) args) a st)) (sym names.value)
-        (subst (λ (q : Option Callee). Same P world (IsGood P (result_of types t)) (strict.asked lacking P sask world wanted q (map sg args) a st) (meaning.asked_if P ask q (map (argument_value P ask) args) a st)) (sym found)
+        (subst (λ (q : Option Callee). Same P world (IsGood P (result_of types t)) (strict.asked lacking P sask world wanted q (map sg args) a st) (meaning.asked_if P ask q (map (argument_value P ask) args) a st)) (sym (found_at h n names))
         (asked_same o [] none (forms_of types t) (result_of types t) forms result args ms wanted ok a fit st fine))
 
     variable_same : (t : TypeNo) (h : Heading) (d : Place) (args : List Argument) → heading_at types t ≡ Some h → D d (Cell (Callable h)) → As args (forms_of types t) → C (call.Variable t d args) (result_of types t)
@@ -572,7 +602,7 @@ module _ (x : Context) (lacking : ℕ) (world : World) (sask ask : Asks) (knows 
     expr_same ws _ _ _ _ (typed.Chr a b u e h) = chr_same ws e (expr_same ws a b e u h)
     expr_same ws _ _ _ _ (typed.Odd a b u e h) = odd_same ws e (expr_same ws a b e u h)
     expr_same ws _ _ _ _ (typed.Ord a b u e h i j) = ord_same ws e (expr_same ws a b e u h)
-    expr_same ws _ _ _ _ (typed.Val a b t u e h i) = val_same ws t e (expr_same ws a b e u h)
+    expr_same ws _ _ _ _ (typed.Val a b t u e h i) = val_same ws t e (ranged (scalar_at types t) i) (expr_same ws a b e u h)
     expr_same ws _ _ _ _ (typed.High a slot t there) = high_same ws slot t there
     expr_same ws _ _ _ _ (typed.FunctionCall a b t r c h cell) = λ q fit st fine. same_weak P world (λ v good. tt) (call_same ws t (tree types t) c (calls_same ws a b c (Some (tree types t)) h) q fit st fine)
 
@@ -586,11 +616,11 @@ module _ (x : Context) (lacking : ℕ) (world : World) (sask ask : Asks) (knows 
     links_same ws _ _ _ _ _ (typed.more_links a b c t u v l ls h hs) = λ z q fit st fine. same_then P world (link_same ws a b t l u h z q fit st fine) (λ z st fine good. links_same ws b c u ls v hs z q fit st fine)
 
     link_same : (ws : List Ty) (a b : ℕ) (t : TypeNo) (l : Link) (u : TypeNo) → typed.IsLink x ws a b t l u → L ws l
-    link_same ws _ _ _ _ _ (typed.Sum a b t u w e h i) = arithmetic_same ws op.Add w e (expr_same ws a b e u h)
-    link_same ws _ _ _ _ _ (typed.Difference a b t u w e h i) = arithmetic_same ws op.Subtract w e (expr_same ws a b e u h)
-    link_same ws _ _ _ _ _ (typed.Product a b t u w e h i) = arithmetic_same ws op.Multiply w e (expr_same ws a b e u h)
-    link_same ws _ _ _ _ _ (typed.Quotient a b t u w e h i j) = arithmetic_same ws op.Divide w e (expr_same ws a b e u h)
-    link_same ws _ _ _ _ _ (typed.Remainder a b t u w e h i j) = arithmetic_same ws op.Remainder w e (expr_same ws a b e u h)
+    link_same ws _ _ _ _ _ (typed.Sum a b t u w e h i) = arithmetic_same ws op.Add w e (ranged (scalar_at types w) i) (expr_same ws a b e u h)
+    link_same ws _ _ _ _ _ (typed.Difference a b t u w e h i) = arithmetic_same ws op.Subtract w e (ranged (scalar_at types w) i) (expr_same ws a b e u h)
+    link_same ws _ _ _ _ _ (typed.Product a b t u w e h i) = arithmetic_same ws op.Multiply w e (ranged (scalar_at types w) i) (expr_same ws a b e u h)
+    link_same ws _ _ _ _ _ (typed.Quotient a b t u w e h i j) = arithmetic_same ws op.Divide w e refl (expr_same ws a b e u h)
+    link_same ws _ _ _ _ _ (typed.Remainder a b t u w e h i j) = arithmetic_same ws op.Remainder w e refl (expr_same ws a b e u h)
     link_same ws _ _ _ _ _ (typed.And a b t u e h i j) = and_same ws e (expr_same ws a b e u h)
     link_same ws _ _ _ _ _ (typed.Or a b t u e h i j) = or_same ws e (expr_same ws a b e u h)
     link_same ws _ _ _ _ _ (typed.Combine a b t u o e h i j) = combine_same ws o e (expr_same ws a b e u h)

@@ -8,3 +8,4 @@ pub mod Stmts
 pub mod Formals
 pub mod Procedures
 pub mod Programs
+pub mod Missing

@@ -35,7 +35,6 @@ use Rattle.m2_whole_runs.specs.Expressions.{is_module}
 use Rattle.m2_whole_runs.specs.Calls.{calling as strict_calling}
 use Rattle.m2_whole_runs.specs.Runs as strict
 use Rattle.m2_whole_runs.specs.Runs.{first_world, strict_run}
-use Rattle.m2_agree_linked.specs.Knows.{Knows}
 use Rattle.m2_whole_runs.specs.Laws.{StrictRuns, NothingLacks}
 use Rattle.m2_whole_runs.proofs.Worlds.{none_some, there_more, IsFine}
 use Rattle.m2_whole_runs.proofs.Same.{IsEnd, SameEnd, goes, leaves, returns, stops, unfinished}
@@ -104,7 +103,7 @@ module _ (p : Program) (pages : ℕ) (modules : AreModules p) where
     known_module home true e k = any_place (λ m. m.types.home == home) p place m at (eq-eqb m.types.home home (sym (eqb-true home m.types.home e)))
     known_module home false e k =
         let i = import_of m home e k in
-        let t = each_at (Knows p m) m.imports (import_place m home) i.import i.there (modules place m at).coherent.imports in
+        let t = each_at (KnowsImport p m) m.imports (import_place m home) i.import i.there (modules place m at).coherent.imports in
         any_place (λ m. m.types.home == home) p (module_place p i.import.number) t.home t.there (eq-eqb t.home.types.home home (t.number ∙ i.number))
 
     -- a variable is there, where the row of its module has it

@@ -1,6 +1,6 @@
 -- Typed statements: the strict meaning is the meaning.
 use Rattle.std.proofs.Common.{◌≡◌, ℕ, zero, suc, ◌≤◌, ℤ, pos, ◌+ℤ◌, Bool, true, false, List, [], ◌∷◌, ◌++◌, map, length, Option, Some, None, if◌then◌else◌, refl, sym, ap, subst, ◌∙◌}
-use Rattle.std.specs.Prelude.{nat_lt, not, unsigned_abs}
+use Rattle.std.specs.Prelude.{nat_lt, ◌&&◌, not, unsigned_abs}
 use Rattle.std.specs.List.{list_any}
 use Rattle.std.proofs.lemmas.Bool.{le-ltb}
 use Rattle.m2_typed.specs.declared.computed.Call.{Call}
@@ -39,13 +39,16 @@ use Rattle.m2_agree_stmts.specs.Typed as typed
 use Rattle.m2_agree_stmts.proofs.Meant.{arm_does, step_meant, step_means, arm_means}
 use Rattle.m2_whole_runs.specs.Worlds.{World, type_at, is_like, has_room}
 use Rattle.m2_whole_runs.specs.Expressions as places
-use Rattle.m2_whole_runs.specs.Expressions.{provided, at_cell}
+use Rattle.m2_whole_runs.specs.Expressions.{is_ranged, is_taken, provided, at_cell}
 use Rattle.m2_whole_runs.specs.Statements as strict
+use Rattle.m2_whole_runs.specs.Statements.{are_ranged}
+use Rattle.m2_scheme.specs.Cells.{base_in}
+use Rattle.m2_typed.specs.declared.shape.Scalar.{Scalar as Range}
 use Rattle.m2_whole_runs.proofs.Does as strictly
 use Rattle.m2_whole_runs.proofs.Worlds.{none_some, there_behind, alike_itself, HoldsProcedures, IsFine, fine_placed}
 use Rattle.m2_whole_runs.proofs.Same.{Any, Same, gives, ends, still, SameEnd, goes, leaves, returns, stops, unfinished, same_then, end_with, end_then, end_if, same_provided, same_within, same_range}
 use Rattle.m2_whole_runs.proofs.Frames.{no_pairs, more_pairs, pairs_append, IsGood}
-use Rattle.m2_whole_runs.proofs.Exprs.{AllSame, Knows, Fits, Both, E, H, D, C, no_procedure, cell_there, expr_same, procedure_expr_same, place_same, calls_same}
+use Rattle.m2_whole_runs.proofs.Exprs.{ranged, AllSame, Knows, Fits, Both, E, H, D, C, no_procedure, cell_there, type_checked, cell_taken, procedure_taken, expr_same, procedure_expr_same, place_same, calls_same}
 
 -- ---- what variables hold
 
@@ -135,17 +138,19 @@ module _ (x : Context) (lacking : ℕ) (world : World) (sask ask : Asks) (knows 
 
   assign_same : (ws : List Ty) (l : Bool) (d : Place) (t : TypeNo) (c : Scalar) (e : TypedExpr) → IsCell types t c → Dx ws d (Cell c) → Ex ws e → S ws l (stmt.Assign d t e)
   assign_same ws l d t c e cell m q = from_stmt ws l (stmt.Assign d t e) (step.Assign d t e) (stmt.outs-Assign d t e)
-      (λ a fit st fine. end_with P world (cells (m a fit st fine)) (λ at st fine is. end_with P world (q a fit st fine) (λ v st fine good. end_with P world (same_range P world {G = Any} (scalar_at a.types t) range_fault v st refl fine tt)
+      (λ a fit st fine. end_with P world (cells (m a fit st fine)) (λ at st fine is. end_with P world (q a fit st fine) (λ v st fine good.
+      end_with P world (type_checked x lacking world sask ask knows all Any ws t v a fit st fine (cell_taken x lacking world sask ask knows all t c v cell.is) tt)
       (λ v st fine good. store_goes l c at v st fine is (no_procedure P c v cell.number)))))
 
-  assign_procedure_same : (ws : List Ty) (l : Bool) (d : Place) (t : TypeNo) (h : Heading) (e : TypedExpr) → Dx ws d (Cell (Callable h)) → Hx ws e h → S ws l (stmt.Assign d t e)
-  assign_procedure_same ws l d t h e m q = from_stmt ws l (stmt.Assign d t e) (step.Assign d t e) (stmt.outs-Assign d t e)
-      (λ a fit st fine. end_with P world (cells (m a fit st fine)) (λ at st fine is. end_with P world (q a fit st fine) (λ v st fine good. end_with P world (same_range P world {G = IsProcedureValue P h} (scalar_at a.types t) range_fault v st refl fine good)
+  assign_procedure_same : (ws : List Ty) (l : Bool) (d : Place) (t : TypeNo) (h : Heading) (e : TypedExpr) → tree types t ≡ Cell (Callable h) → Dx ws d (Cell (Callable h)) → Hx ws e h → S ws l (stmt.Assign d t e)
+  assign_procedure_same ws l d t h e type m q = from_stmt ws l (stmt.Assign d t e) (step.Assign d t e) (stmt.outs-Assign d t e)
+      (λ a fit st fine. end_with P world (cells (m a fit st fine)) (λ at st fine is. end_with P world (q a fit st fine) (λ v st fine good.
+      end_with P world (type_checked x lacking world sask ask knows all (IsProcedureValue P h) ws t v a fit st fine (cell_taken x lacking world sask ask knows all t (Callable h) v type) good)
       (λ v st fine good. store_goes l (Callable h) at v st fine is (λ g e. subst (λ (g : Heading). IsProcedureValue P g v) (callable_in h g e) good)))))
 
-  like_there : (t : Ty) (l : Location) {y z : Answer Location} → IsAt t l → Same P world (IsAt t) y z → Same P world (IsAt t) (then_give y (strict.copied_from lacking P sask world n function (type_at world l) l)) z
+  like_there : (t : Ty) (l : Location) {y z : Answer Location} → IsAt t l → Same P world (IsAt t) y z → Same P world (IsAt t) (then_give y (strict.copied_from lacking P sask world n function (type_at world l))) z
   like_there t l is (gives k st fine at) =
-      subst (λ (o : Option Ty). Same P world (IsAt t) (strict.copied_from lacking P sask world n function o l k st) (Gave k st)) (sym is)
+      subst (λ (o : Option Ty). Same P world (IsAt t) (strict.copied_from lacking P sask world n function o k st) (Gave k st)) (sym is)
       (same_provided P world lacking (is_like (type_at world k) t) (Gave k) st (ap (λ (o : Option Ty). is_like o t) at ∙ alike_itself t) (gives k st fine at))
   like_there t l is (ends k out e) = ends k out e
   like_there t l is (still out) = still out
@@ -177,13 +182,19 @@ module _ (x : Context) (lacking : ℕ) (world : World) (sask ask : Asks) (knows 
       (λ a fit st fine. end_with P world (m a fit st fine) (λ v st fine good. end_with P world (same_range P world {G = Any} (scalar_at a.types char) range_fault v st refl fine tt)
       (λ v st fine good. goes (record st { out = st.out ++ unsigned_abs v ∷ [] }) fine)))
 
+  same_base : (t : TypeNo) (o : Option Range) → base_in t o ≡ base_of t o
+  same_base t None = refl
+  same_base t (Some r) = refl
+
   rechecked_same : (types : Types) (t : TypeNo) (v : ℤ) (st : State) → IsFine P world st.store → Same P world Any (rechecked types t v st) (rechecked types t v st)
   rechecked_same types t v st fine =
       same_then P world (same_range P world {G = Any} (scalar_at types (base_of t (scalar_at types t))) overflow v st refl fine tt) (λ v st fine good. same_range P world {G = Any} (scalar_at types t) range_fault v st refl fine tt)
 
-  change_same : (ws : List Ty) (l : Bool) (o : Change) (d : Place) (t : TypeNo) (c : Scalar) (e : TypedExpr) → IsCell types t c → Dx ws d (Cell c) → Ex ws e → S ws l (stmt.Change o d t e)
-  change_same ws l o d t c e cell m q = from_stmt ws l (stmt.Change o d t e) (step.Change o d t e) (stmt.outs-Change o d t e)
-      (λ a fit st fine. end_with P world (cells (m a fit st fine)) (λ at st fine is. end_with P world (q a fit st fine) (λ by st fine good. end_with P world (rechecked_same a.types t (changed o (st.store at) by) st fine)
+  change_same : (ws : List Ty) (l : Bool) (o : Change) (d : Place) (t : TypeNo) (c : Scalar) (e : TypedExpr) → IsCell types t c → is_ranged types t ≡ true → is_ranged types (base_of t (scalar_at types t)) ≡ true → Dx ws d (Cell c) → Ex ws e → S ws l (stmt.Change o d t e)
+  change_same ws l o d t c e cell one two m q = from_stmt ws l (stmt.Change o d t e) (step.Change o d t e) (stmt.outs-Change o d t e)
+      (λ a fit st fine. end_with P world (cells (m a fit st fine)) (λ at st fine is. end_with P world (q a fit st fine) (λ by st fine good.
+      end_with P world (same_provided P world lacking (are_ranged a.types t) (rechecked a.types t (changed o (st.store at) by)) st (ap (λ (ts : Types). are_ranged ts t) fit.types ∙ (ap (λ (b : Bool). b && is_ranged types (base_of t (scalar_at types t))) one ∙ two))
+      (rechecked_same a.types t (changed o (st.store at) by) st fine))
       (λ v st fine good. store_goes l c at v st fine is (no_procedure P c v cell.number)))))
 
   member_same : (ws : List Ty) (l : Bool) (o : Membership) (d : Place) (t : TypeNo) (c : Scalar) (e : TypedExpr) → IsCell types t c → Dx ws d (Cell c) → Ex ws e → S ws l (stmt.Membership o d e)
@@ -207,11 +218,11 @@ module _ (x : Context) (lacking : ℕ) (world : World) (sask ask : Asks) (knows 
       (λ a fit st fine. subst (λ (b : Bool). End l (if b then Stopped lacking st.out else Came (pos 0) st) (Came (pos 0) st)) (sym (kind ∙ ap (λ (r : Result). is_there r) none)) (returns (pos 0) st fine (good_none (pos 0) none)))
 
   give_same : (ws : List Ty) (l : Bool) (t : TypeNo) (e : TypedExpr) (G : ℤ → Type 0) (r : Ty) → result ≡ Some r
-      → Both x lacking world sask ask knows all ws G (places.value lacking P sask world e) (value P ask e) → ((v : ℤ) → G v → IsGood P (Some r) v) → S ws l (stmt.Give t e)
-  give_same ws l t e G r some m good = from_stmt ws l (stmt.Give t e) (step.Give t e) (stmt.outs-Give t e)
-      (λ a fit st fine. subst (λ (b : Bool). End l (if b then with_answer (places.value lacking P sask world e a st) (λ v st. with_answer (as_type a.types t v st) (λ v st. Came v st)) else Stopped lacking st.out)
+      → Both x lacking world sask ask knows all ws G (places.value lacking P sask world e) (value P ask e) → ((v : ℤ) → G v → is_taken lacking P sask world types t v ≡ true) → ((v : ℤ) → G v → IsGood P (Some r) v) → S ws l (stmt.Give t e)
+  give_same ws l t e G r some m ok good = from_stmt ws l (stmt.Give t e) (step.Give t e) (stmt.outs-Give t e)
+      (λ a fit st fine. subst (λ (b : Bool). End l (if b then with_answer (places.value lacking P sask world e a st) (λ v st. with_answer (places.as_type lacking P sask world a.types t v st) (λ v st. Came v st)) else Stopped lacking st.out)
       (with_answer (value P ask e a st) (λ v st. with_answer (as_type a.types t v st) (λ v st. Came v st)))) (sym (kind ∙ ap (λ (r : Result). is_there r) some))
-      (end_with P world (m a fit st fine) (λ v st fine is. end_with P world (same_range P world {G = G} (scalar_at a.types t) range_fault v st refl fine is)
+      (end_with P world (m a fit st fine) (λ v st fine is. end_with P world (type_checked x lacking world sask ask knows all G ws t v a fit st fine (ok v is) is)
       (λ v st fine is. returns v st fine (subst (λ (r : Result). IsGood P r v) (sym some) (good v is))))))
 
   -- ---- rows of statements
@@ -278,9 +289,10 @@ module _ (x : Context) (lacking : ℕ) (world : World) (sask ask : Asks) (knows 
       place_same x lacking world sask ask knows all ws 0 0 d t
       (trees.Designator 0 0 d t t (subst (λ (r : Root). trees.IsRoot x ws r t) (sym is) (trees.LocalRoot slot t known)) (subst (λ (ks : List Component). trees.AreComponents x ws 0 0 t ks t) (sym none) (trees.no_components 0 t)))
 
-  for_same : (ws : List Ty) (l : Bool) (d : Place) (t : TypeNo) (c : Scalar) (start limit : TypedExpr) (by : ℤ) (body : List TypedStmt) → IsCell types t c → Dx ws d (Cell c) → Ex ws start → Ex ws limit → Ss ws l body → S ws l (stmt.For d t start limit by body)
-  for_same ws l d t c start limit by body cell m q v h = from_stmt ws l (stmt.For d t start limit by body) (step.For d t start limit by body) (stmt.outs-For d t start limit by body)
-      (λ a fit st fine. end_with P world (cells (m a fit st fine)) (λ at st fine is. end_with P world (q a fit st fine) (λ first st fine good. end_with P world (same_range P world {G = Any} (scalar_at a.types t) range_fault first st refl fine tt)
+  for_same : (ws : List Ty) (l : Bool) (d : Place) (t : TypeNo) (c : Scalar) (start limit : TypedExpr) (by : ℤ) (body : List TypedStmt) → IsCell types t c → is_ranged types t ≡ true → Dx ws d (Cell c) → Ex ws start → Ex ws limit → Ss ws l body → S ws l (stmt.For d t start limit by body)
+  for_same ws l d t c start limit by body cell some m q v h = from_stmt ws l (stmt.For d t start limit by body) (step.For d t start limit by body) (stmt.outs-For d t start limit by body)
+      (λ a fit st fine. end_with P world (cells (m a fit st fine)) (λ at st fine is. end_with P world (q a fit st fine) (λ first st fine good.
+      end_with P world (same_provided P world lacking (is_ranged a.types t) (as_type a.types t first) st (ap (λ (ts : Types). is_ranged ts t) fit.types ∙ some) (same_range P world {G = Any} (scalar_at a.types t) range_fault first st refl fine tt))
       (λ first st fine good. end_with P world (v a fit st fine) (λ last st fine good.
       let fine' : IsFine P world (stored at first st).store = fine_placed P world st.store at (Cell c) (λ r. first) fine is (cell_holds P c first (no_procedure P c first cell.number)) in
       end_if P world (has_passed by last ((stored at first st).store at)) (goes (stored at first st) fine')
@@ -328,12 +340,12 @@ module _ (x : Context) (lacking : ℕ) (world : World) (sask ask : Asks) (knows 
   mutual
     stmt_same : (ws : List Ty) (l : Bool) (a b : ℕ) (s : TypedStmt) → typed.IsStmt x result ws l a b s → S ws l s
     stmt_same _ _ _ _ _ (typed.Assign ws l a b c d t r e cell h g) = assign_same ws l d t r e cell (dx ws a b d (Cell r) h) (ex ws b c e g.of g.is)
-    stmt_same _ _ _ _ _ (typed.AssignProcedure ws l a b c d t h e type none g is) = assign_procedure_same ws l d t h e (dx ws a b d (Cell (Callable h)) g) (hx ws b c e h is)
+    stmt_same _ _ _ _ _ (typed.AssignProcedure ws l a b c d t h e type none g is) = assign_procedure_same ws l d t h e type (dx ws a b d (Cell (Callable h)) g) (hx ws b c e h is)
     stmt_same _ _ _ _ _ (typed.Copy ws l a b c d e t is h g) = copy_same ws l d e t (dx ws a b d (tree types t) h) (dx ws b c e (tree types t) g)
     stmt_same _ _ _ _ _ (typed.CopyText ws l a b m d t text array less has h) = copy_text_same ws l d t m text array less (dx ws a b d (tree types t) h)
     stmt_same _ _ _ _ _ (typed.ProcedureCall ws l a b c h) = call_same ws l c (calls_same x lacking world sask ask knows all ws a b c None h)
     stmt_same _ _ _ _ _ (typed.Put ws l a b e g) = put_same ws l e (ex ws a b e g.of g.is)
-    stmt_same _ _ _ _ _ (typed.Changed ws l a b c o d t u r e cell ranged based h g) = change_same ws l o d t r e cell (dx ws a b d (Cell r) h) (ex ws b c e u g)
+    stmt_same _ _ _ _ _ (typed.Changed ws l a b c o d t u r e cell ranged' based h g) = change_same ws l o d t r e cell (ranged (scalar_at types t) ranged') (ap (λ (u : TypeNo). is_ranged types u) (sym (same_base t (scalar_at types t))) ∙ ranged (scalar_at types (base_in t (scalar_at types t))) based) (dx ws a b d (Cell r) h) (ex ws b c e u g)
     stmt_same _ _ _ _ _ (typed.Member ws l a b c o d u r e cell h g) = member_same ws l o d bitset r e cell (dx ws a b d (Cell r) h) (ex ws b c e u g)
     stmt_same _ _ _ _ _ (typed.Halt ws l a) = halt_same ws l
     stmt_same _ _ _ _ _ (typed.If ws l a b c e body g h) = if_same ws l e body (ex ws a b e g.of g.is) (stmts_same ws l b c body h)
@@ -346,11 +358,11 @@ module _ (x : Context) (lacking : ℕ) (world : World) (sask ask : Asks) (knows 
     stmt_same _ _ _ _ _ (typed.Exit ws a) = exit_same ws
     stmt_same _ _ _ _ _ (typed.Return ws l a none) = return_same ws l none
     stmt_same _ _ _ _ _ (typed.Give ws l a b t r e some cell g) =
-        give_same ws l t e Any (tree types t) some (ex ws a b e g.of g.is) (λ v any h e. no_procedure P r v cell.number h (cell_in (tree types t) r (Callable h) cell.is e))
+        give_same ws l t e Any (tree types t) some (ex ws a b e g.of g.is) (λ v any. cell_taken x lacking world sask ask knows all t r v cell.is) (λ v any h e. no_procedure P r v cell.number h (cell_in (tree types t) r (Callable h) cell.is e))
     stmt_same _ _ _ _ _ (typed.GiveProcedure ws l a b t h e some none is) =
-        give_same ws l t e (IsProcedureValue P h) (Cell (Callable h)) some (hx ws a b e h is) (λ v good g e. subst (λ (g : Heading). IsProcedureValue P g v) (callable_in h g (same_cell (Callable h) (Callable g) (ap Some e))) good)
-    stmt_same _ _ _ _ _ (typed.For ws l a b c z d t u r start limit by body cell ranged control low high g h hs) =
-        for_same ws l d t r start limit by body cell (control_same ws d (Cell r) control) (ex ws a b start g.of g.is) (ex ws b c limit u h) (stmts_same ws l c z body hs)
+        give_same ws l t e (IsProcedureValue P h) (Cell (Callable h)) some (hx ws a b e h is) (λ v good. procedure_taken x lacking world sask ask knows all t h v good) (λ v good g e. subst (λ (g : Heading). IsProcedureValue P g v) (callable_in h g (same_cell (Callable h) (Callable g) (ap Some e))) good)
+    stmt_same _ _ _ _ _ (typed.For ws l a b c z d t u r start limit by body cell ranged' control low high g h hs) =
+        for_same ws l d t r start limit by body cell (ranged (scalar_at types t) ranged') (control_same ws d (Cell r) control) (ex ws a b start g.of g.is) (ex ws b c limit u h) (stmts_same ws l c z body hs)
     stmt_same _ _ _ _ _ (typed.With ws l a b c t d body h hs) = with_same ws l t d body (dx ws a b d t h) (stmts_same (ws ++ t ∷ []) l b c body hs)
 
     pub stmts_same : (ws : List Ty) (l : Bool) (a b : ℕ) (ss : List TypedStmt) → typed.AreStmts x result ws l a b ss → Ss ws l ss

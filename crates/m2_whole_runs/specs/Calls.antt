@@ -8,7 +8,7 @@ use Rattle.m2_layout.specs.Types as layout
 use Rattle.m2_layout.specs.Shapes.{tree}
 use Rattle.m2_layout.specs.Frames.{formals_of, frame}
 use Rattle.m2_layout.specs.Texts.{passed}
-use Rattle.m2_meaning.specs.Answer.{State, Answer, Ended, Running, Outcome, Went, Left, Came, Stopped, Unfinished, storage_fault}
+use Rattle.m2_meaning.specs.Answer.{State, Answer, Ended, Running, Outcome, Left, storage_fault}
 use Rattle.m2_meaning.specs.Around.{Modules, Around, Callee, Passed, Number, Variable, Array, Text}
 use Rattle.m2_meaning.specs.Expressions.{Asks}
 use Rattle.m2_meaning.specs.Statements.{in_turn}
@@ -50,11 +50,8 @@ copies_of types (f ∷ fs) (v ∷ vs) = copy_of types f v ++ copies_of types fs 
 module _ (lacking : ℕ) where
   -- EXIT does not leave it
   abbrev pub result : Bool → Outcome → Answer ℤ
-  result function (Went st) = meaning.result function (Went st)
   result function (Left st) = lacks lacking st
-  result function (Came v st) = meaning.result function (Came v st)
-  result function (Stopped k out) = meaning.result function (Stopped k out)
-  result function (Unfinished out) = meaning.result function (Unfinished out)
+  result function other = meaning.result function other
 
   module _ (p : Modules) (n : ℕ) where
     abbrev pub body_does : Asks → World → (function : Bool) → List TypedStmt → Around → State → Outcome

@@ -11,13 +11,18 @@ use Rattle.m2_typed.specs.declared.computed.Place.{Place, Place-F, fold-Place}
 use Rattle.m2_typed.specs.declared.computed.Root.{Root}
 use Rattle.m2_typed.specs.declared.computed.Root.TheVariants as root
 use Rattle.m2_typed.specs.declared.computed.TypedExpr.{TypedExpr, TypedExpr-F, fold-TypedExpr, map-TypedExpr}
-use Rattle.m2_layout.specs.Shapes.{elements_of}
+use Rattle.m2_typed.specs.declared.computed.Arithmetic.{Arithmetic}
+use Rattle.m2_typed.specs.declared.computed.Arithmetic.TheVariants as op
+use Rattle.m2_typed.specs.declared.types.TypeNo.{TypeNo}
+use Rattle.m2_typed.specs.declared.known_types.Types.{Types}
+use Rattle.m2_typed.specs.Known.{scalar_at}
+use Rattle.m2_layout.specs.Shapes.{tree, elements_of}
 use Rattle.m2_meaning.specs.Store.{Location}
 use Rattle.m2_meaning.specs.Answer.{State, Answer, Gave, Ended, then_give, empty_procedure}
 use Rattle.m2_meaning.specs.Around.{Modules, Around, Named, At, Elements, Callee, Passed, Number, Variable, Array, Text, module_place, procedure_value, entry_of, entry_callee, module_callee, nested_in, named}
 use Rattle.m2_meaning.specs.Calls.{is_there, is_function}
 use Rattle.m2_meaning.specs.Expressions as meaning
-use Rattle.m2_meaning.specs.Expressions.{Asks, Gives, Reaches, Continues, as_type, index_range, element, one_by_one}
+use Rattle.m2_meaning.specs.Expressions.{Asks, Gives, Reaches, Continues, index_range, element, operated, one_by_one}
 use Rattle.m2_whole_runs.specs.Worlds.{World, type_at, is_cell}
 
 -- a call, and whether its value is wanted
@@ -27,6 +32,10 @@ Calls = (wanted : Bool) → Gives ℤ
 -- a module has this number
 abbrev pub is_module : Modules → (home : ℕ) → Bool
 is_module p home = list_any (λ m. m.types.home == home) p
+
+-- a type with a range
+abbrev pub is_ranged : Types → TypeNo → Bool
+is_ranged types t = is_there (scalar_at types t)
 
 -- what a name stands for, where it is a variable, and where it is an open array
 abbrev pub variable_of : Option Named → Option Location
@@ -78,6 +87,18 @@ module _ (lacking : ℕ) where
     asked_value wanted (pos (suc k)) args a st = asked wanted (entry_callee p (entry_of p (pos (suc k)))) args a st
     asked_value wanted (negsuc k) args a st = lacks st
 
+    abbrev pub is_procedure : ℤ → Bool
+    is_procedure (pos zero) = true
+    is_procedure (pos (suc k)) = is_there (entry_callee p (entry_of p (pos (suc k))))
+    is_procedure (negsuc k) = false
+
+    -- the type as one of which a value is taken is a scalar type that is there, or the value is that of a procedure
+    abbrev pub is_taken : Types → TypeNo → ℤ → Bool
+    is_taken types t v = is_cell (Some (tree types t)) || is_procedure v
+
+    abbrev pub as_type : Types → TypeNo → ℤ → State → Answer ℤ
+    as_type types t v st = provided (is_taken types t v) (meaning.as_type types t v) st
+
     abbrev pub argument_layer : Argument-F (Gives Passed) Calls Reaches Continues (Gives ℤ) (Gives Location) → Gives Passed
     argument_layer (layer.Value t e) a st = then_give (e a st) (λ v st. then_give (as_type a.types t v st) (λ v st. Gave (Number v) st))
     argument_layer (layer.Place d) a st = then_give (d a st) (λ l st. Gave (Variable l) st)
@@ -106,19 +127,32 @@ module _ (lacking : ℕ) where
     abbrev pub place_layer : Place-F (Gives Passed) Calls Reaches Continues (Gives ℤ) (Gives Location) → Gives Location
     place_layer d a st = needs (root_layer d.root a) (λ l st. then_give (at_there l st) (λ l st. one_by_one d.components l a st)) st
 
+    abbrev pub wanting_link : Link-F (Gives Passed) Calls Reaches Continues (Gives ℤ) (Gives Location) → Link-F (Gives Passed) (Gives ℤ) Reaches Continues (Gives ℤ) (Gives Location)
+    wanting_link x = map-Link (Gives Passed) Calls Reaches Continues (Gives ℤ) (Gives Location) (Gives Passed) (Gives ℤ) Reaches Continues (Gives ℤ) (Gives Location) (λ g. g) (λ c. c true) (λ r. r) (λ f. f) (λ e. e) (λ d. d) x
+
+    -- what is checked against a range has one
+    abbrev pub has_range : Types → Arithmetic → TypeNo → Bool
+    has_range types op.Add t = is_ranged types t
+    has_range types op.Subtract t = is_ranged types t
+    has_range types op.Multiply t = is_ranged types t
+    has_range types op.Divide t = true
+    has_range types op.Remainder t = true
+
     abbrev pub link_layer : Link-F (Gives Passed) Calls Reaches Continues (Gives ℤ) (Gives Location) → Continues
-    link_layer x = meaning.link_layer p ask (map-Link (Gives Passed) Calls Reaches Continues (Gives ℤ) (Gives Location) (Gives Passed) (Gives ℤ) Reaches Continues (Gives ℤ) (Gives Location) (λ g. g) (λ c. c true) (λ r. r) (λ f. f) (λ e. e) (λ d. d) x)
+    link_layer (layer.Arithmetic o t e) x a st = then_give (e a st) (λ y st. provided (has_range a.types o t) (operated a.types o t x y) st)
+    link_layer other x a st = meaning.link_layer p ask (wanting_link other) x a st
 
     -- the value of a call in an expression is wanted
     abbrev pub wanting : TypedExpr-F (Gives Passed) Calls Reaches Continues (Gives ℤ) (Gives Location) → TypedExpr-F (Gives Passed) (Gives ℤ) Reaches Continues (Gives ℤ) (Gives Location)
     wanting x = map-TypedExpr (Gives Passed) Calls Reaches Continues (Gives ℤ) (Gives Location) (Gives Passed) (Gives ℤ) Reaches Continues (Gives ℤ) (Gives Location) (λ g. g) (λ c. c true) (λ r. r) (λ f. f) (λ e. e) (λ d. d) x
 
-    -- a number is loaded, a procedure that is a value is there, and so is an open array of which HIGH is asked
+    -- a number is loaded, a procedure that is a value is there, an open array of which HIGH is asked, and the range of VAL
     abbrev pub expr_layer : TypedExpr-F (Gives Passed) Calls Reaches Continues (Gives ℤ) (Gives Location) → Gives ℤ
     expr_layer (layer.Load t d) a st = then_give (then_give (d a st) at_cell) (λ l st. Gave (st.store l) st)
     expr_layer (layer.Procedure f) a st =
         provided (is_module p f.home) (λ st. provided (is_there (module_callee p (module_place p f.home) f.number)) (Gave (procedure_value p f.home f.number)) st) st
     expr_layer (layer.High slot) a st = needs (elements_named (named a slot)) (λ e st. Gave (pos e.1) st) st
+    expr_layer (layer.Val t e) a st = then_give (e a st) (λ v st. provided (is_ranged a.types t) (meaning.as_type a.types t v) st)
     expr_layer other a st = meaning.expr_layer p ask (wanting other) a st
 
     unfoldable pub value : TypedExpr → Gives ℤ

@@ -1,9 +1,17 @@
 -- What is proved: the run of a program whose modules are as the checker leaves them lacks nothing.
-use Rattle.std.specs.Prelude.{◌≡◌, ℕ, ◌<◌, List}
+use Rattle.std.specs.Prelude.{◌≡◌, ℕ, ◌<◌, false, List, [], ◌∷◌}
+use Rattle.m2_typed.specs.declared.computed.Place.{Place}
+use Rattle.m2_typed.specs.declared.computed.Root.TheVariants as root
+use Rattle.m2_typed.specs.declared.computed.TypedExpr.TheVariants as expr
+use Rattle.m2_typed.specs.declared.meaning.Variable.{Variable}
+use Rattle.m2_typed.specs.declared.statement.TypedStmt.TheVariants as stmt
+use Rattle.m2_typed.specs.Types.{char}
+use Rattle.m2_typed.specs.declared.typed_module.TypedModule.{TypedModule}
 use Rattle.m2_meaning.specs.Answer.{Stopped, halted}
 use Rattle.m2_meaning.specs.Runs.{run}
 use Rattle.m2_links.specs.Linked.{Program}
 use Rattle.m2_agree_linked.specs.Modules.{AreModules, AreTypedModules}
+use Rattle.m2_whole_runs.specs.Expressions.{is_module}
 use Rattle.m2_whole_runs.specs.Runs.{strict_run}
 
 -- whatever number stands for a lack, the strict run is the run
@@ -17,3 +25,9 @@ abbrev pub NothingLacks : Type 0
 NothingLacks =
     (p : Program) (pages : ℕ) → AreModules p → AreTypedModules p pages → (lacking n : ℕ) → halted < lacking
     → (out : List ℕ) → strict_run lacking p pages n ≡ Stopped lacking out → ⊥
+
+-- That number does come where something is lacking: a program that prints a variable of a module that is not there.
+abbrev pub MissingLacks : Type 0
+MissingLacks =
+    (m : TypedModule) (d : Place) (v : Variable) → m.body ≡ stmt.Put (expr.Load char d) ∷ [] → d.root ≡ root.Global v → is_module (m ∷ []) v.home ≡ false
+    → (lacking pages n : ℕ) → strict_run lacking (m ∷ []) pages n ≡ Stopped lacking []

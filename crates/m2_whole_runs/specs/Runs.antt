@@ -2,8 +2,9 @@
 use Rattle.std.specs.Prelude.{ℕ, suc, ◌-◌, false, [], ◌∷◌, ◌++◌, map}
 use Rattle.m2_layout.specs.Types.{frame_of}
 use Rattle.m2_layout.specs.Frames.{module_row}
-use Rattle.m2_meaning.specs.Answer.{State, Outcome, Went, Left, Came, Stopped, Unfinished}
+use Rattle.m2_meaning.specs.Answer.{State, Outcome, Left, Stopped}
 use Rattle.m2_meaning.specs.Around.{Modules}
+use Rattle.m2_meaning.specs.Runs as meaning
 use Rattle.m2_meaning.specs.Runs.{storage, body_frame, first_state, around_body}
 use Rattle.m2_whole_runs.specs.Worlds.{World}
 use Rattle.m2_whole_runs.specs.Calls.{body_does, calling}
@@ -15,11 +16,8 @@ first_world p = map module_row p ++ frame_of [] ∷ []
 module _ (lacking : ℕ) where
   -- EXIT does not leave a body
   abbrev pub then_body : Outcome → (State → Outcome) → Outcome
-  then_body (Went st) next = next st
   then_body (Left st) next = Stopped lacking st.out
-  then_body (Came v st) next = next st
-  then_body (Stopped k out) next = Stopped k out
-  then_body (Unfinished out) next = Unfinished out
+  then_body other next = meaning.then_body other next
 
   abbrev pub bodies : Modules → (n left place : ℕ) → Modules → State → Outcome
   bodies p n left place [] st = Stopped 0 st.out

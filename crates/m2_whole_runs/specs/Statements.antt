@@ -1,19 +1,26 @@
 -- What statements do, where nothing that they ask for may be missing.
-use Rattle.std.specs.Prelude.{ℕ, pos, Bool, false, unsigned_abs, [], ◌∷◌, ◌++◌, length, Option, Some, None, if◌then◌else◌}
+use Rattle.std.specs.Prelude.{ℕ, pos, Bool, false, ◌&&◌, unsigned_abs, [], ◌∷◌, ◌++◌, length, Option, Some, None, if◌then◌else◌}
 use Rattle.m2_typed.specs.declared.computed.Place.{Place}
 use Rattle.m2_typed.specs.declared.statement.TypedStmt.{TypedStmt, TypedStmt-F, fold-TypedStmt}
 use Rattle.m2_typed.specs.declared.statement.TypedStmt.TheOpen as step
 use Rattle.m2_typed.specs.declared.statement.TypedArm.{TypedArm-F}
+use Rattle.m2_typed.specs.declared.types.TypeNo.{TypeNo}
+use Rattle.m2_typed.specs.declared.known_types.Types.{Types}
 use Rattle.m2_typed.specs.Types.{char}
+use Rattle.m2_typed.specs.Known.{scalar_at}
 use Rattle.m2_meaning.specs.Store.{Location, copied, placed}
 use Rattle.m2_meaning.specs.Answer.{State, Answer, Gave, then_give, Went, Left, Came, Stopped, with_answer, range_fault, halted}
 use Rattle.m2_meaning.specs.Operators.{is_true}
 use Rattle.m2_meaning.specs.Around.{Modules}
 use Rattle.m2_meaning.specs.Expressions.{Asks, Gives, within, as_type}
-use Rattle.m2_meaning.specs.Statements.{Does, Arm, in_turn, if_there, or_else, chosen, stored, character, while_true, until_true, looped, for_all, changed, rechecked, with_element}
+use Rattle.m2_meaning.specs.Statements.{Does, Arm, in_turn, if_there, or_else, chosen, stored, character, while_true, until_true, looped, for_all, base_of, changed, rechecked, with_element}
 use Rattle.m2_layout.specs.Types.{Ty}
 use Rattle.m2_whole_runs.specs.Worlds.{World, type_at, has_room, is_like}
-use Rattle.m2_whole_runs.specs.Expressions.{lacks, provided, at_cell, value, locate, called}
+use Rattle.m2_whole_runs.specs.Expressions.{is_ranged, lacks, provided, at_cell, as_type as taken_as, value, locate, called}
+
+-- a type with a range, whose base has one
+abbrev pub are_ranged : Types → TypeNo → Bool
+are_ranged types t = is_ranged types t && is_ranged types (base_of t (scalar_at types t))
 
 -- in the body of a function, or of what gives no value
 module _ (lacking : ℕ) (p : Modules) (ask : Asks) (world : World) (n : ℕ) (function : Bool) where
@@ -21,10 +28,10 @@ module _ (lacking : ℕ) (p : Modules) (ask : Asks) (world : World) (n : ℕ) (f
   abbrev pub cell : Place → Gives Location
   cell d a st = then_give (locate lacking p ask world d a st) (at_cell lacking p ask world)
 
-  -- what stands at the second location has the components of what stands at the first
-  abbrev pub copied_from : Option Ty → Location → Location → State → Answer Location
-  copied_from None l l' st = lacks lacking st
-  copied_from (Some t) l l' st = provided lacking (is_like (type_at world l') t) (Gave l') st
+  -- what is copied has the components of what it is copied to
+  abbrev pub copied_from : Option Ty → Location → State → Answer Location
+  copied_from None l st = lacks lacking st
+  copied_from (Some t) l st = provided lacking (is_like (type_at world l) t) (Gave l) st
 
   -- so many characters have room
   abbrev pub at_room : ℕ → Location → State → Answer Location
@@ -32,15 +39,15 @@ module _ (lacking : ℕ) (p : Modules) (ask : Asks) (world : World) (n : ℕ) (f
 
   abbrev pub step_layer : TypedStmt-F Does Arm → Does
   step_layer (step.Assign d t e) a st =
-      with_answer (cell d a st) (λ l st. with_answer (value lacking p ask world e a st) (λ v st. with_answer (as_type a.types t v st) (λ v st. Went (stored l v st))))
+      with_answer (cell d a st) (λ l st. with_answer (value lacking p ask world e a st) (λ v st. with_answer (taken_as lacking p ask world a.types t v st) (λ v st. Went (stored l v st))))
   step_layer (step.Copy to from t) a st =
-      with_answer (locate lacking p ask world to a st) (λ l st. with_answer (then_give (locate lacking p ask world from a st) (copied_from (type_at world l) l)) (λ l' st. Went (record st { store = copied l l' st.store })))
+      with_answer (locate lacking p ask world to a st) (λ l st. with_answer (then_give (locate lacking p ask world from a st) (copied_from (type_at world l))) (λ l' st. Went (record st { store = copied l l' st.store })))
   step_layer (step.CopyText d t text) a st = with_answer (then_give (locate lacking p ask world d a st) (at_room (length text))) (λ l st. Went (record st { store = placed l (character text) st.store }))
   step_layer (step.Call c) a st = with_answer (called lacking p ask world c false a st) (λ v st. Went st)
   step_layer (step.Put e) a st =
       with_answer (value lacking p ask world e a st) (λ v st. with_answer (as_type a.types char v st) (λ v st. Went (record st { out = st.out ++ unsigned_abs v ∷ [] })))
   step_layer (step.Change o d t e) a st =
-      with_answer (cell d a st) (λ l st. with_answer (value lacking p ask world e a st) (λ by st. with_answer (rechecked a.types t (changed o (st.store l) by) st) (λ v st. Went (stored l v st))))
+      with_answer (cell d a st) (λ l st. with_answer (value lacking p ask world e a st) (λ by st. with_answer (provided lacking (are_ranged a.types t) (rechecked a.types t (changed o (st.store l) by)) st) (λ v st. Went (stored l v st))))
   step_layer (step.Membership o d e) a st =
       with_answer (cell d a st) (λ l st. with_answer (value lacking p ask world e a st) (λ x st. with_answer (within (pos 0) (pos 31) range_fault x st) (λ x st. Went (stored l (with_element o (st.store l) x) st))))
   step_layer step.Halt a st = Stopped halted st.out
@@ -53,9 +60,9 @@ module _ (lacking : ℕ) (p : Modules) (ask : Asks) (world : World) (n : ℕ) (f
   -- a function returns with a value
   step_layer step.Return a st = if function then Stopped lacking st.out else Came (pos 0) st
   step_layer (step.Give t e) a st =
-      if function then with_answer (value lacking p ask world e a st) (λ v st. with_answer (as_type a.types t v st) (λ v st. Came v st)) else Stopped lacking st.out
+      if function then with_answer (value lacking p ask world e a st) (λ v st. with_answer (taken_as lacking p ask world a.types t v st) (λ v st. Came v st)) else Stopped lacking st.out
   step_layer (step.For d t start limit by body) a st =
-      with_answer (cell d a st) (λ l st. with_answer (value lacking p ask world start a st) (λ v st. with_answer (as_type a.types t v st) (λ v st. with_answer (value lacking p ask world limit a st) (λ last st.
+      with_answer (cell d a st) (λ l st. with_answer (value lacking p ask world start a st) (λ v st. with_answer (provided lacking (is_ranged a.types t) (as_type a.types t v) st) (λ v st. with_answer (value lacking p ask world limit a st) (λ last st.
       for_all n (as_type a.types t) l by last (in_turn body a) (stored l v st)))))
   step_layer (step.With d body) a st = with_answer (locate lacking p ask world d a st) (λ l st. in_turn body (record a { withs = a.withs ++ l ∷ [] }) st)
 

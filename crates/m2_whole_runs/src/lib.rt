@@ -6,7 +6,7 @@
 //! - `specs/Laws` has the law.
 #![tactic(auto)]
 
-ghost use Rattle.m2_whole_runs.specs.Laws.{StrictRuns, NothingLacks};
+ghost use Rattle.m2_whole_runs.specs.Laws.{StrictRuns, NothingLacks, MissingLacks};
 
 /// The strict run of a program, which ends with a number of its own where something is lacking.
 pub fn whole_run_laws()
@@ -14,4 +14,6 @@ pub fn whole_run_laws()
     ensures runs { StrictRuns }
     // It does not end with that number.
     ensures nothing { NothingLacks }
+    // A program that prints a variable of a module that is not there does.
+    ensures missing { MissingLacks }
 {}
