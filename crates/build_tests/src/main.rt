@@ -14,8 +14,8 @@ fn main(rt: HostRuntime) -> Result<()> {
     rows::imports_that_lead_to_one_another(&rt, rt.alloc())?;
     rows::a_body_runs_once(&rt, rt.alloc())?;
     rows::what_is_not_reached_is_not_run(&rt, rt.alloc())?;
-    many::five_hundred_and_thirteen_files(&rt, rt.alloc())?;
+    many::one_thousand_and_twenty_three_files(&rt, rt.alloc())?;
     many::one_file_too_many(&rt, rt.alloc())?;
-    println!(rt; "4 programs print as expected, one of them of 513 files; 1025 files are refused")?;
+    println!(rt; "4 programs print as expected, one of them of 1023 files; 1025 files are refused")?;
     Ok(())
 }

@@ -93,9 +93,9 @@ fn built<R: Threads + Sync>(
     Ok(bytes_of(alloc, &link, &modules)?)
 }
 
-/// 513 files are built, with the same bytes by 1, 2, 8 and 64 workers.
-pub fn five_hundred_and_thirteen_files<R: Threads + Sync>(rt: &R, alloc: Global) -> Result<()> {
-    let files = many(alloc, 256)?;
+/// 1023 files are built, with the same bytes by 1, 2, 8 and 64 workers.
+pub fn one_thousand_and_twenty_three_files<R: Threads + Sync>(rt: &R, alloc: Global) -> Result<()> {
+    let files = many(alloc, 511)?;
     let first = built(rt, alloc, &files, 1)?;
     for workers in [2, 8, 64] {
         let other = built(rt, alloc, &files, workers)?;
