@@ -16,6 +16,8 @@ fn main(rt: HostRuntime) -> Result<()> {
     rows::what_is_not_reached_is_not_run(&rt, rt.alloc())?;
     many::one_thousand_and_twenty_three_files(&rt, rt.alloc())?;
     many::one_file_too_many(&rt, rt.alloc())?;
-    println!(rt; "4 programs print as expected, one of them of 1023 files; 1025 files are refused")?;
+    println!(rt;
+        "4 programs print as expected, one of them of 1023 files; 1025 files are refused"
+    )?;
     Ok(())
 }
