@@ -9,7 +9,7 @@ use std::alloc::{AllocError, Global};
 use std::thread::Threads;
 
 /// More reductions than any of the programs makes.
-const STEPS: u64 = 100_000;
+const STEPS: u64 = 1_000_000;
 
 fn files_of(alloc: Global, texts: &[(&str, &str)]) -> Result<Vec<SourceFile>, AllocError> {
     let mut files = Vec::new(alloc);
