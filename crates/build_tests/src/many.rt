@@ -106,16 +106,16 @@ pub fn one_thousand_and_twenty_three_files<R: Threads + Sync>(rt: &R, alloc: Glo
     Ok(())
 }
 
-/// 1025 files are too many, which is told at the last of them.
+/// 1025 files are too many, which is reported at the last of them.
 pub fn one_file_too_many<R: Threads + Sync>(rt: &R, alloc: Global) -> Result<()> {
     let files = many(alloc, 512)?;
     let Outcome::Refused(refusals) = outcome(rt, alloc, &files, 8)? else {
         bail!("1025 files are built");
     };
     for refusal in &refusals {
-        let told = format!(in alloc; "{refusal}")?;
-        if told.as_str() != "P.mod:1:1: refusal 25" {
-            bail!("told is {told}");
+        let reported = format!(in alloc; "{refusal}")?;
+        if reported.as_str() != "P.mod:1:1: refusal 25" {
+            bail!("reported is {reported}");
         }
     }
     if refusals.len() != 1 {

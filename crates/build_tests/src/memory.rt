@@ -52,7 +52,7 @@ impl Sink for Screen {
 
     ghost failed = { λ s. s.failures };
 
-    ghost told = { λ s. Some s.bytes.items };
+    ghost reported = { λ s. Some s.bytes.items };
 
     fn take(&mut self, byte: u8) -> bool {
         if self.bytes.push(byte).is_err() {

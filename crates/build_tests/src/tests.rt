@@ -39,8 +39,8 @@ fn options(workers: usize) -> Options {
     Options { workers, pages: 16 }
 }
 
-/// What is told of the files, a line for each refusal, or nothing where they are built.
-fn told<R: Threads + Sync>(
+/// What is reported of the files, a line for each refusal, or nothing where they are built.
+fn reported<R: Threads + Sync>(
     rt: &R,
     alloc: Global,
     files: &[SourceFile],
@@ -73,18 +73,18 @@ fn builds_the_first_program(rt: HostRuntime) -> Result<(), Fail> {
 }
 
 #[test]
-fn tells_the_second_program(rt: HostRuntime) -> Result<(), Fail> {
+fn reports_the_second_program(rt: HostRuntime) -> Result<(), Fail> {
     let alloc = rt.alloc();
     let files = [file(alloc, "n.mod", EMPTY)?, file(alloc, "m.mod", FIRST)?];
     for workers in [1, 2] {
-        let text = told(&rt, alloc, &files, workers)?;
+        let text = reported(&rt, alloc, &files, workers)?;
         assert_eq!(rt; text.as_str(), "n.mod:1:8: refusal 23;");
     }
     Ok(())
 }
 
 #[test]
-fn tells_what_is_refused(rt: HostRuntime) -> Result<(), Fail> {
+fn reports_what_is_refused(rt: HostRuntime) -> Result<(), Fail> {
     let alloc = rt.alloc();
     let rows = [
         ("", "b.mod:1:1: refusal 10;"),
@@ -104,16 +104,16 @@ fn tells_what_is_refused(rt: HostRuntime) -> Result<(), Fail> {
     ];
     for (text, expected) in rows {
         let files = [file(alloc, "b.mod", text)?, file(alloc, "a.mod", EMPTY)?];
-        let told = told(&rt, alloc, &files, 1)?;
-        assert_eq!(rt; told.as_str(), expected, "{text}");
+        let reported = reported(&rt, alloc, &files, 1)?;
+        assert_eq!(rt; reported.as_str(), expected, "{text}");
     }
-    let text = told(&rt, alloc, &[], 1)?;
+    let text = reported(&rt, alloc, &[], 1)?;
     assert_eq!(rt; text.as_str(), ":1:1: refusal 23;");
     Ok(())
 }
 
 #[test]
-fn tells_nothing_of_what_is_built(rt: HostRuntime) -> Result<(), Fail> {
+fn reports_nothing_of_what_is_built(rt: HostRuntime) -> Result<(), Fail> {
     let alloc = rt.alloc();
     let rows = [
         (
@@ -127,14 +127,14 @@ fn tells_nothing_of_what_is_built(rt: HostRuntime) -> Result<(), Fail> {
     ];
     for (text, expected) in rows {
         let files = [file(alloc, "b.mod", text)?];
-        let told = told(&rt, alloc, &files, 1)?;
-        assert_eq!(rt; told.as_str(), expected, "{text}");
+        let reported = reported(&rt, alloc, &files, 1)?;
+        assert_eq!(rt; reported.as_str(), expected, "{text}");
     }
     Ok(())
 }
 
 #[test]
-fn tells_what_bodies_break(rt: HostRuntime) -> Result<(), Fail> {
+fn reports_what_bodies_break(rt: HostRuntime) -> Result<(), Fail> {
     let alloc = rt.alloc();
     let files = [
         file(
@@ -154,7 +154,7 @@ fn tells_what_bodies_break(rt: HostRuntime) -> Result<(), Fail> {
         )?,
     ];
     for workers in [1, 8] {
-        let text = told(&rt, alloc, &files, workers)?;
+        let text = reported(&rt, alloc, &files, workers)?;
         assert_eq!(rt;
             text.as_str(),
             "a.mod:1:55: refusal 40;p.mod:1:41: refusal 45;"
@@ -163,8 +163,8 @@ fn tells_what_bodies_break(rt: HostRuntime) -> Result<(), Fail> {
     Ok(())
 }
 
-/// What is told of one file, for a memory of so many pages.
-fn told_in<R: Threads + Sync>(
+/// What is reported of one file, for a memory of so many pages.
+fn reported_in<R: Threads + Sync>(
     rt: &R,
     alloc: Global,
     text: &str,
@@ -183,7 +183,7 @@ fn told_in<R: Threads + Sync>(
 }
 
 #[test]
-fn tells_what_does_not_fit(rt: HostRuntime) -> Result<(), Fail> {
+fn reports_what_does_not_fit(rt: HostRuntime) -> Result<(), Fail> {
     let alloc = rt.alloc();
     let rows = [
         (
@@ -212,14 +212,14 @@ fn tells_what_does_not_fit(rt: HostRuntime) -> Result<(), Fail> {
         ),
     ];
     for (text, pages, expected) in rows {
-        let told = told_in(&rt, alloc, text, pages)?;
-        assert_eq!(rt; told.as_str(), expected, "{text}");
+        let reported = reported_in(&rt, alloc, text, pages)?;
+        assert_eq!(rt; reported.as_str(), expected, "{text}");
     }
     Ok(())
 }
 
 #[test]
-fn tells_a_cycle_once(rt: HostRuntime) -> Result<(), Fail> {
+fn reports_a_cycle_once(rt: HostRuntime) -> Result<(), Fail> {
     let alloc = rt.alloc();
     let files = [
         file(alloc, "P.mod", "MODULE P; END P.")?,
@@ -228,13 +228,13 @@ fn tells_a_cycle_once(rt: HostRuntime) -> Result<(), Fail> {
         file(alloc, "A.mod", "IMPLEMENTATION MODULE A; END A.")?,
         file(alloc, "A.def", "DEFINITION MODULE A; IMPORT B; END A.")?,
     ];
-    let text = told(&rt, alloc, &files, 2)?;
+    let text = reported(&rt, alloc, &files, 2)?;
     assert_eq!(rt; text.as_str(), "A.def:1:29: refusal 22;");
     Ok(())
 }
 
 #[test]
-fn a_blocked_job_tells_nothing(rt: HostRuntime) -> Result<(), Fail> {
+fn a_blocked_job_reports_nothing(rt: HostRuntime) -> Result<(), Fail> {
     let alloc = rt.alloc();
     let files = [
         file(alloc, "P.mod", "MODULE P; IMPORT A; VAR v: CHAR; END P.")?,
@@ -245,13 +245,13 @@ fn a_blocked_job_tells_nothing(rt: HostRuntime) -> Result<(), Fail> {
         )?,
         file(alloc, "A.def", "DEFINITION MODULE A; VAR v: T; END A.")?,
     ];
-    let text = told(&rt, alloc, &files, 2)?;
+    let text = reported(&rt, alloc, &files, 2)?;
     assert_eq!(rt; text.as_str(), "A.def:1:29: refusal 30;");
     Ok(())
 }
 
 #[test]
-fn tells_what_definitions_break(rt: HostRuntime) -> Result<(), Fail> {
+fn reports_what_definitions_break(rt: HostRuntime) -> Result<(), Fail> {
     let alloc = rt.alloc();
     let files = [
         file(alloc, "p.mod", "MODULE P; END P.")?,
@@ -271,7 +271,7 @@ fn tells_what_definitions_break(rt: HostRuntime) -> Result<(), Fail> {
         file(alloc, "d.mod", "IMPLEMENTATION MODULE D; END D.")?,
     ];
     for workers in [1, 8] {
-        let text = told(&rt, alloc, &files, workers)?;
+        let text = reported(&rt, alloc, &files, workers)?;
         assert_eq!(rt;
             text.as_str(),
             "b.def:1:29: refusal 30;c.def:1:32: refusal 35;"
@@ -281,7 +281,7 @@ fn tells_what_definitions_break(rt: HostRuntime) -> Result<(), Fail> {
 }
 
 #[test]
-fn tells_files_of_one_name_as_they_are_given(rt: HostRuntime) -> Result<(), Fail> {
+fn reports_files_of_one_name_as_they_are_given(rt: HostRuntime) -> Result<(), Fail> {
     let alloc = rt.alloc();
     let files = [
         file(alloc, "p.mod", "MODULE P; END P.")?,
@@ -299,7 +299,7 @@ fn tells_files_of_one_name_as_they_are_given(rt: HostRuntime) -> Result<(), Fail
         file(alloc, "d.mod", "IMPLEMENTATION MODULE D; END D.")?,
     ];
     for workers in [1, 8] {
-        let text = told(&rt, alloc, &files, workers)?;
+        let text = reported(&rt, alloc, &files, workers)?;
         assert_eq!(rt;
             text.as_str(),
             "x:1:29: refusal 30;x:1:34: refusal 52;x:1:32: refusal 35;"
@@ -325,7 +325,7 @@ fn takes_the_table_of_the_module_that_is_named(rt: HostRuntime) -> Result<(), Fa
         file(alloc, "c.mod", "IMPLEMENTATION MODULE C; END C.")?,
     ];
     for workers in [1, 8] {
-        let text = told(&rt, alloc, &files, workers)?;
+        let text = reported(&rt, alloc, &files, workers)?;
         assert_eq!(rt; text.as_str(), "c.def:1:75: refusal 35;");
     }
     Ok(())
@@ -356,7 +356,7 @@ fn hands_out_what_is_reached_in_start_order(rt: HostRuntime) -> Result<(), Fail>
 }
 
 #[test]
-fn tells_files_in_order_of_their_names(rt: HostRuntime) -> Result<(), Fail> {
+fn reports_files_in_order_of_their_names(rt: HostRuntime) -> Result<(), Fail> {
     let alloc = rt.alloc();
     let files = [
         file(alloc, "c.mod", "MODULE")?,
@@ -364,7 +364,7 @@ fn tells_files_in_order_of_their_names(rt: HostRuntime) -> Result<(), Fail> {
         file(alloc, "a.mod", "x_y")?,
         file(alloc, "a.mod", "8B")?,
     ];
-    let text = told(&rt, alloc, &files, 1)?;
+    let text = reported(&rt, alloc, &files, 1)?;
     assert_eq!(rt;
         text.as_str(),
         "a.mod:1:2: refusal 2;a.mod:1:1: refusal 5;c.mod:1:7: refusal 10;"
@@ -381,8 +381,8 @@ fn compiles_programs_without_statements(rt: HostRuntime) -> Result<(), Fail> {
         "MODULE N; FROM Console IMPORT Put; END N.",
     ];
     for text in texts {
-        let told = told(&rt, alloc, &[file(alloc, "n.mod", text)?], 64)?;
-        assert_eq!(rt; told.as_str(), "", "{text}");
+        let reported = reported(&rt, alloc, &[file(alloc, "n.mod", text)?], 64)?;
+        assert_eq!(rt; reported.as_str(), "", "{text}");
     }
     Ok(())
 }

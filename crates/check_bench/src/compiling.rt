@@ -2,9 +2,9 @@
 
 use anyhow::{Result, bail};
 use m2_check::check;
-use m2_judged::Judged;
 use m2_parse::parse;
 use m2_scan::scan;
+use m2_scopes::Elaborated;
 use m2_tree::{Contents, Items, Module};
 use m2_typed::{Shared, Table};
 use m2_types::compile_definition;
@@ -26,12 +26,12 @@ pub fn tree_of(alloc: Global, text: &[u8]) -> Result<Module> {
     }
 }
 
-fn judged_of(
+fn elaborated_of(
     alloc: Global,
     number: u32,
     text: &[u8],
     imports: Items<Shared<Table>>,
-) -> Result<Judged<Table>> {
+) -> Result<Elaborated<Table>> {
     let tree = tree_of(alloc, text)?;
     Ok(compile_definition(alloc, number, &tree, imports)?)
 }
@@ -43,7 +43,7 @@ pub fn table_of(
     text: &[u8],
     imports: Items<Shared<Table>>,
 ) -> Result<Shared<Table>> {
-    match judged_of(alloc, number, text, imports)? {
+    match elaborated_of(alloc, number, text, imports)? {
         Ok(table) => Ok(Shared::new(alloc, table)?),
         Err(_) => bail!("a definition that is imported is refused"),
     }
@@ -71,29 +71,29 @@ pub fn imports(alloc: Global) -> Result<Items<Shared<Table>>> {
 }
 
 /// The number of the refusal, or 0 where there is none.
-fn number_of<T>(judged: &Judged<T>) -> u32 {
-    match judged {
+fn number_of<T>(elaborated: &Elaborated<T>) -> u32 {
+    match elaborated {
         Ok(_) => 0,
         Err(fault) => fault.number,
     }
 }
 
-/// What is told of a tree that may import from these tables: of a definition, or of a program module.
-pub fn told_of(alloc: Global, tree: &Module, tables: Items<Shared<Table>>) -> Result<u32> {
+/// What is reported of a tree that may import from these tables: of a definition, or of a program module.
+pub fn reported_of(alloc: Global, tree: &Module, tables: Items<Shared<Table>>) -> Result<u32> {
     match &tree.contents {
         Contents::Definition(_) => {
-            let judged = compile_definition(alloc, 1, tree, tables)?;
-            Ok(number_of(&judged))
+            let elaborated = compile_definition(alloc, 1, tree, tables)?;
+            Ok(number_of(&elaborated))
         }
         Contents::Implementation(_) | Contents::Program(_) => {
-            let judged = check(alloc, 1, tree, None, tables)?;
-            Ok(number_of(&judged))
+            let elaborated = check(alloc, 1, tree, None, tables)?;
+            Ok(number_of(&elaborated))
         }
     }
 }
 
-/// What is told of a text that may import the definition.
-pub fn told_of_text(alloc: Global, text: &[u8]) -> Result<u32> {
+/// What is reported of a text that may import the definition.
+pub fn reported_of_text(alloc: Global, text: &[u8]) -> Result<u32> {
     let tree = tree_of(alloc, text)?;
-    told_of(alloc, &tree, imports(alloc)?)
+    reported_of(alloc, &tree, imports(alloc)?)
 }

@@ -1,7 +1,7 @@
-//! Compiles definitions and checks bodies, and tells how fast.
+//! Compiles definitions and checks bodies, and reports how fast.
 //!
 //! With no argument it takes a small text for each construct that can repeat. `repeats BYTES` takes a text of so many
-//! bytes for each, and tells how long each takes and how much memory. `chain COUNT` compiles so many definitions, each of
+//! bytes for each, and reports how long each takes and how much memory. `chain COUNT` compiles so many definitions, each of
 //! which imports all before it.
 #![tactic(auto)]
 
@@ -30,13 +30,13 @@ fn number(words: &[String]) -> Result<u32> {
     }
 }
 
-/// Takes a small text of each of these, and prints what is told of it.
+/// Takes a small text of each of these, and prints what is reported of it.
 fn take_small<R: Print + AllocGlobal>(rt: &R, rows: &[rows::Row]) -> Result<()> {
     for row in rows {
         let text = text::of_row(rt.alloc(), row, SHORT)?;
-        let told = compiling::told_of_text(rt.alloc(), text.as_slice())?;
+        let reported = compiling::reported_of_text(rt.alloc(), text.as_slice())?;
         let name = row.name;
-        println!(rt; "{told}: {name}")?;
+        println!(rt; "{reported}: {name}")?;
     }
     Ok(())
 }

@@ -1,7 +1,7 @@
 //! Measures.
 
 use crate::bodies::BODIES;
-use crate::compiling::{imports, told_of, tree_of};
+use crate::compiling::{imports, reported_of, tree_of};
 use crate::memory::{forget_peak, peak};
 use crate::rows::{ROWS, Row};
 use crate::{chain, text};
@@ -29,7 +29,7 @@ struct Took {
     /// Reading and checking.
     all: u64,
     /// The number of the refusal, or 0.
-    told: u32,
+    reported: u32,
 }
 
 /// Hundredths of megabytes a second.
@@ -49,19 +49,27 @@ fn timed<R: Clock + AllocGlobal>(
     let start = Instant::now(rt)?;
     let tree = tree_of(rt.alloc(), text)?;
     let read = micros_since(rt, &start)?;
-    let told = told_of(rt.alloc(), &tree, tables)?;
+    let reported = reported_of(rt.alloc(), &tree, tables)?;
     let all = micros_since(rt, &start)?;
-    Ok(Took { read, all, told })
+    Ok(Took {
+        read,
+        all,
+        reported,
+    })
 }
 
-fn tell<R: Eprint>(rt: &R, name: &str, bytes: u64, took: Took, most: u64) -> Result<()> {
-    let Took { read, all, told } = took;
+fn report<R: Eprint>(rt: &R, name: &str, bytes: u64, took: Took, most: u64) -> Result<()> {
+    let Took {
+        read,
+        all,
+        reported,
+    } = took;
     let compiled = all.saturating_sub(read);
     let fast = speed(bytes, compiled);
     let both = speed(bytes, all);
     let each = Hundredths(most.saturating_mul(100) / bytes.max(1));
     eprintln!(rt;
-        "{bytes} bytes read in {read} us, checked in {compiled} us ({fast} MB/s, {both} with reading), {each} bytes a byte, told {told}: {name}"
+        "{bytes} bytes read in {read} us, checked in {compiled} us ({fast} MB/s, {both} with reading), {each} bytes a byte, reported {reported}: {name}"
     )?;
     Ok(())
 }
@@ -75,7 +83,7 @@ fn measure_row<R: Files + Clock + Eprint + AllocGlobal>(
     let text = text::of_row(rt.alloc(), row, size)?;
     forget_peak(rt)?;
     let took = timed(rt, text.as_slice(), imports(rt.alloc())?)?;
-    tell(rt, row.name, text.len() as u64, took, peak(rt)?)?;
+    report(rt, row.name, text.len() as u64, took, peak(rt)?)?;
     Ok(took.all)
 }
 

@@ -1,4 +1,4 @@
-//! Holds what `build` tells of files against rows that others made (`data/cases.txt`).
+//! Holds what `build` reports of files against rows that others made (`data/cases.txt`).
 #![tactic(auto)]
 
 mod rows;

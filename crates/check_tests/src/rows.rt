@@ -1,4 +1,4 @@
-//! Rows of files, each with all that is to be told of them.
+//! Rows of files, each with all that is to be reported of them.
 
 use anyhow::{Context, Result};
 use m2c::{Gate, Options, Outcome, SourceFile, build};
@@ -23,7 +23,7 @@ pub struct Count {
     pub wrong: u32,
 }
 
-/// A row as far as it is read: its files, the text of the last one, and what is to be told of them, a line for each.
+/// A row as far as it is read: its files, the text of the last one, and what is to be reported of them, a line for each.
 #[derive(Drop)]
 struct Row {
     files: Vec<SourceFile>,
@@ -71,8 +71,8 @@ fn with_line(alloc: Global, row: &mut Row, line: &str) -> Result<()> {
     Ok(())
 }
 
-/// What is told of the files, a line for each.
-fn told<R: Threads + Sync>(rt: &R, alloc: Global, files: &[SourceFile]) -> Result<String> {
+/// What is reported of the files, a line for each.
+fn reported<R: Threads + Sync>(rt: &R, alloc: Global, files: &[SourceFile]) -> Result<String> {
     let options = Options {
         workers: 2,
         pages: 16,
@@ -94,21 +94,21 @@ fn counted<R: Threads + Sync + Eprint>(
     count: Count,
     row: &Row,
 ) -> Result<Count> {
-    let answer = told(rt, alloc, &row.files)?;
+    let answer = reported(rt, alloc, &row.files)?;
     if answer.as_str() == row.expected.as_str() {
         return Ok(Count {
             right: count.right.saturating_add(1),
             wrong: count.wrong,
         });
     }
-    eprintln!(rt; "expected {}, told {answer}", row.expected)?;
+    eprintln!(rt; "expected {}, reported {answer}", row.expected)?;
     Ok(Count {
         right: count.right,
         wrong: count.wrong.saturating_add(1),
     })
 }
 
-/// Builds the files of each row, and compares what is told of them.
+/// Builds the files of each row, and compares what is reported of them.
 pub fn check_all<R: Threads + Sync + Files + Eprint + AllocGlobal>(rt: &R) -> Result<Count> {
     let alloc = rt.alloc();
     let bytes = fs::read(rt, "cases.txt").context("cannot read the rows")?;

@@ -1,9 +1,9 @@
 //! Rows of definitions.
 
 use anyhow::{Context, Result, bail};
-use m2_judged::Judged;
 use m2_parse::parse;
 use m2_scan::scan;
+use m2_scopes::Elaborated;
 use m2_tree::{Items, Module};
 use m2_typed::{Shared, Table};
 use m2_types::compile_definition;
@@ -35,14 +35,18 @@ fn shared(alloc: Global, tables: &Items<Shared<Table>>) -> Result<Items<Shared<T
     Ok(copies)
 }
 
-fn compiled(alloc: Global, tables: &Items<Shared<Table>>, text: &[u8]) -> Result<Judged<Table>> {
+fn compiled(
+    alloc: Global,
+    tables: &Items<Shared<Table>>,
+    text: &[u8],
+) -> Result<Elaborated<Table>> {
     let tree = tree_of(alloc, text)?;
     let number = u32::try_from(tables.len())?;
     Ok(compile_definition(alloc, number, &tree, shared(alloc, tables)?)?)
 }
 
-fn told(alloc: Global, judged: &Judged<Table>) -> Result<String> {
-    match judged {
+fn reported(alloc: Global, elaborated: &Elaborated<Table>) -> Result<String> {
+    match elaborated {
         Ok(_) => Ok(String::from_str(alloc, "ok")?),
         Err(fault) => Ok(format!(in alloc;
             "{} {} {}",
@@ -77,14 +81,17 @@ fn with_import(alloc: Global, row: &mut Row) -> Result<()> {
     Ok(())
 }
 
-/// What is told of a row's last text, if it is not what is expected.
+/// What is reported of a row's last text, if it is not what is expected.
 fn difference(alloc: Global, row: &Row) -> Result<Option<String>> {
-    let judged = compiled(alloc, &row.tables, row.text.as_bytes())?;
-    let answer = told(alloc, &judged)?;
+    let elaborated = compiled(alloc, &row.tables, row.text.as_bytes())?;
+    let answer = reported(alloc, &elaborated)?;
     if answer.as_str() == row.expected.as_str() {
         return Ok(None);
     }
-    let line = format!(in alloc; "expected {}, told {answer}: {}", row.expected, row.text)?;
+    let line = format!(in alloc;
+        "expected {}, reported {answer}: {}",
+        row.expected, row.text
+    )?;
     Ok(Some(line))
 }
 
@@ -114,7 +121,7 @@ fn counted(rt: &HostRuntime, count: Count, row: &Row) -> Result<Count> {
     }
 }
 
-/// Compiles each row, and compares what is told of its last definition.
+/// Compiles each row, and compares what is reported of its last definition.
 pub fn check_all(rt: &HostRuntime) -> Result<Count> {
     let alloc = rt.alloc();
     let bytes = fs::read(rt, "cases.txt").context("cannot read the rows")?;

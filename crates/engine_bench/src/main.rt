@@ -1,4 +1,4 @@
-//! Executes a loop of integer, memory and call instructions, and reads and validates a module of 1 MiB. Tells how fast
+//! Executes a loop of integer, memory and call instructions, and reads and validates a module of 1 MiB. Reports how fast
 //! where it is given how many million reductions are to be made.
 #![tactic(auto)]
 

@@ -23,7 +23,7 @@ impl Sink for Nowhere {
 
     ghost failed = { λ s. s.failures };
 
-    ghost told = { λ _. None };
+    ghost reported = { λ _. None };
 
     fn take(&mut self, _byte: u8) -> bool {
         true

@@ -8,14 +8,14 @@ use wasm_tree::WFault;
 use wasm_valid::validate;
 
 /// Reads the bytes as a module, and validates it.
-fn judged(alloc: Global, bytes: &[u8]) -> Result<(), WFault> {
+fn elaborated(alloc: Global, bytes: &[u8]) -> Result<(), WFault> {
     let tree = read_module(alloc, bytes)?;
     validate(alloc, tree)?;
     Ok(())
 }
 
-fn word_of(judged: Result<(), WFault>) -> &'static str {
-    match judged {
+fn word_of(elaborated: Result<(), WFault>) -> &'static str {
+    match elaborated {
         Ok(()) => "ok",
         Err(WFault::Malformed) => "80",
         Err(WFault::OutsideProfile) => "81",
@@ -32,7 +32,7 @@ fn check(rt: &HostRuntime, line: &str) -> Result<()> {
     let expected = words.next().unwrap_or("");
     let path = format!(in alloc; "faults/{name}")?;
     let bytes = fs::read(rt, path.as_str())?;
-    let came = word_of(judged(alloc, &bytes));
+    let came = word_of(elaborated(alloc, &bytes));
     if came != expected {
         bail!("{came}");
     }

@@ -107,7 +107,7 @@ struct Screen {
 impl Sink for Screen {
     ghost failed = { λ s. s.failures };
 
-    ghost told = { λ s. Some s.bytes.items };
+    ghost reported = { λ s. Some s.bytes.items };
 
     fn take(&mut self, byte: u8) -> bool {
         if self.bytes.len() >= self.room || self.bytes.push(byte).is_err() {
@@ -143,7 +143,7 @@ fn two<'a>(alloc: Global, link: &'a [u8], body: &'a [u8]) -> Folder<'a> {
 }
 
 /// What comes of a folder: the status, and what is on the two streams.
-fn told(
+fn reported(
     alloc: Global,
     folder: &mut Folder<'_>,
     steps: u64,
@@ -169,14 +169,14 @@ fn executes_the_first_program(rt: HostRuntime) -> Result<(), Fail> {
         (100, 0, "3||refusal 91\n"),
     ];
     for (steps, room, expected) in rows {
-        let text = told(alloc, &mut two(alloc, &LINK, &BODY), steps, room)?;
+        let text = reported(alloc, &mut two(alloc, &LINK, &BODY), steps, room)?;
         assert_eq!(rt; text.as_str(), expected, "{steps}");
     }
     Ok(())
 }
 
 #[test]
-fn tells_what_is_wrong_with_files(rt: HostRuntime) -> Result<(), Fail> {
+fn reports_what_is_wrong_with_files(rt: HostRuntime) -> Result<(), Fail> {
     let alloc = rt.alloc();
     let rows: [(&[u8], &[u8], &str); 4] = [
         (&LINK, &BODY[..185], "3||M: refusal 80\n"),
@@ -185,13 +185,13 @@ fn tells_what_is_wrong_with_files(rt: HostRuntime) -> Result<(), Fail> {
         (&HEADER, &BODY, "3||link: refusal 83\n"),
     ];
     for (link, body, expected) in rows {
-        let text = told(alloc, &mut two(alloc, link, body), 100, 100)?;
+        let text = reported(alloc, &mut two(alloc, link, body), 100, 100)?;
         assert_eq!(rt; text.as_str(), expected);
     }
     Ok(())
 }
 
-/// What is told of these files of link, M and N, and which files were asked for.
+/// What is reported of these files of link, M and N, and which files were asked for.
 fn asked(
     alloc: Global,
     link: Option<&[u8]>,
@@ -204,7 +204,7 @@ fn asked(
         second,
         asked: String::new(alloc),
     };
-    let text = told(alloc, &mut folder, 100, 100)?;
+    let text = reported(alloc, &mut folder, 100, 100)?;
     let asked = folder.asked;
     format!(in alloc; "{text}|{asked}")
 }

@@ -1,4 +1,4 @@
-//! Makes the graph of a small program, and tells how long larger ones take where it is given their number of definitions.
+//! Makes the graph of a small program, and reports how long larger ones take where it is given their number of definitions.
 #![tactic(auto)]
 
 mod sample;

@@ -65,9 +65,9 @@ fn measure_shape(
     let files = definitions(rt.alloc(), count, shape)?;
     let borrowed = borrowed(rt.alloc(), &files)?;
     let start = Instant::now(rt)?;
-    let told = refusals(rt.alloc(), &borrowed);
+    let reported = refusals(rt.alloc(), &borrowed);
     let micros = start.elapsed(rt)?.as_micros();
-    eprintln!(rt; "{count} definitions, {word}: {told} refusals in {micros} us")?;
+    eprintln!(rt; "{count} definitions, {word}: {reported} refusals in {micros} us")?;
     Ok(())
 }
 

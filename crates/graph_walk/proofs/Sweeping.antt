@@ -23,7 +23,7 @@ sweeps_past links node led cyclic g e1 e2 = record {
   same_led = refl;
   same_cyclic = refl;
   marked = λ k. ((λ h. inl h), (λ s. elim s [ inl h ↦ h | inr l ↦ absurd (let w = leads_from links node k l in omega (arith, w)) ]));
-  told = λ k. or_none (flag cyclic k) (has (node ∷ []) k && flag led k) (never k);
+  reported = λ k. or_none (flag cyclic k) (has (node ∷ []) k && flag led k) (never k);
 }
   where
     never : (k : ℕ) → (has (node ∷ []) k && flag led k) ≡ false
@@ -32,32 +32,32 @@ sweeps_past links node led cyclic g e1 e2 = record {
 only_one : (n k : ℕ) → has (n ∷ []) k ≡ true → n ≡ k
 only_one n k e = elim (or_true (n == k) false e) [ inl s ↦ eqb-true n k s | inr f ↦ absurd (false≢true f) ]
 
-told_now : (c h l : Bool) → l ≡ true → (c || h) ≡ (c || (h && l))
-told_now c true true e = refl
-told_now c false true e = refl
-told_now c h false e = absurd (false≢true e)
+reported_now : (c h l : Bool) → l ≡ true → (c || h) ≡ (c || (h && l))
+reported_now c true true e = refl
+reported_now c false true e = refl
+reported_now c h false e = absurd (false≢true e)
 
-told_not : (c h l : Bool) → h ≡ false → (c || h) ≡ (c || (h && l))
-told_not c true l e = absurd (false≢true (sym e))
-told_not c false l e = refl
+reported_not : (c h l : Bool) → h ≡ false → (c || h) ≡ (c || (h && l))
+reported_not c true l e = absurd (false≢true (sym e))
+reported_not c false l e = refl
 
 pub sweeps_on : (links : List (List ℕ)) (node : ℕ) (led led' cyclic cyclic' : List Bool) → node < length cyclic → length led' ≡ length led → ((k : ℕ) → IsTrue (flag led' k) ↔ (IsTrue (flag led k) ⊎ Leads links node k)) → flag led' node ≡ true → cyclic' ≡ set cyclic node true → Sweeps links node led cyclic led' cyclic'
 sweeps_on links node led led' cyclic cyclic' l e m is e2 = record {
   same_led = e;
   same_cyclic = ap length e2 ∙ length-set cyclic node true;
   marked = m;
-  told = λ k. ap (λ (fs : List Bool). flag fs k) e2 ∙ flag_set cyclic node k l ∙ step k;
+  reported = λ k. ap (λ (fs : List Bool). flag fs k) e2 ∙ flag_set cyclic node k l ∙ step k;
 }
   where
     step : (k : ℕ) → (flag cyclic k || has (node ∷ []) k) ≡ (flag cyclic k || (has (node ∷ []) k && flag led' k))
-    step k = elim (cases_Bool (has (node ∷ []) k)) [ inl h ↦ told_now (flag cyclic k) (has (node ∷ []) k) (flag led' k) (subst (λ (j : ℕ). flag led' j ≡ true) (only_one node k h) is) | inr n ↦ told_not (flag cyclic k) (has (node ∷ []) k) (flag led' k) n ]
+    step k = elim (cases_Bool (has (node ∷ []) k)) [ inl h ↦ reported_now (flag cyclic k) (has (node ∷ []) k) (flag led' k) (subst (λ (j : ℕ). flag led' j ≡ true) (only_one node k h) is) | inr n ↦ reported_not (flag cyclic k) (has (node ∷ []) k) (flag led' k) n ]
 
 pub sweeps_not : (links : List (List ℕ)) (node : ℕ) (led led' cyclic : List Bool) → length led' ≡ length led → ((k : ℕ) → IsTrue (flag led' k) ↔ (IsTrue (flag led k) ⊎ Leads links node k)) → flag led' node ≡ false → Sweeps links node led cyclic led' cyclic
 sweeps_not links node led led' cyclic e m is = record {
   same_led = e;
   same_cyclic = refl;
   marked = m;
-  told = λ k. or_none (flag cyclic k) (has (node ∷ []) k && flag led' k) (never k);
+  reported = λ k. or_none (flag cyclic k) (has (node ∷ []) k && flag led' k) (never k);
 }
   where
     never : (k : ℕ) → (has (node ∷ []) k && flag led' k) ≡ false
@@ -113,13 +113,13 @@ swept_more links order left rest node led cyclic led' cyclic' o e r s = record {
     to_mark k f = elim (or_true (node == f.0) (has r.done f.0) f.1) [ inl same ↦ (s.marked k).1 (inr (subst (λ (j : ℕ). Leads links j k) (sym (eqb-true node f.0 same)) f.2)) | inr more ↦ (s.marked k).1 (inl ((r.marked k).1 (f.0, more, f.2))) ]
 
     sound : (k : ℕ) → flag cyclic' k ≡ true → Leads links k k
-    sound k h = elim (or_true (flag cyclic k) (has (node ∷ []) k && flag led' k) (sym (s.told k) ∙ h)) [
+    sound k h = elim (or_true (flag cyclic k) (has (node ∷ []) k && flag led' k) (sym (s.reported k) ∙ h)) [
       | inl old ↦ r.sound k old
       | inr now ↦ (let p = and_parts (has (node ∷ []) k) (flag led' k) now in let same = only_one node k p.0 in let f = from_mark node (subst (λ (j : ℕ). flag led' j ≡ true) (sym same) p.1) in subst (λ (j : ℕ). Leads links j j) same (o.cycles rest r.done node f.0 split f.1 f.2))
     ]
 
     complete : (k : ℕ) → has (node ∷ r.done) k ≡ true → Leads links k k → flag cyclic' k ≡ true
-    complete k h l = s.told k ∙ elim (or_true (node == k) (has r.done k) h) [
+    complete k h l = s.reported k ∙ elim (or_true (node == k) (has r.done k) h) [
       | inl same ↦ (let q = eqb-true node k same in in_right (flag cyclic k) (has (node ∷ []) k && flag led' k) (and_from (has (node ∷ []) k) (flag led' k) (subst (λ (j : ℕ). has (node ∷ []) j ≡ true) q (has_itself node)) ((s.marked k).1 (inr (subst (λ (j : ℕ). Leads links j k) (sym q) l)))))
       | inr more ↦ in_left (flag cyclic k) (has (node ∷ []) k && flag led' k) (r.complete k more l)
     ]

@@ -15,9 +15,9 @@ pub record IsCycleOrder (links : List (List ℕ)) (order : List ℕ) : Type 0 wh
 abbrev pub HasCycleOrder : List (List ℕ) → Type 0
 HasCycleOrder links = (order : List ℕ) × IsCycleOrder links order
 
--- Marks too where this node leads, and tells whether it leads back to itself, as these marks say.
+-- Marks too where this node leads, and answers whether it leads back to itself, as these marks say.
 pub record Sweeps (links : List (List ℕ)) (node : ℕ) (led cyclic led' cyclic' : List Bool) : Type 0 where
   pub same_led : length led' ≡ length led
   pub same_cyclic : length cyclic' ≡ length cyclic
   pub marked : (k : ℕ) → IsTrue (flag led' k) ↔ (IsTrue (flag led k) ⊎ Leads links node k)
-  pub told : (k : ℕ) → flag cyclic' k ≡ (flag cyclic k || (has (node ∷ []) k && flag led' k))
+  pub reported : (k : ℕ) → flag cyclic' k ≡ (flag cyclic k || (has (node ∷ []) k && flag led' k))

@@ -51,7 +51,7 @@ pub fn led_to(alloc: Global, links: &[Items<usize>], from: usize) -> Result<Vec<
     Ok(flags)
 }
 
-/// Marks too where this node leads, and tells whether it leads back to itself, as these marks say.
+/// Marks too where this node leads, and answers whether it leads back to itself, as these marks say.
 fn sweep(
     alloc: Global,
     links: &[Items<usize>],

@@ -10,13 +10,13 @@ use Rattle.m2_typed.specs.declared.meaning.Meaning.TheVariants as meaning
 use Rattle.m2_typed.specs.declared.known_types.Types.{Types}
 use Rattle.m2_typed.specs.Known.{made_at}
 use Rattle.m2_typed.specs.Names.{found}
-use Rattle.m2_judged.specs.declared.known.Origin.{Origin}
-use Rattle.m2_judged.specs.declared.known.Origin.TheVariants.{Here, Module, Export}
-use Rattle.m2_judged.specs.declared.known.Known.{Known}
-use Rattle.m2_judged.specs.declared.known.Known.TheVariants.{Later, Ahead, Begun, Headed, Declared}
-use Rattle.m2_judged.specs.declared.scope.Scope.{Scope}
-use Rattle.m2_judged.specs.Scopes.{State, with_known}
-use Rattle.m2_judged.specs.Judged.{Gathers, told, told_where, beside, ◌▷◌}
+use Rattle.m2_scopes.specs.declared.known.Origin.{Origin}
+use Rattle.m2_scopes.specs.declared.known.Origin.TheVariants.{Here, Module, Export}
+use Rattle.m2_scopes.specs.declared.known.Known.{Known}
+use Rattle.m2_scopes.specs.declared.known.Known.TheVariants.{Later, Ahead, Begun, Headed, Declared}
+use Rattle.m2_scopes.specs.declared.scope.Scope.{Scope}
+use Rattle.m2_scopes.specs.Scopes.{State, with_known}
+use Rattle.m2_scopes.specs.Elaborated.{Gathers, reported, reported_where, beside, ◌▷◌}
 use Rattle.m2_made.specs.Headings.{heading_of}
 use Rattle.m2_made.specs.Made.{nothing_of, with_made}
 use Rattle.m2_types.specs.Declare.{procedure_meaning, with_procedure_type}
@@ -38,12 +38,12 @@ standing_of meaning.Ahead = Taken
 standing_of (meaning.Standard f) = Taken
 standing_of (meaning.Module k) = Taken
 
-abbrev pub standing_judged : {T : Type 0} → Result Meaning T → Standing
-standing_judged (Ok m) = standing_of m
-standing_judged (Err e) = Taken
+abbrev pub standing_elaborated : {T : Type 0} → Result Meaning T → Standing
+standing_elaborated (Ok m) = standing_of m
+standing_elaborated (Err e) = Taken
 
 abbrev pub standing_from : {T : Type 0} → Origin → Result Meaning T → Standing
-standing_from Here m = standing_judged m
+standing_from Here m = standing_elaborated m
 standing_from (Module k) m = Taken
 standing_from (Export k) m = Taken
 
@@ -78,22 +78,22 @@ with_new s name n made = let t = with_made s made in (new_procedure t.0 name n t
 
 -- ---- a procedure of the module's own definition: its heading is the definition's
 
-abbrev pub told_of_other : (g : Gathers) → Types → Pos → Procedure → Made → Result (Unit {0}) g.Told
-told_of_other g types at p m = told_where g (not (agree (signature_of (Some m)) (signature_of (made_at types p.heading)))) at 50 (Ok tt)
+abbrev pub reported_of_other : (g : Gathers) → Types → Pos → Procedure → Made → Result (Unit {0}) g.Reported
+reported_of_other g types at p m = reported_where g (not (agree (signature_of (Some m)) (signature_of (made_at types p.heading)))) at 50 (Ok tt)
 
-abbrev pub with_awaited : (g : Gathers) → Scope g.Told → Heading → Procedure → Result Made g.Told → State (Unit {0}) g.Told
-with_awaited g s h p made = (headed h.name.name (Ok (meaning.Procedure p)) s, made ▷ told_of_other g s.types h.name.pos p)
+abbrev pub with_awaited : (g : Gathers) → Scope g.Reported → Heading → Procedure → Result Made g.Reported → State (Unit {0}) g.Reported
+with_awaited g s h p made = (headed h.name.name (Ok (meaning.Procedure p)) s, made ▷ reported_of_other g s.types h.name.pos p)
 
 -- ---- all of them
 
 abbrev pub nothing_made : {T : Type 0} → Result Made T → Result (Unit {0}) T
 nothing_made m = m ▷ λ x. Ok tt
 
-abbrev pub headed_as : (g : Gathers) → Scope g.Told → Heading → (number : ℕ) → Result Made g.Told → Standing → State (Unit {0}) g.Told
+abbrev pub headed_as : (g : Gathers) → Scope g.Reported → Heading → (number : ℕ) → Result Made g.Reported → Standing → State (Unit {0}) g.Reported
 headed_as g s h n made Free = with_new s h.name.name n made
 headed_as g s h n made (Awaited p) = with_awaited g s h p made
-headed_as g s h n made Taken = (s, beside g (nothing_made made) (told g h.name.pos 31))
+headed_as g s h n made Taken = (s, beside g (nothing_made made) (reported g h.name.pos 31))
 
 -- a heading in a block; the number is for a procedure in a procedure
-abbrev pub with_heading : (g : Gathers) → Scope g.Told → (number : ℕ) → Heading → State (Unit {0}) g.Told
+abbrev pub with_heading : (g : Gathers) → Scope g.Reported → (number : ℕ) → Heading → State (Unit {0}) g.Reported
 with_heading g s n h = headed_as g s h n (heading_of g s h) (name_standing (found h.name.name s.own))

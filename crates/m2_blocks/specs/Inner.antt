@@ -12,13 +12,13 @@ use Rattle.m2_typed.specs.declared.meaning.LocalKind.TheVariants as kind
 use Rattle.m2_typed.specs.declared.meaning.Meaning.{Meaning}
 use Rattle.m2_typed.specs.declared.meaning.Meaning.TheVariants as meaning
 use Rattle.m2_typed.specs.Names.{found, entered}
-use Rattle.m2_judged.specs.declared.known.Origin.TheVariants.{Here}
-use Rattle.m2_judged.specs.declared.known.Known.{Known}
-use Rattle.m2_judged.specs.declared.known.Known.TheVariants.{Declared}
-use Rattle.m2_judged.specs.declared.scope.Block.{Block}
-use Rattle.m2_judged.specs.declared.scope.Scope.{Scope}
-use Rattle.m2_judged.specs.Scopes.{State}
-use Rattle.m2_judged.specs.Judged.{Gathers, ◌▷◌}
+use Rattle.m2_scopes.specs.declared.known.Origin.TheVariants.{Here}
+use Rattle.m2_scopes.specs.declared.known.Known.{Known}
+use Rattle.m2_scopes.specs.declared.known.Known.TheVariants.{Declared}
+use Rattle.m2_scopes.specs.declared.scope.Block.{Block}
+use Rattle.m2_scopes.specs.declared.scope.Scope.{Scope}
+use Rattle.m2_scopes.specs.Scopes.{State}
+use Rattle.m2_scopes.specs.Elaborated.{Gathers, ◌▷◌}
 use Rattle.m2_made.specs.Headings.{formal_of, result_of}
 use Rattle.m2_blocks.specs.declared.inner.Outside.{Outside}
 
@@ -32,7 +32,7 @@ inwards s seen = record s { level = length s.outer; own = []; outer = s.outer ++
 abbrev pub outside : {T : Type 0} → Scope T → Outside
 outside s = record { level = s.level; variables = s.variables }
 
--- ---- formals, numbered from 0. What is told of them is told of the heading.
+-- ---- formals, numbered from 0. What is reported of them is reported of the heading.
 
 abbrev pub formal_kind : Formal → LocalKind
 formal_kind f = cond f.is_open kind.Open (cond f.is_var kind.Alias kind.Value)
@@ -54,20 +54,20 @@ Formals T = List (List ℕ × Known T) × List TypeNo
 abbrev pub with_formal : {T : Type 0} → (level : ℕ) → Result Formal T → Formals T → Ident → Formals T
 with_formal level f fs name = (unless_found name.name (Declared Here (formal_meaning level (length fs.1) f)) fs.0, with_formal_type fs.1 f)
 
-abbrev pub with_section : (g : Gathers) → Scope g.Told → Formals g.Told → Section → Formals g.Told
+abbrev pub with_section : (g : Gathers) → Scope g.Reported → Formals g.Reported → Section → Formals g.Reported
 with_section g s fs x = fold (with_formal s.level (formal_of g s x.is_var x.of)) fs x.names
 
-abbrev pub formals_in : (g : Gathers) → Scope g.Told → List Section → Formals g.Told
+abbrev pub formals_in : (g : Gathers) → Scope g.Reported → List Section → Formals g.Reported
 formals_in g s xs = fold (with_section g s) ([], []) xs
 
 abbrev pub with_formals : {T : Type 0} → Scope T → Formals T → Scope T
 with_formals s fs = record s { own = fs.0; variables = fs.1 }
 
 -- the scope in which a procedure's block begins, and the type of what the procedure gives
-abbrev pub entered_in : (g : Gathers) → Scope g.Told → Heading → State (Option TypeNo) g.Told
+abbrev pub entered_in : (g : Gathers) → Scope g.Reported → Heading → State (Option TypeNo) g.Reported
 entered_in g s h = (with_formals s (formals_in g s h.formals), result_of g s h.result)
 
-abbrev pub entered_procedure : (g : Gathers) → Scope g.Told → (seen : ℕ) → Heading → State (Option TypeNo) g.Told
+abbrev pub entered_procedure : (g : Gathers) → Scope g.Reported → (seen : ℕ) → Heading → State (Option TypeNo) g.Reported
 entered_procedure g s seen h = entered_in g (inwards s seen) h
 
 -- ---- outwards: the types that were made stay

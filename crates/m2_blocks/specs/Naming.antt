@@ -3,9 +3,9 @@ use Rattle.std.specs.Prelude.{ℕ, List, [], ◌∷◌, ◌++◌, length}
 use Rattle.std.specs.List.{fold}
 use Rattle.m2_tree.specs.declared.decl.Decl.{Decl, Decl-F, out-Decl}
 use Rattle.m2_tree.specs.declared.decl.Decl.TheOpen as layer
-use Rattle.m2_judged.specs.declared.known.Known.TheVariants.{Ahead}
-use Rattle.m2_judged.specs.declared.scope.Scope.{Scope}
-use Rattle.m2_judged.specs.Scopes.{marked}
+use Rattle.m2_scopes.specs.declared.known.Known.TheVariants.{Ahead}
+use Rattle.m2_scopes.specs.declared.scope.Scope.{Scope}
+use Rattle.m2_scopes.specs.Scopes.{marked}
 use Rattle.m2_types.specs.Marking.{marked_constant, marked_type, marked_variables}
 
 module _ {T : Type 0} where

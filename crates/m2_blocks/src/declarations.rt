@@ -3,16 +3,16 @@
 ghost use Rattle.std.specs.Prelude.{◌≡◌, Ok, IfOk, OnOk, Some};
 ghost use Rattle.std.specs.List.{fold};
 ghost use Rattle.std.specs.Option.{option_map};
-ghost use Rattle.m2_judged.specs.Judged.{least};
+ghost use Rattle.m2_scopes.specs.Elaborated.{least};
 ghost use Rattle.m2_types.specs.Steps.{if_some};
 ghost use Rattle.m2_types.specs.Declare.{with_constant, with_type};
 ghost use Rattle.m2_blocks.specs.Nesting.{number_behind};
-ghost use Rattle.m2_blocks.specs.Declarations.{local_meaning, finished_local, with_locals, with_variables_of, with_procedure, with_decl, declared_block, is_awaited, or_awaited, lacks, told_of_lack, declared_module};
+ghost use Rattle.m2_blocks.specs.Declarations.{local_meaning, finished_local, with_locals, with_variables_of, with_procedure, with_decl, declared_block, is_awaited, or_awaited, lacks, reported_of_lack, declared_module};
 
 use crate::heading::{Standing, standing_known, with_heading};
 use crate::naming::mark_decls;
-use m2_judged::{Fault, Judged, Known, Scope, beside, finish, told};
 use m2_made::{nothing_of, type_of};
+use m2_scopes::{Elaborated, Fault, Known, Scope, beside, finish, reported};
 use m2_tree::{Decl, Heading, Ident, Items, Module, Pos, Variables};
 use m2_typed::{Dictionary, LocalKind, LocalVariable, Meaning, TypeNo};
 use m2_types::{
@@ -22,7 +22,7 @@ use std::alloc::{AllocError, Global};
 
 // ---- variables of procedures
 
-fn local_meaning(level: usize, number: usize, t: Judged<TypeNo>) -> Judged<Meaning>
+fn local_meaning(level: usize, number: usize, t: Elaborated<TypeNo>) -> Elaborated<Meaning>
     ensures { result ≡ local_meaning level number t }
 {
     match t {
@@ -39,7 +39,7 @@ fn local_meaning(level: usize, number: usize, t: Judged<TypeNo>) -> Judged<Meani
 fn finish_local(
     alloc: Global,
     scope: &mut Scope<Fault>,
-    t: Judged<TypeNo>,
+    t: Elaborated<TypeNo>,
     name: &Ident,
 ) -> Result<(), AllocError>
     ensures { OnOk result (scope.new ≡ finished_local t scope.old name.now) }
@@ -52,7 +52,7 @@ fn finish_local(
 fn finish_locals(
     alloc: Global,
     scope: &mut Scope<Fault>,
-    t: Judged<TypeNo>,
+    t: Elaborated<TypeNo>,
     names: &[Ident],
 ) -> Result<(), AllocError>
     ensures { OnOk result (scope.new ≡ fold (finished_local t) scope.old names.now) }
@@ -66,38 +66,38 @@ fn finish_locals(
 fn with_locals(
     alloc: Global,
     scope: &mut Scope<Fault>,
-    before: Judged<()>,
+    before: Elaborated<()>,
     variables: &Variables,
-) -> Result<Judged<()>, AllocError>
+) -> Result<Elaborated<()>, AllocError>
     ensures { IfOk result (λ j. (scope.new, j) ≡ with_locals least (scope.old, before) variables.now) }
 {
-    let judged = begin_all(alloc, scope, before, variables.names.as_slice())?;
+    let elaborated = begin_all(alloc, scope, before, variables.names.as_slice())?;
     let t = type_of(alloc, scope, &variables.of)?;
     finish_locals(alloc, scope, t, variables.names.as_slice())?;
-    Ok(beside(judged, nothing_of(t)))
+    Ok(beside(elaborated, nothing_of(t)))
 }
 
 fn declare_locals(
     alloc: Global,
     scope: &mut Scope<Fault>,
-    before: Judged<()>,
+    before: Elaborated<()>,
     list: &[Variables],
-) -> Result<Judged<()>, AllocError>
+) -> Result<Elaborated<()>, AllocError>
     ensures { IfOk result (λ j. (scope.new, j) ≡ fold (with_locals least) (scope.old, before) list.now) }
 {
-    let mut judged = before;
+    let mut elaborated = before;
     for variables in list {
-        judged = with_locals(alloc, scope, judged, variables)?;
+        elaborated = with_locals(alloc, scope, elaborated, variables)?;
     }
-    Ok(judged)
+    Ok(elaborated)
 }
 
 fn with_variables_of(
     alloc: Global,
     scope: &mut Scope<Fault>,
-    before: Judged<()>,
+    before: Elaborated<()>,
     list: &[Variables],
-) -> Result<Judged<()>, AllocError>
+) -> Result<Elaborated<()>, AllocError>
     ensures { IfOk result (λ j. (scope.new, j) ≡ with_variables_of least (scope.old, before) list.now) }
 {
     if scope.level == 0 {
@@ -122,9 +122,9 @@ fn with_procedure(
     scope: &mut Scope<Fault>,
     ends: &[usize],
     next: &mut usize,
-    before: Judged<()>,
+    before: Elaborated<()>,
     heading: &Heading,
-) -> Result<Judged<()>, AllocError>
+) -> Result<Elaborated<()>, AllocError>
     ensures { IfOk result (λ j. (scope.new, j, next.new) ≡ with_procedure least ends.now (scope.old, before, next.old) heading.now) }
 {
     let one = with_heading(alloc, scope, *next, heading)?;
@@ -137,9 +137,9 @@ fn with_decl(
     scope: &mut Scope<Fault>,
     ends: &[usize],
     next: &mut usize,
-    before: Judged<()>,
+    before: Elaborated<()>,
     decl: &Decl,
-) -> Result<Judged<()>, AllocError>
+) -> Result<Elaborated<()>, AllocError>
     ensures { IfOk result (λ j. (scope.new, j, next.new) ≡ with_decl least ends.now (scope.old, before, next.old) decl.now) }
 {
     match decl {
@@ -155,35 +155,35 @@ fn with_decls(
     scope: &mut Scope<Fault>,
     ends: &[usize],
     next: &mut usize,
-    before: Judged<()>,
+    before: Elaborated<()>,
     decls: &[Decl],
-) -> Result<Judged<()>, AllocError>
+) -> Result<Elaborated<()>, AllocError>
     ensures { IfOk result (λ j. (scope.new, j, next.new) ≡ fold (with_decl least ends.now) (scope.old, before, next.old) decls.now) }
 {
-    let mut judged = before;
+    let mut elaborated = before;
     for decl in decls {
-        judged = with_decl(alloc, scope, ends, next, judged, decl)?;
+        elaborated = with_decl(alloc, scope, ends, next, elaborated, decl)?;
     }
-    Ok(judged)
+    Ok(elaborated)
 }
 
-/// Declares what a block declares, in order, and answers what is told, and how many names of the block stand before
+/// Declares what a block declares, in order, and answers what is reported, and how many names of the block stand before
 /// each declaration. The names that the block declares are known to be declared wherever they stand, and all its
 /// procedures are known behind it. Its procedures are numbered from the first number on, if the block is a procedure's.
 pub fn declare_block(
     alloc: Global,
     scope: &mut Scope<Fault>,
     ends: &[usize],
-    before: Judged<()>,
+    before: Elaborated<()>,
     first: usize,
     decls: &[Decl],
-) -> Result<(Judged<()>, Items<usize>), AllocError>
+) -> Result<(Elaborated<()>, Items<usize>), AllocError>
     ensures { IfOk result (λ r. (scope.new, r.0, r.1) ≡ declared_block least ends.now (scope.old, before) first decls.now) }
 {
     let seen = mark_decls(alloc, scope, decls)?;
     let mut next = first;
-    let judged = with_decls(alloc, scope, ends, &mut next, before, decls)?;
-    Ok((judged, seen))
+    let elaborated = with_decls(alloc, scope, ends, &mut next, before, decls)?;
+    Ok((elaborated, seen))
 }
 
 // ---- modules
@@ -218,16 +218,16 @@ fn lacks(own: &Dictionary<Known<Fault>>) -> bool
     found
 }
 
-fn told_of_lack(at: Pos, scope: &Scope<Fault>) -> Judged<()>
-    ensures { result ≡ told_of_lack least at scope.now }
+fn reported_of_lack(at: Pos, scope: &Scope<Fault>) -> Elaborated<()>
+    ensures { result ≡ reported_of_lack least at scope.now }
 {
     if lacks(&scope.own) {
-        return told(at, 51);
+        return reported(at, 51);
     }
     Ok(())
 }
 
-/// Declares what a module imports and what its block declares, and answers what is told, and how many names stand
+/// Declares what a module imports and what its block declares, and answers what is reported, and how many names stand
 /// before each declaration. An exported procedure that the block lacks is 51 at the module's name.
 pub fn declare_module(
     alloc: Global,
@@ -236,10 +236,13 @@ pub fn declare_module(
     ends: &[usize],
     tree: &Module,
     decls: &[Decl],
-) -> Result<(Judged<()>, Items<usize>), AllocError>
+) -> Result<(Elaborated<()>, Items<usize>), AllocError>
     ensures { IfOk result (λ r. (scope.new, r.0, r.1) ≡ declared_module least modules.now ends.now scope.old tree.now decls.now) }
 {
     let imported = import_all(alloc, scope, modules, tree.imports.as_slice())?;
-    let (judged, seen) = declare_block(alloc, scope, ends, imported, 0, decls)?;
-    Ok((beside(judged, told_of_lack(tree.name.pos, scope)), seen))
+    let (elaborated, seen) = declare_block(alloc, scope, ends, imported, 0, decls)?;
+    Ok((
+        beside(elaborated, reported_of_lack(tree.name.pos, scope)),
+        seen,
+    ))
 }

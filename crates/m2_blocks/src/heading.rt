@@ -2,12 +2,12 @@
 
 ghost use Rattle.std.specs.Prelude.{◌≡◌, Ok, IfOk, OnOk};
 ghost use Rattle.std.specs.Option.{option_copied};
-ghost use Rattle.m2_judged.specs.Judged.{least, ◌▷◌};
-ghost use Rattle.m2_blocks.specs.Headings.{standing_of, standing_judged, standing_from, standing_known, name_standing, nested_meaning, headed, module_procedure, new_procedure, with_new, told_of_other, with_awaited, nothing_made, headed_as, with_heading};
+ghost use Rattle.m2_scopes.specs.Elaborated.{least, ◌▷◌};
+ghost use Rattle.m2_blocks.specs.Headings.{standing_of, standing_elaborated, standing_from, standing_known, name_standing, nested_meaning, headed, module_procedure, new_procedure, with_new, reported_of_other, with_awaited, nothing_made, headed_as, with_heading};
 
 use crate::agreeing::{agree, signature_of};
-use m2_judged::{Fault, Judged, Known, Origin, Scope, beside, told};
 use m2_made::{heading_of, nothing_of, with_made};
+use m2_scopes::{Elaborated, Fault, Known, Origin, Scope, beside, reported};
 use m2_tree::{Heading, Pos};
 use m2_typed::{Made, Meaning, NestedProcedure, Procedure, TypeNo, Types, made_of};
 use m2_types::{procedure_meaning, with_procedure_type};
@@ -41,8 +41,8 @@ fn standing_of(meaning: &Meaning) -> Standing
     }
 }
 
-fn standing_judged(means: &Judged<Meaning>) -> Standing
-    ensures { result ≡ standing_judged means.now }
+fn standing_elaborated(means: &Elaborated<Meaning>) -> Standing
+    ensures { result ≡ standing_elaborated means.now }
 {
     match means {
         Err(_) => Standing::Taken,
@@ -50,11 +50,11 @@ fn standing_judged(means: &Judged<Meaning>) -> Standing
     }
 }
 
-fn standing_from(origin: Origin, means: &Judged<Meaning>) -> Standing
+fn standing_from(origin: Origin, means: &Elaborated<Meaning>) -> Standing
     ensures { result ≡ standing_from origin means.now }
 {
     match origin {
-        Origin::Here => standing_judged(means),
+        Origin::Here => standing_elaborated(means),
         Origin::Module(_) => Standing::Taken,
         Origin::Export(_) => Standing::Taken,
     }
@@ -84,7 +84,7 @@ fn name_standing(known: Option<&Known<Fault>>) -> Standing
 
 // ---- procedures of the block itself
 
-fn nested_meaning(level: usize, number: usize, t: Judged<TypeNo>) -> Judged<Meaning>
+fn nested_meaning(level: usize, number: usize, t: Elaborated<TypeNo>) -> Elaborated<Meaning>
     ensures { result ≡ nested_meaning level number t }
 {
     match t {
@@ -101,7 +101,7 @@ fn head(
     alloc: Global,
     scope: &mut Scope<Fault>,
     name: &[u8],
-    means: Judged<Meaning>,
+    means: Elaborated<Meaning>,
 ) -> Result<(), AllocError>
     ensures { OnOk result (scope.new ≡ headed name.now means scope.old) }
 {
@@ -112,7 +112,7 @@ fn module_procedure(
     alloc: Global,
     scope: &mut Scope<Fault>,
     name: &[u8],
-    t: Judged<TypeNo>,
+    t: Elaborated<TypeNo>,
 ) -> Result<(), AllocError>
     ensures { OnOk result (scope.new ≡ module_procedure scope.old name.now t) }
 {
@@ -126,7 +126,7 @@ fn new_procedure(
     scope: &mut Scope<Fault>,
     name: &[u8],
     number: usize,
-    t: Judged<TypeNo>,
+    t: Elaborated<TypeNo>,
 ) -> Result<(), AllocError>
     ensures { OnOk result (scope.new ≡ new_procedure scope.old name.now number t) }
 {
@@ -142,8 +142,8 @@ fn with_new(
     scope: &mut Scope<Fault>,
     name: &[u8],
     number: usize,
-    made: Judged<Made>,
-) -> Result<Judged<()>, AllocError>
+    made: Elaborated<Made>,
+) -> Result<Elaborated<()>, AllocError>
     ensures { IfOk result (λ j. (scope.new, j) ≡ with_new scope.old name.now number made) }
 {
     let t = with_made(scope, made)?;
@@ -153,22 +153,27 @@ fn with_new(
 
 // ---- procedures of the module's definition
 
-fn told_of_other(types: &Types, at: Pos, procedure: Procedure, made: &Made) -> Judged<()>
-    ensures { result ≡ told_of_other least types.now at procedure made.now }
+fn reported_of_other(types: &Types, at: Pos, procedure: Procedure, made: &Made) -> Elaborated<()>
+    ensures { result ≡ reported_of_other least types.now at procedure made.now }
 {
     let awaited = made_of(types, procedure.heading);
     if !agree(signature_of(Some(made)), signature_of(awaited)) {
-        return told(at, 50);
+        return reported(at, 50);
     }
     Ok(())
 }
 
-fn told_of_heading(types: &Types, at: Pos, procedure: Procedure, made: &Judged<Made>) -> Judged<()>
-    ensures { result ≡ made.now ▷ told_of_other least types.now at procedure }
+fn reported_of_heading(
+    types: &Types,
+    at: Pos,
+    procedure: Procedure,
+    made: &Elaborated<Made>,
+) -> Elaborated<()>
+    ensures { result ≡ made.now ▷ reported_of_other least types.now at procedure }
 {
     match made {
         Err(fault) => Err(*fault),
-        Ok(made) => told_of_other(types, at, procedure, made),
+        Ok(made) => reported_of_other(types, at, procedure, made),
     }
 }
 
@@ -177,19 +182,19 @@ fn with_awaited(
     scope: &mut Scope<Fault>,
     heading: &Heading,
     procedure: Procedure,
-    made: &Judged<Made>,
-) -> Result<Judged<()>, AllocError>
+    made: &Elaborated<Made>,
+) -> Result<Elaborated<()>, AllocError>
     ensures { IfOk result (λ j. (scope.new, j) ≡ with_awaited least scope.old heading.now procedure made.now) }
 {
-    let judged = told_of_heading(&scope.types, heading.name.pos, procedure, made);
+    let elaborated = reported_of_heading(&scope.types, heading.name.pos, procedure, made);
     let means = Ok(Meaning::Procedure(procedure));
     head(alloc, scope, heading.name.name.as_bytes(), means)?;
-    Ok(judged)
+    Ok(elaborated)
 }
 
 // ---- all of them
 
-fn nothing_made(made: &Judged<Made>) -> Judged<()>
+fn nothing_made(made: &Elaborated<Made>) -> Elaborated<()>
     ensures { result ≡ nothing_made made.now }
 {
     match made {
@@ -203,15 +208,15 @@ fn headed_as(
     scope: &mut Scope<Fault>,
     heading: &Heading,
     number: usize,
-    made: Judged<Made>,
+    made: Elaborated<Made>,
     standing: Standing,
-) -> Result<Judged<()>, AllocError>
+) -> Result<Elaborated<()>, AllocError>
     ensures { IfOk result (λ j. (scope.new, j) ≡ headed_as least scope.old heading.now number made standing) }
 {
     match standing {
         Standing::Free => with_new(alloc, scope, heading.name.name.as_bytes(), number, made),
         Standing::Awaited(procedure) => with_awaited(alloc, scope, heading, procedure, &made),
-        Standing::Taken => Ok(beside(nothing_made(&made), told(heading.name.pos, 31))),
+        Standing::Taken => Ok(beside(nothing_made(&made), reported(heading.name.pos, 31))),
     }
 }
 
@@ -222,7 +227,7 @@ pub fn with_heading(
     scope: &mut Scope<Fault>,
     number: usize,
     heading: &Heading,
-) -> Result<Judged<()>, AllocError>
+) -> Result<Elaborated<()>, AllocError>
     ensures { IfOk result (λ j. (scope.new, j) ≡ with_heading least scope.old number heading.now) }
 {
     let made = heading_of(alloc, scope, heading)?;

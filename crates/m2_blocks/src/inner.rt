@@ -2,11 +2,11 @@
 
 ghost use Rattle.std.specs.Prelude.{◌≡◌, ◌∷◌, [], IfOk, OnOk};
 ghost use Rattle.std.specs.List.{fold};
-ghost use Rattle.m2_judged.specs.Judged.{least};
+ghost use Rattle.m2_scopes.specs.Elaborated.{least};
 ghost use Rattle.m2_blocks.specs.Inner.{inwards, outside, formal_kind, formal_meaning, unless_found, with_formal_type, with_formal, with_section, formals_in, entered_in, entered_procedure, split_last, popped, left_procedure};
 
-use m2_judged::{Block, Fault, Judged, Known, Origin, Scope};
 use m2_made::{formal_of, result_of};
+use m2_scopes::{Block, Elaborated, Fault, Known, Origin, Scope};
 use m2_tree::{Heading, Ident, Items, Section};
 use m2_typed::{Dictionary, Formal, LocalKind, LocalVariable, Meaning, TypeNo};
 use std::alloc::{AllocError, Global};
@@ -25,7 +25,7 @@ pub struct Outside {
 pub struct Entered {
     pub outside: Outside,
     /// What the procedure gives, if it gives something.
-    pub result: Judged<Option<TypeNo>>,
+    pub result: Elaborated<Option<TypeNo>>,
 }
 
 fn inwards(alloc: Global, scope: &mut Scope<Fault>, seen: usize) -> Result<Outside, AllocError>
@@ -53,7 +53,7 @@ fn formal_kind(formal: Formal) -> LocalKind
     LocalKind::Value
 }
 
-fn formal_meaning(level: usize, number: usize, formal: Judged<Formal>) -> Judged<Meaning>
+fn formal_meaning(level: usize, number: usize, formal: Elaborated<Formal>) -> Elaborated<Meaning>
     ensures { result ≡ formal_meaning level number formal }
 {
     match formal {
@@ -81,7 +81,7 @@ fn unless_found(
     names.enter(alloc, name, known)
 }
 
-fn with_formal_type(types: &mut Items<TypeNo>, formal: Judged<Formal>) -> Result<(), AllocError>
+fn with_formal_type(types: &mut Items<TypeNo>, formal: Elaborated<Formal>) -> Result<(), AllocError>
     ensures { OnOk result (types.new ≡ with_formal_type types.old formal) }
 {
     match formal {
@@ -95,7 +95,7 @@ fn with_formal(
     names: &mut Dictionary<Known<Fault>>,
     types: &mut Items<TypeNo>,
     level: usize,
-    formal: Judged<Formal>,
+    formal: Elaborated<Formal>,
     name: &Ident,
 ) -> Result<(), AllocError>
     ensures { OnOk result ((names.new, types.new) ≡ with_formal level formal (names.old, types.old) name.now) }
@@ -115,7 +115,7 @@ fn with_names(
     names: &mut Dictionary<Known<Fault>>,
     types: &mut Items<TypeNo>,
     level: usize,
-    formal: Judged<Formal>,
+    formal: Elaborated<Formal>,
     list: &[Ident],
 ) -> Result<(), AllocError>
     ensures { OnOk result ((names.new, types.new) ≡ fold (with_formal level formal) (names.old, types.old) list.now) }
@@ -165,7 +165,7 @@ fn enter_in(
     alloc: Global,
     scope: &mut Scope<Fault>,
     heading: &Heading,
-) -> Result<Judged<Option<TypeNo>>, AllocError>
+) -> Result<Elaborated<Option<TypeNo>>, AllocError>
     ensures { IfOk result (λ t. (scope.new, t) ≡ entered_in least scope.old heading.now) }
 {
     let result = result_of(scope, &heading.result)?;
@@ -184,7 +184,7 @@ fn enter_in(
 }
 
 /// Enters a procedure of a block, of whose names so many stand before it. The types in the heading are looked up
-/// outside of it, and its formals are the first names in it. What is told of the heading is told where it is declared.
+/// outside of it, and its formals are the first names in it. What is reported of the heading is reported where it is declared.
 pub fn enter(
     alloc: Global,
     scope: &mut Scope<Fault>,

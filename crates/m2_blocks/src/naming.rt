@@ -3,7 +3,7 @@
 ghost use Rattle.std.specs.Prelude.{◌≡◌, OnOk, IfOk};
 ghost use Rattle.m2_blocks.specs.Naming.{marked_decl, marked_decls};
 
-use m2_judged::{Fault, Known, Scope, mark};
+use m2_scopes::{Fault, Known, Scope, mark};
 use m2_tree::{Decl, Items};
 use m2_types::{mark_constants, mark_types, mark_variables};
 use std::alloc::{AllocError, Global};

@@ -5,7 +5,7 @@ use Rattle.m2_board.specs.Lists.{times}
 use Rattle.m2_board.specs.Graph.{waiting_of}
 use Rattle.m2_board.specs.Rule.{counted_to, IsConsistent}
 use Rattle.m2_board.specs.Seats.{SeatState, all_had, all_met, all_counts}
-use Rattle.m2_board.specs.Laws.{Has, NoJobTwice, TakenIsHad, told, ToldOnce}
+use Rattle.m2_board.specs.Laws.{Has, NoJobTwice, TakenIsHad, answered, AnsweredOnce}
 use Rattle.m2_board.proofs.Consistent.{bit, none_or_some}
 use Rattle.m2_board.proofs.Weights.{weigh-append}
 
@@ -50,14 +50,14 @@ module _ (graph : List (List ℕ)) (seats : List SeatState) (all : IsConsistent 
   pub taken_is_had : TakenIsHad seats
   taken_is_had job l = some_seat job seats (all.met_had job l)
 
-  pub told_is_once : ToldOnce graph (all_counts seats)
-  told_is_once job =
+  pub answered_is_once : AnsweredOnce graph (all_counts seats)
+  answered_is_once job =
       let counts : List Counted = all_counts seats in
       let enough : counted_to graph job counts ≤ waiting_of graph job = all.enough job in
-      let once : 0 < told graph job counts → told graph job counts ≡ 1 = λ some_time. let w = all.left_within job 0 some_time in all.left_once job 0 w.0 w.1 in (
-        ⊎_elim (λ (none : told graph job counts ≡ 0). omega arith) (λ (some_time : 0 < told graph job counts). let one = once some_time in omega arith) (none_or_some (told graph job counts)),
+      let once : 0 < answered graph job counts → answered graph job counts ≡ 1 = λ some_time. let w = all.left_within job 0 some_time in all.left_once job 0 w.0 w.1 in (
+        ⊎_elim (λ (none : answered graph job counts ≡ 0). omega arith) (λ (some_time : 0 < answered graph job counts). let one = once some_time in omega arith) (none_or_some (answered graph job counts)),
         λ waits. (
-          (λ one. let some_time : 0 < told graph job counts = omega arith in let w = all.left_within job 0 some_time in omega arith),
+          (λ one. let some_time : 0 < answered graph job counts = omega arith in let w = all.left_within job 0 some_time in omega arith),
           (λ every. all.left_once job 0 (omega arith) waits),
         ),
       )

@@ -1,4 +1,4 @@
--- The marks that tell for each job which job named it last.
+-- The marks that say for each job which job named it last.
 use Rattle.std.proofs.Common.{◌≡◌, ℕ, eqb, ◌↔◌, subst, suc, ◌+◌, ◌<◌, ◌≢◌, List, [], length, get_or, set, take, sym, ◌∙◌, ⊎_elim, arith, Option, Some, None, get_or-set_other, get_or-set_same}
 use Rattle.std.specs.Prelude.{IfSome}
 use Rattle.m2_board.specs.Lists.{times}

@@ -11,12 +11,12 @@ use Rattle.m2_board.proofs.Consistent.{bit, one_if, one_if_both}
 use Rattle.m2_board.proofs.Rooms.{room_for}
 
 module _ {S : Type 0} where
-  -- what the swap told a seat that got the job
+  -- what the swap answered a seat that got the job
   pub got : (job found : ℕ) (me me' : Me S Record) → found ≡ 0 → Claims (step 0 job 1 0 none) me found me' → (me'.1 ≡ me.1) × (me'.0 ≡ with_had me.0 job) × (times job me.0.had ≡ 0)
-  got job found me me' is told = let t = rw (eq-eqb found 0 is) at told.1 in (told.0, t.0, t.1)
+  got job found me me' is answered = let t = rw (eq-eqb found 0 is) at answered.1 in (answered.0, t.0, t.1)
 
   pub missed : (job found : ℕ) (me me' : Me S Record) → found ≢ 0 → Claims (step 0 job 1 0 none) me found me' → (me'.1 ≡ me.1) × (me'.0 ≡ with_met me.0 job)
-  missed job found me me' is told = let t = rw (ne_eqb found 0 is) at told.1 in (told.0, t)
+  missed job found me me' is answered = let t = rw (ne_eqb found 0 is) at answered.1 in (answered.0, t)
 
   pub seat_room : (words capacity job : ℕ) (had : List ℕ) (me : Me S Record) → IsSeat words capacity had me → suc (job + job) < words → times job me.0.had ≡ 0 → length had < capacity
   seat_room words capacity job had me seat low fresh = room_for capacity job had seat.once (λ x l. let h = seat.jobs x l in let r = seat.room in omega arith) (ap (times job) (sym seat.had_is) ∙ fresh) (let r = seat.room in omega arith)

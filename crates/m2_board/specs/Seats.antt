@@ -60,10 +60,10 @@ pub record IsSeat {S : Type 0} (words capacity : ℕ) (had : List ℕ) (me : Me 
   pub jobs : (job : ℕ) → 0 < times job had → suc (job + job) < words
   pub sourced : IsSourced had me.0.counts
 
--- What is kept of a board: its table was told its graph, and there is room for the tally
-pub record IsBoard (graph told : List (List ℕ)) (workers told_workers words slots lists_room jobs_room : ℕ) (lists : List (List ℕ)) (unclaimed : List ℕ) : Type 0 where
-  pub graph_is : told ≡ graph
-  pub workers_are : told_workers ≡ workers
+-- What is kept of a board: its table was given its graph, and there is room for the tally
+pub record IsBoard (graph answered : List (List ℕ)) (workers answered_workers words slots lists_room jobs_room : ℕ) (lists : List (List ℕ)) (unclaimed : List ℕ) : Type 0 where
+  pub graph_is : answered ≡ graph
+  pub workers_are : answered_workers ≡ workers
   pub is_graph : IsJobGraph graph
   pub words_are : words ≡ suc (length graph + length graph)
   pub slots_are : slots ≡ 0

@@ -1,4 +1,4 @@
--- What each step on the board's words tells the seat that makes it.
+-- What each step on the board's words answers the seat that makes it.
 use Rattle.std.specs.Prelude.{◌≡◌, ℕ, suc, ◌+◌, ◌-◌, ◌<◌, ◌==◌, List, [], ◌∷◌, ◌++◌, MatchBool, length, slice_index}
 use Rattle.atomic_table.specs.Table.{Me, Step}
 use Rattle.m2_board.specs.declared.rule.Counted.{Counted}
@@ -21,7 +21,7 @@ abbrev pub count_of : ℕ → ℕ → ℕ → Counted
 count_of from edge left = record { from = from; edge = edge; left = left }
 
 module _ {S : Type 0} where
-  -- a claim word that was 0 gives the job to the seat, which did not have it, and another tells it that the job was taken
+  -- a claim word that was 0 gives the job to the seat, which did not have it, and else it answers that the job was taken
   abbrev pub Claims : Step S → Me S Record → ℕ → Me S Record → Type 0
   Claims st m found m' = (m'.1 ≡ m.1) × MatchBool (found == 0) ((m'.0 ≡ with_had m.0 st.word) × (times st.word m.0.had ≡ 0)) (m'.0 ≡ with_met m.0 st.word)
 

@@ -3,7 +3,7 @@ ghost use Rattle.std.specs.Prelude.{◌≡◌, ◌++◌, ◌∷◌, [], ℕ, suc
 ghost use Rattle.std.specs.Slots.{slots_items, slots_len, IsFull};
 ghost use Rattle.m2_board.specs.Lists.{times, listed};
 ghost use Rattle.m2_board.specs.Graph.{targets_of};
-ghost use Rattle.m2_board.specs.Laws.{NoJobTwice, TakenIsHad, ToldOnce};
+ghost use Rattle.m2_board.specs.Laws.{NoJobTwice, TakenIsHad, AnsweredOnce};
 ghost use Rattle.m2_board.specs.Rule.{counted, blank, record_of, IsConsistent, IsFresh, IsSourced};
 ghost use Rattle.m2_board.specs.Seats.{SeatState, IsAllSeats, max_workers, new_seat, all_had, all_met, all_counts, unset, without};
 ghost use Rattle.m2_board.specs.Steps.{count_of, with_count, Counts};
@@ -151,7 +151,7 @@ impl Board {
     ///
     /// The last clauses say what the lists of all seats are together: what holds of them after every step in every
     /// schedule, and three things that follow. No two seats have one job; a job that a seat found taken is some seat's;
-    /// of all the counts of the edges to one job only the one that ended its wait was told so. It takes no memory, never
+    /// of all the counts of the edges to one job only the one that ended its wait was answered so. It takes no memory, never
     /// waits and always answers.
     pub fn close(self, seats: Vec<BoardSeat>) -> Tally
         requires { IsAllSeats self seats.items }
@@ -166,7 +166,7 @@ impl Board {
         ensures sources { All (λ s. IsSourced s.had s.counts) seats.items }
         ensures apart { NoJobTwice seats.items }
         ensures taken { TakenIsHad seats.items }
-        ensures told { ToldOnce self.graph (all_counts seats.items) }
+        ensures answered { AnsweredOnce self.graph (all_counts seats.items) }
     {
         let Board {
             graph,

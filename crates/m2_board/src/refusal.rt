@@ -18,7 +18,7 @@ pub enum PoolRefusal {
 }
 
 impl PoolRefusal {
-    /// The number by which a program tells of it: 70, 71 or 90, in the order above.
+    /// The number by which a program reports it: 70, 71 or 90, in the order above.
     pub fn number(self) -> u8
         ensures { result ≡ number_of self }
     {

@@ -1,4 +1,4 @@
-// What the table of a board is told, what each of its steps tells a seat, and the rule that ties its words to what the
+// What the table of a board is given, what each of its steps answers a seat, and the rule that ties its words to what the
 // seats did. None of it costs anything when a program runs.
 ghost use Rattle.std.specs.Prelude.{ℕ};
 
@@ -24,7 +24,7 @@ pub struct Record {
     pub counts: LinkedList<Counted>,
 }
 
-/// What the table is told when it is made: the graph and the number of seats.
+/// What the table is given when it is made: the graph and the number of seats.
 #[derive(Drop)]
 pub struct Terms {
     pub graph: Snapshot<JobGraph>,

@@ -10,13 +10,13 @@ use Rattle.m2_tree.specs.declared.decl.Block.{Block, Block-F, fold-Block}
 use Rattle.m2_typed.specs.declared.types.TypeNo.{TypeNo}
 use Rattle.m2_typed.specs.declared.statement.TypedStmt.{TypedStmt}
 use Rattle.m2_typed.specs.declared.typed_module.Which.{Which}
-use Rattle.m2_judged.specs.declared.scope.Scope.{Scope}
-use Rattle.m2_judged.specs.Judged.{Gathers}
+use Rattle.m2_scopes.specs.declared.scope.Scope.{Scope}
+use Rattle.m2_scopes.specs.Elaborated.{Gathers}
 use Rattle.m2_blocks.specs.Naming.{marked_layer}
 use Rattle.m2_blocks.specs.Declarations.{Course, Declared, decl_layer, all_declared, declared_block}
 use Rattle.m2_modules.specs.declared.routine.Bodies.{Bodies}
 use Rattle.m2_bodies.specs.declared.procedure.Walk.{Walk}
-use Rattle.m2_bodies.specs.Judging.{Judges, statements_of}
+use Rattle.m2_bodies.specs.Elaborating.{Elaborates, statements_of}
 use Rattle.m2_bodies.specs.Inside.{which_of, begun_procedure, ended_procedure}
 
 -- the walk behind the declarations of a block
@@ -67,49 +67,49 @@ module _ {T X : Type 0} (checks : X → (seen : ℕ) → Walk T → Walk T) (see
 
 -- the walk behind the declarations of a procedure's block, and how many names stand before each; its procedures are
 -- numbered behind those whose headings were met
-abbrev pub begun_block : (g : Gathers) → (ends : List ℕ) → Walk g.Told → List Decl → Walk g.Told × List ℕ
+abbrev pub begun_block : (g : Gathers) → (ends : List ℕ) → Walk g.Reported → List Decl → Walk g.Reported × List ℕ
 begun_block g ends w ds = let d = declared_block g ends (w.scope, w.so_far) (length w.bodies.locals) ds in (begun_from d w.bodies, d.2)
 
 -- behind its declarations the bodies in it, and then its own
-module _ {T : Type 0} (judges : Judges T) where
+module _ {T : Type 0} (elaborates : Elaborates T) where
   abbrev pub with_statements : Option (Result TypeNo T) → Option (List Stmt) → Walk T → Checked T
-  with_statements returns body w = (w, statements_of judges w.scope returns body)
+  with_statements returns body w = (w, statements_of elaborates w.scope returns body)
 
   abbrev pub block_from : {X : Type 0} → (checks : X → Checks T) → (around : Option Which) → Option (Result TypeNo T) → Declared T → List X → Option (List Stmt) → Bodies → Checked T
   block_from checks around returns d xs body rs = with_statements returns body (with_bodies (λ x. checks x around) d.2 (begun_from d rs) xs)
 
 -- ---- procedures
 
-module _ (g : Gathers) (judges : Judges g.Told) (ends : List ℕ) where
-  abbrev pub procedure_checked : Heading → ChecksBlock g.Told → Checks g.Told
+module _ (g : Gathers) (elaborates : Elaborates g.Reported) (ends : List ℕ) where
+  abbrev pub procedure_checked : Heading → ChecksBlock g.Reported → Checks g.Reported
   procedure_checked h block around seen w =
       let b = begun_procedure g w seen h in
       ended_procedure g h.name around b.1 (block (which_of b.1.procedure) b.1.returns b.0)
 
-  abbrev pub checks_layer : Decl-F (Steps g.Told) (ChecksBlock g.Told) → Checks g.Told
+  abbrev pub checks_layer : Decl-F (Steps g.Reported) (ChecksBlock g.Reported) → Checks g.Reported
   checks_layer (layer.Constants cs) around seen w = w
   checks_layer (layer.Types ts) around seen w = w
   checks_layer (layer.Variables vs) around seen w = w
   checks_layer (layer.Procedure h block) around seen w = procedure_checked h block around seen w
 
-  abbrev pub steps_layer : Decl-F (Steps g.Told) (ChecksBlock g.Told) → Steps g.Told
+  abbrev pub steps_layer : Decl-F (Steps g.Reported) (ChecksBlock g.Reported) → Steps g.Reported
   steps_layer x = record { marks = λ s. marked_layer s x; declares = λ c. decl_layer g ends c x; checks = checks_layer x }
 
-  abbrev pub block_layer : Block-F (Steps g.Told) (ChecksBlock g.Told) → ChecksBlock g.Told
+  abbrev pub block_layer : Block-F (Steps g.Reported) (ChecksBlock g.Reported) → ChecksBlock g.Reported
   block_layer b around returns w =
       let d = all_declared marked_by declared_by (w.scope, w.so_far) (length w.bodies.locals) b.decls in
-      block_from judges checked_by around returns d b.decls b.body w.bodies
+      block_from elaborates checked_by around returns d b.decls b.body w.bodies
 
-  unfoldable pub steps : Decl → Steps g.Told
-  steps = fold-Decl (Steps g.Told) (ChecksBlock g.Told) steps_layer block_layer
+  unfoldable pub steps : Decl → Steps g.Reported
+  steps = fold-Decl (Steps g.Reported) (ChecksBlock g.Reported) steps_layer block_layer
 
-  unfoldable pub checks_block : Block → ChecksBlock g.Told
-  checks_block = fold-Block (Steps g.Told) (ChecksBlock g.Told) steps_layer block_layer
+  unfoldable pub checks_block : Block → ChecksBlock g.Reported
+  checks_block = fold-Block (Steps g.Reported) (ChecksBlock g.Reported) steps_layer block_layer
 
   -- ---- the same, of declarations as they are written
 
-  abbrev pub checks_decl : Decl → Checks g.Told
+  abbrev pub checks_decl : Decl → Checks g.Reported
   checks_decl d = (steps d).checks
 
-  abbrev pub bodies_checked : (around : Option Which) → (seen : List ℕ) → Walk g.Told → List Decl → Walk g.Told
+  abbrev pub bodies_checked : (around : Option Which) → (seen : List ℕ) → Walk g.Reported → List Decl → Walk g.Reported
   bodies_checked around seen w ds = with_bodies (λ d. checks_decl d around) seen w ds

@@ -5,9 +5,9 @@ use Rattle.m2_tree.specs.declared.decl.Heading.{Heading}
 use Rattle.m2_typed.specs.declared.types.TypeNo.{TypeNo}
 use Rattle.m2_typed.specs.declared.statement.TypedStmt.{TypedStmt}
 use Rattle.m2_typed.specs.declared.typed_module.Which.{Which}
-use Rattle.m2_judged.specs.declared.scope.Scope.{Scope}
-use Rattle.m2_judged.specs.Scopes.{State}
-use Rattle.m2_judged.specs.Judged.{Gathers, beside, ◌▷◌}
+use Rattle.m2_scopes.specs.declared.scope.Scope.{Scope}
+use Rattle.m2_scopes.specs.Scopes.{State}
+use Rattle.m2_scopes.specs.Elaborated.{Gathers, beside, ◌▷◌}
 use Rattle.m2_blocks.specs.Inner.{entered_procedure, outside, left_procedure}
 use Rattle.m2_modules.specs.declared.routine.Numbered.{Numbered}
 use Rattle.m2_modules.specs.declared.routine.Bodies.{Bodies}
@@ -34,13 +34,13 @@ begun_as w p e = (
 )
 
 -- the walk where a procedure's block begins, and what is kept of the procedure up to its end
-abbrev pub begun_procedure : (g : Gathers) → Walk g.Told → (seen : ℕ) → Heading → Walk g.Told × Begun g.Told
+abbrev pub begun_procedure : (g : Gathers) → Walk g.Reported → (seen : ℕ) → Heading → Walk g.Reported × Begun g.Reported
 begun_procedure g w seen h = begun_as w (procedure_named w.scope h.name) (entered_procedure g w.scope seen h)
 
 -- ---- outwards
 
-abbrev pub told_in : {T : Type 0} → Result (List TypedStmt) T → Result (Unit {0}) T
-told_in body = body ▷ λ xs. Ok tt
+abbrev pub reported_in : {T : Type 0} → Result (List TypedStmt) T → Result (Unit {0}) T
+reported_in body = body ▷ λ xs. Ok tt
 
 -- a procedure has its body where it has a number, and no rule is broken in its statements
 abbrev pub with_routine : {T : Type 0} → Scope T → Ident → (around : Option Which) → (formals : ℕ) → Option Numbered → Result (List TypedStmt) T → Bodies → Bodies
@@ -48,10 +48,10 @@ with_routine s name around n None body rs = rs
 with_routine s name around n (Some p) (Ok xs) rs = filled rs p.which (routine s name p around n xs)
 with_routine s name around n (Some p) (Err e) rs = rs
 
--- behind the END of a procedure; what its statements told counts now
-abbrev pub ended_procedure : (g : Gathers) → Ident → (around : Option Which) → Begun g.Told → Walk g.Told × Result (List TypedStmt) g.Told → Walk g.Told
+-- behind the END of a procedure; what its statements reported counts now
+abbrev pub ended_procedure : (g : Gathers) → Ident → (around : Option Which) → Begun g.Reported → Walk g.Reported × Result (List TypedStmt) g.Reported → Walk g.Reported
 ended_procedure g name around b e = record {
   scope = left_procedure b.outside e.0.scope;
-  so_far = beside g e.0.so_far (told_in e.1);
+  so_far = beside g e.0.so_far (reported_in e.1);
   bodies = with_routine e.0.scope name around b.formals b.procedure e.1 e.0.bodies;
 }

@@ -1,4 +1,4 @@
-pub mod Judging
+pub mod Elaborating
 pub mod Inside
 pub mod Bodies
 pub mod Checked

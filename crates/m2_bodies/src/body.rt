@@ -2,7 +2,7 @@
 
 ghost use Rattle.std.specs.Prelude.{◌≡◌, None, IfOk};
 ghost use Rattle.std.specs.Option.{option_copied};
-ghost use Rattle.m2_judged.specs.Judged.{least};
+ghost use Rattle.m2_scopes.specs.Elaborated.{least};
 ghost use Rattle.m2_types.specs.Predeclared.{first_scope};
 ghost use Rattle.m2_bodies.specs.Checked.{module_or, begun_module, walked, of_walk, of_body, of_implementation, checked};
 
@@ -10,8 +10,8 @@ use crate::procedure::Walk;
 use crate::procedures::check_procedures;
 use crate::statements::{Statements, check_statements};
 use m2_blocks::{declare_module, procedure_ends};
-use m2_judged::{Fault, Judged, Scope, both, told};
 use m2_modules::{implementation_scope, no_bodies, typed_module};
+use m2_scopes::{Elaborated, Fault, Scope, both, reported};
 use m2_tree::{Block, Contents, Decl, Items, Module};
 use m2_typed::{Dictionary, Shared, Table, TypedModule, TypedStmt};
 use m2_types::{first_scope, modules_of, with_console};
@@ -24,8 +24,8 @@ fn module_or(
     own: Option<&Table>,
     tree: &Module,
     walk: Walk<Fault>,
-    body: Judged<Items<TypedStmt>>,
-) -> Result<Judged<TypedModule>, AllocError>
+    body: Elaborated<Items<TypedStmt>>,
+) -> Result<Elaborated<TypedModule>, AllocError>
     ensures { IfOk result (λ j. j ≡
         module_or least modules.now (option_copied own.entry) tree.now (walk, body)) }
 {
@@ -72,9 +72,9 @@ fn walk_through<S: Statements>(
     scope: Scope<Fault>,
     tree: &Module,
     block: &Block,
-) -> Result<(Walk<Fault>, Judged<Items<TypedStmt>>), AllocError>
+) -> Result<(Walk<Fault>, Elaborated<Items<TypedStmt>>), AllocError>
     ensures { IfOk result (λ r. r ≡
-        walked least (S.judged statements.now) modules.now ends.now scope tree.now block.now) }
+        walked least (S.elaborated statements.now) modules.now ends.now scope tree.now block.now) }
 {
     let decls = block.decls.as_slice();
     let (mut walk, seen) = begin_module(alloc, modules, ends, scope, tree, decls)?;
@@ -99,9 +99,9 @@ fn check_from<S: Statements>(
     own: Option<&Table>,
     tree: &Module,
     block: &Block,
-) -> Result<Judged<TypedModule>, AllocError>
+) -> Result<Elaborated<TypedModule>, AllocError>
     ensures { IfOk result (λ j. j ≡
-        of_walk least (S.judged statements.now) modules.now scope
+        of_walk least (S.elaborated statements.now) modules.now scope
         (option_copied own.entry) tree.now block.now) }
 {
     let ends = procedure_ends(alloc, block.decls.as_slice())?;
@@ -118,9 +118,9 @@ fn check_body<S: Statements>(
     own: Option<&Table>,
     tree: &Module,
     block: &Block,
-) -> Result<Judged<TypedModule>, AllocError>
+) -> Result<Elaborated<TypedModule>, AllocError>
     ensures { IfOk result (λ j. j ≡
-        of_body least (S.judged statements.now) scope (option_copied own.entry)
+        of_body least (S.elaborated statements.now) scope (option_copied own.entry)
         tree.now block.now) }
 {
     let modules = modules_of(alloc, scope.tables.as_slice())?;
@@ -134,9 +134,9 @@ fn check_program<S: Statements>(
     tree: &Module,
     tables: Items<Shared<Table>>,
     block: &Block,
-) -> Result<Judged<TypedModule>, AllocError>
+) -> Result<Elaborated<TypedModule>, AllocError>
     ensures { IfOk result (λ j. j ≡
-        of_body least (S.judged statements.now) (first_scope number tables) None
+        of_body least (S.elaborated statements.now) (first_scope number tables) None
         tree.now block.now) }
 {
     let scope = first_scope(alloc, number, tables)?;
@@ -150,13 +150,13 @@ fn check_implementation<S: Statements>(
     own: Option<&Table>,
     tables: Items<Shared<Table>>,
     block: &Block,
-) -> Result<Judged<TypedModule>, AllocError>
+) -> Result<Elaborated<TypedModule>, AllocError>
     ensures { IfOk result (λ j. j ≡
-        of_implementation least (S.judged statements.now) tree.now
+        of_implementation least (S.elaborated statements.now) tree.now
         (option_copied own.entry) tables block.now) }
 {
     match own {
-        None => Ok(told(tree.name.pos, 24)),
+        None => Ok(reported(tree.name.pos, 24)),
         Some(table) => {
             let scope = implementation_scope(alloc, table, tables)?;
             check_body(alloc, statements, scope, own, tree, block)
@@ -176,13 +176,13 @@ pub fn check_with<S: Statements>(
     tree: &Module,
     own: Option<&Table>,
     imports: Items<Shared<Table>>,
-) -> Result<Judged<TypedModule>, AllocError>
+) -> Result<Elaborated<TypedModule>, AllocError>
     ensures { IfOk result (λ j. j ≡
-        checked least (S.judged statements.now) number tree.now (option_copied own.entry) imports) }
+        checked least (S.elaborated statements.now) number tree.now (option_copied own.entry) imports) }
 {
     let tables = with_console(alloc, imports)?;
     match &tree.contents {
-        Contents::Definition(_) => Ok(told(tree.name.pos, 24)),
+        Contents::Definition(_) => Ok(reported(tree.name.pos, 24)),
         Contents::Implementation(block) => {
             check_implementation(alloc, statements, tree, own, tables, block)
         }

@@ -1,5 +1,5 @@
 //! Program and implementation modules: their bodies and those of their procedures, checked in the scopes in which they
-//! stand. How statements are judged is handed in.
+//! stand. How statements are elaborated is handed in.
 #![tactic(auto)]
 
 mod body;

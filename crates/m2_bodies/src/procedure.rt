@@ -1,12 +1,12 @@
 //! Into the body of a procedure, and out of it.
 
 ghost use Rattle.std.specs.Prelude.{◌≡◌, IfOk, OnOk};
-ghost use Rattle.m2_judged.specs.Judged.{least};
-ghost use Rattle.m2_bodies.specs.Inside.{returns_of, which_of, begun_procedure, told_in, with_routine, ended_procedure};
+ghost use Rattle.m2_scopes.specs.Elaborated.{least};
+ghost use Rattle.m2_bodies.specs.Inside.{returns_of, which_of, begun_procedure, reported_in, with_routine, ended_procedure};
 
 use m2_blocks::{Outside, enter, leave};
-use m2_judged::{Fault, Judged, Scope, beside};
 use m2_modules::{Bodies, Numbered, begin_at, fill, procedure_named, routine_of};
+use m2_scopes::{Elaborated, Fault, Scope, beside};
 use m2_tree::{Heading, Ident, Items};
 use m2_typed::{TypeNo, TypedStmt, Which};
 use std::alloc::{AllocError, Global};
@@ -15,7 +15,7 @@ use std::alloc::{AllocError, Global};
 #[derive(Drop)]
 pub struct Walk<T> {
     pub scope: Scope<T>,
-    /// What is told so far.
+    /// What is reported so far.
     pub so_far: Result<(), T>,
     pub bodies: Bodies,
 }
@@ -35,7 +35,7 @@ pub struct Begun<T> {
 
 // ---- inwards
 
-fn returns_of(given: Judged<Option<TypeNo>>) -> Option<Judged<TypeNo>>
+fn returns_of(given: Elaborated<Option<TypeNo>>) -> Option<Elaborated<TypeNo>>
     ensures { result ≡ returns_of given }
 {
     match given {
@@ -78,8 +78,8 @@ pub fn begin_procedure(
 
 // ---- outwards
 
-fn told_in(body: &Judged<Items<TypedStmt>>) -> Judged<()>
-    ensures { result ≡ told_in body.now }
+fn reported_in(body: &Elaborated<Items<TypedStmt>>) -> Elaborated<()>
+    ensures { result ≡ reported_in body.now }
 {
     match body {
         Err(fault) => Err(*fault),
@@ -94,7 +94,7 @@ fn fill_with(
     around: Option<Which>,
     formals: usize,
     procedure: Option<Numbered>,
-    body: Judged<Items<TypedStmt>>,
+    body: Elaborated<Items<TypedStmt>>,
 ) -> Result<(), AllocError>
     ensures { OnOk result (walk.new ≡ record walk.old {
       bodies =
@@ -119,12 +119,12 @@ pub fn end_procedure(
     name: &Ident,
     around: Option<Which>,
     begun: Begun<Fault>,
-    body: Judged<Items<TypedStmt>>,
+    body: Elaborated<Items<TypedStmt>>,
 ) -> Result<(), AllocError>
     ensures { OnOk result
         (walk.new ≡ ended_procedure least name.now around begun (walk.old, body)) }
 {
-    walk.so_far = beside(walk.so_far, told_in(&body));
+    walk.so_far = beside(walk.so_far, reported_in(&body));
     fill_with(
         alloc,
         walk,

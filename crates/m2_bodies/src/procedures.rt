@@ -2,13 +2,13 @@
 
 ghost use Rattle.std.specs.Prelude.{◌≡◌, IfOk, OnOk, slice_get};
 ghost use Rattle.std.specs.Option.{unwrap_or};
-ghost use Rattle.m2_judged.specs.Judged.{least};
+ghost use Rattle.m2_scopes.specs.Elaborated.{least};
 ghost use Rattle.m2_bodies.specs.Bodies.{checks_decl, checks_block, procedure_checked, begun_block, bodies_checked};
 
 use crate::procedure::{Walk, begin_procedure, end_procedure, which_of};
 use crate::statements::{Statements, check_statements};
 use m2_blocks::declare_block;
-use m2_judged::{Fault, Judged};
+use m2_scopes::{Elaborated, Fault};
 use m2_tree::{Block, Decl, Heading, Items};
 use m2_typed::{TypeNo, TypedStmt, Which};
 use std::alloc::{AllocError, Global};
@@ -24,8 +24,15 @@ fn declare_in(
         (λ seen. (walk.new, seen) ≡ begun_block least ends.now walk.old decls.now) }
 {
     let first = walk.bodies.locals.len();
-    let (judged, seen) = declare_block(alloc, &mut walk.scope, ends, walk.so_far, first, decls)?;
-    walk.so_far = judged;
+    let (elaborated, seen) = declare_block(
+        alloc,
+        &mut walk.scope,
+        ends,
+        walk.so_far,
+        first,
+        decls,
+    )?;
+    walk.so_far = elaborated;
     Ok(seen)
 }
 
@@ -51,7 +58,7 @@ pub fn check_procedures<S: Statements>(
     decls: &[Decl],
 ) -> Result<(), AllocError>
     ensures { OnOk result (walk.new ≡
-        bodies_checked least (S.judged statements.now)
+        bodies_checked least (S.elaborated statements.now)
         ends.now around seen.now walk.old decls.now) }
 {
     for (place, decl) in decls.iter().enumerate() {
@@ -73,7 +80,7 @@ fn check_decl<S: Statements>(
     decl: &Decl,
 ) -> Result<(), AllocError>
     ensures { OnOk result (walk.new ≡
-        checks_decl least (S.judged statements.now) ends.now decl.now around seen walk.old) }
+        checks_decl least (S.elaborated statements.now) ends.now decl.now around seen walk.old) }
 {
     match decl {
         Decl::Constants(_) => Ok(()),
@@ -98,8 +105,8 @@ fn check_procedure<S: Statements>(
     block: &Block,
 ) -> Result<(), AllocError>
     ensures { OnOk result (walk.new ≡
-        procedure_checked least (S.judged statements.now) ends.now heading.now
-        (checks_block least (S.judged statements.now) ends.now block.now) around seen walk.old) }
+        procedure_checked least (S.elaborated statements.now) ends.now heading.now
+        (checks_block least (S.elaborated statements.now) ends.now block.now) around seen walk.old) }
 {
     let begun = begin_procedure(alloc, walk, seen, heading)?;
     let which = which_of(begun.procedure);
@@ -113,12 +120,12 @@ fn check_block<S: Statements>(
     statements: &S,
     ends: &[usize],
     around: Option<Which>,
-    returns: &Option<Judged<TypeNo>>,
+    returns: &Option<Elaborated<TypeNo>>,
     walk: &mut Walk<Fault>,
     block: &Block,
-) -> Result<Judged<Items<TypedStmt>>, AllocError>
+) -> Result<Elaborated<Items<TypedStmt>>, AllocError>
     ensures { IfOk result (λ j. (walk.new, j) ≡
-        checks_block least (S.judged statements.now)
+        checks_block least (S.elaborated statements.now)
         ends.now block.now around returns.now walk.old) }
 {
     let decls = block.decls.as_slice();

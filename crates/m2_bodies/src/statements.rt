@@ -1,43 +1,43 @@
-//! How the statements of a body are judged.
+//! How the statements of a body are elaborated.
 
 ghost use Rattle.std.specs.Prelude.{◌≡◌, IfOk, OnOk};
-ghost use Rattle.m2_judged.specs.declared.fault.Fault.{Fault as TheFault};
-ghost use Rattle.m2_bodies.specs.Judging.{Judges, statements_of};
+ghost use Rattle.m2_scopes.specs.declared.fault.Fault.{Fault as TheFault};
+ghost use Rattle.m2_bodies.specs.Elaborating.{Elaborates, statements_of};
 
-use m2_judged::{Fault, Judged, Scope};
+use m2_scopes::{Elaborated, Fault, Scope};
 use m2_tree::{Items, Stmt};
 use m2_typed::{TypeNo, TypedStmt};
 use std::alloc::{AllocError, Global};
 
-/// Judges the statements of bodies.
+/// Elaborates the statements of bodies.
 pub trait Statements {
     /// What it answers.
-    ghost judged: { Self → Judges TheFault };
+    ghost elaborated: { Self → Elaborates TheFault };
 
-    /// Judges the statements of a body in the scope in which they stand. A body that returns something comes with the
-    /// type of that, or with what is told of the type. The only error is that memory ran out.
+    /// Elaborates the statements of a body in the scope in which they stand. A body that returns something comes with the
+    /// type of that, or with what is reported of the type. The only error is that memory ran out.
     fn check(
         &self,
         alloc: Global,
         scope: &mut Scope<Fault>,
-        returns: &Option<Judged<TypeNo>>,
+        returns: &Option<Elaborated<TypeNo>>,
         body: &[Stmt],
-    ) -> Result<Judged<Items<TypedStmt>>, AllocError>
+    ) -> Result<Elaborated<Items<TypedStmt>>, AllocError>
         ensures stays { OnOk result (scope.new ≡ scope.old) }
-        ensures means { IfOk result (λ j. j ≡ judged self.now scope.old returns.now body.now) };
+        ensures means { IfOk result (λ j. j ≡ elaborated self.now scope.old returns.now body.now) };
 }
 
-/// Judges the statements behind a BEGIN, if there is one.
+/// Elaborates the statements behind a BEGIN, if there is one.
 pub fn check_statements<S: Statements>(
     alloc: Global,
     statements: &S,
     scope: &mut Scope<Fault>,
-    returns: &Option<Judged<TypeNo>>,
+    returns: &Option<Elaborated<TypeNo>>,
     body: &Option<Items<Stmt>>,
-) -> Result<Judged<Items<TypedStmt>>, AllocError>
+) -> Result<Elaborated<Items<TypedStmt>>, AllocError>
     ensures stays { OnOk result (scope.new ≡ scope.old) }
     ensures means { IfOk result (λ j. j ≡
-        statements_of (S.judged statements.now) scope.old returns.now body.now) }
+        statements_of (S.elaborated statements.now) scope.old returns.now body.now) }
 {
     match body {
         None => Ok(Ok(Items::new(alloc))),

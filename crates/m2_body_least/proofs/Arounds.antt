@@ -2,18 +2,18 @@
 use Rattle.std.specs.Prelude.{Bool, true, List, Option, Some, None, Result}
 use Rattle.m2_tree.specs.declared.expr.Expr.{Expr}
 use Rattle.m2_typed.specs.declared.types.TypeNo.{TypeNo}
-use Rattle.m2_judged.specs.declared.fault.Fault.{Fault}
-use Rattle.m2_judged.specs.declared.scope.Scope.{Scope}
-use Rattle.m2_judged.specs.Judged.{every, least}
+use Rattle.m2_scopes.specs.declared.fault.Fault.{Fault}
+use Rattle.m2_scopes.specs.declared.scope.Scope.{Scope}
+use Rattle.m2_scopes.specs.Elaborated.{every, least}
 use Rattle.m2_steps.specs.declared.around.Around.{Around}
 use Rattle.m2_steps.specs.Simple.{in_loop, meant_if, opened}
-use Rattle.m2_least.specs.Least.{Tells}
+use Rattle.m2_least.specs.Least.{Reports}
 use Rattle.m2_least.specs.Beside.{Optionwise, nothing, something, ScopeBeside, scopes}
 use Rattle.m2_body_least.proofs.Pieces.{MeantBeside}
 use Rattle.m2_body_least.proofs.Exprs.{meant_beside}
 
 pub data AroundBeside : Around Fault → Around (List Fault) → Type 0 where
-  arounds : {gives : Option (Result TypeNo Fault)} {gives' : Option (Result TypeNo (List Fault))} → Optionwise Tells gives gives' → (looped : Bool)
+  arounds : {gives : Option (Result TypeNo Fault)} {gives' : Option (Result TypeNo (List Fault))} → Optionwise Reports gives gives' → (looped : Bool)
       → AroundBeside (record { gives = gives; in_loop = looped }) (record { gives = gives'; in_loop = looped })
 
 pub in_loop_beside : {w : Around Fault} {w' : Around (List Fault)} → AroundBeside w w' → AroundBeside (in_loop w) (in_loop w')

@@ -14,7 +14,7 @@ use Rattle.m2_tree.specs.declared.decl.Decl.{Decl, Decl-F, out-Decl}
 use Rattle.m2_tree.specs.declared.decl.Decl.TheOpen as layer
 use Rattle.m2_tree.specs.declared.decl.Block.{Block as BlockTree}
 use Rattle.m2_typed.specs.declared.table.Table.{Table}
-use Rattle.m2_judged.specs.declared.scope.OpenedRecord.{OpenedRecord}
+use Rattle.m2_scopes.specs.declared.scope.OpenedRecord.{OpenedRecord}
 use Rattle.m2_tree.specs.declared.decl.Def.TheVariants as def
 use Rattle.m2_tree.specs.declared.decl.Module.{Module}
 use Rattle.m2_typed.specs.declared.types.TypeNo.{TypeNo}
@@ -26,12 +26,12 @@ use Rattle.m2_typed.specs.declared.meaning.Procedure.{Procedure}
 use Rattle.m2_typed.specs.declared.known_types.Types.{Types}
 use Rattle.m2_typed.specs.Known.{made_at}
 use Rattle.m2_typed.specs.Names.{found}
-use Rattle.m2_judged.specs.declared.fault.Fault.{Fault}
-use Rattle.m2_judged.specs.declared.known.Known.{Known}
-use Rattle.m2_judged.specs.declared.known.Origin.TheVariants.{Here, Module as ModuleOrigin, Export}
-use Rattle.m2_judged.specs.declared.scope.Block.{Block}
-use Rattle.m2_judged.specs.declared.scope.Scope.{Scope}
-use Rattle.m2_judged.specs.Judged.{every, least, told_where, beside}
+use Rattle.m2_scopes.specs.declared.fault.Fault.{Fault}
+use Rattle.m2_scopes.specs.declared.known.Known.{Known}
+use Rattle.m2_scopes.specs.declared.known.Origin.TheVariants.{Here, Module as ModuleOrigin, Export}
+use Rattle.m2_scopes.specs.declared.scope.Block.{Block}
+use Rattle.m2_scopes.specs.declared.scope.Scope.{Scope}
+use Rattle.m2_scopes.specs.Elaborated.{every, least, reported_where, beside}
 use Rattle.m2_made.specs.Headings.{heading_of}
 use Rattle.m2_types.specs.Declare.{with_constant, with_type, begun_name}
 use Rattle.m2_blocks.specs.declared.heading.Standing.{Standing}
@@ -40,16 +40,16 @@ use Rattle.m2_blocks.specs.declared.inner.Outside.{Outside}
 use Rattle.m2_blocks.specs.Agreeing.{agree, signature_of}
 use Rattle.m2_blocks.specs.Naming.{marked_layer, marked_decl, with_marks}
 use Rattle.m2_blocks.specs.Nesting.{number_behind}
-use Rattle.m2_blocks.specs.Headings.{standing_known, name_standing, nested_meaning, headed, module_procedure, new_procedure, with_new, told_of_other, with_awaited, nothing_made, headed_as, with_heading}
-use Rattle.m2_blocks.specs.Declarations.{local_meaning, finished_local, with_locals, with_variables_of, Course, going_on, with_procedure, decl_layer, with_decl, Declared, all_declared, declared_block, is_awaited, or_awaited, lacks, told_of_lack, declared_module}
+use Rattle.m2_blocks.specs.Headings.{standing_known, name_standing, nested_meaning, headed, module_procedure, new_procedure, with_new, reported_of_other, with_awaited, nothing_made, headed_as, with_heading}
+use Rattle.m2_blocks.specs.Declarations.{local_meaning, finished_local, with_locals, with_variables_of, Course, going_on, with_procedure, decl_layer, with_decl, Declared, all_declared, declared_block, is_awaited, or_awaited, lacks, reported_of_lack, declared_module}
 use Rattle.m2_blocks.specs.Inner.{inwards, formal_meaning, unless_found, Formals, with_formal, with_section, formals_in, with_formals, entered_in, entered_procedure, outwards, split_last, popped, left_procedure}
-use Rattle.m2_least.specs.Least.{Tells, fine, is_refused}
+use Rattle.m2_least.specs.Least.{Reports, fine, is_refused}
 use Rattle.m2_least.specs.Beside.{Pairwise, none, more, Optionwise, nothing, something, KnownBeside, known_later, known_ahead, known_begun, known_headed, known_declared, EntryBeside, entry, BlockBeside, block, ScopeBeside, scopes, StateBeside}
-use Rattle.m2_least.proofs.Forms.{told_tells, where_tells, then_tells, beside_tells, cond_same, fold_pairwise, fold_keeps}
+use Rattle.m2_least.proofs.Forms.{reported_reports, where_reports, then_reports, beside_reports, cond_same, fold_pairwise, fold_keeps}
 use Rattle.m2_least.proofs.Scopes.{goes, found_beside, entered_beside, own_beside, with_known_beside, finished_beside, marked_beside}
-use Rattle.m2_least.proofs.Making.{heading_of_tells, formal_of_tells, result_of_tells, with_made_goes}
-use Rattle.m2_least.proofs.TypeExprs.{nothing_of_tells, type_of_beside}
-use Rattle.m2_least.proofs.Declarations.{begun_name_goes, with_variable_type_beside, with_procedure_type_beside, procedure_meaning_tells, constants_goes, types_goes, all_variables_goes}
+use Rattle.m2_least.proofs.Making.{heading_of_reports, formal_of_reports, result_of_reports, with_made_goes}
+use Rattle.m2_least.proofs.TypeExprs.{nothing_of_reports, type_of_beside}
+use Rattle.m2_least.proofs.Declarations.{begun_name_goes, with_variable_type_beside, with_procedure_type_beside, procedure_meaning_reports, constants_goes, types_goes, all_variables_goes}
 use Rattle.m2_least.proofs.Imports.{all_imports}
 use Rattle.m2_least.proofs.Marks.{def_marks}
 use Rattle.m2_body_least.proofs.Pieces.{lengths_same}
@@ -75,14 +75,14 @@ pairwise_same (x ∷ xs) = more (same x) (pairwise_same xs)
 
 -- ---- variables of a procedure
 
-local_meaning_tells : (level number : ℕ) {t : Result TypeNo Fault} {t' : Result TypeNo (List Fault)} → Tells t t' → Tells (local_meaning level number t) (local_meaning level number t')
-local_meaning_tells level number t = then_tells t (λ x. fine _)
+local_meaning_reports : (level number : ℕ) {t : Result TypeNo Fault} {t' : Result TypeNo (List Fault)} → Reports t t' → Reports (local_meaning level number t) (local_meaning level number t')
+local_meaning_reports level number t = then_reports t (λ x. fine _)
 
-finished_local_beside : {t : Result TypeNo Fault} {t' : Result TypeNo (List Fault)} → Tells t t' → {s : Scope Fault} {s' : Scope (List Fault)} → ScopeBeside s s' → (name : Ident) → ScopeBeside (finished_local t s name) (finished_local t' s' name)
+finished_local_beside : {t : Result TypeNo Fault} {t' : Result TypeNo (List Fault)} → Reports t t' → {s : Scope Fault} {s' : Scope (List Fault)} → ScopeBeside s s' → (name : Ident) → ScopeBeside (finished_local t s name) (finished_local t' s' name)
 finished_local_beside t (scopes tables types vars procs {level = level} {withs = withs} own outer) name =
-    finished_beside name (local_meaning_tells level (length vars) t) (with_variable_type_beside (scopes tables types vars procs {level = level} {withs = withs} own outer) t)
+    finished_beside name (local_meaning_reports level (length vars) t) (with_variable_type_beside (scopes tables types vars procs {level = level} {withs = withs} own outer) t)
 
-all_finished : {t : Result TypeNo Fault} {t' : Result TypeNo (List Fault)} → Tells t t' → {s : Scope Fault} {s' : Scope (List Fault)} → ScopeBeside s s' → (names : List Ident) → ScopeBeside (fold (finished_local t) s names) (fold (finished_local t') s' names)
+all_finished : {t : Result TypeNo Fault} {t' : Result TypeNo (List Fault)} → Reports t t' → {s : Scope Fault} {s' : Scope (List Fault)} → ScopeBeside s s' → (names : List Ident) → ScopeBeside (fold (finished_local t) s names) (fold (finished_local t') s' names)
 all_finished {t = t} {t' = t'} p b names = fold_keeps ScopeBeside (finished_local t) (finished_local t') (λ s s' name q. finished_local_beside p q name) names _ _ b
 
 abbrev One : Type 0
@@ -95,7 +95,7 @@ locals_goes : {st : One} {st' : All} → StateBeside st st' → (v : Variables) 
 locals_goes p v =
     let b = fold_keeps StateBeside (begun_name least) (begun_name every) (λ st st' name q. begun_name_goes q name) v.names _ _ p in
     let t = (type_of_beside v.of).makes _ _ b.scope in
-    goes (all_finished t.told t.scope v.names) (beside_tells b.told (nothing_of_tells t.told))
+    goes (all_finished t.reported t.scope v.names) (beside_reports b.reported (nothing_of_reports t.reported))
 
 variables_of_goes : {st : One} {st' : All} → StateBeside st st' → (vs : List Variables) → StateBeside (with_variables_of least st vs) (with_variables_of every st' vs)
 variables_of_goes p vs = cond_same StateBeside (ap (λ (n : ℕ). n == 0) (level_same p.scope)) (all_variables_goes p vs)
@@ -117,51 +117,51 @@ name_standing_same : {k : Option (Known Fault)} {k' : Option (Known (List Fault)
 name_standing_same nothing = refl
 name_standing_same (something k) = standing_same k
 
-nested_meaning_tells : (level number : ℕ) {t : Result TypeNo Fault} {t' : Result TypeNo (List Fault)} → Tells t t' → Tells (nested_meaning level number t) (nested_meaning level number t')
-nested_meaning_tells level number t = then_tells t (λ x. fine _)
+nested_meaning_reports : (level number : ℕ) {t : Result TypeNo Fault} {t' : Result TypeNo (List Fault)} → Reports t t' → Reports (nested_meaning level number t) (nested_meaning level number t')
+nested_meaning_reports level number t = then_reports t (λ x. fine _)
 
-headed_beside : (name : List ℕ) {m : Result Meaning Fault} {m' : Result Meaning (List Fault)} → Tells m m' → {s : Scope Fault} {s' : Scope (List Fault)} → ScopeBeside s s' → ScopeBeside (headed name m s) (headed name m' s')
+headed_beside : (name : List ℕ) {m : Result Meaning Fault} {m' : Result Meaning (List Fault)} → Reports m m' → {s : Scope Fault} {s' : Scope (List Fault)} → ScopeBeside s s' → ScopeBeside (headed name m s) (headed name m' s')
 headed_beside name m b = with_known_beside name (known_headed m) b
 
-module_procedure_beside : {s : Scope Fault} {s' : Scope (List Fault)} → ScopeBeside s s' → (name : List ℕ) {t : Result TypeNo Fault} {t' : Result TypeNo (List Fault)} → Tells t t' → ScopeBeside (module_procedure s name t) (module_procedure s' name t')
-module_procedure_beside b name t = headed_beside name (procedure_meaning_tells b t) (with_procedure_type_beside b t)
+module_procedure_beside : {s : Scope Fault} {s' : Scope (List Fault)} → ScopeBeside s s' → (name : List ℕ) {t : Result TypeNo Fault} {t' : Result TypeNo (List Fault)} → Reports t t' → ScopeBeside (module_procedure s name t) (module_procedure s' name t')
+module_procedure_beside b name t = headed_beside name (procedure_meaning_reports b t) (with_procedure_type_beside b t)
 
-nested_procedure_beside : {s : Scope Fault} {s' : Scope (List Fault)} → ScopeBeside s s' → (name : List ℕ) (n : ℕ) {t : Result TypeNo Fault} {t' : Result TypeNo (List Fault)} → Tells t t'
+nested_procedure_beside : {s : Scope Fault} {s' : Scope (List Fault)} → ScopeBeside s s' → (name : List ℕ) (n : ℕ) {t : Result TypeNo Fault} {t' : Result TypeNo (List Fault)} → Reports t t'
     → ScopeBeside (headed name (nested_meaning s.level n t) s) (headed name (nested_meaning s'.level n t') s')
-nested_procedure_beside (scopes tables types vars procs {level = level} {withs = withs} own outer) name n t = headed_beside name (nested_meaning_tells level n t) (scopes tables types vars procs {level = level} {withs = withs} own outer)
+nested_procedure_beside (scopes tables types vars procs {level = level} {withs = withs} own outer) name n t = headed_beside name (nested_meaning_reports level n t) (scopes tables types vars procs {level = level} {withs = withs} own outer)
 
-new_procedure_beside : {s : Scope Fault} {s' : Scope (List Fault)} → ScopeBeside s s' → (name : List ℕ) (n : ℕ) {t : Result TypeNo Fault} {t' : Result TypeNo (List Fault)} → Tells t t' → ScopeBeside (new_procedure s name n t) (new_procedure s' name n t')
+new_procedure_beside : {s : Scope Fault} {s' : Scope (List Fault)} → ScopeBeside s s' → (name : List ℕ) (n : ℕ) {t : Result TypeNo Fault} {t' : Result TypeNo (List Fault)} → Reports t t' → ScopeBeside (new_procedure s name n t) (new_procedure s' name n t')
 new_procedure_beside b name n t = cond_same ScopeBeside (ap (λ (k : ℕ). k == 0) (level_same b)) (module_procedure_beside b name t) (nested_procedure_beside b name n t)
 
-with_new_goes : {s : Scope Fault} {s' : Scope (List Fault)} → ScopeBeside s s' → (name : List ℕ) (n : ℕ) {m : Result Made Fault} {m' : Result Made (List Fault)} → Tells m m' → StateBeside (with_new s name n m) (with_new s' name n m')
-with_new_goes b name n m = let t = with_made_goes b m in goes (new_procedure_beside t.scope name n t.told) (nothing_of_tells t.told)
+with_new_goes : {s : Scope Fault} {s' : Scope (List Fault)} → ScopeBeside s s' → (name : List ℕ) (n : ℕ) {m : Result Made Fault} {m' : Result Made (List Fault)} → Reports m m' → StateBeside (with_new s name n m) (with_new s' name n m')
+with_new_goes b name n m = let t = with_made_goes b m in goes (new_procedure_beside t.scope name n t.reported) (nothing_of_reports t.reported)
 
-told_of_other_tells : (types : Types) (at : Pos) (p : Procedure) (m : Made) → Tells (told_of_other least types at p m) (told_of_other every types at p m)
-told_of_other_tells types at p m = where_tells (not (agree (signature_of (Some m)) (signature_of (made_at types p.heading)))) at 50 (fine tt)
+reported_of_other_reports : (types : Types) (at : Pos) (p : Procedure) (m : Made) → Reports (reported_of_other least types at p m) (reported_of_other every types at p m)
+reported_of_other_reports types at p m = where_reports (not (agree (signature_of (Some m)) (signature_of (made_at types p.heading)))) at 50 (fine tt)
 
-with_awaited_goes : {s : Scope Fault} {s' : Scope (List Fault)} → ScopeBeside s s' → (h : Heading) (p : Procedure) {m : Result Made Fault} {m' : Result Made (List Fault)} → Tells m m' → StateBeside (with_awaited least s h p m) (with_awaited every s' h p m')
+with_awaited_goes : {s : Scope Fault} {s' : Scope (List Fault)} → ScopeBeside s s' → (h : Heading) (p : Procedure) {m : Result Made Fault} {m' : Result Made (List Fault)} → Reports m m' → StateBeside (with_awaited least s h p m) (with_awaited every s' h p m')
 with_awaited_goes (scopes tables types vars procs {level = level} {withs = withs} own outer) h p m =
-    goes (headed_beside h.name.name (fine (meaning.Procedure p)) (scopes tables types vars procs {level = level} {withs = withs} own outer)) (then_tells m (λ x. told_of_other_tells types h.name.pos p x))
+    goes (headed_beside h.name.name (fine (meaning.Procedure p)) (scopes tables types vars procs {level = level} {withs = withs} own outer)) (then_reports m (λ x. reported_of_other_reports types h.name.pos p x))
 
-nothing_made_tells : {m : Result Made Fault} {m' : Result Made (List Fault)} → Tells m m' → Tells (nothing_made m) (nothing_made m')
-nothing_made_tells m = then_tells m (λ x. fine tt)
+nothing_made_reports : {m : Result Made Fault} {m' : Result Made (List Fault)} → Reports m m' → Reports (nothing_made m) (nothing_made m')
+nothing_made_reports m = then_reports m (λ x. fine tt)
 
-headed_as_goes : {s : Scope Fault} {s' : Scope (List Fault)} → ScopeBeside s s' → (h : Heading) (n : ℕ) {m : Result Made Fault} {m' : Result Made (List Fault)} → Tells m m' → (t : Standing) → StateBeside (headed_as least s h n m t) (headed_as every s' h n m' t)
+headed_as_goes : {s : Scope Fault} {s' : Scope (List Fault)} → ScopeBeside s s' → (h : Heading) (n : ℕ) {m : Result Made Fault} {m' : Result Made (List Fault)} → Reports m m' → (t : Standing) → StateBeside (headed_as least s h n m t) (headed_as every s' h n m' t)
 headed_as_goes b h n m Free = with_new_goes b h.name.name n m
 headed_as_goes b h n m (Awaited p) = with_awaited_goes b h p m
-headed_as_goes b h n m Taken = goes b (beside_tells (nothing_made_tells m) (told_tells h.name.pos 31))
+headed_as_goes b h n m Taken = goes b (beside_reports (nothing_made_reports m) (reported_reports h.name.pos 31))
 
 with_heading_goes : {s : Scope Fault} {s' : Scope (List Fault)} → ScopeBeside s s' → (n : ℕ) (h : Heading) → StateBeside (with_heading least s n h) (with_heading every s' n h)
 with_heading_goes {s = s} {s' = s'} b n h = subst (λ (t : Standing). StateBeside (with_heading least s n h) (headed_as every s' h n (heading_of every s' h) t)) (name_standing_same (own_beside h.name.name b))
-    (headed_as_goes b h n (heading_of_tells b h) (name_standing (found h.name.name s.own)))
+    (headed_as_goes b h n (heading_of_reports b h) (name_standing (found h.name.name s.own)))
 
 -- ---- declarations, in order
 
 pub data CourseBeside : Course Fault → Course (List Fault) → Type 0 where
-  course : {s : Scope Fault} {s' : Scope (List Fault)} → ScopeBeside s s' → {r : Result (Unit {0}) Fault} {r' : Result (Unit {0}) (List Fault)} → Tells r r' → (n : ℕ) → CourseBeside (s, r, n) (s', r', n)
+  course : {s : Scope Fault} {s' : Scope (List Fault)} → ScopeBeside s s' → {r : Result (Unit {0}) Fault} {r' : Result (Unit {0}) (List Fault)} → Reports r r' → (n : ℕ) → CourseBeside (s, r, n) (s', r', n)
 
 going_on_beside : {st : One} {st' : All} → StateBeside st st' → (n : ℕ) → CourseBeside (going_on st n) (going_on st' n)
-going_on_beside p n = course p.scope p.told n
+going_on_beside p n = course p.scope p.reported n
 
 pub constants_course : {c : Course Fault} {c' : Course (List Fault)} → CourseBeside c c' → (cs : List Constant) → CourseBeside (going_on (fold (with_constant least) (c.0, c.1) cs) c.2) (going_on (fold (with_constant every) (c'.0, c'.1) cs) c'.2)
 constants_course (course b r n) cs = going_on_beside (constants_goes (goes b r) cs) n
@@ -173,7 +173,7 @@ pub variables_course : {c : Course Fault} {c' : Course (List Fault)} → CourseB
 variables_course (course b r n) vs = going_on_beside (variables_of_goes (goes b r) vs) n
 
 pub procedure_course : (ends : List ℕ) {c : Course Fault} {c' : Course (List Fault)} → CourseBeside c c' → (h : Heading) → CourseBeside (with_procedure least ends c h) (with_procedure every ends c' h)
-procedure_course ends (course b r n) h = let p = with_heading_goes b n h in course p.scope (beside_tells r p.told) (number_behind ends n)
+procedure_course ends (course b r n) h = let p = with_heading_goes b n h in course p.scope (beside_reports r p.reported) (number_behind ends n)
 
 decl_layer_course : (ends : List ℕ) {c : Course Fault} {c' : Course (List Fault)} → CourseBeside c c' → (x : Decl-F Decl BlockTree) → CourseBeside (decl_layer least ends c x) (decl_layer every ends c' x)
 decl_layer_course ends c (layer.Constants cs) = constants_course c cs
@@ -202,12 +202,12 @@ seen_same : {s : Scope Fault} {s' : Scope (List Fault)} → ScopeBeside s s' →
 seen_same {s = s} {s' = s'} b {seen = seen} e = subst (λ (ns : List ℕ). SeenBeside (s, seen) (s', ns)) e (seen_so b seen)
 
 pub data DeclaredBeside : Declared Fault → Declared (List Fault) → Type 0 where
-  are_declared : {s : Scope Fault} {s' : Scope (List Fault)} → ScopeBeside s s' → {r : Result (Unit {0}) Fault} {r' : Result (Unit {0}) (List Fault)} → Tells r r' → (seen : List ℕ) → DeclaredBeside (s, r, seen) (s', r', seen)
+  are_declared : {s : Scope Fault} {s' : Scope (List Fault)} → ScopeBeside s s' → {r : Result (Unit {0}) Fault} {r' : Result (Unit {0}) (List Fault)} → Reports r r' → (seen : List ℕ) → DeclaredBeside (s, r, seen) (s', r', seen)
 
 behind_course : {m : Scope Fault × List ℕ} {m' : Scope (List Fault) × List ℕ} → SeenBeside m m' → {c : Course Fault} {c' : Course (List Fault)} → CourseBeside c c' → DeclaredBeside (c.0, c.1, m.1) (c'.0, c'.1, m'.1)
 behind_course (seen_so b seen) (course d r n) = are_declared d r seen
 
-begun_course : {m : Scope Fault × List ℕ} {m' : Scope (List Fault) × List ℕ} → SeenBeside m m' → {r : Result (Unit {0}) Fault} {r' : Result (Unit {0}) (List Fault)} → Tells r r' → (n : ℕ) → CourseBeside (m.0, r, n) (m'.0, r', n)
+begun_course : {m : Scope Fault × List ℕ} {m' : Scope (List Fault) × List ℕ} → SeenBeside m m' → {r : Result (Unit {0}) Fault} {r' : Result (Unit {0}) (List Fault)} → Reports r r' → (n : ℕ) → CourseBeside (m.0, r, n) (m'.0, r', n)
 begun_course (seen_so b seen) r n = course b r n
 
 module _ {X Y : Type 0} (R : X → Y → Type 0) (marks : Scope Fault → X → Scope Fault) (marks' : Scope (List Fault) → Y → Scope (List Fault)) (declares : Course Fault → X → Course Fault) (declares' : Course (List Fault) → Y → Course (List Fault))
@@ -219,7 +219,7 @@ module _ {X Y : Type 0} (R : X → Y → Type 0) (marks : Scope Fault → X → 
   pub all_declared_beside : {st : One} {st' : All} → StateBeside st st' → (first : ℕ) {xs : List X} {ys : List Y} → Pairwise R xs ys → DeclaredBeside (all_declared marks declares st first xs) (all_declared marks' declares' st' first ys)
   all_declared_beside {st = st} {st' = st'} p first xs =
       let seen = fold_pairwise SeenBeside R (with_marks marks) (with_marks marks') (λ a b x y q r. with_marks_beside q x y r) xs (st.0, []) (st'.0, []) (seen_so p.scope []) in
-      behind_course seen (fold_pairwise CourseBeside R declares declares' (λ c c' x y q r. d x y r c c' q) xs _ _ (begun_course seen p.told first))
+      behind_course seen (fold_pairwise CourseBeside R declares declares' (λ c c' x y q r. d x y r c c' q) xs _ _ (begun_course seen p.reported first))
 
 declared_block_beside : (ends : List ℕ) {st : One} {st' : All} → StateBeside st st' → (first : ℕ) (ds : List Decl) → DeclaredBeside (declared_block least ends st first ds) (declared_block every ends st' first ds)
 declared_block_beside ends p first ds =
@@ -242,12 +242,12 @@ or_awaited_same a b p (entry name k) = or_same p (ap is_awaited (standing_same k
 lacks_same : {es : List (List ℕ × Known Fault)} {es' : List (List ℕ × Known (List Fault))} → Pairwise EntryBeside es es' → lacks es ≡ lacks es'
 lacks_same es = fold_pairwise (λ (a b : Bool). a ≡ b) EntryBeside or_awaited or_awaited (λ a b e e' p q. or_awaited_same a b p q) es false false refl
 
-told_of_lack_tells : (at : Pos) {s : Scope Fault} {s' : Scope (List Fault)} → ScopeBeside s s' → Tells (told_of_lack least at s) (told_of_lack every at s')
-told_of_lack_tells at (scopes tables types vars procs {own = names} own outer) =
-    subst (λ (c : Bool). Tells (told_where least (lacks names) at 51 (Ok tt)) (told_where every c at 51 (Ok tt))) (lacks_same own) (where_tells (lacks names) at 51 (fine tt))
+reported_of_lack_reports : (at : Pos) {s : Scope Fault} {s' : Scope (List Fault)} → ScopeBeside s s' → Reports (reported_of_lack least at s) (reported_of_lack every at s')
+reported_of_lack_reports at (scopes tables types vars procs {own = names} own outer) =
+    subst (λ (c : Bool). Reports (reported_where least (lacks names) at 51 (Ok tt)) (reported_where every c at 51 (Ok tt))) (lacks_same own) (where_reports (lacks names) at 51 (fine tt))
 
-lack_beside : (at : Pos) {d : Declared Fault} {d' : Declared (List Fault)} → DeclaredBeside d d' → DeclaredBeside (d.0, beside least d.1 (told_of_lack least at d.0), d.2) (d'.0, beside every d'.1 (told_of_lack every at d'.0), d'.2)
-lack_beside at (are_declared b r seen) = are_declared b (beside_tells r (told_of_lack_tells at b)) seen
+lack_beside : (at : Pos) {d : Declared Fault} {d' : Declared (List Fault)} → DeclaredBeside d d' → DeclaredBeside (d.0, beside least d.1 (reported_of_lack least at d.0), d.2) (d'.0, beside every d'.1 (reported_of_lack every at d'.0), d'.2)
+lack_beside at (are_declared b r seen) = are_declared b (beside_reports r (reported_of_lack_reports at b)) seen
 
 pub declared_module_beside : (modules : List (List ℕ × ℕ)) (ends : List ℕ) {s : Scope Fault} {s' : Scope (List Fault)} → ScopeBeside s s' → (m : Module) (ds : List Decl) → DeclaredBeside (declared_module least modules ends s m ds) (declared_module every modules ends s' m ds)
 declared_module_beside modules ends b m ds = lack_beside m.name.pos (declared_block_beside ends (all_imports modules m.imports (goes b (fine tt))) 0 ds)
@@ -264,8 +264,8 @@ at_level {tables = tables} {types = types} {vars = vars} {procs = procs} {withs 
 inwards_beside : {s : Scope Fault} {s' : Scope (List Fault)} → ScopeBeside s s' → (seen : ℕ) → ScopeBeside (inwards s seen) (inwards s' seen)
 inwards_beside (scopes tables types vars procs own outer) seen = at_level (lengths_same outer) none (pairwise_push outer (block seen own))
 
-formal_meaning_tells : (level number : ℕ) {f : Result Formal Fault} {f' : Result Formal (List Fault)} → Tells f f' → Tells (formal_meaning level number f) (formal_meaning level number f')
-formal_meaning_tells level number f = then_tells f (λ x. fine _)
+formal_meaning_reports : (level number : ℕ) {f : Result Formal Fault} {f' : Result Formal (List Fault)} → Reports f f' → Reports (formal_meaning level number f) (formal_meaning level number f')
+formal_meaning_reports level number f = then_reports f (λ x. fine _)
 
 is_some_same : {A B : Type 0} {R : A → B → Type 0} {x : Option A} {y : Option B} → Optionwise R x y → is_some x ≡ is_some y
 is_some_same nothing = refl
@@ -277,16 +277,16 @@ unless_found_beside name k es = cond_same (Pairwise EntryBeside) (is_some_same (
 data FormalsBeside : Formals Fault → Formals (List Fault) → Type 0 where
   are_formals : {es : List (List ℕ × Known Fault)} {es' : List (List ℕ × Known (List Fault))} → Pairwise EntryBeside es es' → (ts : List TypeNo) → FormalsBeside (es, ts) (es', ts)
 
-with_formal_beside : (level : ℕ) {f : Result Formal Fault} {f' : Result Formal (List Fault)} → Tells f f' → {fs : Formals Fault} {fs' : Formals (List Fault)} → FormalsBeside fs fs' → (name : Ident) → FormalsBeside (with_formal level f fs name) (with_formal level f' fs' name)
-with_formal_beside level (fine f) (are_formals es ts) name = are_formals (unless_found_beside name.name (known_declared Here (formal_meaning_tells level (length ts) (fine f))) es) _
-with_formal_beside level (is_refused f fs p) (are_formals es ts) name = are_formals (unless_found_beside name.name (known_declared Here (formal_meaning_tells level (length ts) (is_refused f fs p))) es) ts
+with_formal_beside : (level : ℕ) {f : Result Formal Fault} {f' : Result Formal (List Fault)} → Reports f f' → {fs : Formals Fault} {fs' : Formals (List Fault)} → FormalsBeside fs fs' → (name : Ident) → FormalsBeside (with_formal level f fs name) (with_formal level f' fs' name)
+with_formal_beside level (fine f) (are_formals es ts) name = are_formals (unless_found_beside name.name (known_declared Here (formal_meaning_reports level (length ts) (fine f))) es) _
+with_formal_beside level (is_refused f fs p) (are_formals es ts) name = are_formals (unless_found_beside name.name (known_declared Here (formal_meaning_reports level (length ts) (is_refused f fs p))) es) ts
 
-all_formals : (level : ℕ) {f : Result Formal Fault} {f' : Result Formal (List Fault)} → Tells f f' → (names : List Ident) {fs : Formals Fault} {fs' : Formals (List Fault)} → FormalsBeside fs fs' → FormalsBeside (fold (with_formal level f) fs names) (fold (with_formal level f') fs' names)
+all_formals : (level : ℕ) {f : Result Formal Fault} {f' : Result Formal (List Fault)} → Reports f f' → (names : List Ident) {fs : Formals Fault} {fs' : Formals (List Fault)} → FormalsBeside fs fs' → FormalsBeside (fold (with_formal level f) fs names) (fold (with_formal level f') fs' names)
 all_formals level {f = f} {f' = f'} t names p = fold_keeps FormalsBeside (with_formal level f) (with_formal level f') (λ fs fs' name q. with_formal_beside level t q name) names _ _ p
 
 with_section_beside : {s : Scope Fault} {s' : Scope (List Fault)} → ScopeBeside s s' → {fs : Formals Fault} {fs' : Formals (List Fault)} → FormalsBeside fs fs' → (x : Section) → FormalsBeside (with_section least s fs x) (with_section every s' fs' x)
 with_section_beside (scopes tables types vars procs {level = level} {withs = withs} own outer) p x =
-    all_formals level (formal_of_tells (scopes tables types vars procs {level = level} {withs = withs} own outer) x.is_var x.of) x.names p
+    all_formals level (formal_of_reports (scopes tables types vars procs {level = level} {withs = withs} own outer) x.is_var x.of) x.names p
 
 formals_in_beside : {s : Scope Fault} {s' : Scope (List Fault)} → ScopeBeside s s' → (xs : List Section) → FormalsBeside (formals_in least s xs) (formals_in every s' xs)
 formals_in_beside {s = s} {s' = s'} b xs = fold_keeps FormalsBeside (with_section least s) (with_section every s') (λ fs fs' x q. with_section_beside b q x) xs _ _ (are_formals none [])
@@ -295,7 +295,7 @@ with_formals_beside : {s : Scope Fault} {s' : Scope (List Fault)} → ScopeBesid
 with_formals_beside (scopes tables types vars procs own outer) (are_formals es ts) = scopes tables types ts procs es outer
 
 entered_in_goes : {s : Scope Fault} {s' : Scope (List Fault)} → ScopeBeside s s' → (h : Heading) → StateBeside (entered_in least s h) (entered_in every s' h)
-entered_in_goes b h = goes (with_formals_beside b (formals_in_beside b h.formals)) (result_of_tells b h.result)
+entered_in_goes b h = goes (with_formals_beside b (formals_in_beside b h.formals)) (result_of_reports b h.result)
 
 pub entered_procedure_goes : {s : Scope Fault} {s' : Scope (List Fault)} → ScopeBeside s s' → (seen : ℕ) (h : Heading) → StateBeside (entered_procedure least s seen h) (entered_procedure every s' seen h)
 entered_procedure_goes b seen h = entered_in_goes (inwards_beside b seen) h

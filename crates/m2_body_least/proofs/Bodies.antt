@@ -18,11 +18,11 @@ use Rattle.m2_typed.specs.declared.statement.TypedStmt.{TypedStmt}
 use Rattle.m2_typed.specs.declared.table.Table.{Table}
 use Rattle.m2_typed.specs.declared.typed_module.TypedModule.{TypedModule}
 use Rattle.m2_typed.specs.declared.typed_module.Which.{Which}
-use Rattle.m2_judged.specs.declared.fault.Fault.{Fault}
-use Rattle.m2_judged.specs.declared.known.Known.{Known}
-use Rattle.m2_judged.specs.declared.scope.Scope.{Scope}
-use Rattle.m2_judged.specs.Judged.{every, least}
-use Rattle.m2_judged.specs.Scopes.{State}
+use Rattle.m2_scopes.specs.declared.fault.Fault.{Fault}
+use Rattle.m2_scopes.specs.declared.known.Known.{Known}
+use Rattle.m2_scopes.specs.declared.scope.Scope.{Scope}
+use Rattle.m2_scopes.specs.Elaborated.{every, least}
+use Rattle.m2_scopes.specs.Scopes.{State}
 use Rattle.m2_types.specs.Predeclared.{console}
 use Rattle.m2_types.specs.Importing.{numbered_modules}
 use Rattle.m2_blocks.specs.Nesting.{procedure_ends}
@@ -35,55 +35,55 @@ use Rattle.m2_modules.specs.Own.{with_own_name, own_names, with_own_types, expor
 use Rattle.m2_modules.specs.Routines.{numbered_known, procedure_named, no_bodies}
 use Rattle.m2_bodies.specs.declared.procedure.Walk.{Walk}
 use Rattle.m2_bodies.specs.declared.procedure.Begun.{Begun}
-use Rattle.m2_bodies.specs.Judging.{Judges, statements_of}
-use Rattle.m2_bodies.specs.Inside.{returns_of, which_of, begun_as, begun_procedure, told_in, with_routine, ended_procedure}
+use Rattle.m2_bodies.specs.Elaborating.{Elaborates, statements_of}
+use Rattle.m2_bodies.specs.Inside.{returns_of, which_of, begun_as, begun_procedure, reported_in, with_routine, ended_procedure}
 use Rattle.m2_bodies.specs.Bodies.{begun_from, Checked, Checks, ChecksBlock, Steps, marked_by, declared_by, checked_by, with_body, with_bodies, with_statements, block_from, steps_layer, block_layer, steps, checks_block, checks_decl, bodies_checked}
 use Rattle.m2_bodies.specs.Checked.{module_or, begun_module, walked, of_walk, of_body, of_implementation, of_contents}
-use Rattle.m2_check.specs.Checks.{judged, checked}
-use Rattle.m2_least.specs.Least.{Tells, fine, is_refused}
+use Rattle.m2_check.specs.Checks.{elaborated, checked}
+use Rattle.m2_least.specs.Least.{Reports, fine, is_refused}
 use Rattle.m2_least.specs.Beside.{Pairwise, none, Optionwise, nothing, something, KnownBeside, known_later, known_ahead, known_begun, known_headed, known_declared, EntryBeside, ScopeBeside, scopes, StateBeside}
-use Rattle.m2_least.proofs.Forms.{told_tells, then_tells, both_tells, beside_tells, fold_pairwise, fold_keeps, pairwise_maps, carry}
+use Rattle.m2_least.proofs.Forms.{reported_reports, then_reports, both_reports, beside_reports, fold_pairwise, fold_keeps, pairwise_maps, carry}
 use Rattle.m2_least.proofs.Scopes.{goes, entered_beside, own_beside, marked_beside}
-use Rattle.m2_judged.specs.declared.known.Origin.TheVariants.{Here}
+use Rattle.m2_scopes.specs.declared.known.Origin.TheVariants.{Here}
 use Rattle.m2_least.proofs.Imports.{first_scope_beside}
 use Rattle.m2_least.proofs.Marks.{def_marks}
 use Rattle.m2_body_least.proofs.Blocks.{Same, same, pairwise_same, CourseBeside, constants_course, types_course, variables_course, procedure_course, DeclaredBeside, are_declared, all_declared_beside, declared_module_beside, entered_procedure_goes, left_procedure_beside}
 use Rattle.m2_body_least.proofs.Arounds.{arounds}
-use Rattle.m2_body_least.proofs.Statements.{statements_tells}
+use Rattle.m2_body_least.proofs.Statements.{statements_reports}
 
 -- ---- walks over bodies
 
 pub data WalkBeside : Walk Fault → Walk (List Fault) → Type 0 where
-  walks : {s : Scope Fault} {s' : Scope (List Fault)} → ScopeBeside s s' → {r : Result (Unit {0}) Fault} {r' : Result (Unit {0}) (List Fault)} → Tells r r' → (bodies : Filled)
+  walks : {s : Scope Fault} {s' : Scope (List Fault)} → ScopeBeside s s' → {r : Result (Unit {0}) Fault} {r' : Result (Unit {0}) (List Fault)} → Reports r r' → (bodies : Filled)
       → WalkBeside (record { scope = s; so_far = r; bodies = bodies }) (record { scope = s'; so_far = r'; bodies = bodies })
 
-walks_same : {s : Scope Fault} {s' : Scope (List Fault)} → ScopeBeside s s' → {r : Result (Unit {0}) Fault} {r' : Result (Unit {0}) (List Fault)} → Tells r r' → {bodies bodies' : Filled} → bodies ≡ bodies'
+walks_same : {s : Scope Fault} {s' : Scope (List Fault)} → ScopeBeside s s' → {r : Result (Unit {0}) Fault} {r' : Result (Unit {0}) (List Fault)} → Reports r r' → {bodies bodies' : Filled} → bodies ≡ bodies'
     → WalkBeside (record { scope = s; so_far = r; bodies = bodies }) (record { scope = s'; so_far = r'; bodies = bodies' })
 walks_same {s = s} {s' = s'} b {r = r} {r' = r'} t {bodies = bodies} e = subst (λ (rs : Filled). WalkBeside (record { scope = s; so_far = r; bodies = bodies }) (record { scope = s'; so_far = r'; bodies = rs })) e (walks b t bodies)
 
 pub data BegunBeside : Begun Fault → Begun (List Fault) → Type 0 where
-  begins : (o : Outside) (p : Option Numbered) (n : ℕ) {returns : Option (Result TypeNo Fault)} {returns' : Option (Result TypeNo (List Fault))} → Optionwise Tells returns returns'
+  begins : (o : Outside) (p : Option Numbered) (n : ℕ) {returns : Option (Result TypeNo Fault)} {returns' : Option (Result TypeNo (List Fault))} → Optionwise Reports returns returns'
       → BegunBeside (record { outside = o; procedure = p; formals = n; returns = returns }) (record { outside = o; procedure = p; formals = n; returns = returns' })
 
 data InsideBeside : Walk Fault × Begun Fault → Walk (List Fault) × Begun (List Fault) → Type 0 where
   inside : {w : Walk Fault} {w' : Walk (List Fault)} → WalkBeside w w' → {b : Begun Fault} {b' : Begun (List Fault)} → BegunBeside b b' → InsideBeside (w, b) (w', b')
 
 pub data CheckedBeside : Checked Fault → Checked (List Fault) → Type 0 where
-  is_checked : {w : Walk Fault} {w' : Walk (List Fault)} → WalkBeside w w' → {r : Result (List TypedStmt) Fault} {r' : Result (List TypedStmt) (List Fault)} → Tells r r' → CheckedBeside (w, r) (w', r')
+  is_checked : {w : Walk Fault} {w' : Walk (List Fault)} → WalkBeside w w' → {r : Result (List TypedStmt) Fault} {r' : Result (List TypedStmt) (List Fault)} → Reports r r' → CheckedBeside (w, r) (w', r')
 
 -- ---- into a procedure, and out of it
 
-returns_beside : {t : Result (Option TypeNo) Fault} {t' : Result (Option TypeNo) (List Fault)} → Tells t t' → Optionwise Tells (returns_of t) (returns_of t')
+returns_beside : {t : Result (Option TypeNo) Fault} {t' : Result (Option TypeNo) (List Fault)} → Reports t t' → Optionwise Reports (returns_of t) (returns_of t')
 returns_beside (fine None) = nothing
 returns_beside (fine (Some t)) = something (fine t)
 returns_beside (is_refused f fs p) = something (is_refused f fs p)
 
-begun_in : {w : Walk Fault} {w' : Walk (List Fault)} → WalkBeside w w' → (p : Option Numbered) {s : Scope Fault} {s' : Scope (List Fault)} → ScopeBeside s s' → {r : Result (Option TypeNo) Fault} {r' : Result (Option TypeNo) (List Fault)} → Tells r r'
+begun_in : {w : Walk Fault} {w' : Walk (List Fault)} → WalkBeside w w' → (p : Option Numbered) {s : Scope Fault} {s' : Scope (List Fault)} → ScopeBeside s s' → {r : Result (Option TypeNo) Fault} {r' : Result (Option TypeNo) (List Fault)} → Reports r r'
     → InsideBeside (begun_as w p (s, r)) (begun_as w' p (s', r'))
 begun_in (walks (scopes tables types vars procs own outer) t bodies) p (scopes tables' types' vars' procs' own' outer') r = inside (walks (scopes tables' types' vars' procs' own' outer') t _) (begins _ p _ (returns_beside r))
 
 begun_as_beside : {w : Walk Fault} {w' : Walk (List Fault)} → WalkBeside w w' → (p : Option Numbered) {e : State (Option TypeNo) Fault} {e' : State (Option TypeNo) (List Fault)} → StateBeside e e' → InsideBeside (begun_as w p e) (begun_as w' p e')
-begun_as_beside w p e = begun_in w p e.scope e.told
+begun_as_beside w p e = begun_in w p e.scope e.reported
 
 numbered_same : {k : Option (Known Fault)} {k' : Option (Known (List Fault))} → Optionwise KnownBeside k k' → numbered_known k ≡ numbered_known k'
 numbered_same nothing = refl
@@ -99,17 +99,17 @@ begun_procedure_beside (walks {s = s} {s' = s'} b {r = r} {r' = r'} t bodies) se
     (λ (p : Option Numbered). InsideBeside (begun_procedure least (record { scope = s; so_far = r; bodies = bodies }) seen h) (begun_as (record { scope = s'; so_far = r'; bodies = bodies }) p (entered_procedure every s' seen h)))
     (numbered_same (own_beside h.name.name b)) (begun_as_beside (walks b t bodies) (procedure_named s h.name) (entered_procedure_goes b seen h))
 
-told_in_tells : {r : Result (List TypedStmt) Fault} {r' : Result (List TypedStmt) (List Fault)} → Tells r r' → Tells (told_in r) (told_in r')
-told_in_tells r = then_tells r (λ xs. fine tt)
+reported_in_reports : {r : Result (List TypedStmt) Fault} {r' : Result (List TypedStmt) (List Fault)} → Reports r r' → Reports (reported_in r) (reported_in r')
+reported_in_reports r = then_reports r (λ xs. fine tt)
 
-with_routine_same : {s : Scope Fault} {s' : Scope (List Fault)} → ScopeBeside s s' → (name : Ident) (around : Option Which) (n : ℕ) (p : Option Numbered) {r : Result (List TypedStmt) Fault} {r' : Result (List TypedStmt) (List Fault)} → Tells r r' → (bodies : Filled)
+with_routine_same : {s : Scope Fault} {s' : Scope (List Fault)} → ScopeBeside s s' → (name : Ident) (around : Option Which) (n : ℕ) (p : Option Numbered) {r : Result (List TypedStmt) Fault} {r' : Result (List TypedStmt) (List Fault)} → Reports r r' → (bodies : Filled)
     → with_routine s name around n p r bodies ≡ with_routine s' name around n p r' bodies
 with_routine_same b name around n None r bodies = refl
 with_routine_same (scopes tables types vars procs own outer) name around n (Some p) (fine xs) bodies = refl
 with_routine_same b name around n (Some p) (is_refused f fs q) bodies = refl
 
 ended_procedure_beside : (name : Ident) (around : Option Which) {b : Begun Fault} {b' : Begun (List Fault)} → BegunBeside b b' → {e : Checked Fault} {e' : Checked (List Fault)} → CheckedBeside e e' → WalkBeside (ended_procedure least name around b e) (ended_procedure every name around b' e')
-ended_procedure_beside name around (begins o p n returns) (is_checked (walks s t bodies) r) = walks_same (left_procedure_beside o s) (beside_tells t (told_in_tells r)) (with_routine_same s name around n p r bodies)
+ended_procedure_beside name around (begins o p n returns) (is_checked (walks s t bodies) r) = walks_same (left_procedure_beside o s) (beside_reports t (reported_in_reports r)) (with_routine_same s name around n p r bodies)
 
 -- ---- the bodies of a block
 
@@ -117,15 +117,15 @@ pub record ChecksBeside (f : Checks Fault) (f' : Checks (List Fault)) : Type 0 w
   pub checks : (around : Option Which) (seen : ℕ) (w : Walk Fault) (w' : Walk (List Fault)) → WalkBeside w w' → WalkBeside (f around seen w) (f' around seen w')
 
 pub record BlockChecksBeside (f : ChecksBlock Fault) (f' : ChecksBlock (List Fault)) : Type 0 where
-  pub checks : (around : Option Which) (r : Option (Result TypeNo Fault)) (r' : Option (Result TypeNo (List Fault))) → Optionwise Tells r r' → (w : Walk Fault) (w' : Walk (List Fault)) → WalkBeside w w' → CheckedBeside (f around r w) (f' around r' w')
+  pub checks : (around : Option Which) (r : Option (Result TypeNo Fault)) (r' : Option (Result TypeNo (List Fault))) → Optionwise Reports r r' → (w : Walk Fault) (w' : Walk (List Fault)) → WalkBeside w w' → CheckedBeside (f around r w) (f' around r' w')
 
 pub record StepsBeside (x : Steps Fault) (x' : Steps (List Fault)) : Type 0 where
   pub marks : (s : Scope Fault) (s' : Scope (List Fault)) → ScopeBeside s s' → ScopeBeside (x.marks s) (x'.marks s')
   pub declares : (c : Course Fault) (c' : Course (List Fault)) → CourseBeside c c' → CourseBeside (x.declares c) (x'.declares c')
   pub checks : ChecksBeside x.checks x'.checks
 
-pub record StatementsBeside (f : Judges Fault) (f' : Judges (List Fault)) : Type 0 where
-  pub judges : (s : Scope Fault) (s' : Scope (List Fault)) → ScopeBeside s s' → (r : Option (Result TypeNo Fault)) (r' : Option (Result TypeNo (List Fault))) → Optionwise Tells r r' → (xs : List Stmt) → Tells (f s r xs) (f' s' r' xs)
+pub record StatementsBeside (f : Elaborates Fault) (f' : Elaborates (List Fault)) : Type 0 where
+  pub elaborates : (s : Scope Fault) (s' : Scope (List Fault)) → ScopeBeside s s' → (r : Option (Result TypeNo Fault)) (r' : Option (Result TypeNo (List Fault))) → Optionwise Reports r r' → (xs : List Stmt) → Reports (f s r xs) (f' s' r' xs)
 
 data CountedBeside : Walk Fault × ℕ → Walk (List Fault) × ℕ → Type 0 where
   counted : {w : Walk Fault} {w' : Walk (List Fault)} → WalkBeside w w' → (n : ℕ) → CountedBeside (w, n) (w', n)
@@ -141,19 +141,19 @@ module _ {X Y : Type 0} (R : X → Y → Type 0) (checks : X → ℕ → Walk Fa
   with_bodies_beside : {w : Walk Fault} {w' : Walk (List Fault)} → WalkBeside w w' → {xs : List X} {ys : List Y} → Pairwise R xs ys → WalkBeside (with_bodies checks seen w xs) (with_bodies checks' seen w' ys)
   with_bodies_beside w xs = uncounted (fold_pairwise CountedBeside R (with_body checks seen) (with_body checks' seen) (λ a b x y p q. with_body_beside p x y q) xs _ _ (counted w 0))
 
-module _ {judges : Judges Fault} {judges' : Judges (List Fault)} (J : StatementsBeside judges judges') where
-  statements_of_tells : {s : Scope Fault} {s' : Scope (List Fault)} → ScopeBeside s s' → {r : Option (Result TypeNo Fault)} {r' : Option (Result TypeNo (List Fault))} → Optionwise Tells r r' → (body : Option (List Stmt))
-      → Tells (statements_of judges s r body) (statements_of judges' s' r' body)
-  statements_of_tells b r None = fine []
-  statements_of_tells b r (Some xs) = J.judges _ _ b _ _ r xs
+module _ {elaborates : Elaborates Fault} {elaborates' : Elaborates (List Fault)} (J : StatementsBeside elaborates elaborates') where
+  statements_of_reports : {s : Scope Fault} {s' : Scope (List Fault)} → ScopeBeside s s' → {r : Option (Result TypeNo Fault)} {r' : Option (Result TypeNo (List Fault))} → Optionwise Reports r r' → (body : Option (List Stmt))
+      → Reports (statements_of elaborates s r body) (statements_of elaborates' s' r' body)
+  statements_of_reports b r None = fine []
+  statements_of_reports b r (Some xs) = J.elaborates _ _ b _ _ r xs
 
-  with_statements_beside : {r : Option (Result TypeNo Fault)} {r' : Option (Result TypeNo (List Fault))} → Optionwise Tells r r' → (body : Option (List Stmt)) {w : Walk Fault} {w' : Walk (List Fault)} → WalkBeside w w'
-      → CheckedBeside (with_statements judges r body w) (with_statements judges' r' body w')
-  with_statements_beside r body (walks s t bodies) = is_checked (walks s t bodies) (statements_of_tells s r body)
+  with_statements_beside : {r : Option (Result TypeNo Fault)} {r' : Option (Result TypeNo (List Fault))} → Optionwise Reports r r' → (body : Option (List Stmt)) {w : Walk Fault} {w' : Walk (List Fault)} → WalkBeside w w'
+      → CheckedBeside (with_statements elaborates r body w) (with_statements elaborates' r' body w')
+  with_statements_beside r body (walks s t bodies) = is_checked (walks s t bodies) (statements_of_reports s r body)
 
-  block_from_beside : (around : Option Which) {r : Option (Result TypeNo Fault)} {r' : Option (Result TypeNo (List Fault))} → Optionwise Tells r r' → {d : Declared Fault} {d' : Declared (List Fault)} → DeclaredBeside d d'
+  block_from_beside : (around : Option Which) {r : Option (Result TypeNo Fault)} {r' : Option (Result TypeNo (List Fault))} → Optionwise Reports r r' → {d : Declared Fault} {d' : Declared (List Fault)} → DeclaredBeside d d'
       → {xs : List (Steps Fault)} {xs' : List (Steps (List Fault))} → Pairwise StepsBeside xs xs' → (body : Option (List Stmt)) (bodies : Filled)
-      → CheckedBeside (block_from judges checked_by around r d xs body bodies) (block_from judges' checked_by around r' d' xs' body bodies)
+      → CheckedBeside (block_from elaborates checked_by around r d xs body bodies) (block_from elaborates' checked_by around r' d' xs' body bodies)
   block_from_beside around r (are_declared b t seen) xs body bodies = with_statements_beside r body
       (with_bodies_beside StepsBeside (λ x. checked_by x around) (λ x. checked_by x around) (λ x y q n w w' p. q.checks.checks around n w w' p) seen (walks b t bodies) xs)
 
@@ -171,18 +171,18 @@ walk_goes (walks s t bodies) = goes s t
 
 -- ---- by induction
 
-module _ {judges : Judges Fault} {judges' : Judges (List Fault)} (J : StatementsBeside judges judges') (ends : List ℕ) where
+module _ {elaborates : Elaborates Fault} {elaborates' : Elaborates (List Fault)} (J : StatementsBeside elaborates elaborates') (ends : List ℕ) where
   abbrev steps_1 : Decl → Steps Fault
-  steps_1 = steps least judges ends
+  steps_1 = steps least elaborates ends
 
   abbrev steps_2 : Decl → Steps (List Fault)
-  steps_2 = steps every judges' ends
+  steps_2 = steps every elaborates' ends
 
   abbrev block_1 : Block → ChecksBlock Fault
-  block_1 = checks_block least judges ends
+  block_1 = checks_block least elaborates ends
 
   abbrev block_2 : Block → ChecksBlock (List Fault)
-  block_2 = checks_block every judges' ends
+  block_2 = checks_block every elaborates' ends
 
   abbrev PD : Decl → Type 0
   PD d = StepsBeside (steps_1 d) (steps_2 d)
@@ -214,26 +214,26 @@ module _ {judges : Judges Fault} {judges' : Judges (List Fault)} (J : Statements
   abbrev open_block_2 : Block-F Decl Block → Block-F (Steps (List Fault)) (ChecksBlock (List Fault))
   open_block_2 x = map-Block Decl Block (Steps (List Fault)) (ChecksBlock (List Fault)) steps_2 block_2 x
 
-  at_1 : (e : Decl) (x : Decl-F Decl Block) → out-Decl e ≡ x → steps_1 e ≡ steps_layer least judges ends (open_1 x)
+  at_1 : (e : Decl) (x : Decl-F Decl Block) → out-Decl e ≡ x → steps_1 e ≡ steps_layer least elaborates ends (open_1 x)
   unfolding steps checks_block
-  at_1 e x h = fold_out-Decl (Steps Fault) (ChecksBlock Fault) (steps_layer least judges ends) (block_layer least judges ends) e ∙ ap (λ (y : Decl-F Decl Block). steps_layer least judges ends (open_1 y)) h
+  at_1 e x h = fold_out-Decl (Steps Fault) (ChecksBlock Fault) (steps_layer least elaborates ends) (block_layer least elaborates ends) e ∙ ap (λ (y : Decl-F Decl Block). steps_layer least elaborates ends (open_1 y)) h
 
-  at_2 : (e : Decl) (x : Decl-F Decl Block) → out-Decl e ≡ x → steps_2 e ≡ steps_layer every judges' ends (open_2 x)
+  at_2 : (e : Decl) (x : Decl-F Decl Block) → out-Decl e ≡ x → steps_2 e ≡ steps_layer every elaborates' ends (open_2 x)
   unfolding steps checks_block
-  at_2 e x h = fold_out-Decl (Steps (List Fault)) (ChecksBlock (List Fault)) (steps_layer every judges' ends) (block_layer every judges' ends) e ∙ ap (λ (y : Decl-F Decl Block). steps_layer every judges' ends (open_2 y)) h
+  at_2 e x h = fold_out-Decl (Steps (List Fault)) (ChecksBlock (List Fault)) (steps_layer every elaborates' ends) (block_layer every elaborates' ends) e ∙ ap (λ (y : Decl-F Decl Block). steps_layer every elaborates' ends (open_2 y)) h
 
-  at_block_1 : (e : Block) (x : Block-F Decl Block) → out-Block e ≡ x → block_1 e ≡ block_layer least judges ends (open_block_1 x)
+  at_block_1 : (e : Block) (x : Block-F Decl Block) → out-Block e ≡ x → block_1 e ≡ block_layer least elaborates ends (open_block_1 x)
   unfolding steps checks_block
-  at_block_1 e x h = fold_out-Block (Steps Fault) (ChecksBlock Fault) (steps_layer least judges ends) (block_layer least judges ends) e ∙ ap (λ (y : Block-F Decl Block). block_layer least judges ends (open_block_1 y)) h
+  at_block_1 e x h = fold_out-Block (Steps Fault) (ChecksBlock Fault) (steps_layer least elaborates ends) (block_layer least elaborates ends) e ∙ ap (λ (y : Block-F Decl Block). block_layer least elaborates ends (open_block_1 y)) h
 
-  at_block_2 : (e : Block) (x : Block-F Decl Block) → out-Block e ≡ x → block_2 e ≡ block_layer every judges' ends (open_block_2 x)
+  at_block_2 : (e : Block) (x : Block-F Decl Block) → out-Block e ≡ x → block_2 e ≡ block_layer every elaborates' ends (open_block_2 x)
   unfolding steps checks_block
-  at_block_2 e x h = fold_out-Block (Steps (List Fault)) (ChecksBlock (List Fault)) (steps_layer every judges' ends) (block_layer every judges' ends) e ∙ ap (λ (y : Block-F Decl Block). block_layer every judges' ends (open_block_2 y)) h
+  at_block_2 e x h = fold_out-Block (Steps (List Fault)) (ChecksBlock (List Fault)) (steps_layer every elaborates' ends) (block_layer every elaborates' ends) e ∙ ap (λ (y : Block-F Decl Block). block_layer every elaborates' ends (open_block_2 y)) h
 
   unchecked : ChecksBeside (λ around seen w. w) (λ around seen w. w)
   unchecked = record { checks = λ around seen w w' p. p }
 
-  steps_at : (y : Decl-F SD SB) → StepsBeside (steps_layer least judges ends (open_1 (bare y))) (steps_layer every judges' ends (open_2 (bare y)))
+  steps_at : (y : Decl-F SD SB) → StepsBeside (steps_layer least elaborates ends (open_1 (bare y))) (steps_layer every elaborates' ends (open_2 (bare y)))
   steps_at (layer.Constants cs) = record { marks = λ s s' b. def_marks (def.Constants cs) b; declares = λ c c' p. constants_course p cs; checks = unchecked }
   steps_at (layer.Types ts) = record { marks = λ s s' b. def_marks (def.Types ts) b; declares = λ c c' p. types_course p ts; checks = unchecked }
   steps_at (layer.Variables vs) = record { marks = λ s s' b. def_marks (def.Variables vs) b; declares = λ c c' p. variables_course p vs; checks = unchecked }
@@ -246,8 +246,8 @@ module _ {judges : Judges Fault} {judges' : Judges (List Fault)} (J : Statements
   all_steps : (xs : List SD) → Pairwise StepsBeside (map steps_1 (map (λ (e : SD). e.0) xs)) (map steps_2 (map (λ (e : SD). e.0) xs))
   all_steps xs = pairwise_maps {X = SD} {Y = Decl} StepsBeside (λ e. e.0) steps_1 steps_2 (λ e. e.1) xs
 
-  block_steps : (xs : List SD) (body : Option (List Stmt)) (around : Option Which) {r : Option (Result TypeNo Fault)} {r' : Option (Result TypeNo (List Fault))} → Optionwise Tells r r' → {w : Walk Fault} {w' : Walk (List Fault)} → WalkBeside w w'
-      → CheckedBeside (block_layer least judges ends (open_block_1 (bare_block (record { decls = xs; body = body }))) around r w) (block_layer every judges' ends (open_block_2 (bare_block (record { decls = xs; body = body }))) around r' w')
+  block_steps : (xs : List SD) (body : Option (List Stmt)) (around : Option Which) {r : Option (Result TypeNo Fault)} {r' : Option (Result TypeNo (List Fault))} → Optionwise Reports r r' → {w : Walk Fault} {w' : Walk (List Fault)} → WalkBeside w w'
+      → CheckedBeside (block_layer least elaborates ends (open_block_1 (bare_block (record { decls = xs; body = body }))) around r w) (block_layer every elaborates' ends (open_block_2 (bare_block (record { decls = xs; body = body }))) around r' w')
   block_steps xs body around r (walks s t bodies) = block_from_beside J around r
       (all_declared_beside StepsBeside marked_by marked_by declared_by declared_by (λ x y q s s' b. q.marks s s' b) (λ x y q c c' p. q.declares c c' p) (goes s t) _ (all_steps xs)) (all_steps xs) body bodies
 
@@ -261,10 +261,10 @@ module _ {judges : Judges Fault} {judges' : Judges (List Fault)} (J : Statements
   steps_beside : (d : Decl) → PD d
   steps_beside = ind-Decl PD PB step_decl step_block
 
-  bodies_checked_beside : (around : Option Which) (seen : List ℕ) {w : Walk Fault} {w' : Walk (List Fault)} → WalkBeside w w' → (ds : List Decl) → WalkBeside (bodies_checked least judges ends around seen w ds) (bodies_checked every judges' ends around seen w' ds)
-  bodies_checked_beside around seen w ds = with_bodies_beside Same (λ d. checks_decl least judges ends d around) (λ d. checks_decl every judges' ends d around) checks_same seen w (pairwise_same ds)
+  bodies_checked_beside : (around : Option Which) (seen : List ℕ) {w : Walk Fault} {w' : Walk (List Fault)} → WalkBeside w w' → (ds : List Decl) → WalkBeside (bodies_checked least elaborates ends around seen w ds) (bodies_checked every elaborates' ends around seen w' ds)
+  bodies_checked_beside around seen w ds = with_bodies_beside Same (λ d. checks_decl least elaborates ends d around) (λ d. checks_decl every elaborates' ends d around) checks_same seen w (pairwise_same ds)
     where
-      checks_same : (x y : Decl) → Same x y → (n : ℕ) (w : Walk Fault) (w' : Walk (List Fault)) → WalkBeside w w' → WalkBeside (checks_decl least judges ends x around n w) (checks_decl every judges' ends y around n w')
+      checks_same : (x y : Decl) → Same x y → (n : ℕ) (w : Walk Fault) (w' : Walk (List Fault)) → WalkBeside w w' → WalkBeside (checks_decl least elaborates ends x around n w) (checks_decl every elaborates' ends y around n w')
       checks_same x y (same z) n w w' p = (steps_beside z).checks.checks around n w w' p
 
 -- ---- modules
@@ -278,8 +278,8 @@ from_declared (are_declared (scopes tables types vars procs own outer) t seen) =
 begun_module_beside : (modules : List (List ℕ × ℕ)) (ends : List ℕ) {s : Scope Fault} {s' : Scope (List Fault)} → ScopeBeside s s' → (m : Module) (ds : List Decl) → BegunModule (begun_module least modules ends s m ds) (begun_module every modules ends s' m ds)
 begun_module_beside modules ends b m ds = from_declared (declared_module_beside modules ends b m ds)
 
-module_or_tells : (modules : List (List ℕ × ℕ)) (own : Option Table) (m : Module) {c : Checked Fault} {c' : Checked (List Fault)} → CheckedBeside c c' → Tells (module_or least modules own m c) (module_or every modules own m c')
-module_or_tells modules own m (is_checked (walks (scopes tables types vars procs own' outer) t bodies) r) = then_tells (both_tells t r) (λ p. fine _)
+module_or_reports : (modules : List (List ℕ × ℕ)) (own : Option Table) (m : Module) {c : Checked Fault} {c' : Checked (List Fault)} → CheckedBeside c c' → Reports (module_or least modules own m c) (module_or every modules own m c')
+module_or_reports modules own m (is_checked (walks (scopes tables types vars procs own' outer) t bodies) r) = then_reports (both_reports t r) (λ p. fine _)
 
 own_names_beside : (es : List (List ℕ × Meaning)) → Pairwise EntryBeside (own_names es) (own_names es)
 own_names_beside es = fold_keeps (Pairwise EntryBeside) with_own_name with_own_name (λ ns ns' e p. entered_beside e.0 (known_declared Here (fine e.1)) p) es _ _ none
@@ -290,36 +290,36 @@ with_own_beside (scopes tables types vars procs names outer) own = scopes tables
 implementation_scope_beside : (own : Table) (tables : List Table) → ScopeBeside (implementation_scope own tables) (implementation_scope own tables)
 implementation_scope_beside own tables = with_own_beside (first_scope_beside own.number tables) own
 
-module _ {judges : Judges Fault} {judges' : Judges (List Fault)} (J : StatementsBeside judges judges') where
+module _ {elaborates : Elaborates Fault} {elaborates' : Elaborates (List Fault)} (J : StatementsBeside elaborates elaborates') where
   walked_from : (ends : List ℕ) (ds : List Decl) (body : Option (List Stmt)) {w : Walk Fault × List ℕ} {w' : Walk (List Fault) × List ℕ} → BegunModule w w'
-      → CheckedBeside (with_statements judges None body (bodies_checked least judges ends None w.1 w.0 ds)) (with_statements judges' None body (bodies_checked every judges' ends None w'.1 w'.0 ds))
+      → CheckedBeside (with_statements elaborates None body (bodies_checked least elaborates ends None w.1 w.0 ds)) (with_statements elaborates' None body (bodies_checked every elaborates' ends None w'.1 w'.0 ds))
   walked_from ends ds body (begun_so w seen) = with_statements_beside J nothing body (bodies_checked_beside J ends None seen w ds)
 
-  walked_beside : (modules : List (List ℕ × ℕ)) (ends : List ℕ) {s : Scope Fault} {s' : Scope (List Fault)} → ScopeBeside s s' → (m : Module) (b : Block) → CheckedBeside (walked least judges modules ends s m b) (walked every judges' modules ends s' m b)
+  walked_beside : (modules : List (List ℕ × ℕ)) (ends : List ℕ) {s : Scope Fault} {s' : Scope (List Fault)} → ScopeBeside s s' → (m : Module) (b : Block) → CheckedBeside (walked least elaborates modules ends s m b) (walked every elaborates' modules ends s' m b)
   walked_beside modules ends s m b = walked_from ends (out-Block b).decls (out-Block b).body (begun_module_beside modules ends s m (out-Block b).decls)
 
-  of_walk_tells : (modules : List (List ℕ × ℕ)) {s : Scope Fault} {s' : Scope (List Fault)} → ScopeBeside s s' → (own : Option Table) (m : Module) (b : Block) → Tells (of_walk least judges modules s own m b) (of_walk every judges' modules s' own m b)
-  of_walk_tells modules s own m b = module_or_tells modules own m (walked_beside modules (procedure_ends (out-Block b).decls) s m b)
+  of_walk_reports : (modules : List (List ℕ × ℕ)) {s : Scope Fault} {s' : Scope (List Fault)} → ScopeBeside s s' → (own : Option Table) (m : Module) (b : Block) → Reports (of_walk least elaborates modules s own m b) (of_walk every elaborates' modules s' own m b)
+  of_walk_reports modules s own m b = module_or_reports modules own m (walked_beside modules (procedure_ends (out-Block b).decls) s m b)
 
-  of_body_tells : {s : Scope Fault} {s' : Scope (List Fault)} → ScopeBeside s s' → (own : Option Table) (m : Module) (b : Block) → Tells (of_body least judges s own m b) (of_body every judges' s' own m b)
-  of_body_tells (scopes tables types vars procs {level = level} {withs = withs} names outer) own m b = of_walk_tells (numbered_modules tables).0 (scopes tables types vars procs {level = level} {withs = withs} names outer) own m b
+  of_body_reports : {s : Scope Fault} {s' : Scope (List Fault)} → ScopeBeside s s' → (own : Option Table) (m : Module) (b : Block) → Reports (of_body least elaborates s own m b) (of_body every elaborates' s' own m b)
+  of_body_reports (scopes tables types vars procs {level = level} {withs = withs} names outer) own m b = of_walk_reports (numbered_modules tables).0 (scopes tables types vars procs {level = level} {withs = withs} names outer) own m b
 
-  of_implementation_tells : (m : Module) (own : Option Table) (tables : List Table) (b : Block) → Tells (of_implementation least judges m own tables b) (of_implementation every judges' m own tables b)
-  of_implementation_tells m None tables b = told_tells m.name.pos 24
-  of_implementation_tells m (Some own) tables b = of_body_tells (implementation_scope_beside own tables) (Some own) m b
+  of_implementation_reports : (m : Module) (own : Option Table) (tables : List Table) (b : Block) → Reports (of_implementation least elaborates m own tables b) (of_implementation every elaborates' m own tables b)
+  of_implementation_reports m None tables b = reported_reports m.name.pos 24
+  of_implementation_reports m (Some own) tables b = of_body_reports (implementation_scope_beside own tables) (Some own) m b
 
-  of_contents_tells : (number : ℕ) (m : Module) (own : Option Table) (tables : List Table) (c : Contents) → Tells (of_contents least judges number m own tables c) (of_contents every judges' number m own tables c)
-  of_contents_tells number m own tables (contents.Definition defs) = told_tells m.name.pos 24
-  of_contents_tells number m own tables (contents.Implementation b) = of_implementation_tells m own tables b
-  of_contents_tells number m own tables (contents.Program b) = of_body_tells (first_scope_beside number tables) None m b
+  of_contents_reports : (number : ℕ) (m : Module) (own : Option Table) (tables : List Table) (c : Contents) → Reports (of_contents least elaborates number m own tables c) (of_contents every elaborates' number m own tables c)
+  of_contents_reports number m own tables (contents.Definition defs) = reported_reports m.name.pos 24
+  of_contents_reports number m own tables (contents.Implementation b) = of_implementation_reports m own tables b
+  of_contents_reports number m own tables (contents.Program b) = of_body_reports (first_scope_beside number tables) None m b
 
--- what is told of a body is the least of all rules that are broken in it
-judged_beside : StatementsBeside (judged least) (judged every)
-judged_beside = record { judges = λ s s' b r r' p xs. statements_tells b (arounds p false) xs }
+-- what is reported of a body is the least of all rules that are broken in it
+elaborated_beside : StatementsBeside (elaborated least) (elaborated every)
+elaborated_beside = record { elaborates = λ s s' b r r' p xs. statements_reports b (arounds p false) xs }
 
-pub checked_tells : (number : ℕ) (m : Module) (own : Option Table) (imports : List Table) → Tells (checked least number m own imports) (checked every number m own imports)
-checked_tells number m own imports = of_contents_tells judged_beside number m own (imports ++ console ∷ []) m.contents
+pub checked_reports : (number : ℕ) (m : Module) (own : Option Table) (imports : List Table) → Reports (checked least number m own imports) (checked every number m own imports)
+checked_reports number m own imports = of_contents_reports elaborated_beside number m own (imports ++ console ∷ []) m.contents
 
-pub told_if_exact : {E : Type 0} (number : ℕ) (m : Module) (own : Option Table) (imports : List Table) (r : Result (Result TypedModule Fault) E) → IfOk r (λ j. j ≡ checked least number m own imports) → IfOk r (λ j. Tells j (checked every number m own imports))
-told_if_exact number m own imports (Ok j) h = subst (λ (x : Result TypedModule Fault). Tells x (checked every number m own imports)) (sym h) (checked_tells number m own imports)
-told_if_exact number m own imports (Err e) h = tt
+pub reported_if_exact : {E : Type 0} (number : ℕ) (m : Module) (own : Option Table) (imports : List Table) (r : Result (Result TypedModule Fault) E) → IfOk r (λ j. j ≡ checked least number m own imports) → IfOk r (λ j. Reports j (checked every number m own imports))
+reported_if_exact number m own imports (Ok j) h = subst (λ (x : Result TypedModule Fault). Reports x (checked every number m own imports)) (sym h) (checked_reports number m own imports)
+reported_if_exact number m own imports (Err e) h = tt

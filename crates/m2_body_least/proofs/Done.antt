@@ -9,21 +9,21 @@ use Rattle.m2_typed.specs.declared.statement.Change.{Change}
 use Rattle.m2_typed.specs.declared.statement.Change.TheVariants.{Increase, Decrease}
 use Rattle.m2_typed.specs.declared.statement.Membership.{Membership}
 use Rattle.m2_typed.specs.declared.statement.Membership.TheVariants.{Include, Exclude}
-use Rattle.m2_judged.specs.declared.scope.Scope.{Scope}
+use Rattle.m2_scopes.specs.declared.scope.Scope.{Scope}
 use Rattle.m2_computed.specs.Classes.{signature_at}
 use Rattle.m2_calls.specs.declared.callee.Callee.{Callee}
 use Rattle.m2_calls.specs.declared.callee.Called.{Called}
 use Rattle.m2_calls.specs.declared.callee.Called.TheVariants as called
 use Rattle.m2_calls.specs.Callees.{proper_of}
 use Rattle.m2_exprs.specs.Meanings.{Meant, formals_of}
-use Rattle.m2_judged.specs.declared.fault.Fault.{Fault}
-use Rattle.m2_judged.specs.Judged.{every, least}
-use Rattle.m2_least.specs.Least.{Tells, fine}
+use Rattle.m2_scopes.specs.declared.fault.Fault.{Fault}
+use Rattle.m2_scopes.specs.Elaborated.{every, least}
+use Rattle.m2_least.specs.Least.{Reports, fine}
 use Rattle.m2_exprs.specs.Effects.{call_done, routine_done, changed_by, member_by, halted, put_by, standard_done, done_as, done_by}
-use Rattle.m2_body_least.proofs.Meanings.{actuals_tells, value_of_tells}
-use Rattle.m2_body_least.proofs.Effects.{amount_tells, change_by_tells, changed_tells, element_tells, membership_of_tells, put_tells, set_variable_tells}
-use Rattle.m2_body_least.proofs.Callees.{callee_of_tells, proper_of_tells}
-use Rattle.m2_least.proofs.Forms.{then_tells, told_tells}
+use Rattle.m2_body_least.proofs.Meanings.{actuals_reports, value_of_reports}
+use Rattle.m2_body_least.proofs.Effects.{amount_reports, change_by_reports, changed_reports, element_reports, membership_of_reports, put_reports, set_variable_reports}
+use Rattle.m2_body_least.proofs.Callees.{callee_of_reports, proper_of_reports}
+use Rattle.m2_least.proofs.Forms.{then_reports, reported_reports}
 use Rattle.m2_least.specs.Beside.{Pairwise, none, more, ScopeBeside, scopes}
 use Rattle.m2_least.proofs.Constants.{parts}
 use Rattle.m2_body_least.proofs.Pieces.{MeantBeside, meants}
@@ -31,55 +31,55 @@ use Rattle.std.proofs.Common.{subst}
 use Rattle.m2_body_least.proofs.Pieces.{lengths_same}
 use Rattle.std.specs.Prelude.{ℕ, ℕ}
 
-pub call_done_tells : (c : Callee) → {args : Result (List Argument) Fault} {args' : Result (List Argument) (List Fault)} → Tells args args' → Tells (call_done c args) (call_done c args')
-call_done_tells c args = then_tells args (λ xs. fine _)
+pub call_done_reports : (c : Callee) → {args : Result (List Argument) Fault} {args' : Result (List Argument) (List Fault)} → Reports args args' → Reports (call_done c args) (call_done c args')
+call_done_reports c args = then_reports args (λ xs. fine _)
 
-pub routine_done_tells : {s : Scope Fault} {s' : Scope (List Fault)} → ScopeBeside s s' → (at : Pos) → (h : TypeNo) → (c : Callee) → {args : List (Meant Fault)} {args' : List (Meant (List Fault))} → Pairwise MeantBeside args args' → Tells (routine_done least s at h c args) (routine_done every s' at h c args')
-routine_done_tells (scopes tables types vars procs {level = level} {withs = withs} own outer) at h c {args = xs} args =
-    then_tells (subst (λ (n : ℕ). Tells (proper_of least at (signature_at types h) (length xs)) (proper_of every at (signature_at types h) n)) (lengths_same args) (proper_of_tells at (signature_at types h) (length xs)))
-    (λ u. call_done_tells c (actuals_tells (scopes tables types vars procs {level = level} {withs = withs} own outer) (formals_of (signature_at types h)) args))
+pub routine_done_reports : {s : Scope Fault} {s' : Scope (List Fault)} → ScopeBeside s s' → (at : Pos) → (h : TypeNo) → (c : Callee) → {args : List (Meant Fault)} {args' : List (Meant (List Fault))} → Pairwise MeantBeside args args' → Reports (routine_done least s at h c args) (routine_done every s' at h c args')
+routine_done_reports (scopes tables types vars procs {level = level} {withs = withs} own outer) at h c {args = xs} args =
+    then_reports (subst (λ (n : ℕ). Reports (proper_of least at (signature_at types h) (length xs)) (proper_of every at (signature_at types h) n)) (lengths_same args) (proper_of_reports at (signature_at types h) (length xs)))
+    (λ u. call_done_reports c (actuals_reports (scopes tables types vars procs {level = level} {withs = withs} own outer) (formals_of (signature_at types h)) args))
 
-pub changed_by_tells : {s : Scope Fault} {s' : Scope (List Fault)} → ScopeBeside s s' → (at : Pos) → (o : Change) → {p3 : List (Meant Fault)} {p3' : List (Meant (List Fault))} → Pairwise MeantBeside p3 p3' → Tells (changed_by least s at o p3) (changed_by every s' at o p3')
-changed_by_tells s at o none = told_tells at 42
-changed_by_tells (scopes tables types vars procs {level = level} {withs = withs} own outer) at o (more (meants (parts v_at v_p) v_m) none) = change_by_tells o (then_tells (v_m _ _ (scopes tables types vars procs {level = level} {withs = withs} own outer)) (λ v. changed_tells types v_at v)) (fine _)
-changed_by_tells (scopes tables types vars procs {level = level} {withs = withs} own outer) at o (more (meants (parts v_at v_p) v_m) (more (meants (parts n_at n_p) n_m) none)) = change_by_tells o (then_tells (v_m _ _ (scopes tables types vars procs {level = level} {withs = withs} own outer)) (λ v. changed_tells types v_at v)) (then_tells (value_of_tells (scopes tables types vars procs {level = level} {withs = withs} own outer) (meants (parts n_at n_p) n_m)) (λ v. amount_tells n_at v))
-changed_by_tells s at o (more v (more n (more x xs))) = told_tells at 42
+pub changed_by_reports : {s : Scope Fault} {s' : Scope (List Fault)} → ScopeBeside s s' → (at : Pos) → (o : Change) → {p3 : List (Meant Fault)} {p3' : List (Meant (List Fault))} → Pairwise MeantBeside p3 p3' → Reports (changed_by least s at o p3) (changed_by every s' at o p3')
+changed_by_reports s at o none = reported_reports at 42
+changed_by_reports (scopes tables types vars procs {level = level} {withs = withs} own outer) at o (more (meants (parts v_at v_p) v_m) none) = change_by_reports o (then_reports (v_m _ _ (scopes tables types vars procs {level = level} {withs = withs} own outer)) (λ v. changed_reports types v_at v)) (fine _)
+changed_by_reports (scopes tables types vars procs {level = level} {withs = withs} own outer) at o (more (meants (parts v_at v_p) v_m) (more (meants (parts n_at n_p) n_m) none)) = change_by_reports o (then_reports (v_m _ _ (scopes tables types vars procs {level = level} {withs = withs} own outer)) (λ v. changed_reports types v_at v)) (then_reports (value_of_reports (scopes tables types vars procs {level = level} {withs = withs} own outer) (meants (parts n_at n_p) n_m)) (λ v. amount_reports n_at v))
+changed_by_reports s at o (more v (more n (more x xs))) = reported_reports at 42
 
-pub member_by_tells : {s : Scope Fault} {s' : Scope (List Fault)} → ScopeBeside s s' → (at : Pos) → (o : Membership) → {p3 : List (Meant Fault)} {p3' : List (Meant (List Fault))} → Pairwise MeantBeside p3 p3' → Tells (member_by least s at o p3) (member_by every s' at o p3')
-member_by_tells s at o none = told_tells at 42
-member_by_tells s at o (more v none) = told_tells at 42
-member_by_tells (scopes tables types vars procs {level = level} {withs = withs} own outer) at o (more (meants (parts v_at v_p) v_m) (more (meants (parts n_at n_p) n_m) none)) = membership_of_tells o (then_tells (v_m _ _ (scopes tables types vars procs {level = level} {withs = withs} own outer)) (λ v. set_variable_tells types v_at v)) (then_tells (value_of_tells (scopes tables types vars procs {level = level} {withs = withs} own outer) (meants (parts n_at n_p) n_m)) (λ v. element_tells n_at v))
-member_by_tells s at o (more v (more n (more x xs))) = told_tells at 42
+pub member_by_reports : {s : Scope Fault} {s' : Scope (List Fault)} → ScopeBeside s s' → (at : Pos) → (o : Membership) → {p3 : List (Meant Fault)} {p3' : List (Meant (List Fault))} → Pairwise MeantBeside p3 p3' → Reports (member_by least s at o p3) (member_by every s' at o p3')
+member_by_reports s at o none = reported_reports at 42
+member_by_reports s at o (more v none) = reported_reports at 42
+member_by_reports (scopes tables types vars procs {level = level} {withs = withs} own outer) at o (more (meants (parts v_at v_p) v_m) (more (meants (parts n_at n_p) n_m) none)) = membership_of_reports o (then_reports (v_m _ _ (scopes tables types vars procs {level = level} {withs = withs} own outer)) (λ v. set_variable_reports types v_at v)) (then_reports (value_of_reports (scopes tables types vars procs {level = level} {withs = withs} own outer) (meants (parts n_at n_p) n_m)) (λ v. element_reports n_at v))
+member_by_reports s at o (more v (more n (more x xs))) = reported_reports at 42
 
-pub halted_tells : (at : Pos) → {p1 : List (Meant Fault)} {p1' : List (Meant (List Fault))} → Pairwise MeantBeside p1 p1' → Tells (halted least at p1) (halted every at p1')
-halted_tells at none = fine _
-halted_tells at (more x xs) = told_tells at 42
+pub halted_reports : (at : Pos) → {p1 : List (Meant Fault)} {p1' : List (Meant (List Fault))} → Pairwise MeantBeside p1 p1' → Reports (halted least at p1) (halted every at p1')
+halted_reports at none = fine _
+halted_reports at (more x xs) = reported_reports at 42
 
-pub put_by_tells : {s : Scope Fault} {s' : Scope (List Fault)} → ScopeBeside s s' → (at : Pos) → {p2 : List (Meant Fault)} {p2' : List (Meant (List Fault))} → Pairwise MeantBeside p2 p2' → Tells (put_by least s at p2) (put_by every s' at p2')
-put_by_tells s at none = told_tells at 42
-put_by_tells (scopes tables types vars procs {level = level} {withs = withs} own outer) at (more (meants (parts x_at x_p) x_m) none) = then_tells (value_of_tells (scopes tables types vars procs {level = level} {withs = withs} own outer) (meants (parts x_at x_p) x_m)) (λ v. put_tells types x_at v)
-put_by_tells s at (more x (more y xs)) = told_tells at 42
+pub put_by_reports : {s : Scope Fault} {s' : Scope (List Fault)} → ScopeBeside s s' → (at : Pos) → {p2 : List (Meant Fault)} {p2' : List (Meant (List Fault))} → Pairwise MeantBeside p2 p2' → Reports (put_by least s at p2) (put_by every s' at p2')
+put_by_reports s at none = reported_reports at 42
+put_by_reports (scopes tables types vars procs {level = level} {withs = withs} own outer) at (more (meants (parts x_at x_p) x_m) none) = then_reports (value_of_reports (scopes tables types vars procs {level = level} {withs = withs} own outer) (meants (parts x_at x_p) x_m)) (λ v. put_reports types x_at v)
+put_by_reports s at (more x (more y xs)) = reported_reports at 42
 
-pub standard_done_tells : {s : Scope Fault} {s' : Scope (List Fault)} → ScopeBeside s s' → (at : Pos) → {args : List (Meant Fault)} {args' : List (Meant (List Fault))} → Pairwise MeantBeside args args' → (p3 : Standard) → Tells (standard_done least s at args p3) (standard_done every s' at args' p3)
-standard_done_tells s at args Abs = told_tells at 40
-standard_done_tells s at args Cap = told_tells at 40
-standard_done_tells s at args Chr = told_tells at 40
-standard_done_tells s at args High = told_tells at 40
-standard_done_tells s at args Max = told_tells at 40
-standard_done_tells s at args Min = told_tells at 40
-standard_done_tells s at args Odd = told_tells at 40
-standard_done_tells s at args Ord = told_tells at 40
-standard_done_tells s at args Val = told_tells at 40
-standard_done_tells s at args Inc = changed_by_tells s at Increase args
-standard_done_tells s at args Dec = changed_by_tells s at Decrease args
-standard_done_tells s at args Incl = member_by_tells s at Include args
-standard_done_tells s at args Excl = member_by_tells s at Exclude args
-standard_done_tells s at args Halt = halted_tells at args
-standard_done_tells s at args Put = put_by_tells s at args
+pub standard_done_reports : {s : Scope Fault} {s' : Scope (List Fault)} → ScopeBeside s s' → (at : Pos) → {args : List (Meant Fault)} {args' : List (Meant (List Fault))} → Pairwise MeantBeside args args' → (p3 : Standard) → Reports (standard_done least s at args p3) (standard_done every s' at args' p3)
+standard_done_reports s at args Abs = reported_reports at 40
+standard_done_reports s at args Cap = reported_reports at 40
+standard_done_reports s at args Chr = reported_reports at 40
+standard_done_reports s at args High = reported_reports at 40
+standard_done_reports s at args Max = reported_reports at 40
+standard_done_reports s at args Min = reported_reports at 40
+standard_done_reports s at args Odd = reported_reports at 40
+standard_done_reports s at args Ord = reported_reports at 40
+standard_done_reports s at args Val = reported_reports at 40
+standard_done_reports s at args Inc = changed_by_reports s at Increase args
+standard_done_reports s at args Dec = changed_by_reports s at Decrease args
+standard_done_reports s at args Incl = member_by_reports s at Include args
+standard_done_reports s at args Excl = member_by_reports s at Exclude args
+standard_done_reports s at args Halt = halted_reports at args
+standard_done_reports s at args Put = put_by_reports s at args
 
-pub done_as_tells : {s : Scope Fault} {s' : Scope (List Fault)} → ScopeBeside s s' → (at : Pos) → {args : List (Meant Fault)} {args' : List (Meant (List Fault))} → Pairwise MeantBeside args args' → (p3 : Called) → Tells (done_as least s at args p3) (done_as every s' at args' p3)
-done_as_tells s at args (called.Routine h c) = routine_done_tells s at h c args
-done_as_tells s at args (called.Standard f) = standard_done_tells s at args f
+pub done_as_reports : {s : Scope Fault} {s' : Scope (List Fault)} → ScopeBeside s s' → (at : Pos) → {args : List (Meant Fault)} {args' : List (Meant (List Fault))} → Pairwise MeantBeside args args' → (p3 : Called) → Reports (done_as least s at args p3) (done_as every s' at args' p3)
+done_as_reports s at args (called.Routine h c) = routine_done_reports s at h c args
+done_as_reports s at args (called.Standard f) = standard_done_reports s at args f
 
-pub done_by_tells : {s : Scope Fault} {s' : Scope (List Fault)} → ScopeBeside s s' → {d : Meant Fault} {d' : Meant (List Fault)} → MeantBeside d d' → {args : List (Meant Fault)} {args' : List (Meant (List Fault))} → Pairwise MeantBeside args args' → Tells (done_by least s d args) (done_by every s' d' args')
-done_by_tells (scopes tables types vars procs {level = level} {withs = withs} own outer) (meants (parts d_at d_p) d_m) args = then_tells (then_tells (d_m _ _ (scopes tables types vars procs {level = level} {withs = withs} own outer)) (λ v. callee_of_tells types d_at v)) (λ v. done_as_tells (scopes tables types vars procs {level = level} {withs = withs} own outer) d_at args v)
+pub done_by_reports : {s : Scope Fault} {s' : Scope (List Fault)} → ScopeBeside s s' → {d : Meant Fault} {d' : Meant (List Fault)} → MeantBeside d d' → {args : List (Meant Fault)} {args' : List (Meant (List Fault))} → Pairwise MeantBeside args args' → Reports (done_by least s d args) (done_by every s' d' args')
+done_by_reports (scopes tables types vars procs {level = level} {withs = withs} own outer) (meants (parts d_at d_p) d_m) args = then_reports (then_reports (d_m _ _ (scopes tables types vars procs {level = level} {withs = withs} own outer)) (λ v. callee_of_reports types d_at v)) (λ v. done_as_reports (scopes tables types vars procs {level = level} {withs = withs} own outer) d_at args v)

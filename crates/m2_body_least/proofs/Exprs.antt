@@ -13,46 +13,46 @@ use Rattle.m2_tree.specs.declared.expr.Expr.TheOpen as layer
 use Rattle.m2_tree.specs.declared.expr.Selector.{Selector, Selector-F, out-Selector, roll-Selector, out-roll-Selector, map-Selector, fold_out-Selector}
 use Rattle.m2_tree.specs.declared.expr.Designator.{Designator, Designator-F, out-Designator, roll-Designator, out-roll-Designator, map-Designator, fold_out-Designator, ind-Designator}
 use Rattle.m2_tree.specs.declared.expr.Item.{Item, Item-F, out-Item, roll-Item, out-roll-Item, map-Item, fold_out-Item}
-use Rattle.m2_judged.specs.declared.fault.Fault.{Fault}
-use Rattle.m2_judged.specs.declared.scope.Scope.{Scope}
-use Rattle.m2_judged.specs.Judged.{Gathers, every, least}
+use Rattle.m2_scopes.specs.declared.fault.Fault.{Fault}
+use Rattle.m2_scopes.specs.declared.scope.Scope.{Scope}
+use Rattle.m2_scopes.specs.Elaborated.{Gathers, every, least}
 use Rattle.m2_constants.specs.Parts.{Adds, sign_place}
 use Rattle.m2_computed.specs.declared.computed.Designated.{Designated}
 use Rattle.m2_exprs.specs.Meanings.{Meant, Picks, index_at, value_of, factor, term as addend, expr_layer, selector_layer, designator_layer, item_layer, meant, picks, head, item}
-use Rattle.m2_least.specs.Least.{Tells}
+use Rattle.m2_least.specs.Least.{Reports}
 use Rattle.m2_least.specs.Beside.{Pairwise, Optionwise, nothing, something, ScopeBeside, scopes}
-use Rattle.m2_least.proofs.Forms.{then_tells, fold_pairwise, pairwise_maps, carry}
-use Rattle.m2_least.proofs.Constants.{PartBeside, parts, PickBeside, AddsBeside, OperandBeside, operand, field_of_tells, component_tells, added_tells, of_number, of_char, of_text, of_term, of_sum, of_relation, of_set, of_not, of_bracketed, of_use, of_designator}
+use Rattle.m2_least.proofs.Forms.{then_reports, fold_pairwise, pairwise_maps, carry}
+use Rattle.m2_least.proofs.Constants.{PartBeside, parts, PickBeside, AddsBeside, OperandBeside, operand, field_of_reports, component_reports, added_reports, of_number, of_char, of_text, of_term, of_sum, of_relation, of_set, of_not, of_bracketed, of_use, of_designator}
 use Rattle.m2_body_least.proofs.Pieces.{MeantBeside, meants, PicksBeside, TermBeside, is_term, fixed_beside, pairwise_over}
-use Rattle.m2_body_least.proofs.Signs.{negated_tells}
-use Rattle.m2_body_least.proofs.Meanings.{of_computed_tells, as_constant_tells, value_of_tells, used_with_tells, factor_tells, term_tells, signed_first_tells, relation_tells, field_at_tells, index_at_tells, named_tells}
+use Rattle.m2_body_least.proofs.Signs.{negated_reports}
+use Rattle.m2_body_least.proofs.Meanings.{of_computed_reports, as_constant_reports, value_of_reports, used_with_reports, factor_reports, term_reports, signed_first_reports, relation_reports, field_at_reports, index_at_reports, named_reports}
 
 -- ---- the layers
 
 number_meant : (at : Pos) (n : ℕ) → MeantBeside (expr_layer least (layer.Number at n)) (expr_layer every (layer.Number at n))
-number_meant at n = meants (of_number at n) (λ s s' b. as_constant_tells b (of_number at n))
+number_meant at n = meants (of_number at n) (λ s s' b. as_constant_reports b (of_number at n))
 
 char_meant : (at : Pos) (n : ℕ) → MeantBeside (expr_layer least (layer.Char at n)) (expr_layer every (layer.Char at n))
-char_meant at n = meants (of_char at n) (λ s s' b. as_constant_tells b (of_char at n))
+char_meant at n = meants (of_char at n) (λ s s' b. as_constant_reports b (of_char at n))
 
 text_meant : (at : Pos) (t : List ℕ) → MeantBeside (expr_layer least (layer.Text at t)) (expr_layer every (layer.Text at t))
-text_meant at t = meants (of_text at t) (λ s s' b. as_constant_tells b (of_text at t))
+text_meant at t = meants (of_text at t) (λ s s' b. as_constant_reports b (of_text at t))
 
 set_meant : (name : Option Ident) (at : Pos) {xs : List (Adds Fault)} {xs' : List (Adds (List Fault))} → Pairwise AddsBeside xs xs' → MeantBeside (expr_layer least (layer.Set name at xs)) (expr_layer every (layer.Set name at xs'))
 set_meant name at xs =
     let set = of_set name at (pairwise_over {A = Adds Fault} {B = Adds (List Fault)} AddsBeside (λ e. e) (λ e. e) (λ a b p. p) xs) in
-    meants set (λ s s' b. as_constant_tells b set)
+    meants set (λ s s' b. as_constant_reports b set)
 
 not_meant : (at : Pos) {e : Meant Fault} {e' : Meant (List Fault)} → MeantBeside e e' → MeantBeside (expr_layer least (layer.Not at e)) (expr_layer every (layer.Not at e'))
-not_meant at e = meants (of_not at (fixed_beside e)) (λ s s' b. of_computed_tells (negated_tells at (value_of_tells b e)))
+not_meant at e = meants (of_not at (fixed_beside e)) (λ s s' b. of_computed_reports (negated_reports at (value_of_reports b e)))
 
 bracketed_meant : (at : Pos) {e : Meant Fault} {e' : Meant (List Fault)} → MeantBeside e e' → MeantBeside (expr_layer least (layer.Bracketed at e)) (expr_layer every (layer.Bracketed at e'))
-bracketed_meant at e = meants (of_bracketed at (fixed_beside e)) (λ s s' b. of_computed_tells (value_of_tells b e))
+bracketed_meant at e = meants (of_bracketed at (fixed_beside e)) (λ s s' b. of_computed_reports (value_of_reports b e))
 
 use_meant : {d : Meant Fault} {d' : Meant (List Fault)} → MeantBeside d d' → {xs : Option (List (Meant Fault))} {xs' : Option (List (Meant (List Fault)))} → Optionwise (Pairwise MeantBeside) xs xs'
     → MeantBeside (expr_layer least (layer.Use d xs)) (expr_layer every (layer.Use d' xs'))
-use_meant d nothing = meants (of_use (fixed_beside d) nothing) (λ s s' b. used_with_tells b d nothing)
-use_meant d (something xs) = meants (of_use (fixed_beside d) (something (pairwise_over {A = Meant Fault} {B = Meant (List Fault)} PartBeside (λ e. e.fixed) (λ e. e.fixed) (λ a b p. fixed_beside p) xs))) (λ s s' b. used_with_tells b d (something xs))
+use_meant d nothing = meants (of_use (fixed_beside d) nothing) (λ s s' b. used_with_reports b d nothing)
+use_meant d (something xs) = meants (of_use (fixed_beside d) (something (pairwise_over {A = Meant Fault} {B = Meant (List Fault)} PartBeside (λ e. e.fixed) (λ e. e.fixed) (λ a b p. fixed_beside p) xs))) (λ s s' b. used_with_reports b d (something xs))
 
 operand_fixed : {O : Type 0} {x : Operator O × Meant Fault} {x' : Operator O × Meant (List Fault)} → TermBeside x x' → OperandBeside (x.0, x.1.fixed) (x'.0, x'.1.fixed)
 operand_fixed (is_term o x) = operand o (fixed_beside x)
@@ -64,33 +64,33 @@ operands_fixed {O = O} xs = pairwise_over OperandBeside (λ (x : Operator O × M
 term_meant : {e : Meant Fault} {e' : Meant (List Fault)} → MeantBeside e e' → {xs : List (Operator MulOp × Meant Fault)} {xs' : List (Operator MulOp × Meant (List Fault))} → Pairwise TermBeside xs xs'
     → MeantBeside (expr_layer least (layer.Term e xs)) (expr_layer every (layer.Term e' xs'))
 term_meant (meants (parts at p) m) xs = meants (of_term (parts at p) (operands_fixed xs))
-    (λ s s' b. of_computed_tells (fold_pairwise Tells TermBeside (factor least s at) (factor every s' at) (λ v v' x x' t u. factor_tells b at t u) xs _ _ (value_of_tells b (meants (parts at p) m))))
+    (λ s s' b. of_computed_reports (fold_pairwise Reports TermBeside (factor least s at) (factor every s' at) (λ v v' x x' t u. factor_reports b at t u) xs _ _ (value_of_reports b (meants (parts at p) m))))
 
 sum_meant : (o : Option (Operator Sign)) {e : Meant Fault} {e' : Meant (List Fault)} → MeantBeside e e' → {xs : List (Operator AddOp × Meant Fault)} {xs' : List (Operator AddOp × Meant (List Fault))} → Pairwise TermBeside xs xs'
     → MeantBeside (expr_layer least (layer.Sum o e xs)) (expr_layer every (layer.Sum o e' xs'))
 sum_meant o (meants (parts at p) m) xs = meants (of_sum o (parts at p) (operands_fixed xs))
-    (λ s s' b. of_computed_tells (fold_pairwise Tells TermBeside (addend least s (sign_place o at)) (addend every s' (sign_place o at)) (λ v v' x x' t u. term_tells b (sign_place o at) t u) xs _ _ (signed_first_tells o (value_of_tells b (meants (parts at p) m)))))
+    (λ s s' b. of_computed_reports (fold_pairwise Reports TermBeside (addend least s (sign_place o at)) (addend every s' (sign_place o at)) (λ v v' x x' t u. term_reports b (sign_place o at) t u) xs _ _ (signed_first_reports o (value_of_reports b (meants (parts at p) m)))))
 
 relation_meant : {e : Meant Fault} {e' : Meant (List Fault)} → MeantBeside e e' → (o : Operator RelOp) {f : Meant Fault} {f' : Meant (List Fault)} → MeantBeside f f' → MeantBeside (expr_layer least (layer.Relation e o f)) (expr_layer every (layer.Relation e' o f'))
-relation_meant e o f = meants (of_relation (fixed_beside e) o (fixed_beside f)) (λ s s' b. of_computed_tells (relation_tells b e o f))
+relation_meant e o f = meants (of_relation (fixed_beside e) o (fixed_beside f)) (λ s s' b. of_computed_reports (relation_reports b e o f))
 
 field_picks : (at : Pos) (name : Ident) → PicksBeside (selector_layer least (layer.Field at name)) (selector_layer every (layer.Field at name))
-field_picks at name = record { fixed = record { picks = λ s s' b d d' t. then_tells t (λ x. field_of_tells b at name x) }; picks = λ s s' b d d' t. field_at_tells b at name t }
+field_picks at name = record { fixed = record { picks = λ s s' b d d' t. then_reports t (λ x. field_of_reports b at name x) }; picks = λ s s' b d d' t. field_at_reports b at name t }
 
 index_picks : (at : Pos) {e : Meant Fault} {e' : Meant (List Fault)} → MeantBeside e e' → PicksBeside (selector_layer least (layer.Index at e)) (selector_layer every (layer.Index at e'))
 index_picks at (meants (parts q p) m) = record {
-  fixed = record { picks = λ s s' b d d' t. then_tells t (λ x. component_tells at x) };
+  fixed = record { picks = λ s s' b d d' t. then_reports t (λ x. component_reports at x) };
   picks = λ s s' b d d' t. index_picked b at t (meants (parts q p) m);
 }
   where
-    index_picked : {s : Scope Fault} {s' : Scope (List Fault)} → ScopeBeside s s' → (spot : Pos) {d : Result Designated Fault} {d' : Result Designated (List Fault)} → Tells d d' → {x : Meant Fault} {x' : Meant (List Fault)} → MeantBeside x x'
-        → Tells (index_at least s.types spot d x.fixed.at (value_of least s x)) (index_at every s'.types spot d' x'.fixed.at (value_of every s' x'))
-    index_picked (scopes tables types vars procs {level = level} {withs = withs} own outer) spot t (meants (parts r h) n) = index_at_tells types spot t r (value_of_tells (scopes tables types vars procs {level = level} {withs = withs} own outer) (meants (parts r h) n))
+    index_picked : {s : Scope Fault} {s' : Scope (List Fault)} → ScopeBeside s s' → (spot : Pos) {d : Result Designated Fault} {d' : Result Designated (List Fault)} → Reports d d' → {x : Meant Fault} {x' : Meant (List Fault)} → MeantBeside x x'
+        → Reports (index_at least s.types spot d x.fixed.at (value_of least s x)) (index_at every s'.types spot d' x'.fixed.at (value_of every s' x'))
+    index_picked (scopes tables types vars procs {level = level} {withs = withs} own outer) spot t (meants (parts r h) n) = index_at_reports types spot t r (value_of_reports (scopes tables types vars procs {level = level} {withs = withs} own outer) (meants (parts r h) n))
 
 designator_meant : (name : Ident) {ps : List (Picks Fault)} {ps' : List (Picks (List Fault))} → Pairwise PicksBeside ps ps'
     → MeantBeside (designator_layer least (record { name = name; selectors = ps })) (designator_layer every (record { name = name; selectors = ps' }))
 designator_meant name ps = meants (of_designator name (pairwise_over {A = Picks Fault} {B = Picks (List Fault)} PickBeside (λ e. e.fixed) (λ e. e.fixed) (λ a b p. p.fixed) ps))
-    (λ s s' b. fold_pairwise Tells PicksBeside (λ x p. p.picks s x) (λ x p. p.picks s' x) (λ x x' f f' p q. q.picks s s' b x x' p) ps _ _ (named_tells b name))
+    (λ s s' b. fold_pairwise Reports PicksBeside (λ x p. p.picks s x) (λ x p. p.picks s' x) (λ x x' f f' p q. q.picks s s' b x x' p) ps _ _ (named_reports b name))
 
 abbrev PE : Expr → Type 0
 PE e = MeantBeside (meant least e) (meant every e)
@@ -119,33 +119,33 @@ SI = (e : Item) × PI e
 -- ---- a layer, each part of which has its meaning
 
 module _ (g : Gathers) where
-  abbrev opened : Expr-F Expr Selector Designator Item → Expr-F (Meant g.Told) (Picks g.Told) (Meant g.Told) (Adds g.Told)
-  opened x = map-Expr Expr Selector Designator Item (Meant g.Told) (Picks g.Told) (Meant g.Told) (Adds g.Told) (meant g) (picks g) (head g) (item g) x
+  abbrev opened : Expr-F Expr Selector Designator Item → Expr-F (Meant g.Reported) (Picks g.Reported) (Meant g.Reported) (Adds g.Reported)
+  opened x = map-Expr Expr Selector Designator Item (Meant g.Reported) (Picks g.Reported) (Meant g.Reported) (Adds g.Reported) (meant g) (picks g) (head g) (item g) x
 
-  abbrev opened_selector : Selector-F Expr Selector Designator Item → Selector-F (Meant g.Told) (Picks g.Told) (Meant g.Told) (Adds g.Told)
-  opened_selector x = map-Selector Expr Selector Designator Item (Meant g.Told) (Picks g.Told) (Meant g.Told) (Adds g.Told) (meant g) (picks g) (head g) (item g) x
+  abbrev opened_selector : Selector-F Expr Selector Designator Item → Selector-F (Meant g.Reported) (Picks g.Reported) (Meant g.Reported) (Adds g.Reported)
+  opened_selector x = map-Selector Expr Selector Designator Item (Meant g.Reported) (Picks g.Reported) (Meant g.Reported) (Adds g.Reported) (meant g) (picks g) (head g) (item g) x
 
-  abbrev opened_designator : Designator-F Expr Selector Designator Item → Designator-F (Meant g.Told) (Picks g.Told) (Meant g.Told) (Adds g.Told)
-  opened_designator x = map-Designator Expr Selector Designator Item (Meant g.Told) (Picks g.Told) (Meant g.Told) (Adds g.Told) (meant g) (picks g) (head g) (item g) x
+  abbrev opened_designator : Designator-F Expr Selector Designator Item → Designator-F (Meant g.Reported) (Picks g.Reported) (Meant g.Reported) (Adds g.Reported)
+  opened_designator x = map-Designator Expr Selector Designator Item (Meant g.Reported) (Picks g.Reported) (Meant g.Reported) (Adds g.Reported) (meant g) (picks g) (head g) (item g) x
 
-  abbrev opened_item : Item-F Expr Selector Designator Item → Item-F (Meant g.Told) (Picks g.Told) (Meant g.Told) (Adds g.Told)
-  opened_item x = map-Item Expr Selector Designator Item (Meant g.Told) (Picks g.Told) (Meant g.Told) (Adds g.Told) (meant g) (picks g) (head g) (item g) x
+  abbrev opened_item : Item-F Expr Selector Designator Item → Item-F (Meant g.Reported) (Picks g.Reported) (Meant g.Reported) (Adds g.Reported)
+  opened_item x = map-Item Expr Selector Designator Item (Meant g.Reported) (Picks g.Reported) (Meant g.Reported) (Adds g.Reported) (meant g) (picks g) (head g) (item g) x
 
   at : (e : Expr) (x : Expr-F Expr Selector Designator Item) → out-Expr e ≡ x → meant g e ≡ expr_layer g (opened x)
   unfolding meant picks head item
-  at e x h = fold_out-Expr (Meant g.Told) (Picks g.Told) (Meant g.Told) (Adds g.Told) (expr_layer g) (selector_layer g) (designator_layer g) (item_layer g) e ∙ ap (λ (y : Expr-F Expr Selector Designator Item). expr_layer g (opened y)) h
+  at e x h = fold_out-Expr (Meant g.Reported) (Picks g.Reported) (Meant g.Reported) (Adds g.Reported) (expr_layer g) (selector_layer g) (designator_layer g) (item_layer g) e ∙ ap (λ (y : Expr-F Expr Selector Designator Item). expr_layer g (opened y)) h
 
   at_selector : (e : Selector) (x : Selector-F Expr Selector Designator Item) → out-Selector e ≡ x → picks g e ≡ selector_layer g (opened_selector x)
   unfolding meant picks head item
-  at_selector e x h = fold_out-Selector (Meant g.Told) (Picks g.Told) (Meant g.Told) (Adds g.Told) (expr_layer g) (selector_layer g) (designator_layer g) (item_layer g) e ∙ ap (λ (y : Selector-F Expr Selector Designator Item). selector_layer g (opened_selector y)) h
+  at_selector e x h = fold_out-Selector (Meant g.Reported) (Picks g.Reported) (Meant g.Reported) (Adds g.Reported) (expr_layer g) (selector_layer g) (designator_layer g) (item_layer g) e ∙ ap (λ (y : Selector-F Expr Selector Designator Item). selector_layer g (opened_selector y)) h
 
   at_designator : (e : Designator) (x : Designator-F Expr Selector Designator Item) → out-Designator e ≡ x → head g e ≡ designator_layer g (opened_designator x)
   unfolding meant picks head item
-  at_designator e x h = fold_out-Designator (Meant g.Told) (Picks g.Told) (Meant g.Told) (Adds g.Told) (expr_layer g) (selector_layer g) (designator_layer g) (item_layer g) e ∙ ap (λ (y : Designator-F Expr Selector Designator Item). designator_layer g (opened_designator y)) h
+  at_designator e x h = fold_out-Designator (Meant g.Reported) (Picks g.Reported) (Meant g.Reported) (Adds g.Reported) (expr_layer g) (selector_layer g) (designator_layer g) (item_layer g) e ∙ ap (λ (y : Designator-F Expr Selector Designator Item). designator_layer g (opened_designator y)) h
 
   at_item : (e : Item) (x : Item-F Expr Selector Designator Item) → out-Item e ≡ x → item g e ≡ item_layer g (opened_item x)
   unfolding meant picks head item
-  at_item e x h = fold_out-Item (Meant g.Told) (Picks g.Told) (Meant g.Told) (Adds g.Told) (expr_layer g) (selector_layer g) (designator_layer g) (item_layer g) e ∙ ap (λ (y : Item-F Expr Selector Designator Item). item_layer g (opened_item y)) h
+  at_item e x h = fold_out-Item (Meant g.Reported) (Picks g.Reported) (Meant g.Reported) (Adds g.Reported) (expr_layer g) (selector_layer g) (designator_layer g) (item_layer g) e ∙ ap (λ (y : Item-F Expr Selector Designator Item). item_layer g (opened_item y)) h
 
 -- ---- a layer of parts for which it is known
 
@@ -185,8 +185,8 @@ designator_beside : (y : Designator-F SE SS SD SI) → MeantBeside (designator_l
 designator_beside y = designator_meant y.name (pairwise_maps {X = SS} {Y = Selector} PicksBeside (λ e. e.0) (picks least) (picks every) (λ e. e.1) y.selectors)
 
 item_at : (low : SE) (high : Option SE) → AddsBeside (item_layer least (opened_item least (bare_item (record { low = low; high = high })))) (item_layer every (opened_item every (bare_item (record { low = low; high = high }))))
-item_at low None = record { adds = λ s s' b. added_tells b (fixed_beside low.1) nothing }
-item_at low (Some high) = record { adds = λ s s' b. added_tells b (fixed_beside low.1) (something (fixed_beside high.1)) }
+item_at low None = record { adds = λ s s' b. added_reports b (fixed_beside low.1) nothing }
+item_at low (Some high) = record { adds = λ s s' b. added_reports b (fixed_beside low.1) (something (fixed_beside high.1)) }
 
 -- ---- the induction
 

@@ -12,7 +12,7 @@ use Rattle.m2_typed.specs.declared.computed.Argument.{Argument}
 use Rattle.m2_typed.specs.declared.shape.Formal.{Formal}
 use Rattle.m2_typed.specs.declared.meaning.Standard.{Standard}
 use Rattle.m2_typed.specs.declared.known_types.Types.{Types}
-use Rattle.m2_judged.specs.declared.scope.Scope.{Scope}
+use Rattle.m2_scopes.specs.declared.scope.Scope.{Scope}
 use Rattle.m2_values.specs.declared.operator.BinaryOp.TheVariants as op
 use Rattle.m2_values.specs.Operators.{mul_op, add_op}
 use Rattle.m2_constants.specs.Parts.{Part}
@@ -29,132 +29,132 @@ use Rattle.m2_calls.specs.declared.standard.Form.TheVariants as form
 use Rattle.m2_calls.specs.Callees.{function_of}
 use Rattle.m2_calls.specs.Actuals.{next_formal}
 use Rattle.m2_calls.specs.Functions.{form_of}
-use Rattle.m2_judged.specs.declared.fault.Fault.{Fault}
-use Rattle.m2_judged.specs.Judged.{every, least}
-use Rattle.m2_least.specs.Least.{Tells, fine}
+use Rattle.m2_scopes.specs.declared.fault.Fault.{Fault}
+use Rattle.m2_scopes.specs.Elaborated.{every, least}
+use Rattle.m2_least.specs.Least.{Reports, fine}
 use Rattle.m2_exprs.specs.Meanings.{of_computed, taken_at, signed_first, related, named, member_of, field_of, field_at, index_at, formals_of, argument_by, call_given, as_constant, value_of, with_actual, actuals, routine_called, unary, bound, conversion, high, by_form, called_as, called_by, used_with, factor, term, relation, Meant}
-use Rattle.m2_body_least.proofs.Actuals.{actual_tells, with_argument_tells}
-use Rattle.m2_body_least.proofs.Functions.{bound_at_tells, conversion_at_tells, high_of_tells, type_named_tells, unary_at_tells}
-use Rattle.m2_body_least.proofs.Callees.{callee_of_tells, function_of_tells}
-use Rattle.m2_body_least.proofs.Operations.{combined_tells}
-use Rattle.m2_least.proofs.Constants.{constant_tells, member_tells}
-use Rattle.m2_body_least.proofs.Taken.{designated_by_tells, taken_tells}
-use Rattle.m2_body_least.proofs.Selection.{field_tells, indexed_tells, indices_tells}
-use Rattle.m2_least.proofs.Forms.{fold_pairwise, then_tells, told_tells}
-use Rattle.m2_least.proofs.Scopes.{looked_up_tells}
-use Rattle.m2_body_least.proofs.Signs.{signed_tells}
+use Rattle.m2_body_least.proofs.Actuals.{actual_reports, with_argument_reports}
+use Rattle.m2_body_least.proofs.Functions.{bound_at_reports, conversion_at_reports, high_of_reports, type_named_reports, unary_at_reports}
+use Rattle.m2_body_least.proofs.Callees.{callee_of_reports, function_of_reports}
+use Rattle.m2_body_least.proofs.Operations.{combined_reports}
+use Rattle.m2_least.proofs.Constants.{constant_reports, member_reports}
+use Rattle.m2_body_least.proofs.Taken.{designated_by_reports, taken_reports}
+use Rattle.m2_body_least.proofs.Selection.{field_reports, indexed_reports, indices_reports}
+use Rattle.m2_least.proofs.Forms.{fold_pairwise, then_reports, reported_reports}
+use Rattle.m2_least.proofs.Scopes.{looked_up_reports}
+use Rattle.m2_body_least.proofs.Signs.{signed_reports}
 use Rattle.m2_least.specs.Beside.{Pairwise, none, more, Optionwise, nothing, something, ScopeBeside, scopes}
 use Rattle.m2_least.proofs.Constants.{PartBeside, parts}
 use Rattle.m2_body_least.proofs.Pieces.{MeantBeside, meants}
 use Rattle.std.proofs.Common.{subst, length}
 use Rattle.std.specs.Prelude.{ℕ}
 use Rattle.m2_body_least.proofs.Pieces.{lengths_same, TermBeside, is_term}
-use Rattle.m2_least.proofs.Making.{KeptBeside, is_kept, told_of}
+use Rattle.m2_least.proofs.Making.{KeptBeside, is_kept, reported_of}
 
-pub of_computed_tells : {x : Result Computed Fault} {x' : Result Computed (List Fault)} → Tells x x' → Tells (of_computed x) (of_computed x')
-of_computed_tells x = then_tells x (λ v. fine _)
+pub of_computed_reports : {x : Result Computed Fault} {x' : Result Computed (List Fault)} → Reports x x' → Reports (of_computed x) (of_computed x')
+of_computed_reports x = then_reports x (λ v. fine _)
 
-pub taken_at_tells : (types : Types) → (at : Pos) → {d : Result Designated Fault} {d' : Result Designated (List Fault)} → Tells d d' → Tells (taken_at least types at d) (taken_at every types at d')
-taken_at_tells types at d = then_tells d (λ v. taken_tells types at v)
+pub taken_at_reports : (types : Types) → (at : Pos) → {d : Result Designated Fault} {d' : Result Designated (List Fault)} → Reports d d' → Reports (taken_at least types at d) (taken_at every types at d')
+taken_at_reports types at d = then_reports d (λ v. taken_reports types at v)
 
-pub signed_first_tells : (p0 : Option (Operator Sign)) → {x : Result Computed Fault} {x' : Result Computed (List Fault)} → Tells x x' → Tells (signed_first least p0 x) (signed_first every p0 x')
-signed_first_tells None x = x
-signed_first_tells (Some o) x = signed_tells o.op o.pos x
+pub signed_first_reports : (p0 : Option (Operator Sign)) → {x : Result Computed Fault} {x' : Result Computed (List Fault)} → Reports x x' → Reports (signed_first least p0 x) (signed_first every p0 x')
+signed_first_reports None x = x
+signed_first_reports (Some o) x = signed_reports o.op o.pos x
 
-pub related_tells : (types : Types) → (o : Operator RelOp) → (at : Pos) → {x : Result Computed Fault} {x' : Result Computed (List Fault)} → Tells x x' → (at' : Pos) → {y : Result Computed Fault} {y' : Result Computed (List Fault)} → Tells y y' → Tells (related least types o at x at' y) (related every types o at x' at' y')
-related_tells types o at x at' y = combined_tells types (op.Relation o.op) o.pos at x at' y
+pub related_reports : (types : Types) → (o : Operator RelOp) → (at : Pos) → {x : Result Computed Fault} {x' : Result Computed (List Fault)} → Reports x x' → (at' : Pos) → {y : Result Computed Fault} {y' : Result Computed (List Fault)} → Reports y y' → Reports (related least types o at x at' y) (related every types o at x' at' y')
+related_reports types o at x at' y = combined_reports types (op.Relation o.op) o.pos at x at' y
 
-pub named_tells : {s : Scope Fault} {s' : Scope (List Fault)} → ScopeBeside s s' → (name : Ident) → Tells (named least s name) (named every s' name)
-named_tells (scopes tables types vars procs {level = level} {withs = withs} own outer) name = then_tells (looked_up_tells name (scopes tables types vars procs {level = level} {withs = withs} own outer)) (λ v. designated_by_tells level name.pos v)
+pub named_reports : {s : Scope Fault} {s' : Scope (List Fault)} → ScopeBeside s s' → (name : Ident) → Reports (named least s name) (named every s' name)
+named_reports (scopes tables types vars procs {level = level} {withs = withs} own outer) name = then_reports (looked_up_reports name (scopes tables types vars procs {level = level} {withs = withs} own outer)) (λ v. designated_by_reports level name.pos v)
 
-pub member_of_tells : {s : Scope Fault} {s' : Scope (List Fault)} → ScopeBeside s s' → (k : ℕ) → (name : Ident) → Tells (member_of least s k name) (member_of every s' k name)
-member_of_tells (scopes tables types vars procs {level = level} {withs = withs} own outer) k name = then_tells (member_tells tables k name) (λ v. designated_by_tells level name.pos v)
+pub member_of_reports : {s : Scope Fault} {s' : Scope (List Fault)} → ScopeBeside s s' → (k : ℕ) → (name : Ident) → Reports (member_of least s k name) (member_of every s' k name)
+member_of_reports (scopes tables types vars procs {level = level} {withs = withs} own outer) k name = then_reports (member_reports tables k name) (λ v. designated_by_reports level name.pos v)
 
-pub field_of_tells : {s : Scope Fault} {s' : Scope (List Fault)} → ScopeBeside s s' → (at : Pos) → (name : Ident) → (p3 : Designated) → Tells (field_of least s at name p3) (field_of every s' at name p3)
-field_of_tells s at name (designated.Module k) = member_of_tells s k name
-field_of_tells (scopes tables types vars procs {level = level} {withs = withs} own outer) at name (designated.Value x) = field_tells types at name (designated.Value x)
-field_of_tells (scopes tables types vars procs {level = level} {withs = withs} own outer) at name (designated.Variable t d) = field_tells types at name (designated.Variable t d)
-field_of_tells (scopes tables types vars procs {level = level} {withs = withs} own outer) at name (designated.Open t slot) = field_tells types at name (designated.Open t slot)
-field_of_tells (scopes tables types vars procs {level = level} {withs = withs} own outer) at name (designated.Type t) = field_tells types at name (designated.Type t)
-field_of_tells (scopes tables types vars procs {level = level} {withs = withs} own outer) at name (designated.Procedure p) = field_tells types at name (designated.Procedure p)
-field_of_tells (scopes tables types vars procs {level = level} {withs = withs} own outer) at name (designated.Nested p) = field_tells types at name (designated.Nested p)
-field_of_tells (scopes tables types vars procs {level = level} {withs = withs} own outer) at name (designated.Standard f) = field_tells types at name (designated.Standard f)
+pub field_of_reports : {s : Scope Fault} {s' : Scope (List Fault)} → ScopeBeside s s' → (at : Pos) → (name : Ident) → (p3 : Designated) → Reports (field_of least s at name p3) (field_of every s' at name p3)
+field_of_reports s at name (designated.Module k) = member_of_reports s k name
+field_of_reports (scopes tables types vars procs {level = level} {withs = withs} own outer) at name (designated.Value x) = field_reports types at name (designated.Value x)
+field_of_reports (scopes tables types vars procs {level = level} {withs = withs} own outer) at name (designated.Variable t d) = field_reports types at name (designated.Variable t d)
+field_of_reports (scopes tables types vars procs {level = level} {withs = withs} own outer) at name (designated.Open t slot) = field_reports types at name (designated.Open t slot)
+field_of_reports (scopes tables types vars procs {level = level} {withs = withs} own outer) at name (designated.Type t) = field_reports types at name (designated.Type t)
+field_of_reports (scopes tables types vars procs {level = level} {withs = withs} own outer) at name (designated.Procedure p) = field_reports types at name (designated.Procedure p)
+field_of_reports (scopes tables types vars procs {level = level} {withs = withs} own outer) at name (designated.Nested p) = field_reports types at name (designated.Nested p)
+field_of_reports (scopes tables types vars procs {level = level} {withs = withs} own outer) at name (designated.Standard f) = field_reports types at name (designated.Standard f)
 
-pub field_at_tells : {s : Scope Fault} {s' : Scope (List Fault)} → ScopeBeside s s' → (at : Pos) → (name : Ident) → {d : Result Designated Fault} {d' : Result Designated (List Fault)} → Tells d d' → Tells (field_at least s at name d) (field_at every s' at name d')
-field_at_tells s at name d = then_tells d (λ v. field_of_tells s at name v)
+pub field_at_reports : {s : Scope Fault} {s' : Scope (List Fault)} → ScopeBeside s s' → (at : Pos) → (name : Ident) → {d : Result Designated Fault} {d' : Result Designated (List Fault)} → Reports d d' → Reports (field_at least s at name d) (field_at every s' at name d')
+field_at_reports s at name d = then_reports d (λ v. field_of_reports s at name v)
 
-pub index_at_tells : (types : Types) → (at : Pos) → {d : Result Designated Fault} {d' : Result Designated (List Fault)} → Tells d d' → (at' : Pos) → {x : Result Computed Fault} {x' : Result Computed (List Fault)} → Tells x x' → Tells (index_at least types at d at' x) (index_at every types at d' at' x')
-index_at_tells types at d at' x = indexed_tells types (then_tells d (λ v. indices_tells types at v)) at' x
+pub index_at_reports : (types : Types) → (at : Pos) → {d : Result Designated Fault} {d' : Result Designated (List Fault)} → Reports d d' → (at' : Pos) → {x : Result Computed Fault} {x' : Result Computed (List Fault)} → Reports x x' → Reports (index_at least types at d at' x) (index_at every types at d' at' x')
+index_at_reports types at d at' x = indexed_reports types (then_reports d (λ v. indices_reports types at v)) at' x
 
-pub argument_by_tells : (types : Types) → (p1 : Option Formal) → (at : Pos) → {d : Result Designated Fault} {d' : Result Designated (List Fault)} → Tells d d' → Tells (argument_by least types p1 at d) (argument_by every types p1 at d')
-argument_by_tells types None at d = told_tells at 42
-argument_by_tells types (Some f) at d = then_tells d (λ v. actual_tells types f at v)
+pub argument_by_reports : (types : Types) → (p1 : Option Formal) → (at : Pos) → {d : Result Designated Fault} {d' : Result Designated (List Fault)} → Reports d d' → Reports (argument_by least types p1 at d) (argument_by every types p1 at d')
+argument_by_reports types None at d = reported_reports at 42
+argument_by_reports types (Some f) at d = then_reports d (λ v. actual_reports types f at v)
 
-pub call_given_tells : (types : Types) → (t : TypeNo) → (c : Callee) → {args : Result (List Argument) Fault} {args' : Result (List Argument) (List Fault)} → Tells args args' → Tells (call_given least types t c args) (call_given every types t c args')
-call_given_tells types t c args = then_tells args (λ xs. fine _)
+pub call_given_reports : (types : Types) → (t : TypeNo) → (c : Callee) → {args : Result (List Argument) Fault} {args' : Result (List Argument) (List Fault)} → Reports args args' → Reports (call_given least types t c args) (call_given every types t c args')
+call_given_reports types t c args = then_reports args (λ xs. fine _)
 
-pub as_constant_tells : {s : Scope Fault} {s' : Scope (List Fault)} → ScopeBeside s s' → {x : Part Fault} {x' : Part (List Fault)} → PartBeside x x' → Tells (as_constant least s x) (as_constant every s' x')
-as_constant_tells s x = then_tells (constant_tells s x) (λ v. fine _)
+pub as_constant_reports : {s : Scope Fault} {s' : Scope (List Fault)} → ScopeBeside s s' → {x : Part Fault} {x' : Part (List Fault)} → PartBeside x x' → Reports (as_constant least s x) (as_constant every s' x')
+as_constant_reports s x = then_reports (constant_reports s x) (λ v. fine _)
 
-pub value_of_tells : {s : Scope Fault} {s' : Scope (List Fault)} → ScopeBeside s s' → {x : Meant Fault} {x' : Meant (List Fault)} → MeantBeside x x' → Tells (value_of least s x) (value_of every s' x')
-value_of_tells (scopes tables types vars procs {level = level} {withs = withs} own outer) (meants (parts x_at x_p) x_m) = taken_at_tells types x_at (x_m _ _ (scopes tables types vars procs {level = level} {withs = withs} own outer))
+pub value_of_reports : {s : Scope Fault} {s' : Scope (List Fault)} → ScopeBeside s s' → {x : Meant Fault} {x' : Meant (List Fault)} → MeantBeside x x' → Reports (value_of least s x) (value_of every s' x')
+value_of_reports (scopes tables types vars procs {level = level} {withs = withs} own outer) (meants (parts x_at x_p) x_m) = taken_at_reports types x_at (x_m _ _ (scopes tables types vars procs {level = level} {withs = withs} own outer))
 
 pub with_actual_kept : {s : Scope Fault} {s' : Scope (List Fault)} → ScopeBeside s s' → {st : List Formal × Result (List Argument) Fault} {st' : List Formal × Result (List Argument) (List Fault)} → KeptBeside st st' → {x : Meant Fault} {x' : Meant (List Fault)} → MeantBeside x x'
     → KeptBeside (with_actual least s st x) (with_actual every s' st' x')
-with_actual_kept (scopes tables types vars procs {level = level} {withs = withs} own outer) (is_kept fs so) (meants (parts at p) m) = is_kept (next_formal fs).1 (with_argument_tells so (argument_by_tells types (next_formal fs).0 at (m _ _ (scopes tables types vars procs {level = level} {withs = withs} own outer))))
+with_actual_kept (scopes tables types vars procs {level = level} {withs = withs} own outer) (is_kept fs so) (meants (parts at p) m) = is_kept (next_formal fs).1 (with_argument_reports so (argument_by_reports types (next_formal fs).0 at (m _ _ (scopes tables types vars procs {level = level} {withs = withs} own outer))))
 
-pub actuals_tells : {s : Scope Fault} {s' : Scope (List Fault)} → ScopeBeside s s' → (fs : List Formal) → {args : List (Meant Fault)} {args' : List (Meant (List Fault))} → Pairwise MeantBeside args args' → Tells (actuals least s fs args) (actuals every s' fs args')
-actuals_tells {s = s} {s' = s'} b fs args = told_of (fold_pairwise KeptBeside MeantBeside (with_actual least s) (with_actual every s') (λ st st' x x' p q. with_actual_kept b p q) args _ _ (is_kept fs (fine [])))
+pub actuals_reports : {s : Scope Fault} {s' : Scope (List Fault)} → ScopeBeside s s' → (fs : List Formal) → {args : List (Meant Fault)} {args' : List (Meant (List Fault))} → Pairwise MeantBeside args args' → Reports (actuals least s fs args) (actuals every s' fs args')
+actuals_reports {s = s} {s' = s'} b fs args = reported_of (fold_pairwise KeptBeside MeantBeside (with_actual least s) (with_actual every s') (λ st st' x x' p q. with_actual_kept b p q) args _ _ (is_kept fs (fine [])))
 
-pub routine_called_tells : {s : Scope Fault} {s' : Scope (List Fault)} → ScopeBeside s s' → (at : Pos) → (h : TypeNo) → (c : Callee) → {args : List (Meant Fault)} {args' : List (Meant (List Fault))} → Pairwise MeantBeside args args' → Tells (routine_called least s at h c args) (routine_called every s' at h c args')
-routine_called_tells (scopes tables types vars procs {level = level} {withs = withs} own outer) at h c {args = xs} args =
-    then_tells (subst (λ (n : ℕ). Tells (function_of least at (signature_at types h) (length xs)) (function_of every at (signature_at types h) n)) (lengths_same args) (function_of_tells at (signature_at types h) (length xs)))
-    (λ t. call_given_tells types t c (actuals_tells (scopes tables types vars procs {level = level} {withs = withs} own outer) (formals_of (signature_at types h)) args))
+pub routine_called_reports : {s : Scope Fault} {s' : Scope (List Fault)} → ScopeBeside s s' → (at : Pos) → (h : TypeNo) → (c : Callee) → {args : List (Meant Fault)} {args' : List (Meant (List Fault))} → Pairwise MeantBeside args args' → Reports (routine_called least s at h c args) (routine_called every s' at h c args')
+routine_called_reports (scopes tables types vars procs {level = level} {withs = withs} own outer) at h c {args = xs} args =
+    then_reports (subst (λ (n : ℕ). Reports (function_of least at (signature_at types h) (length xs)) (function_of every at (signature_at types h) n)) (lengths_same args) (function_of_reports at (signature_at types h) (length xs)))
+    (λ t. call_given_reports types t c (actuals_reports (scopes tables types vars procs {level = level} {withs = withs} own outer) (formals_of (signature_at types h)) args))
 
-pub unary_tells : {s : Scope Fault} {s' : Scope (List Fault)} → ScopeBeside s s' → (at : Pos) → (f : Standard) → (u : Unary) → {p4 : List (Meant Fault)} {p4' : List (Meant (List Fault))} → Pairwise MeantBeside p4 p4' → Tells (unary least s at f u p4) (unary every s' at f u p4')
-unary_tells s at f u none = told_tells at 42
-unary_tells s at f u (more (meants (parts x_at x_p) x_m) none) = then_tells (value_of_tells s (meants (parts x_at x_p) x_m)) (λ v. unary_at_tells f u x_at v)
-unary_tells s at f u (more x (more y xs)) = told_tells at 42
+pub unary_reports : {s : Scope Fault} {s' : Scope (List Fault)} → ScopeBeside s s' → (at : Pos) → (f : Standard) → (u : Unary) → {p4 : List (Meant Fault)} {p4' : List (Meant (List Fault))} → Pairwise MeantBeside p4 p4' → Reports (unary least s at f u p4) (unary every s' at f u p4')
+unary_reports s at f u none = reported_reports at 42
+unary_reports s at f u (more (meants (parts x_at x_p) x_m) none) = then_reports (value_of_reports s (meants (parts x_at x_p) x_m)) (λ v. unary_at_reports f u x_at v)
+unary_reports s at f u (more x (more y xs)) = reported_reports at 42
 
-pub bound_tells : {s : Scope Fault} {s' : Scope (List Fault)} → ScopeBeside s s' → (at : Pos) → (f : Standard) → {p3 : List (Meant Fault)} {p3' : List (Meant (List Fault))} → Pairwise MeantBeside p3 p3' → Tells (bound least s at f p3) (bound every s' at f p3')
-bound_tells s at f none = told_tells at 42
-bound_tells (scopes tables types vars procs {level = level} {withs = withs} own outer) at f (more (meants (parts x_at x_p) x_m) none) = bound_at_tells f (then_tells (x_m _ _ (scopes tables types vars procs {level = level} {withs = withs} own outer)) (λ v. type_named_tells types x_at v))
-bound_tells s at f (more x (more y xs)) = told_tells at 42
+pub bound_reports : {s : Scope Fault} {s' : Scope (List Fault)} → ScopeBeside s s' → (at : Pos) → (f : Standard) → {p3 : List (Meant Fault)} {p3' : List (Meant (List Fault))} → Pairwise MeantBeside p3 p3' → Reports (bound least s at f p3) (bound every s' at f p3')
+bound_reports s at f none = reported_reports at 42
+bound_reports (scopes tables types vars procs {level = level} {withs = withs} own outer) at f (more (meants (parts x_at x_p) x_m) none) = bound_at_reports f (then_reports (x_m _ _ (scopes tables types vars procs {level = level} {withs = withs} own outer)) (λ v. type_named_reports types x_at v))
+bound_reports s at f (more x (more y xs)) = reported_reports at 42
 
-pub conversion_tells : {s : Scope Fault} {s' : Scope (List Fault)} → ScopeBeside s s' → (at : Pos) → {p2 : List (Meant Fault)} {p2' : List (Meant (List Fault))} → Pairwise MeantBeside p2 p2' → Tells (conversion least s at p2) (conversion every s' at p2')
-conversion_tells s at none = told_tells at 42
-conversion_tells s at (more t none) = told_tells at 42
-conversion_tells (scopes tables types vars procs {level = level} {withs = withs} own outer) at (more (meants (parts t_at t_p) t_m) (more (meants (parts x_at x_p) x_m) none)) = conversion_at_tells (then_tells (t_m _ _ (scopes tables types vars procs {level = level} {withs = withs} own outer)) (λ v. type_named_tells types t_at v)) x_at (value_of_tells (scopes tables types vars procs {level = level} {withs = withs} own outer) (meants (parts x_at x_p) x_m))
-conversion_tells s at (more t (more x (more y xs))) = told_tells at 42
+pub conversion_reports : {s : Scope Fault} {s' : Scope (List Fault)} → ScopeBeside s s' → (at : Pos) → {p2 : List (Meant Fault)} {p2' : List (Meant (List Fault))} → Pairwise MeantBeside p2 p2' → Reports (conversion least s at p2) (conversion every s' at p2')
+conversion_reports s at none = reported_reports at 42
+conversion_reports s at (more t none) = reported_reports at 42
+conversion_reports (scopes tables types vars procs {level = level} {withs = withs} own outer) at (more (meants (parts t_at t_p) t_m) (more (meants (parts x_at x_p) x_m) none)) = conversion_at_reports (then_reports (t_m _ _ (scopes tables types vars procs {level = level} {withs = withs} own outer)) (λ v. type_named_reports types t_at v)) x_at (value_of_reports (scopes tables types vars procs {level = level} {withs = withs} own outer) (meants (parts x_at x_p) x_m))
+conversion_reports s at (more t (more x (more y xs))) = reported_reports at 42
 
-pub high_tells : {s : Scope Fault} {s' : Scope (List Fault)} → ScopeBeside s s' → (at : Pos) → {p2 : List (Meant Fault)} {p2' : List (Meant (List Fault))} → Pairwise MeantBeside p2 p2' → Tells (high least s at p2) (high every s' at p2')
-high_tells s at none = told_tells at 42
-high_tells s at (more (meants (parts x_at x_p) x_m) none) = then_tells (x_m _ _ s) (λ v. high_of_tells x_at v)
-high_tells s at (more x (more y xs)) = told_tells at 42
+pub high_reports : {s : Scope Fault} {s' : Scope (List Fault)} → ScopeBeside s s' → (at : Pos) → {p2 : List (Meant Fault)} {p2' : List (Meant (List Fault))} → Pairwise MeantBeside p2 p2' → Reports (high least s at p2) (high every s' at p2')
+high_reports s at none = reported_reports at 42
+high_reports s at (more (meants (parts x_at x_p) x_m) none) = then_reports (x_m _ _ s) (λ v. high_of_reports x_at v)
+high_reports s at (more x (more y xs)) = reported_reports at 42
 
-pub by_form_tells : {s : Scope Fault} {s' : Scope (List Fault)} → ScopeBeside s s' → (at : Pos) → (f : Standard) → {args : List (Meant Fault)} {args' : List (Meant (List Fault))} → Pairwise MeantBeside args args' → (p4 : Form) → Tells (by_form least s at f args p4) (by_form every s' at f args' p4)
-by_form_tells s at f args (form.Unary u) = unary_tells s at f u args
-by_form_tells s at f args form.Bound = bound_tells s at f args
-by_form_tells s at f args form.Conversion = conversion_tells s at args
-by_form_tells s at f args form.High = high_tells s at args
-by_form_tells s at f args form.Proper = told_tells at 40
+pub by_form_reports : {s : Scope Fault} {s' : Scope (List Fault)} → ScopeBeside s s' → (at : Pos) → (f : Standard) → {args : List (Meant Fault)} {args' : List (Meant (List Fault))} → Pairwise MeantBeside args args' → (p4 : Form) → Reports (by_form least s at f args p4) (by_form every s' at f args' p4)
+by_form_reports s at f args (form.Unary u) = unary_reports s at f u args
+by_form_reports s at f args form.Bound = bound_reports s at f args
+by_form_reports s at f args form.Conversion = conversion_reports s at args
+by_form_reports s at f args form.High = high_reports s at args
+by_form_reports s at f args form.Proper = reported_reports at 40
 
-pub called_as_tells : {s : Scope Fault} {s' : Scope (List Fault)} → ScopeBeside s s' → (at : Pos) → {args : List (Meant Fault)} {args' : List (Meant (List Fault))} → Pairwise MeantBeside args args' → (p3 : Called) → Tells (called_as least s at args p3) (called_as every s' at args' p3)
-called_as_tells s at args (called.Routine h c) = routine_called_tells s at h c args
-called_as_tells s at args (called.Standard f) = by_form_tells s at f args (form_of f)
+pub called_as_reports : {s : Scope Fault} {s' : Scope (List Fault)} → ScopeBeside s s' → (at : Pos) → {args : List (Meant Fault)} {args' : List (Meant (List Fault))} → Pairwise MeantBeside args args' → (p3 : Called) → Reports (called_as least s at args p3) (called_as every s' at args' p3)
+called_as_reports s at args (called.Routine h c) = routine_called_reports s at h c args
+called_as_reports s at args (called.Standard f) = by_form_reports s at f args (form_of f)
 
-pub called_by_tells : {s : Scope Fault} {s' : Scope (List Fault)} → ScopeBeside s s' → (at : Pos) → {d : Result Designated Fault} {d' : Result Designated (List Fault)} → Tells d d' → {args : List (Meant Fault)} {args' : List (Meant (List Fault))} → Pairwise MeantBeside args args' → Tells (called_by least s at d args) (called_by every s' at d' args')
-called_by_tells (scopes tables types vars procs {level = level} {withs = withs} own outer) at d args = then_tells (then_tells d (λ v. callee_of_tells types at v)) (λ v. called_as_tells (scopes tables types vars procs {level = level} {withs = withs} own outer) at args v)
+pub called_by_reports : {s : Scope Fault} {s' : Scope (List Fault)} → ScopeBeside s s' → (at : Pos) → {d : Result Designated Fault} {d' : Result Designated (List Fault)} → Reports d d' → {args : List (Meant Fault)} {args' : List (Meant (List Fault))} → Pairwise MeantBeside args args' → Reports (called_by least s at d args) (called_by every s' at d' args')
+called_by_reports (scopes tables types vars procs {level = level} {withs = withs} own outer) at d args = then_reports (then_reports d (λ v. callee_of_reports types at v)) (λ v. called_as_reports (scopes tables types vars procs {level = level} {withs = withs} own outer) at args v)
 
-pub used_with_tells : {s : Scope Fault} {s' : Scope (List Fault)} → ScopeBeside s s' → {d : Meant Fault} {d' : Meant (List Fault)} → MeantBeside d d' → {p2 : Option (List (Meant Fault))} {p2' : Option (List (Meant (List Fault)))} → Optionwise (Pairwise MeantBeside) p2 p2' → Tells (used_with least s d p2) (used_with every s' d' p2')
-used_with_tells s (meants (parts d_at d_p) d_m) nothing = d_m _ _ s
-used_with_tells s (meants (parts d_at d_p) d_m) (something args) = of_computed_tells (called_by_tells s d_at (d_m _ _ s) args)
+pub used_with_reports : {s : Scope Fault} {s' : Scope (List Fault)} → ScopeBeside s s' → {d : Meant Fault} {d' : Meant (List Fault)} → MeantBeside d d' → {p2 : Option (List (Meant Fault))} {p2' : Option (List (Meant (List Fault)))} → Optionwise (Pairwise MeantBeside) p2 p2' → Reports (used_with least s d p2) (used_with every s' d' p2')
+used_with_reports s (meants (parts d_at d_p) d_m) nothing = d_m _ _ s
+used_with_reports s (meants (parts d_at d_p) d_m) (something args) = of_computed_reports (called_by_reports s d_at (d_m _ _ s) args)
 
-pub factor_tells : {s : Scope Fault} {s' : Scope (List Fault)} → ScopeBeside s s' → (at : Pos) → {v : Result Computed Fault} {v' : Result Computed (List Fault)} → Tells v v' → {x : Operator MulOp × Meant Fault} {x' : Operator MulOp × Meant (List Fault)} → TermBeside x x' → Tells (factor least s at v x) (factor every s' at v' x')
-factor_tells (scopes tables types vars procs {level = level} {withs = withs} own outer) at v (is_term o (meants (parts q p) m)) = combined_tells types (mul_op o.op) o.pos at v q (value_of_tells (scopes tables types vars procs {level = level} {withs = withs} own outer) (meants (parts q p) m))
+pub factor_reports : {s : Scope Fault} {s' : Scope (List Fault)} → ScopeBeside s s' → (at : Pos) → {v : Result Computed Fault} {v' : Result Computed (List Fault)} → Reports v v' → {x : Operator MulOp × Meant Fault} {x' : Operator MulOp × Meant (List Fault)} → TermBeside x x' → Reports (factor least s at v x) (factor every s' at v' x')
+factor_reports (scopes tables types vars procs {level = level} {withs = withs} own outer) at v (is_term o (meants (parts q p) m)) = combined_reports types (mul_op o.op) o.pos at v q (value_of_reports (scopes tables types vars procs {level = level} {withs = withs} own outer) (meants (parts q p) m))
 
-pub term_tells : {s : Scope Fault} {s' : Scope (List Fault)} → ScopeBeside s s' → (at : Pos) → {v : Result Computed Fault} {v' : Result Computed (List Fault)} → Tells v v' → {x : Operator AddOp × Meant Fault} {x' : Operator AddOp × Meant (List Fault)} → TermBeside x x' → Tells (term least s at v x) (term every s' at v' x')
-term_tells (scopes tables types vars procs {level = level} {withs = withs} own outer) at v (is_term o (meants (parts q p) m)) = combined_tells types (add_op o.op) o.pos at v q (value_of_tells (scopes tables types vars procs {level = level} {withs = withs} own outer) (meants (parts q p) m))
+pub term_reports : {s : Scope Fault} {s' : Scope (List Fault)} → ScopeBeside s s' → (at : Pos) → {v : Result Computed Fault} {v' : Result Computed (List Fault)} → Reports v v' → {x : Operator AddOp × Meant Fault} {x' : Operator AddOp × Meant (List Fault)} → TermBeside x x' → Reports (term least s at v x) (term every s' at v' x')
+term_reports (scopes tables types vars procs {level = level} {withs = withs} own outer) at v (is_term o (meants (parts q p) m)) = combined_reports types (add_op o.op) o.pos at v q (value_of_reports (scopes tables types vars procs {level = level} {withs = withs} own outer) (meants (parts q p) m))
 
-pub relation_tells : {s : Scope Fault} {s' : Scope (List Fault)} → ScopeBeside s s' → {a : Meant Fault} {a' : Meant (List Fault)} → MeantBeside a a' → (o : Operator RelOp) → {b : Meant Fault} {b' : Meant (List Fault)} → MeantBeside b b' → Tells (relation least s a o b) (relation every s' a' o b')
-relation_tells (scopes tables types vars procs {level = level} {withs = withs} own outer) (meants (parts a_at a_p) a_m) o (meants (parts b_at b_p) b_m) = related_tells types o a_at (value_of_tells (scopes tables types vars procs {level = level} {withs = withs} own outer) (meants (parts a_at a_p) a_m)) b_at (value_of_tells (scopes tables types vars procs {level = level} {withs = withs} own outer) (meants (parts b_at b_p) b_m))
+pub relation_reports : {s : Scope Fault} {s' : Scope (List Fault)} → ScopeBeside s s' → {a : Meant Fault} {a' : Meant (List Fault)} → MeantBeside a a' → (o : Operator RelOp) → {b : Meant Fault} {b' : Meant (List Fault)} → MeantBeside b b' → Reports (relation least s a o b) (relation every s' a' o b')
+relation_reports (scopes tables types vars procs {level = level} {withs = withs} own outer) (meants (parts a_at a_p) a_m) o (meants (parts b_at b_p) b_m) = related_reports types o a_at (value_of_reports (scopes tables types vars procs {level = level} {withs = withs} own outer) (meants (parts a_at a_p) a_m)) b_at (value_of_reports (scopes tables types vars procs {level = level} {withs = withs} own outer) (meants (parts b_at b_p) b_m))

@@ -11,35 +11,35 @@ use Rattle.m2_typed.specs.declared.types.TypeNo.{TypeNo}
 use Rattle.m2_typed.specs.declared.statement.TypedStmt.{TypedStmt}
 use Rattle.m2_typed.specs.declared.statement.TypedArm.{TypedArm}
 use Rattle.m2_typed.specs.declared.statement.Label.{Label}
-use Rattle.m2_judged.specs.declared.fault.Fault.{Fault}
-use Rattle.m2_judged.specs.declared.scope.Scope.{Scope}
-use Rattle.m2_judged.specs.Judged.{Gathers, every, least}
+use Rattle.m2_scopes.specs.declared.fault.Fault.{Fault}
+use Rattle.m2_scopes.specs.declared.scope.Scope.{Scope}
+use Rattle.m2_scopes.specs.Elaborated.{Gathers, every, least}
 use Rattle.m2_exprs.specs.Meanings.{meant}
 use Rattle.m2_steps.specs.declared.around.Around.{Around}
 use Rattle.m2_steps.specs.Lists.{with_next, armed}
-use Rattle.m2_stmts.specs.Statements.{Judges, JudgesRest, JudgesArm, Arms, args_meant, with_stmt, all_of, all_if, with_arm, arms_of, stmt_layer, rest_layer, arm_layer, stmt, rest, arm, with_written, statements}
-use Rattle.m2_least.specs.Least.{Tells, fine}
+use Rattle.m2_stmts.specs.Statements.{Elaborates, ElaboratesRest, ElaboratesArm, Arms, args_meant, with_stmt, all_of, all_if, with_arm, arms_of, stmt_layer, rest_layer, arm_layer, stmt, rest, arm, with_written, statements}
+use Rattle.m2_least.specs.Least.{Reports, fine}
 use Rattle.m2_least.specs.Beside.{Pairwise, none, more, Optionwise, nothing, something, ScopeBeside}
-use Rattle.m2_least.proofs.Forms.{then_tells, fold_pairwise, fold_keeps, pairwise_maps, carry}
-use Rattle.m2_least.proofs.Making.{KeptBeside, is_kept, told_of}
+use Rattle.m2_least.proofs.Forms.{then_reports, fold_pairwise, fold_keeps, pairwise_maps, carry}
+use Rattle.m2_least.proofs.Making.{KeptBeside, is_kept, reported_of}
 use Rattle.m2_body_least.proofs.Pieces.{MeantBeside}
 use Rattle.m2_body_least.proofs.Exprs.{meant_beside, head_beside}
 use Rattle.m2_body_least.proofs.Arounds.{AroundBeside, arounds, in_loop_beside, opened_beside, meant_if_beside}
-use Rattle.m2_body_least.proofs.Done.{done_by_tells}
-use Rattle.m2_body_least.proofs.Lists.{with_next_tells, standing_tells, chosen_tells, chosen_else_tells, cased_tells, armed_tells, repeated_while_tells, repeated_until_tells, looped_tells, within_tells}
-use Rattle.m2_body_least.proofs.Simple.{exited_tells, returned_tells, condition_tells, assignment_tells, selected_tells, record_of_tells}
+use Rattle.m2_body_least.proofs.Done.{done_by_reports}
+use Rattle.m2_body_least.proofs.Lists.{with_next_reports, standing_reports, chosen_reports, chosen_else_reports, cased_reports, armed_reports, repeated_while_reports, repeated_until_reports, looped_reports, within_reports}
+use Rattle.m2_body_least.proofs.Simple.{exited_reports, returned_reports, condition_reports, assignment_reports, selected_reports, record_of_reports}
 use Rattle.m2_body_least.proofs.Labels.{labels_in_kept}
-use Rattle.m2_body_least.proofs.Control.{course_of_tells, repeated_for_tells}
+use Rattle.m2_body_least.proofs.Control.{course_of_reports, repeated_for_reports}
 
--- ---- what judges, in scopes and surroundings that go together
+-- ---- what elaborates, in scopes and surroundings that go together
 
-pub record JudgesBeside (f : Judges Fault) (f' : Judges (List Fault)) : Type 0 where
-  pub judges : (s : Scope Fault) (s' : Scope (List Fault)) → ScopeBeside s s' → (w : Around Fault) (w' : Around (List Fault)) → AroundBeside w w' → Tells (f s w) (f' s' w')
+pub record ElaboratesBeside (f : Elaborates Fault) (f' : Elaborates (List Fault)) : Type 0 where
+  pub elaborates : (s : Scope Fault) (s' : Scope (List Fault)) → ScopeBeside s s' → (w : Around Fault) (w' : Around (List Fault)) → AroundBeside w w' → Reports (f s w) (f' s' w')
 
-record RestBeside (f : JudgesRest Fault) (f' : JudgesRest (List Fault)) : Type 0 where
-  follows : (s : Scope Fault) (s' : Scope (List Fault)) → ScopeBeside s s' → (w : Around Fault) (w' : Around (List Fault)) → AroundBeside w w' → Tells (f s w) (f' s' w')
+record RestBeside (f : ElaboratesRest Fault) (f' : ElaboratesRest (List Fault)) : Type 0 where
+  follows : (s : Scope Fault) (s' : Scope (List Fault)) → ScopeBeside s s' → (w : Around Fault) (w' : Around (List Fault)) → AroundBeside w w' → Reports (f s w) (f' s' w')
 
-record ArmBeside (f : JudgesArm Fault) (f' : JudgesArm (List Fault)) : Type 0 where
+record ArmBeside (f : ElaboratesArm Fault) (f' : ElaboratesArm (List Fault)) : Type 0 where
   keeps : (s : Scope Fault) (s' : Scope (List Fault)) → ScopeBeside s s' → (w : Around Fault) (w' : Around (List Fault)) → AroundBeside w w' → (base : TypeNo) (ranges : List (ℤ × ℤ)) → KeptBeside (f s w base ranges) (f' s' w' base ranges)
 
 -- ---- one after another
@@ -52,28 +52,28 @@ args_meant_beside : (args : Option (List Expr)) → Pairwise MeantBeside (args_m
 args_meant_beside None = none
 args_meant_beside (Some xs) = args_beside xs
 
-gives_beside : {w : Around Fault} {w' : Around (List Fault)} → AroundBeside w w' → Optionwise Tells w.gives w'.gives
+gives_beside : {w : Around Fault} {w' : Around (List Fault)} → AroundBeside w w' → Optionwise Reports w.gives w'.gives
 gives_beside (arounds gives looped) = gives
 
 module _ {s : Scope Fault} {s' : Scope (List Fault)} (b : ScopeBeside s s') {w : Around Fault} {w' : Around (List Fault)} (a : AroundBeside w w') where
-  all_of_tells : {xs : List (Judges Fault)} {xs' : List (Judges (List Fault))} → Pairwise JudgesBeside xs xs' → Tells (all_of least s w xs) (all_of every s' w' xs')
-  all_of_tells xs = fold_pairwise Tells JudgesBeside (with_stmt least s w) (with_stmt every s' w') (λ so so' x x' p q. with_next_tells p (q.judges s s' b w w' a)) xs _ _ (fine [])
+  all_of_reports : {xs : List (Elaborates Fault)} {xs' : List (Elaborates (List Fault))} → Pairwise ElaboratesBeside xs xs' → Reports (all_of least s w xs) (all_of every s' w' xs')
+  all_of_reports xs = fold_pairwise Reports ElaboratesBeside (with_stmt least s w) (with_stmt every s' w') (λ so so' x x' p q. with_next_reports p (q.elaborates s s' b w w' a)) xs _ _ (fine [])
 
-  all_if_tells : {xs : Option (List (Judges Fault))} {xs' : Option (List (Judges (List Fault)))} → Optionwise (Pairwise JudgesBeside) xs xs' → Tells (all_if least s w xs) (all_if every s' w' xs')
-  all_if_tells nothing = fine None
-  all_if_tells (something xs) = standing_tells (all_of_tells xs)
+  all_if_reports : {xs : Option (List (Elaborates Fault))} {xs' : Option (List (Elaborates (List Fault)))} → Optionwise (Pairwise ElaboratesBeside) xs xs' → Reports (all_if least s w xs) (all_if every s' w' xs')
+  all_if_reports nothing = fine None
+  all_if_reports (something xs) = standing_reports (all_of_reports xs)
 
-next_arm : {so : Result (List TypedArm) Fault} {so' : Result (List TypedArm) (List Fault)} → Tells so so' → {r : List (ℤ × ℤ) × Result TypedArm Fault} {r' : List (ℤ × ℤ) × Result TypedArm (List Fault)} → KeptBeside r r'
+next_arm : {so : Result (List TypedArm) Fault} {so' : Result (List TypedArm) (List Fault)} → Reports so so' → {r : List (ℤ × ℤ) × Result TypedArm Fault} {r' : List (ℤ × ℤ) × Result TypedArm (List Fault)} → KeptBeside r r'
     → KeptBeside (r.0, with_next least so r.1) (r'.0, with_next every so' r'.1)
-next_arm so (is_kept ranges x) = is_kept ranges (with_next_tells so x)
+next_arm so (is_kept ranges x) = is_kept ranges (with_next_reports so x)
 
 with_arm_kept : {s : Scope Fault} {s' : Scope (List Fault)} → ScopeBeside s s' → {w : Around Fault} {w' : Around (List Fault)} → AroundBeside w w' → (base : TypeNo) {st : Arms Fault} {st' : Arms (List Fault)} → KeptBeside st st'
-    → {x : JudgesArm Fault} {x' : JudgesArm (List Fault)} → ArmBeside x x' → KeptBeside (with_arm least s w base st x) (with_arm every s' w' base st' x')
+    → {x : ElaboratesArm Fault} {x' : ElaboratesArm (List Fault)} → ArmBeside x x' → KeptBeside (with_arm least s w base st x) (with_arm every s' w' base st' x')
 with_arm_kept {s = s} {s' = s'} b {w = w} {w' = w'} a base (is_kept ranges so) x = next_arm so (x.keeps s s' b w w' a base ranges)
 
-arms_of_tells : {s : Scope Fault} {s' : Scope (List Fault)} → ScopeBeside s s' → {w : Around Fault} {w' : Around (List Fault)} → AroundBeside w w' → (base : TypeNo) {xs : List (JudgesArm Fault)} {xs' : List (JudgesArm (List Fault))} → Pairwise ArmBeside xs xs'
-    → Tells (arms_of least s w base xs) (arms_of every s' w' base xs')
-arms_of_tells {s = s} {s' = s'} b {w = w} {w' = w'} a base xs = told_of (fold_pairwise KeptBeside ArmBeside (with_arm least s w base) (with_arm every s' w' base) (λ st st' x x' p q. with_arm_kept b a base p q) xs _ _ (is_kept [] (fine [])))
+arms_of_reports : {s : Scope Fault} {s' : Scope (List Fault)} → ScopeBeside s s' → {w : Around Fault} {w' : Around (List Fault)} → AroundBeside w w' → (base : TypeNo) {xs : List (ElaboratesArm Fault)} {xs' : List (ElaboratesArm (List Fault))} → Pairwise ArmBeside xs xs'
+    → Reports (arms_of least s w base xs) (arms_of every s' w' base xs')
+arms_of_reports {s = s} {s' = s'} b {w = w} {w' = w'} a base xs = reported_of (fold_pairwise KeptBeside ArmBeside (with_arm least s w base) (with_arm every s' w' base) (λ st st' x x' p q. with_arm_kept b a base p q) xs _ _ (is_kept [] (fine [])))
 
 -- ---- a layer, each part of which has its meaning
 
@@ -81,7 +81,7 @@ abbrev PR : Rest → Type 0
 PR x = RestBeside (rest least x) (rest every x)
 
 abbrev PS : Stmt → Type 0
-PS x = JudgesBeside (stmt least x) (stmt every x)
+PS x = ElaboratesBeside (stmt least x) (stmt every x)
 
 abbrev PA : Arm → Type 0
 PA x = ArmBeside (arm least x) (arm every x)
@@ -96,26 +96,26 @@ abbrev SA : Type 0
 SA = (x : Arm) × PA x
 
 module _ (g : Gathers) where
-  abbrev opened_stmt : Stmt-F Rest Stmt Arm → Stmt-F (JudgesRest g.Told) (Judges g.Told) (JudgesArm g.Told)
-  opened_stmt x = map-Stmt Rest Stmt Arm (JudgesRest g.Told) (Judges g.Told) (JudgesArm g.Told) (rest g) (stmt g) (arm g) x
+  abbrev opened_stmt : Stmt-F Rest Stmt Arm → Stmt-F (ElaboratesRest g.Reported) (Elaborates g.Reported) (ElaboratesArm g.Reported)
+  opened_stmt x = map-Stmt Rest Stmt Arm (ElaboratesRest g.Reported) (Elaborates g.Reported) (ElaboratesArm g.Reported) (rest g) (stmt g) (arm g) x
 
-  abbrev opened_rest : Rest-F Rest Stmt Arm → Rest-F (JudgesRest g.Told) (Judges g.Told) (JudgesArm g.Told)
-  opened_rest x = map-Rest Rest Stmt Arm (JudgesRest g.Told) (Judges g.Told) (JudgesArm g.Told) (rest g) (stmt g) (arm g) x
+  abbrev opened_rest : Rest-F Rest Stmt Arm → Rest-F (ElaboratesRest g.Reported) (Elaborates g.Reported) (ElaboratesArm g.Reported)
+  opened_rest x = map-Rest Rest Stmt Arm (ElaboratesRest g.Reported) (Elaborates g.Reported) (ElaboratesArm g.Reported) (rest g) (stmt g) (arm g) x
 
-  abbrev opened_arm : Arm-F Rest Stmt Arm → Arm-F (JudgesRest g.Told) (Judges g.Told) (JudgesArm g.Told)
-  opened_arm x = map-Arm Rest Stmt Arm (JudgesRest g.Told) (Judges g.Told) (JudgesArm g.Told) (rest g) (stmt g) (arm g) x
+  abbrev opened_arm : Arm-F Rest Stmt Arm → Arm-F (ElaboratesRest g.Reported) (Elaborates g.Reported) (ElaboratesArm g.Reported)
+  opened_arm x = map-Arm Rest Stmt Arm (ElaboratesRest g.Reported) (Elaborates g.Reported) (ElaboratesArm g.Reported) (rest g) (stmt g) (arm g) x
 
   at_stmt : (e : Stmt) (x : Stmt-F Rest Stmt Arm) → out-Stmt e ≡ x → stmt g e ≡ stmt_layer g (opened_stmt x)
   unfolding stmt rest arm
-  at_stmt e x h = fold_out-Stmt (JudgesRest g.Told) (Judges g.Told) (JudgesArm g.Told) (rest_layer g) (stmt_layer g) (arm_layer g) e ∙ ap (λ (y : Stmt-F Rest Stmt Arm). stmt_layer g (opened_stmt y)) h
+  at_stmt e x h = fold_out-Stmt (ElaboratesRest g.Reported) (Elaborates g.Reported) (ElaboratesArm g.Reported) (rest_layer g) (stmt_layer g) (arm_layer g) e ∙ ap (λ (y : Stmt-F Rest Stmt Arm). stmt_layer g (opened_stmt y)) h
 
   at_rest : (e : Rest) (x : Rest-F Rest Stmt Arm) → out-Rest e ≡ x → rest g e ≡ rest_layer g (opened_rest x)
   unfolding stmt rest arm
-  at_rest e x h = fold_out-Rest (JudgesRest g.Told) (Judges g.Told) (JudgesArm g.Told) (rest_layer g) (stmt_layer g) (arm_layer g) e ∙ ap (λ (y : Rest-F Rest Stmt Arm). rest_layer g (opened_rest y)) h
+  at_rest e x h = fold_out-Rest (ElaboratesRest g.Reported) (Elaborates g.Reported) (ElaboratesArm g.Reported) (rest_layer g) (stmt_layer g) (arm_layer g) e ∙ ap (λ (y : Rest-F Rest Stmt Arm). rest_layer g (opened_rest y)) h
 
   at_arm : (e : Arm) (x : Arm-F Rest Stmt Arm) → out-Arm e ≡ x → arm g e ≡ arm_layer g (opened_arm x)
   unfolding stmt rest arm
-  at_arm e x h = fold_out-Arm (JudgesRest g.Told) (Judges g.Told) (JudgesArm g.Told) (rest_layer g) (stmt_layer g) (arm_layer g) e ∙ ap (λ (y : Arm-F Rest Stmt Arm). arm_layer g (opened_arm y)) h
+  at_arm e x h = fold_out-Arm (ElaboratesRest g.Reported) (Elaborates g.Reported) (ElaboratesArm g.Reported) (rest_layer g) (stmt_layer g) (arm_layer g) e ∙ ap (λ (y : Arm-F Rest Stmt Arm). arm_layer g (opened_arm y)) h
 
 -- ---- a layer of parts for which it is known
 
@@ -128,37 +128,37 @@ bare_rest x = map-Rest SR SS SA Rest Stmt Arm (λ e. e.0) (λ e. e.0) (λ e. e.0
 abbrev bare_arm : Arm-F SR SS SA → Arm-F Rest Stmt Arm
 bare_arm x = map-Arm SR SS SA Rest Stmt Arm (λ e. e.0) (λ e. e.0) (λ e. e.0) x
 
-judged : (xs : List SS) → Pairwise JudgesBeside (map (stmt least) (map (λ (e : SS). e.0) xs)) (map (stmt every) (map (λ (e : SS). e.0) xs))
-judged xs = pairwise_maps {X = SS} {Y = Stmt} JudgesBeside (λ e. e.0) (stmt least) (stmt every) (λ e. e.1) xs
+elaborated : (xs : List SS) → Pairwise ElaboratesBeside (map (stmt least) (map (λ (e : SS). e.0) xs)) (map (stmt every) (map (λ (e : SS). e.0) xs))
+elaborated xs = pairwise_maps {X = SS} {Y = Stmt} ElaboratesBeside (λ e. e.0) (stmt least) (stmt every) (λ e. e.1) xs
 
 armed_all : (xs : List SA) → Pairwise ArmBeside (map (arm least) (map (λ (e : SA). e.0) xs)) (map (arm every) (map (λ (e : SA). e.0) xs))
 armed_all xs = pairwise_maps {X = SA} {Y = Arm} ArmBeside (λ e. e.0) (arm least) (arm every) (λ e. e.1) xs
 
-stmt_beside_layer : (y : Stmt-F SR SS SA) → JudgesBeside (stmt_layer least (opened_stmt least (bare_stmt y))) (stmt_layer every (opened_stmt every (bare_stmt y)))
-stmt_beside_layer (layer.Assign d e) = record { judges = λ s s' b w w' a. assignment_tells b (head_beside d) (meant_beside e) }
-stmt_beside_layer (layer.Call d args) = record { judges = λ s s' b w w' a. done_by_tells b (head_beside d) (args_meant_beside args) }
-stmt_beside_layer (layer.If c body follow) = record { judges = λ s s' b w w' a. chosen_tells (condition_tells b (meant_beside c)) (all_of_tells b a (judged body)) (follow.1.follows s s' b w w' a) }
-stmt_beside_layer (layer.Case e arms None) = record { judges = λ s s' b w w' a. then_tells (selected_tells b (meant_beside e)) (λ x. cased_tells x.1 (arms_of_tells b a x.0 (armed_all arms)) (all_if_tells b a nothing)) }
-stmt_beside_layer (layer.Case e arms (Some body)) = record { judges = λ s s' b w w' a. then_tells (selected_tells b (meant_beside e)) (λ x. cased_tells x.1 (arms_of_tells b a x.0 (armed_all arms)) (all_if_tells b a (something (judged body)))) }
-stmt_beside_layer (layer.While c body) = record { judges = λ s s' b w w' a. repeated_while_tells (condition_tells b (meant_beside c)) (all_of_tells b a (judged body)) }
-stmt_beside_layer (layer.Repeat body c) = record { judges = λ s s' b w w' a. repeated_until_tells (all_of_tells b a (judged body)) (condition_tells b (meant_beside c)) }
-stmt_beside_layer (layer.Loop body) = record { judges = λ s s' b w w' a. looped_tells (all_of_tells b (in_loop_beside a) (judged body)) }
-stmt_beside_layer (layer.Exit at) = record { judges = λ s s' b w w' a. exited_tells at a }
-stmt_beside_layer (layer.Return at e) = record { judges = λ s s' b w w' a. returned_tells b at (gives_beside a) (meant_if_beside e) }
-stmt_beside_layer (layer.For name start limit by body) = record { judges = λ s s' b w w' a. repeated_for_tells (course_of_tells b name (meant_beside start) (meant_beside limit) (meant_if_beside by)) (all_of_tells b a (judged body)) }
-stmt_beside_layer (layer.With d body) = record { judges = λ s s' b w w' a. then_tells (record_of_tells b (head_beside d)) (λ r. within_tells r.1 (all_of_tells (opened_beside b r.0) a (judged body))) }
+stmt_beside_layer : (y : Stmt-F SR SS SA) → ElaboratesBeside (stmt_layer least (opened_stmt least (bare_stmt y))) (stmt_layer every (opened_stmt every (bare_stmt y)))
+stmt_beside_layer (layer.Assign d e) = record { elaborates = λ s s' b w w' a. assignment_reports b (head_beside d) (meant_beside e) }
+stmt_beside_layer (layer.Call d args) = record { elaborates = λ s s' b w w' a. done_by_reports b (head_beside d) (args_meant_beside args) }
+stmt_beside_layer (layer.If c body follow) = record { elaborates = λ s s' b w w' a. chosen_reports (condition_reports b (meant_beside c)) (all_of_reports b a (elaborated body)) (follow.1.follows s s' b w w' a) }
+stmt_beside_layer (layer.Case e arms None) = record { elaborates = λ s s' b w w' a. then_reports (selected_reports b (meant_beside e)) (λ x. cased_reports x.1 (arms_of_reports b a x.0 (armed_all arms)) (all_if_reports b a nothing)) }
+stmt_beside_layer (layer.Case e arms (Some body)) = record { elaborates = λ s s' b w w' a. then_reports (selected_reports b (meant_beside e)) (λ x. cased_reports x.1 (arms_of_reports b a x.0 (armed_all arms)) (all_if_reports b a (something (elaborated body)))) }
+stmt_beside_layer (layer.While c body) = record { elaborates = λ s s' b w w' a. repeated_while_reports (condition_reports b (meant_beside c)) (all_of_reports b a (elaborated body)) }
+stmt_beside_layer (layer.Repeat body c) = record { elaborates = λ s s' b w w' a. repeated_until_reports (all_of_reports b a (elaborated body)) (condition_reports b (meant_beside c)) }
+stmt_beside_layer (layer.Loop body) = record { elaborates = λ s s' b w w' a. looped_reports (all_of_reports b (in_loop_beside a) (elaborated body)) }
+stmt_beside_layer (layer.Exit at) = record { elaborates = λ s s' b w w' a. exited_reports at a }
+stmt_beside_layer (layer.Return at e) = record { elaborates = λ s s' b w w' a. returned_reports b at (gives_beside a) (meant_if_beside e) }
+stmt_beside_layer (layer.For name start limit by body) = record { elaborates = λ s s' b w w' a. repeated_for_reports (course_of_reports b name (meant_beside start) (meant_beside limit) (meant_if_beside by)) (all_of_reports b a (elaborated body)) }
+stmt_beside_layer (layer.With d body) = record { elaborates = λ s s' b w w' a. then_reports (record_of_reports b (head_beside d)) (λ r. within_reports r.1 (all_of_reports (opened_beside b r.0) a (elaborated body))) }
 
 rest_beside_layer : (y : Rest-F SR SS SA) → RestBeside (rest_layer least (opened_rest least (bare_rest y))) (rest_layer every (opened_rest every (bare_rest y)))
-rest_beside_layer (layer.Elsif c body follow) = record { follows = λ s s' b w w' a. chosen_else_tells (chosen_tells (condition_tells b (meant_beside c)) (all_of_tells b a (judged body)) (follow.1.follows s s' b w w' a)) }
-rest_beside_layer (layer.Else None) = record { follows = λ s s' b w w' a. all_if_tells b a nothing }
-rest_beside_layer (layer.Else (Some body)) = record { follows = λ s s' b w w' a. all_if_tells b a (something (judged body)) }
+rest_beside_layer (layer.Elsif c body follow) = record { follows = λ s s' b w w' a. chosen_else_reports (chosen_reports (condition_reports b (meant_beside c)) (all_of_reports b a (elaborated body)) (follow.1.follows s s' b w w' a)) }
+rest_beside_layer (layer.Else None) = record { follows = λ s s' b w w' a. all_if_reports b a nothing }
+rest_beside_layer (layer.Else (Some body)) = record { follows = λ s s' b w w' a. all_if_reports b a (something (elaborated body)) }
 
-labelled_arm : {l : List (ℤ × ℤ) × Result (List Label) Fault} {l' : List (ℤ × ℤ) × Result (List Label) (List Fault)} → KeptBeside l l' → {body : Result (List TypedStmt) Fault} {body' : Result (List TypedStmt) (List Fault)} → Tells body body'
+labelled_arm : {l : List (ℤ × ℤ) × Result (List Label) Fault} {l' : List (ℤ × ℤ) × Result (List Label) (List Fault)} → KeptBeside l l' → {body : Result (List TypedStmt) Fault} {body' : Result (List TypedStmt) (List Fault)} → Reports body body'
     → KeptBeside (l.0, armed least l.1 body) (l'.0, armed every l'.1 body')
-labelled_arm (is_kept ranges labels) body = is_kept ranges (armed_tells labels body)
+labelled_arm (is_kept ranges labels) body = is_kept ranges (armed_reports labels body)
 
 arm_at : (labels : List Item) (body : List SS) → ArmBeside (arm_layer least (opened_arm least (bare_arm (record { labels = labels; body = body })))) (arm_layer every (opened_arm every (bare_arm (record { labels = labels; body = body }))))
-arm_at labels body = record { keeps = λ s s' b w w' a base ranges. labelled_arm (labels_in_kept b base ranges labels) (all_of_tells b a (judged body)) }
+arm_at labels body = record { keeps = λ s s' b w w' a base ranges. labelled_arm (labels_in_kept b base ranges labels) (all_of_reports b a (elaborated body)) }
 
 -- ---- the induction
 
@@ -166,13 +166,13 @@ step_rest : (x : Rest-F Rest Stmt Arm) (y : Rest-F SR SS SA) → bare_rest y ≡
 step_rest x y q = carry RestBeside (at_rest least (roll-Rest x) (bare_rest y) (out-roll-Rest x ∙ sym q)) (at_rest every (roll-Rest x) (bare_rest y) (out-roll-Rest x ∙ sym q)) (rest_beside_layer y)
 
 step_stmt : (x : Stmt-F Rest Stmt Arm) (y : Stmt-F SR SS SA) → bare_stmt y ≡ x → PS (roll-Stmt x)
-step_stmt x y q = carry JudgesBeside (at_stmt least (roll-Stmt x) (bare_stmt y) (out-roll-Stmt x ∙ sym q)) (at_stmt every (roll-Stmt x) (bare_stmt y) (out-roll-Stmt x ∙ sym q)) (stmt_beside_layer y)
+step_stmt x y q = carry ElaboratesBeside (at_stmt least (roll-Stmt x) (bare_stmt y) (out-roll-Stmt x ∙ sym q)) (at_stmt every (roll-Stmt x) (bare_stmt y) (out-roll-Stmt x ∙ sym q)) (stmt_beside_layer y)
 
 step_arm : (x : Arm-F Rest Stmt Arm) (y : Arm-F SR SS SA) → bare_arm y ≡ x → PA (roll-Arm x)
 step_arm x y q = carry ArmBeside (at_arm least (roll-Arm x) (bare_arm y) (out-roll-Arm x ∙ sym q)) (at_arm every (roll-Arm x) (bare_arm y) (out-roll-Arm x ∙ sym q)) (arm_at y.labels y.body)
 
-pub stmt_beside : (x : Stmt) → JudgesBeside (stmt least x) (stmt every x)
+pub stmt_beside : (x : Stmt) → ElaboratesBeside (stmt least x) (stmt every x)
 stmt_beside = ind-Stmt PR PS PA step_rest step_stmt step_arm
 
-pub statements_tells : {s : Scope Fault} {s' : Scope (List Fault)} → ScopeBeside s s' → {w : Around Fault} {w' : Around (List Fault)} → AroundBeside w w' → (xs : List Stmt) → Tells (statements least s w xs) (statements every s' w' xs)
-statements_tells {s = s} {s' = s'} b {w = w} {w' = w'} a xs = fold_keeps Tells (with_written least s w) (with_written every s' w') (λ so so' x p. with_next_tells p ((stmt_beside x).judges s s' b w w' a)) xs _ _ (fine [])
+pub statements_reports : {s : Scope Fault} {s' : Scope (List Fault)} → ScopeBeside s s' → {w : Around Fault} {w' : Around (List Fault)} → AroundBeside w w' → (xs : List Stmt) → Reports (statements least s w xs) (statements every s' w' xs)
+statements_reports {s = s} {s' = s'} b {w = w} {w' = w'} a xs = fold_keeps Reports (with_written least s w) (with_written every s' w') (λ so so' x p. with_next_reports p ((stmt_beside x).elaborates s s' b w w' a)) xs _ _ (fine [])

@@ -6,29 +6,29 @@ use Rattle.m2_typed.specs.declared.meaning.Meaning.TheVariants as meaning
 use Rattle.m2_typed.specs.declared.known_types.Types.{Types}
 use Rattle.m2_computed.specs.declared.computed.Designated.{Designated}
 use Rattle.m2_computed.specs.declared.computed.Designated.TheVariants as designated
-use Rattle.m2_judged.specs.Judged.{every, least}
-use Rattle.m2_least.specs.Least.{Tells, fine}
+use Rattle.m2_scopes.specs.Elaborated.{every, least}
+use Rattle.m2_least.specs.Least.{Reports, fine}
 use Rattle.m2_computed.specs.Values.{designated_by, taken}
-use Rattle.m2_least.proofs.Forms.{told_tells}
+use Rattle.m2_least.proofs.Forms.{reported_reports}
 
-pub designated_by_tells : (level : ℕ) → (at : Pos) → (p2 : Meaning) → Tells (designated_by least level at p2) (designated_by every level at p2)
-designated_by_tells level at (meaning.Constant v) = fine _
-designated_by_tells level at (meaning.Type t n) = fine _
-designated_by_tells level at (meaning.Variable v) = fine _
-designated_by_tells level at (meaning.Local v) = fine _
-designated_by_tells level at (meaning.Field f) = fine _
-designated_by_tells level at (meaning.Procedure p) = fine _
-designated_by_tells level at (meaning.LocalProcedure p) = fine _
-designated_by_tells level at meaning.Ahead = told_tells at 30
-designated_by_tells level at (meaning.Standard f) = fine _
-designated_by_tells level at (meaning.Module k) = fine _
+pub designated_by_reports : (level : ℕ) → (at : Pos) → (p2 : Meaning) → Reports (designated_by least level at p2) (designated_by every level at p2)
+designated_by_reports level at (meaning.Constant v) = fine _
+designated_by_reports level at (meaning.Type t n) = fine _
+designated_by_reports level at (meaning.Variable v) = fine _
+designated_by_reports level at (meaning.Local v) = fine _
+designated_by_reports level at (meaning.Field f) = fine _
+designated_by_reports level at (meaning.Procedure p) = fine _
+designated_by_reports level at (meaning.LocalProcedure p) = fine _
+designated_by_reports level at meaning.Ahead = reported_reports at 30
+designated_by_reports level at (meaning.Standard f) = fine _
+designated_by_reports level at (meaning.Module k) = fine _
 
-pub taken_tells : (types : Types) → (at : Pos) → (p2 : Designated) → Tells (taken least types at p2) (taken every types at p2)
-taken_tells types at (designated.Value x) = fine x
-taken_tells types at (designated.Variable t d) = fine _
-taken_tells types at (designated.Open t slot) = fine _
-taken_tells types at (designated.Type t) = told_tells at 40
-taken_tells types at (designated.Procedure p) = fine _
-taken_tells types at (designated.Nested p) = told_tells at 53
-taken_tells types at (designated.Standard f) = told_tells at 53
-taken_tells types at (designated.Module k) = told_tells at 40
+pub taken_reports : (types : Types) → (at : Pos) → (p2 : Designated) → Reports (taken least types at p2) (taken every types at p2)
+taken_reports types at (designated.Value x) = fine x
+taken_reports types at (designated.Variable t d) = fine _
+taken_reports types at (designated.Open t slot) = fine _
+taken_reports types at (designated.Type t) = reported_reports at 40
+taken_reports types at (designated.Procedure p) = fine _
+taken_reports types at (designated.Nested p) = reported_reports at 53
+taken_reports types at (designated.Standard f) = reported_reports at 53
+taken_reports types at (designated.Module k) = reported_reports at 40

@@ -2,11 +2,11 @@
 
 ghost use Rattle.std.specs.Prelude.{◌≡◌, IfOk};
 ghost use Rattle.std.specs.Option.{option_copied};
-ghost use Rattle.m2_judged.specs.Judged.{every, least};
+ghost use Rattle.m2_scopes.specs.Elaborated.{every, least};
 ghost use Rattle.m2_check.specs.Checks.{checked};
-ghost use Rattle.m2_least.specs.Least.{Tells};
+ghost use Rattle.m2_least.specs.Least.{Reports};
 
-use m2_judged::Judged;
+use m2_scopes::Elaborated;
 use m2_tree::{Items, Module};
 use m2_typed::{Shared, Table, TypedModule};
 use std::alloc::{AllocError, Global};
@@ -19,13 +19,13 @@ pub fn check(
     tree: &Module,
     own: Option<&Table>,
     imports: Items<Shared<Table>>,
-) -> Result<Judged<TypedModule>, AllocError>
+) -> Result<Elaborated<TypedModule>, AllocError>
     // It is what the definition gives.
     ensures exact { IfOk result
         (λ j. j ≡ checked least number tree.now (option_copied own.entry) imports) }
-    // It is told beside all broken rules.
-    ensures told { IfOk result
-        (λ j. Tells j (checked every number tree.now (option_copied own.entry) imports)) }
+    // It is reported beside all broken rules.
+    ensures reported { IfOk result
+        (λ j. Reports j (checked every number tree.now (option_copied own.entry) imports)) }
 {
     m2_check::check(alloc, number, tree, own, imports)
 }

@@ -1,4 +1,4 @@
-//! Laws: what is told of a body is the least of all rules that are broken in it.
+//! Laws: what is reported of a body is the least of all rules that are broken in it.
 //!
 //! The definitions of m2_computed to m2_check gather broken rules in one of two ways, all of them or the least of them.
 //! `m2_least` says what the two answers have to do with one another. `proofs` has a lemma for each definition, in the

@@ -1,11 +1,11 @@
 //! Arguments against formals.
 
 ghost use Rattle.std.specs.Prelude.{◌≡◌, IfOk};
-ghost use Rattle.m2_judged.specs.Judged.{least};
+ghost use Rattle.m2_scopes.specs.Elaborated.{least};
 ghost use Rattle.m2_calls.specs.Actuals.{starts_at_zero, elements_suit_in, elements_suit, variable_passed, open_passed, text_argument, text_passed, open_value, whole_passed, simple_passed, value_passed, actual, next_formal, with_argument};
 
 use m2_computed::{Class, Computed, Designated, array_of, class_of, taken, value_suited};
-use m2_judged::{Judged, both, told};
+use m2_scopes::{Elaborated, both, reported};
 use m2_tree::{Items, Pos};
 use m2_typed::{Argument, CHAR, Formal, Scalar, TypeNo, Types, Value, are_same, scalar_of};
 use std::alloc::AllocError;
@@ -38,139 +38,139 @@ fn elements_suit(types: &Types, t: TypeNo, array: TypeNo) -> bool
 }
 
 /// An argument for a VAR formal of this type.
-fn variable_passed(t: TypeNo, at: Pos, designated: Designated) -> Judged<Argument>
+fn variable_passed(t: TypeNo, at: Pos, designated: Designated) -> Elaborated<Argument>
     ensures { result ≡ variable_passed least t at designated }
 {
     match designated {
         Designated::Variable(u, place) => {
             if !are_same(u, t) {
-                return told(at, 44);
+                return reported(at, 44);
             }
             Ok(Argument::Place(place))
         }
         Designated::Value(value) => {
             drop(value);
-            told(at, 44)
+            reported(at, 44)
         }
-        Designated::Open(_, _) => told(at, 44),
-        Designated::Type(_) => told(at, 44),
-        Designated::Procedure(_) => told(at, 44),
-        Designated::Nested(_) => told(at, 44),
-        Designated::Standard(_) => told(at, 44),
-        Designated::Module(_) => told(at, 44),
+        Designated::Open(_, _) => reported(at, 44),
+        Designated::Type(_) => reported(at, 44),
+        Designated::Procedure(_) => reported(at, 44),
+        Designated::Nested(_) => reported(at, 44),
+        Designated::Standard(_) => reported(at, 44),
+        Designated::Module(_) => reported(at, 44),
     }
 }
 
 /// An argument for a VAR formal ARRAY OF these elements.
-fn open_passed(types: &Types, t: TypeNo, at: Pos, designated: Designated) -> Judged<Argument>
+fn open_passed(types: &Types, t: TypeNo, at: Pos, designated: Designated) -> Elaborated<Argument>
     ensures { result ≡ open_passed least types.now t at designated }
 {
     match designated {
         Designated::Variable(u, place) => {
             if !elements_suit(types, t, u) {
-                return told(at, 44);
+                return reported(at, 44);
             }
             Ok(Argument::Array(u, place))
         }
         Designated::Open(u, slot) => {
             if !are_same(u, t) {
-                return told(at, 44);
+                return reported(at, 44);
             }
             Ok(Argument::Open(slot))
         }
         Designated::Value(value) => {
             drop(value);
-            told(at, 44)
+            reported(at, 44)
         }
-        Designated::Type(_) => told(at, 44),
-        Designated::Procedure(_) => told(at, 44),
-        Designated::Nested(_) => told(at, 44),
-        Designated::Standard(_) => told(at, 44),
-        Designated::Module(_) => told(at, 44),
+        Designated::Type(_) => reported(at, 44),
+        Designated::Procedure(_) => reported(at, 44),
+        Designated::Nested(_) => reported(at, 44),
+        Designated::Standard(_) => reported(at, 44),
+        Designated::Module(_) => reported(at, 44),
     }
 }
 
-fn text_argument(t: TypeNo, at: Pos, value: Value) -> Judged<Argument>
+fn text_argument(t: TypeNo, at: Pos, value: Value) -> Elaborated<Argument>
     ensures { result ≡ text_argument least t at value }
 {
     match value {
         Value::Text(text) => {
             if !are_same(t, CHAR) {
-                return told(at, 43);
+                return reported(at, 43);
             }
             Ok(Argument::Text(text))
         }
-        Value::Number(_) => told(at, 43),
-        Value::Scalar(_) => told(at, 43),
-        Value::Set(_) => told(at, 43),
+        Value::Number(_) => reported(at, 43),
+        Value::Scalar(_) => reported(at, 43),
+        Value::Set(_) => reported(at, 43),
     }
 }
 
-fn text_passed(t: TypeNo, at: Pos, value: Computed) -> Judged<Argument>
+fn text_passed(t: TypeNo, at: Pos, value: Computed) -> Elaborated<Argument>
     ensures { result ≡ text_passed least t at value }
 {
     match value {
         Computed::Constant(value) => text_argument(t, at, value),
-        Computed::Scalar(_, _, _) => told(at, 43),
-        Computed::Set(_) => told(at, 43),
-        Computed::Routine(_, _) => told(at, 43),
-        Computed::Procedure(_) => told(at, 43),
-        Computed::Whole(_, _) => told(at, 43),
-        Computed::Untaken => told(at, 43),
+        Computed::Scalar(_, _, _) => reported(at, 43),
+        Computed::Set(_) => reported(at, 43),
+        Computed::Routine(_, _) => reported(at, 43),
+        Computed::Procedure(_) => reported(at, 43),
+        Computed::Whole(_, _) => reported(at, 43),
+        Computed::Untaken => reported(at, 43),
     }
 }
 
 /// An argument for a value formal ARRAY OF these elements.
-fn open_value(types: &Types, t: TypeNo, at: Pos, designated: Designated) -> Judged<Argument>
+fn open_value(types: &Types, t: TypeNo, at: Pos, designated: Designated) -> Elaborated<Argument>
     ensures { result ≡ open_value least types.now t at designated }
 {
     match designated {
         Designated::Variable(u, place) => {
             if !elements_suit(types, t, u) {
-                return told(at, 43);
+                return reported(at, 43);
             }
             Ok(Argument::Array(u, place))
         }
         Designated::Open(u, slot) => {
             if !are_same(u, t) {
-                return told(at, 43);
+                return reported(at, 43);
             }
             Ok(Argument::Open(slot))
         }
         Designated::Value(value) => text_passed(t, at, value),
-        Designated::Type(_) => told(at, 40),
-        Designated::Procedure(_) => told(at, 43),
-        Designated::Nested(_) => told(at, 53),
-        Designated::Standard(_) => told(at, 53),
-        Designated::Module(_) => told(at, 40),
+        Designated::Type(_) => reported(at, 40),
+        Designated::Procedure(_) => reported(at, 43),
+        Designated::Nested(_) => reported(at, 53),
+        Designated::Standard(_) => reported(at, 53),
+        Designated::Module(_) => reported(at, 40),
     }
 }
 
 /// An argument for a value formal of this array or record type.
-fn whole_passed(t: TypeNo, at: Pos, designated: Designated) -> Judged<Argument>
+fn whole_passed(t: TypeNo, at: Pos, designated: Designated) -> Elaborated<Argument>
     ensures { result ≡ whole_passed least t at designated }
 {
     match designated {
         Designated::Variable(u, place) => {
             if !are_same(u, t) {
-                return told(at, 43);
+                return reported(at, 43);
             }
             Ok(Argument::Place(place))
         }
         Designated::Value(value) => {
             drop(value);
-            told(at, 43)
+            reported(at, 43)
         }
-        Designated::Open(_, _) => told(at, 43),
-        Designated::Type(_) => told(at, 40),
-        Designated::Procedure(_) => told(at, 43),
-        Designated::Nested(_) => told(at, 53),
-        Designated::Standard(_) => told(at, 53),
-        Designated::Module(_) => told(at, 40),
+        Designated::Open(_, _) => reported(at, 43),
+        Designated::Type(_) => reported(at, 40),
+        Designated::Procedure(_) => reported(at, 43),
+        Designated::Nested(_) => reported(at, 53),
+        Designated::Standard(_) => reported(at, 53),
+        Designated::Module(_) => reported(at, 40),
     }
 }
 
-fn simple_passed(types: &Types, t: TypeNo, at: Pos, designated: Designated) -> Judged<Argument>
+fn simple_passed(types: &Types, t: TypeNo, at: Pos, designated: Designated) -> Elaborated<Argument>
     ensures { result ≡ simple_passed least types.now t at designated }
 {
     match taken(types, at, designated) {
@@ -183,7 +183,7 @@ fn simple_passed(types: &Types, t: TypeNo, at: Pos, designated: Designated) -> J
 }
 
 /// An argument for a value formal of this type.
-fn value_passed(types: &Types, t: TypeNo, at: Pos, designated: Designated) -> Judged<Argument>
+fn value_passed(types: &Types, t: TypeNo, at: Pos, designated: Designated) -> Elaborated<Argument>
     ensures { result ≡ value_passed least types.now t at designated }
 {
     match class_of(types, t) {
@@ -196,7 +196,12 @@ fn value_passed(types: &Types, t: TypeNo, at: Pos, designated: Designated) -> Ju
 
 /// An argument at a place, for a formal. What a value formal does not take is 43, or 40 or 53 if it is no value, and what
 /// a VAR formal does not take is 44. A constant out of range is 52.
-pub fn actual(types: &Types, formal: Formal, at: Pos, designated: Designated) -> Judged<Argument>
+pub fn actual(
+    types: &Types,
+    formal: Formal,
+    at: Pos,
+    designated: Designated,
+) -> Elaborated<Argument>
     ensures { result ≡ actual least types.now formal at designated }
 {
     if formal.is_var {
@@ -224,9 +229,9 @@ pub fn next_formal(formals: &[Formal]) -> (Option<Formal>, &[Formal])
 
 /// One more argument.
 pub fn with_argument(
-    arguments: Judged<Items<Argument>>,
-    argument: Judged<Argument>,
-) -> Result<Judged<Items<Argument>>, AllocError>
+    arguments: Elaborated<Items<Argument>>,
+    argument: Elaborated<Argument>,
+) -> Result<Elaborated<Items<Argument>>, AllocError>
     ensures { IfOk result (λ xs. xs ≡ with_argument least arguments argument) }
 {
     match both(arguments, argument) {

@@ -2,12 +2,12 @@
 
 ghost use Rattle.std.specs.Prelude.{◌≡◌};
 ghost use Rattle.std.specs.Option.{option_copied};
-ghost use Rattle.m2_judged.specs.Judged.{least};
+ghost use Rattle.m2_scopes.specs.Elaborated.{least};
 ghost use Rattle.m2_computed.specs.Classes.{class_at};
 ghost use Rattle.m2_calls.specs.Callees.{held_by, callee_of, counted, function_of, proper_of, call_by};
 
 use m2_computed::{Class, Designated, class_of};
-use m2_judged::{Judged, told};
+use m2_scopes::{Elaborated, reported};
 use m2_tree::{Items, Pos};
 use m2_typed::{
     Argument, Call, LocalProcedure, Place, Procedure, Signature, Standard, TypeNo, Types,
@@ -30,19 +30,19 @@ pub enum Called {
     Standard(Standard),
 }
 
-fn held_by(types: &Types, at: Pos, t: TypeNo, place: Place) -> Judged<Called>
+fn held_by(types: &Types, at: Pos, t: TypeNo, place: Place) -> Elaborated<Called>
     ensures { result ≡ held_by least at t place (class_at types.now t) }
 {
     match class_of(types, t) {
         Class::Procedure => Ok(Called::Routine(t, Callee::Variable(t, place))),
-        Class::Scalar(_) => told(at, 40),
-        Class::Set => told(at, 40),
-        Class::Whole => told(at, 40),
+        Class::Scalar(_) => reported(at, 40),
+        Class::Set => reported(at, 40),
+        Class::Whole => reported(at, 40),
     }
 }
 
 /// What is called by a designator at a place: 40 where that is no procedure.
-pub fn callee_of(types: &Types, at: Pos, designated: Designated) -> Judged<Called>
+pub fn callee_of(types: &Types, at: Pos, designated: Designated) -> Elaborated<Called>
     ensures { result ≡ callee_of least types.now at designated }
 {
     match designated {
@@ -52,32 +52,32 @@ pub fn callee_of(types: &Types, at: Pos, designated: Designated) -> Judged<Calle
         Designated::Standard(standard) => Ok(Called::Standard(standard)),
         Designated::Value(value) => {
             drop(value);
-            told(at, 40)
+            reported(at, 40)
         }
-        Designated::Open(_, _) => told(at, 40),
-        Designated::Type(_) => told(at, 40),
-        Designated::Module(_) => told(at, 40),
+        Designated::Open(_, _) => reported(at, 40),
+        Designated::Type(_) => reported(at, 40),
+        Designated::Module(_) => reported(at, 40),
     }
 }
 
-fn counted(at: Pos, asked: usize, there: usize) -> Judged<()>
+fn counted(at: Pos, asked: usize, there: usize) -> Elaborated<()>
     ensures { result ≡ counted least at asked there }
 {
     if asked != there {
-        return told(at, 42);
+        return reported(at, 42);
     }
     Ok(())
 }
 
 /// The type that a function gives, which is called at a place with so many arguments: 40 where it is no function, and 42
 /// where it asks for another number of arguments.
-pub fn function_of(at: Pos, signature: Option<&Signature>, arguments: usize) -> Judged<TypeNo>
+pub fn function_of(at: Pos, signature: Option<&Signature>, arguments: usize) -> Elaborated<TypeNo>
     ensures { result ≡ function_of least at (option_copied signature.entry) arguments }
 {
     match signature {
-        None => told(at, 40),
+        None => reported(at, 40),
         Some(signature) => match signature.result {
-            None => told(at, 40),
+            None => reported(at, 40),
             Some(t) => match counted(at, signature.formals.len(), arguments) {
                 Err(fault) => Err(fault),
                 Ok(()) => Ok(t),
@@ -88,13 +88,13 @@ pub fn function_of(at: Pos, signature: Option<&Signature>, arguments: usize) -> 
 
 /// A procedure that is called as a statement, at a place with so many arguments: 40 where it is a function, and 42 where
 /// it asks for another number of arguments.
-pub fn proper_of(at: Pos, signature: Option<&Signature>, arguments: usize) -> Judged<()>
+pub fn proper_of(at: Pos, signature: Option<&Signature>, arguments: usize) -> Elaborated<()>
     ensures { result ≡ proper_of least at (option_copied signature.entry) arguments }
 {
     match signature {
-        None => told(at, 40),
+        None => reported(at, 40),
         Some(signature) => match signature.result {
-            Some(_) => told(at, 40),
+            Some(_) => reported(at, 40),
             None => counted(at, signature.formals.len(), arguments),
         },
     }

@@ -1,11 +1,11 @@
 //! What assignments and standard procedures do.
 
 ghost use Rattle.std.specs.Prelude.{◌≡◌};
-ghost use Rattle.m2_judged.specs.Judged.{least};
+ghost use Rattle.m2_scopes.specs.Elaborated.{least};
 ghost use Rattle.m2_calls.specs.Effects.{target_of, target_at, stored, assigned_to, assigned, changed_as, changed, set_as, set_variable, untyped, known_amount, amount, element_known, element, change_by, membership_of, put};
 
 use m2_computed::{Accepted, Class, Computed, Designated, class_of, suited, value_suited};
-use m2_judged::{Judged, both, told};
+use m2_scopes::{Elaborated, both, reported};
 use m2_tree::Pos;
 use m2_typed::{
     CARDINAL, CHAR, Change, INTEGER, Membership, Place, TypeNo, TypedExpr, TypedStmt, Types,
@@ -21,7 +21,7 @@ pub enum Target {
     Open,
 }
 
-fn target_of(at: Pos, designated: Designated) -> Judged<Target>
+fn target_of(at: Pos, designated: Designated) -> Elaborated<Target>
     ensures { result ≡ target_of least at designated }
 {
     match designated {
@@ -29,18 +29,18 @@ fn target_of(at: Pos, designated: Designated) -> Judged<Target>
         Designated::Open(_, _) => Ok(Target::Open),
         Designated::Value(value) => {
             drop(value);
-            told(at, 40)
+            reported(at, 40)
         }
-        Designated::Type(_) => told(at, 40),
-        Designated::Procedure(_) => told(at, 40),
-        Designated::Nested(_) => told(at, 40),
-        Designated::Standard(_) => told(at, 40),
-        Designated::Module(_) => told(at, 40),
+        Designated::Type(_) => reported(at, 40),
+        Designated::Procedure(_) => reported(at, 40),
+        Designated::Nested(_) => reported(at, 40),
+        Designated::Standard(_) => reported(at, 40),
+        Designated::Module(_) => reported(at, 40),
     }
 }
 
 /// The left side of an assignment at a place: 40 where it is no variable.
-pub fn target_at(at: Pos, designated: Judged<Designated>) -> Judged<Target>
+pub fn target_at(at: Pos, designated: Elaborated<Designated>) -> Elaborated<Target>
     ensures { result ≡ target_at least at designated }
 {
     match designated {
@@ -59,11 +59,11 @@ fn stored(t: TypeNo, place: Place, accepted: Accepted) -> TypedStmt
     }
 }
 
-fn assigned_to(types: &Types, target: Target, at: Pos, value: Computed) -> Judged<TypedStmt>
+fn assigned_to(types: &Types, target: Target, at: Pos, value: Computed) -> Elaborated<TypedStmt>
     ensures { result ≡ assigned_to least types.now target at value }
 {
     match target {
-        Target::Open => told(at, 41),
+        Target::Open => reported(at, 41),
         Target::Variable(t, place) => match suited(41, types, t, at, value) {
             Err(fault) => Err(fault),
             Ok(accepted) => Ok(stored(t, place, accepted)),
@@ -74,10 +74,10 @@ fn assigned_to(types: &Types, target: Target, at: Pos, value: Computed) -> Judge
 /// An assignment of a value at a place: 41 where it is not assignment compatible, and 52 where a constant is out of range.
 pub fn assigned(
     types: &Types,
-    target: Judged<Target>,
+    target: Elaborated<Target>,
     at: Pos,
-    value: Judged<Computed>,
-) -> Judged<TypedStmt>
+    value: Elaborated<Computed>,
+) -> Elaborated<TypedStmt>
     ensures { result ≡ assigned least types.now target at value }
 {
     match both(target, value) {
@@ -86,63 +86,63 @@ pub fn assigned(
     }
 }
 
-fn changed_as(at: Pos, t: TypeNo, place: Place, class: Class) -> Judged<(TypeNo, Place)>
+fn changed_as(at: Pos, t: TypeNo, place: Place, class: Class) -> Elaborated<(TypeNo, Place)>
     ensures { result ≡ changed_as least at t place class }
 {
     match class {
         Class::Scalar(_) => Ok((t, place)),
-        Class::Set => told(at, 44),
-        Class::Procedure => told(at, 44),
-        Class::Whole => told(at, 44),
+        Class::Set => reported(at, 44),
+        Class::Procedure => reported(at, 44),
+        Class::Whole => reported(at, 44),
     }
 }
 
 /// The variable of INC or DEC: 44 where it is no scalar variable.
-pub fn changed(types: &Types, at: Pos, designated: Designated) -> Judged<(TypeNo, Place)>
+pub fn changed(types: &Types, at: Pos, designated: Designated) -> Elaborated<(TypeNo, Place)>
     ensures { result ≡ changed least types.now at designated }
 {
     match designated {
         Designated::Variable(t, place) => changed_as(at, t, place, class_of(types, t)),
         Designated::Value(value) => {
             drop(value);
-            told(at, 44)
+            reported(at, 44)
         }
-        Designated::Open(_, _) => told(at, 44),
-        Designated::Type(_) => told(at, 44),
-        Designated::Procedure(_) => told(at, 44),
-        Designated::Nested(_) => told(at, 44),
-        Designated::Standard(_) => told(at, 44),
-        Designated::Module(_) => told(at, 44),
+        Designated::Open(_, _) => reported(at, 44),
+        Designated::Type(_) => reported(at, 44),
+        Designated::Procedure(_) => reported(at, 44),
+        Designated::Nested(_) => reported(at, 44),
+        Designated::Standard(_) => reported(at, 44),
+        Designated::Module(_) => reported(at, 44),
     }
 }
 
-fn set_as(at: Pos, place: Place, class: Class) -> Judged<Place>
+fn set_as(at: Pos, place: Place, class: Class) -> Elaborated<Place>
     ensures { result ≡ set_as least at place class }
 {
     match class {
         Class::Set => Ok(place),
-        Class::Scalar(_) => told(at, 44),
-        Class::Procedure => told(at, 44),
-        Class::Whole => told(at, 44),
+        Class::Scalar(_) => reported(at, 44),
+        Class::Procedure => reported(at, 44),
+        Class::Whole => reported(at, 44),
     }
 }
 
 /// The variable of INCL or EXCL: 44 where it is no BITSET variable.
-pub fn set_variable(types: &Types, at: Pos, designated: Designated) -> Judged<Place>
+pub fn set_variable(types: &Types, at: Pos, designated: Designated) -> Elaborated<Place>
     ensures { result ≡ set_variable least types.now at designated }
 {
     match designated {
         Designated::Variable(t, place) => set_as(at, place, class_of(types, t)),
         Designated::Value(value) => {
             drop(value);
-            told(at, 44)
+            reported(at, 44)
         }
-        Designated::Open(_, _) => told(at, 44),
-        Designated::Type(_) => told(at, 44),
-        Designated::Procedure(_) => told(at, 44),
-        Designated::Nested(_) => told(at, 44),
-        Designated::Standard(_) => told(at, 44),
-        Designated::Module(_) => told(at, 44),
+        Designated::Open(_, _) => reported(at, 44),
+        Designated::Type(_) => reported(at, 44),
+        Designated::Procedure(_) => reported(at, 44),
+        Designated::Nested(_) => reported(at, 44),
+        Designated::Standard(_) => reported(at, 44),
+        Designated::Module(_) => reported(at, 44),
     }
 }
 
@@ -156,43 +156,43 @@ pub fn untyped(a: Ordinal) -> TypeNo
     }
 }
 
-fn known_amount(at: Pos, a: Option<Ordinal>) -> Judged<TypedExpr>
+fn known_amount(at: Pos, a: Option<Ordinal>) -> Elaborated<TypedExpr>
     ensures { result ≡ known_amount least at a }
 {
     match a {
-        None => told(at, 43),
+        None => reported(at, 43),
         Some(a) => Ok(TypedExpr::Constant(untyped(a), a.number)),
     }
 }
 
 /// An INTEGER, a CARDINAL or a number at a place, else 43.
-pub fn amount(at: Pos, value: Computed) -> Judged<TypedExpr>
+pub fn amount(at: Pos, value: Computed) -> Elaborated<TypedExpr>
     ensures { result ≡ amount least at value }
 {
     match value {
         Computed::Constant(value) => known_amount(at, whole_number(&value)),
         Computed::Scalar(_, base, e) => {
             if !is_numeric(base) {
-                return told(at, 43);
+                return reported(at, 43);
             }
             Ok(e)
         }
-        Computed::Set(_) => told(at, 43),
-        Computed::Routine(_, _) => told(at, 43),
-        Computed::Procedure(_) => told(at, 43),
-        Computed::Whole(_, _) => told(at, 43),
-        Computed::Untaken => told(at, 43),
+        Computed::Set(_) => reported(at, 43),
+        Computed::Routine(_, _) => reported(at, 43),
+        Computed::Procedure(_) => reported(at, 43),
+        Computed::Whole(_, _) => reported(at, 43),
+        Computed::Untaken => reported(at, 43),
     }
 }
 
-fn element_known(at: Pos, a: Option<Ordinal>) -> Judged<TypedExpr>
+fn element_known(at: Pos, a: Option<Ordinal>) -> Elaborated<TypedExpr>
     ensures { result ≡ element_known least at a }
 {
     match a {
-        None => told(at, 43),
+        None => reported(at, 43),
         Some(a) => {
             if !(0 <= a.number && a.number <= 31) {
-                return told(at, 52);
+                return reported(at, 52);
             }
             Ok(TypedExpr::Constant(untyped(a), a.number))
         }
@@ -200,31 +200,31 @@ fn element_known(at: Pos, a: Option<Ordinal>) -> Judged<TypedExpr>
 }
 
 /// The element of INCL or EXCL at a place: 43 where it is no number, and 52 where a constant is not from 0 to 31.
-pub fn element(at: Pos, value: Computed) -> Judged<TypedExpr>
+pub fn element(at: Pos, value: Computed) -> Elaborated<TypedExpr>
     ensures { result ≡ element least at value }
 {
     match value {
         Computed::Constant(value) => element_known(at, whole_number(&value)),
         Computed::Scalar(_, base, e) => {
             if !is_numeric(base) {
-                return told(at, 43);
+                return reported(at, 43);
             }
             Ok(e)
         }
-        Computed::Set(_) => told(at, 43),
-        Computed::Routine(_, _) => told(at, 43),
-        Computed::Procedure(_) => told(at, 43),
-        Computed::Whole(_, _) => told(at, 43),
-        Computed::Untaken => told(at, 43),
+        Computed::Set(_) => reported(at, 43),
+        Computed::Routine(_, _) => reported(at, 43),
+        Computed::Procedure(_) => reported(at, 43),
+        Computed::Whole(_, _) => reported(at, 43),
+        Computed::Untaken => reported(at, 43),
     }
 }
 
 /// INC or DEC of a variable by an amount.
 pub fn change_by(
     change: Change,
-    variable: Judged<(TypeNo, Place)>,
-    amount: Judged<TypedExpr>,
-) -> Judged<TypedStmt>
+    variable: Elaborated<(TypeNo, Place)>,
+    amount: Elaborated<TypedExpr>,
+) -> Elaborated<TypedStmt>
     ensures { result ≡ change_by least change variable amount }
 {
     match both(variable, amount) {
@@ -236,9 +236,9 @@ pub fn change_by(
 /// INCL or EXCL of a set and an element.
 pub fn membership_of(
     membership: Membership,
-    set: Judged<Place>,
-    element: Judged<TypedExpr>,
-) -> Judged<TypedStmt>
+    set: Elaborated<Place>,
+    element: Elaborated<TypedExpr>,
+) -> Elaborated<TypedStmt>
     ensures { result ≡ membership_of least membership set element }
 {
     match both(set, element) {
@@ -248,7 +248,7 @@ pub fn membership_of(
 }
 
 /// Put of a value at a place: 43 where it is no CHAR.
-pub fn put(types: &Types, at: Pos, value: Computed) -> Judged<TypedStmt>
+pub fn put(types: &Types, at: Pos, value: Computed) -> Elaborated<TypedStmt>
     ensures { result ≡ put least types.now at value }
 {
     match value_suited(43, types, CHAR, at, value) {

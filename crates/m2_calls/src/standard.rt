@@ -1,12 +1,12 @@
 //! Standard functions.
 
 ghost use Rattle.std.specs.Prelude.{◌≡◌, IfOk};
-ghost use Rattle.m2_judged.specs.Judged.{least};
+ghost use Rattle.m2_scopes.specs.Elaborated.{least};
 ghost use Rattle.m2_calls.specs.Functions.{form_of, unary_takes, unary_built, unary_scalar, unary_at, type_named, bound_at, converted_scalar, converted_value, conversion_at, high_of};
 
 use m2_computed::{Computed, Designated, of_value};
 use m2_constants::{bound_by, scalar_type, unary_of};
-use m2_judged::{Judged, both, told};
+use m2_scopes::{Elaborated, both, reported};
 use m2_tree::{Boxed, Pos};
 use m2_typed::{
     BOOLEAN, CARDINAL, CHAR, Scalar, Standard, TypeNo, TypedExpr, Types, are_same, is_numeric,
@@ -90,11 +90,11 @@ fn unary_scalar(
     at: Pos,
     base: TypeNo,
     e: TypedExpr,
-) -> Result<Judged<Computed>, AllocError>
+) -> Result<Elaborated<Computed>, AllocError>
     ensures { IfOk result (λ v. v ≡ unary_scalar least function at base e) }
 {
     if !unary_takes(function, base) {
-        return Ok(told(at, 43));
+        return Ok(reported(at, 43));
     }
     Ok(Ok(unary_built(function, base, Boxed::new(alloc, e)?)))
 }
@@ -107,41 +107,41 @@ pub fn unary_at(
     function: Unary,
     at: Pos,
     value: Computed,
-) -> Result<Judged<Computed>, AllocError>
+) -> Result<Elaborated<Computed>, AllocError>
     ensures { IfOk result (λ v. v ≡ unary_at least standard function at value) }
 {
     match value {
         Computed::Constant(value) => Ok(of_value(unary_of(standard, at, &value))),
         Computed::Scalar(_, base, e) => unary_scalar(alloc, function, at, base, e),
-        Computed::Set(_) => Ok(told(at, 43)),
-        Computed::Routine(_, _) => Ok(told(at, 43)),
-        Computed::Procedure(_) => Ok(told(at, 43)),
-        Computed::Whole(_, _) => Ok(told(at, 43)),
-        Computed::Untaken => Ok(told(at, 43)),
+        Computed::Set(_) => Ok(reported(at, 43)),
+        Computed::Routine(_, _) => Ok(reported(at, 43)),
+        Computed::Procedure(_) => Ok(reported(at, 43)),
+        Computed::Whole(_, _) => Ok(reported(at, 43)),
+        Computed::Untaken => Ok(reported(at, 43)),
     }
 }
 
 /// An argument that names a scalar type: 33 where it does not.
-pub fn type_named(types: &Types, at: Pos, designated: Designated) -> Judged<(TypeNo, Scalar)>
+pub fn type_named(types: &Types, at: Pos, designated: Designated) -> Elaborated<(TypeNo, Scalar)>
     ensures { result ≡ type_named least types.now at designated }
 {
     match designated {
         Designated::Type(t) => scalar_type(at, t, scalar_of(types, t)),
         Designated::Value(value) => {
             drop(value);
-            told(at, 33)
+            reported(at, 33)
         }
-        Designated::Variable(_, _) => told(at, 33),
-        Designated::Open(_, _) => told(at, 33),
-        Designated::Procedure(_) => told(at, 33),
-        Designated::Nested(_) => told(at, 33),
-        Designated::Standard(_) => told(at, 33),
-        Designated::Module(_) => told(at, 33),
+        Designated::Variable(_, _) => reported(at, 33),
+        Designated::Open(_, _) => reported(at, 33),
+        Designated::Procedure(_) => reported(at, 33),
+        Designated::Nested(_) => reported(at, 33),
+        Designated::Standard(_) => reported(at, 33),
+        Designated::Module(_) => reported(at, 33),
     }
 }
 
 /// MIN, or else MAX, of a type.
-pub fn bound_at(standard: Standard, argument: Judged<(TypeNo, Scalar)>) -> Judged<Computed>
+pub fn bound_at(standard: Standard, argument: Elaborated<(TypeNo, Scalar)>) -> Elaborated<Computed>
     ensures { result ≡ bound_at standard argument }
 {
     match argument {
@@ -157,11 +157,11 @@ fn converted_scalar(
     at: Pos,
     base: TypeNo,
     e: TypedExpr,
-) -> Result<Judged<Computed>, AllocError>
+) -> Result<Elaborated<Computed>, AllocError>
     ensures { IfOk result (λ v. v ≡ converted_scalar least t to at base e) }
 {
     if !is_numeric(base) {
-        return Ok(told(at, 43));
+        return Ok(reported(at, 43));
     }
     let operand = Boxed::new(alloc, e)?;
     Ok(Ok(Computed::Scalar(t, to.base, TypedExpr::Val(t, operand))))
@@ -173,17 +173,17 @@ fn converted_value(
     to: Scalar,
     at: Pos,
     value: Computed,
-) -> Result<Judged<Computed>, AllocError>
+) -> Result<Elaborated<Computed>, AllocError>
     ensures { IfOk result (λ v. v ≡ converted_value least t to at value) }
 {
     match value {
         Computed::Constant(value) => Ok(of_value(converted(t, to, at, &value))),
         Computed::Scalar(_, base, e) => converted_scalar(alloc, t, to, at, base, e),
-        Computed::Set(_) => Ok(told(at, 43)),
-        Computed::Routine(_, _) => Ok(told(at, 43)),
-        Computed::Procedure(_) => Ok(told(at, 43)),
-        Computed::Whole(_, _) => Ok(told(at, 43)),
-        Computed::Untaken => Ok(told(at, 43)),
+        Computed::Set(_) => Ok(reported(at, 43)),
+        Computed::Routine(_, _) => Ok(reported(at, 43)),
+        Computed::Procedure(_) => Ok(reported(at, 43)),
+        Computed::Whole(_, _) => Ok(reported(at, 43)),
+        Computed::Untaken => Ok(reported(at, 43)),
     }
 }
 
@@ -191,10 +191,10 @@ fn converted_value(
 /// constant.
 pub fn conversion_at(
     alloc: Global,
-    to: Judged<(TypeNo, Scalar)>,
+    to: Elaborated<(TypeNo, Scalar)>,
     at: Pos,
-    value: Judged<Computed>,
-) -> Result<Judged<Computed>, AllocError>
+    value: Elaborated<Computed>,
+) -> Result<Elaborated<Computed>, AllocError>
     ensures { IfOk result (λ v. v ≡ conversion_at least to at value) }
 {
     match both(to, value) {
@@ -204,7 +204,7 @@ pub fn conversion_at(
 }
 
 /// HIGH of what stands at a place: 43 where that is no open array, or 40 or 53 if it is no value.
-pub fn high_of(at: Pos, designated: Designated) -> Judged<Computed>
+pub fn high_of(at: Pos, designated: Designated) -> Elaborated<Computed>
     ensures { result ≡ high_of least at designated }
 {
     match designated {
@@ -213,13 +213,13 @@ pub fn high_of(at: Pos, designated: Designated) -> Judged<Computed>
         }
         Designated::Value(value) => {
             drop(value);
-            told(at, 43)
+            reported(at, 43)
         }
-        Designated::Variable(_, _) => told(at, 43),
-        Designated::Type(_) => told(at, 40),
-        Designated::Procedure(_) => told(at, 43),
-        Designated::Nested(_) => told(at, 53),
-        Designated::Standard(_) => told(at, 53),
-        Designated::Module(_) => told(at, 40),
+        Designated::Variable(_, _) => reported(at, 43),
+        Designated::Type(_) => reported(at, 40),
+        Designated::Procedure(_) => reported(at, 43),
+        Designated::Nested(_) => reported(at, 53),
+        Designated::Standard(_) => reported(at, 53),
+        Designated::Module(_) => reported(at, 40),
     }
 }

@@ -3,15 +3,15 @@ use Rattle.std.specs.Prelude.{ℕ, false, List, Option, Result}
 use Rattle.m2_tree.specs.declared.decl.Module.{Module}
 use Rattle.m2_typed.specs.declared.table.Table.{Table}
 use Rattle.m2_typed.specs.declared.typed_module.TypedModule.{TypedModule}
-use Rattle.m2_judged.specs.Judged.{Gathers}
-use Rattle.m2_bodies.specs.Judging.{Judges}
+use Rattle.m2_scopes.specs.Elaborated.{Gathers}
+use Rattle.m2_bodies.specs.Elaborating.{Elaborates}
 use Rattle.m2_bodies.specs.Checked as bodies
 use Rattle.m2_stmts.specs.Statements.{statements}
 
 -- no LOOP stands around the statements of a body
-abbrev pub judged : (g : Gathers) → Judges g.Told
-judged g s returns body = statements g s (record { gives = returns; in_loop = false }) body
+abbrev pub elaborated : (g : Gathers) → Elaborates g.Reported
+elaborated g s returns body = statements g s (record { gives = returns; in_loop = false }) body
 
 -- The module of a body, given the table of its own definition, if it has one, and the tables of those that it imports.
-abbrev pub checked : (g : Gathers) → ℕ → Module → Option Table → List Table → Result TypedModule g.Told
-checked g number m own imports = bodies.checked g (judged g) number m own imports
+abbrev pub checked : (g : Gathers) → ℕ → Module → Option Table → List Table → Result TypedModule g.Reported
+checked g number m own imports = bodies.checked g (elaborated g) number m own imports

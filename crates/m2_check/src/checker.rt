@@ -2,30 +2,30 @@
 
 ghost use Rattle.std.specs.Prelude.{◌≡◌, IfOk};
 ghost use Rattle.std.specs.Option.{option_copied};
-ghost use Rattle.m2_judged.specs.Judged.{least};
-ghost use Rattle.m2_check.specs.Checks.{judged, checked};
+ghost use Rattle.m2_scopes.specs.Elaborated.{least};
+ghost use Rattle.m2_check.specs.Checks.{elaborated, checked};
 
 use m2_bodies::{Statements, check_with};
-use m2_judged::{Fault, Judged, Scope};
+use m2_scopes::{Elaborated, Fault, Scope};
 use m2_steps::Around;
 use m2_stmts::statements;
 use m2_tree::{Items, Module, Stmt};
 use m2_typed::{Shared, Table, TypeNo, TypedModule, TypedStmt};
 use std::alloc::{AllocError, Global};
 
-/// Judges the statements of a body.
+/// Elaborates the statements of a body.
 struct Checker;
 
 impl Statements for Checker {
-    ghost judged = { λ checker. judged least };
+    ghost elaborated = { λ checker. elaborated least };
 
     fn check(
         &self,
         alloc: Global,
         scope: &mut Scope<Fault>,
-        returns: &Option<Judged<TypeNo>>,
+        returns: &Option<Elaborated<TypeNo>>,
         body: &[Stmt],
-    ) -> Result<Judged<Items<TypedStmt>>, AllocError> {
+    ) -> Result<Elaborated<Items<TypedStmt>>, AllocError> {
         let around = Around {
             gives: *returns,
             in_loop: false,
@@ -44,7 +44,7 @@ pub fn check(
     tree: &Module,
     own: Option<&Table>,
     imports: Items<Shared<Table>>,
-) -> Result<Judged<TypedModule>, AllocError>
+) -> Result<Elaborated<TypedModule>, AllocError>
     ensures { IfOk result
         (λ j. j ≡ checked least number tree.now (option_copied own.entry) imports) }
 {

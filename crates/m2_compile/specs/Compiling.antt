@@ -7,8 +7,8 @@ use Rattle.m2_tree.specs.declared.decl.Contents.TheVariants as contents
 use Rattle.m2_tree.specs.declared.decl.Module.{Module}
 use Rattle.m2_typed.specs.declared.table.Table.{Table}
 use Rattle.m2_typed.specs.declared.typed_module.TypedModule.{TypedModule}
-use Rattle.m2_judged.specs.declared.fault.Fault.{Fault}
-use Rattle.m2_judged.specs.Judged.{least}
+use Rattle.m2_scopes.specs.declared.fault.Fault.{Fault}
+use Rattle.m2_scopes.specs.Elaborated.{least}
 use Rattle.m2_types.specs.Compiled as types
 use Rattle.m2_check.specs.Checks.{checked}
 use Rattle.m2_layout.specs.Layouts.{too_large}

@@ -1,3 +1,3 @@
 pub mod Own
 pub mod Compiling
-pub mod Spelled
+pub mod Encoded

@@ -1,18 +1,18 @@
 //! What becomes of a module, from what became of those that it needs.
 
 ghost use Rattle.std.specs.Prelude.{◌≡◌, IfOk, OnOk, map};
-ghost use Rattle.m2_judged.specs.Judged.{least};
+ghost use Rattle.m2_scopes.specs.Elaborated.{least};
 ghost use Rattle.m2_layout.specs.Layouts.{too_large};
 ghost use Rattle.m2_types.specs.Compiled as types;
 ghost use Rattle.m2_compile.specs.Compiling.{compiled, of_checked, of_definition, of_fit, typed_body};
-ghost use Rattle.m2_compile.specs.Spelled.{IsSpelled, checked_spelled, fit_spelled};
+ghost use Rattle.m2_compile.specs.Encoded.{IsEncoded, checked_encoded, fit_encoded};
 
 use crate::outcome::{Compiled, are_sound, tables_of};
 use crate::tables::{own_table, tables_behind};
 use m2_check::check;
 use m2_emit::emit;
-use m2_judged::{Fault, Judged};
 use m2_layout::layout_of;
+use m2_scopes::{Elaborated, Fault};
 use m2_tree::{Contents, Items, Module};
 use m2_typed::{Shared, Table, TypedModule};
 use m2_types::compile_definition;
@@ -39,7 +39,7 @@ fn typed_body(
     tree: &Module,
     number: u32,
     tables: &[Shared<Table>],
-) -> Result<Judged<TypedModule>, AllocError>
+) -> Result<Elaborated<TypedModule>, AllocError>
     ensures { IfOk result (λ j. j ≡ typed_body tree.now number tables.now) }
 {
     let own = own_table(tree, tables);
@@ -50,7 +50,7 @@ fn typed_body(
 /// The module of a body that breaks no rule, or 60 where its storage is too large.
 fn fitted(alloc: Global, typed: &TypedModule) -> Result<Compiled, AllocError>
     ensures becomes { IfOk result (λ c. c ≡ of_fit typed.now (too_large typed.now)) }
-    ensures spelled { OnOk result (fit_spelled typed.now (too_large typed.now)) }
+    ensures encoded { OnOk result (fit_encoded typed.now (too_large typed.now)) }
 {
     match layout_of(alloc, typed)? {
         Err(pos) => Ok(Compiled::Refused(Fault { pos, number: 60 })),
@@ -70,7 +70,7 @@ fn body(
 ) -> Result<Compiled, AllocError>
     ensures becomes { IfOk result (λ c.
         c ≡ of_checked (typed_body tree.now number tables.now)) }
-    ensures spelled { OnOk result (checked_spelled (typed_body tree.now number tables.now)) }
+    ensures encoded { OnOk result (checked_encoded (typed_body tree.now number tables.now)) }
 {
     match typed_body(alloc, tree, number, tables)? {
         Err(fault) => Ok(Compiled::Refused(fault)),
@@ -80,9 +80,9 @@ fn body(
 
 /// What becomes of the module of a job, from what became of the modules that it needs: of its own definition if it is a
 /// body, and of the definitions that it imports, in this order. It is blocked where one of these is refused or blocked.
-/// Else each is checked, with its types known by the job's number, and told of where it breaks a rule. A definition gives its
-/// table. A body gives its module, which has a spelling, or 60 where its variables and texts, or a frame, are too large. The
-/// only error is that memory ran out, or that the module has no spelling.
+/// Else each is checked, with its types known by the job's number, and reported where it breaks a rule. A definition gives its
+/// table. A body gives its module, which has an encoding, or 60 where its variables and texts, or a frame, are too large. The
+/// only error is that memory ran out, or that the module has no encoding.
 #[tactic(auto, unfolding(crate::specs::Compiling::compiled))]
 pub fn compile(
     alloc: Global,
@@ -92,7 +92,7 @@ pub fn compile(
 ) -> Result<Compiled, AllocError>
     ensures becomes { IfOk result (λ c.
         c ≡ compiled tree.now number (map (λ n. n.now) needed.now)) }
-    ensures spelled { OnOk result (IsSpelled tree.now number (map (λ n. n.now) needed.now)) }
+    ensures encoded { OnOk result (IsEncoded tree.now number (map (λ n. n.now) needed.now)) }
 {
     if !are_sound(needed) {
         return Ok(Compiled::Blocked);

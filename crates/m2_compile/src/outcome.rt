@@ -5,7 +5,7 @@ ghost use Rattle.std.specs.List.{list_all};
 ghost use Rattle.m2_compile.specs.Compiling.{is_sound, table_in, tables_of};
 
 use m2_emit::ModuleBytes;
-use m2_judged::Fault;
+use m2_scopes::Fault;
 use m2_tree::Items;
 use m2_typed::{Shared, Table};
 use std::alloc::{AllocError, Global};

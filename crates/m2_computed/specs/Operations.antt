@@ -17,7 +17,7 @@ use Rattle.m2_typed.specs.declared.meaning.Value.{Value}
 use Rattle.m2_typed.specs.declared.known_types.Types.{Types}
 use Rattle.m2_typed.specs.Types.{are_same, boolean}
 use Rattle.m2_typed.specs.Chains.{linked}
-use Rattle.m2_judged.specs.Judged.{Gathers, told, told_where, both, beside, ◌▷◌}
+use Rattle.m2_scopes.specs.Elaborated.{Gathers, reported, reported_where, both, beside, ◌▷◌}
 use Rattle.m2_values.specs.declared.operand.Operand.{Operand}
 use Rattle.m2_values.specs.declared.operator.BinaryOp.{BinaryOp}
 use Rattle.m2_values.specs.declared.operator.BinaryOp.TheVariants.{Plus, Minus, Times, Over, Div, Mod, And, Or, Relation}
@@ -129,36 +129,36 @@ built t x y step.And = truth_of (linked x (link.And y))
 built t x y step.Or = truth_of (linked x (link.Or y))
 built t x y (step.Compare c) = truth_of (expr.Compare c x y)
 
-abbrev pub fitting_of : (g : Gathers) → Option TypeNo → Pos → Amount → Result (Unit {0}) g.Told
+abbrev pub fitting_of : (g : Gathers) → Option TypeNo → Pos → Amount → Result (Unit {0}) g.Reported
 fitting_of g sort at (Known a) = fitting g sort at a
 fitting_of g sort at (Run b e) = Ok tt
 
-abbrev pub divisor_of : (g : Gathers) → BinaryOp → Pos → Amount → Result (Unit {0}) g.Told
+abbrev pub divisor_of : (g : Gathers) → BinaryOp → Pos → Amount → Result (Unit {0}) g.Reported
 divisor_of g op spot (Known b) = divisor g op spot b.number
 divisor_of g op spot (Run b e) = Ok tt
 
-abbrev pub fitting_both : (g : Gathers) → BinaryOp → Pos → Option TypeNo → Pos → Amount → Pos → Amount → Result (Unit {0}) g.Told
+abbrev pub fitting_both : (g : Gathers) → BinaryOp → Pos → Option TypeNo → Pos → Amount → Pos → Amount → Result (Unit {0}) g.Reported
 fitting_both g op spot sort at a at' b =
-    told_where g (not (takes op sort)) spot 40 (beside g (divisor_of g op spot b) (beside g (fitting_of g sort at a) (fitting_of g sort at' b)))
+    reported_where g (not (takes op sort)) spot 40 (beside g (divisor_of g op spot b) (beside g (fitting_of g sort at a) (fitting_of g sort at' b)))
 
-abbrev pub stepped : (g : Gathers) → Pos → Option TypeNo → Amount → Amount → Option Step → Result Computed g.Told
-stepped g spot sort a b None = told g spot 40
+abbrev pub stepped : (g : Gathers) → Pos → Option TypeNo → Amount → Amount → Option Step → Result Computed g.Reported
+stepped g spot sort a b None = reported g spot 40
 stepped g spot sort a b (Some o) = Ok (built (or_cardinal sort) (run_of (or_cardinal sort) a) (run_of (or_cardinal sort) b) o)
 
-abbrev pub on_amounts : (g : Gathers) → BinaryOp → Pos → Pos → Amount → Pos → Amount → Option (Option TypeNo) → Result Computed g.Told
-on_amounts g op spot at a at' b None = told g spot 40
+abbrev pub on_amounts : (g : Gathers) → BinaryOp → Pos → Pos → Amount → Pos → Amount → Option (Option TypeNo) → Result Computed g.Reported
+on_amounts g op spot at a at' b None = reported g spot 40
 on_amounts g op spot at a at' b (Some sort) = fitting_both g op spot sort at a at' b ▷ λ fine. stepped g spot sort a b (step_of op)
 
 -- ---- sets
 
 -- a constant element is from 0 to 31
-abbrev pub element_fits : (g : Gathers) → Pos → Amount → Result (Unit {0}) g.Told
-element_fits g at (Known a) = told_where g (not (is_between (pos 0) a.number (pos 31))) at 52 (Ok tt)
+abbrev pub element_fits : (g : Gathers) → Pos → Amount → Result (Unit {0}) g.Reported
+element_fits g at (Known a) = reported_where g (not (is_between (pos 0) a.number (pos 31))) at 52 (Ok tt)
 element_fits g at (Run b e) = Ok tt
 
-abbrev pub member : (g : Gathers) → BinaryOp → Pos → Pos → Amount → TypedExpr → Result Computed g.Told
+abbrev pub member : (g : Gathers) → BinaryOp → Pos → Pos → Amount → TypedExpr → Result Computed g.Reported
 member g op spot at a s =
-    told_where g (not (is_in op && is_number (sort_of a))) spot 40
+    reported_where g (not (is_in op && is_number (sort_of a))) spot 40
     (element_fits g at a ▷ λ fine. Ok (truth_of (expr.In (run_of (or_cardinal (sort_of a)) a) s)))
 
 abbrev pub set_built : TypedExpr → TypedExpr → SetStep → Computed
@@ -166,24 +166,24 @@ set_built x y (set_step.Combine o) = value.Set (linked x (link.Combine o y))
 set_built x y (set_step.Compare c) = truth_of (expr.Compare c x y)
 set_built x y (set_step.Include i) = truth_of (expr.Include i x y)
 
-abbrev pub on_sets : (g : Gathers) → Pos → TypedExpr → TypedExpr → Option SetStep → Result Computed g.Told
-on_sets g spot x y None = told g spot 40
+abbrev pub on_sets : (g : Gathers) → Pos → TypedExpr → TypedExpr → Option SetStep → Result Computed g.Reported
+on_sets g spot x y None = reported g spot 40
 on_sets g spot x y (Some o) = Ok (set_built x y o)
 
 -- ---- procedures
 
-abbrev pub on_procedures : (g : Gathers) → Pos → (fit : Bool) → TypedExpr → TypedExpr → Option Comparison → Result Computed g.Told
-on_procedures g spot fit x y None = told g spot 40
-on_procedures g spot fit x y (Some c) = told_where g (not fit) spot 40 (Ok (truth_of (expr.Compare c x y)))
+abbrev pub on_procedures : (g : Gathers) → Pos → (fit : Bool) → TypedExpr → TypedExpr → Option Comparison → Result Computed g.Reported
+on_procedures g spot fit x y None = reported g spot 40
+on_procedures g spot fit x y (Some c) = reported_where g (not fit) spot 40 (Ok (truth_of (expr.Compare c x y)))
 
 -- ---- all of them, where one side is no constant
 
-abbrev pub with_scalar : (g : Gathers) → BinaryOp → Pos → Pos → Amount → Pos → Option Side → Result Computed g.Told
-with_scalar g op spot at a at' None = told g spot 40
+abbrev pub with_scalar : (g : Gathers) → BinaryOp → Pos → Pos → Amount → Pos → Option Side → Result Computed g.Reported
+with_scalar g op spot at a at' None = reported g spot 40
 with_scalar g op spot at a at' (Some (side.Scalar b)) = on_amounts g op spot at a at' b (common (sort_of a) (sort_of b))
 with_scalar g op spot at a at' (Some (side.Set s)) = member g op spot at a s
-with_scalar g op spot at a at' (Some (side.Routine t e)) = told g spot 40
-with_scalar g op spot at a at' (Some (side.Procedure p)) = told g spot 40
+with_scalar g op spot at a at' (Some (side.Routine t e)) = reported g spot 40
+with_scalar g op spot at a at' (Some (side.Procedure p)) = reported g spot 40
 
 abbrev pub set_in : Option Side → Option TypedExpr
 set_in None = None
@@ -192,8 +192,8 @@ set_in (Some (side.Set s)) = Some s
 set_in (Some (side.Routine t e)) = None
 set_in (Some (side.Procedure p)) = None
 
-abbrev pub with_set : (g : Gathers) → BinaryOp → Pos → TypedExpr → Option TypedExpr → Result Computed g.Told
-with_set g op spot x None = told g spot 40
+abbrev pub with_set : (g : Gathers) → BinaryOp → Pos → TypedExpr → Option TypedExpr → Result Computed g.Reported
+with_set g op spot x None = reported g spot 40
 with_set g op spot x (Some s) = on_sets g spot x s (set_step_of op)
 
 -- beside a value of a procedure type one of the same type, or a procedure whose heading agrees
@@ -211,12 +211,12 @@ routine_of types p (Some (side.Set s)) = None
 routine_of types p (Some (side.Routine t e)) = Some (headings_agree types t p.heading, e)
 routine_of types p (Some (side.Procedure q)) = None
 
-abbrev pub with_partner : (g : Gathers) → Pos → TypedExpr → Option Comparison → Option (Bool × TypedExpr) → Result Computed g.Told
-with_partner g spot x c None = told g spot 40
+abbrev pub with_partner : (g : Gathers) → Pos → TypedExpr → Option Comparison → Option (Bool × TypedExpr) → Result Computed g.Reported
+with_partner g spot x c None = reported g spot 40
 with_partner g spot x c (Some p) = on_procedures g spot p.0 x p.1 c
 
-abbrev pub between : (g : Gathers) → Types → BinaryOp → Pos → Pos → Option Side → Pos → Option Side → Result Computed g.Told
-between g types op spot at None at' y = told g spot 40
+abbrev pub between : (g : Gathers) → Types → BinaryOp → Pos → Pos → Option Side → Pos → Option Side → Result Computed g.Reported
+between g types op spot at None at' y = reported g spot 40
 between g types op spot at (Some (side.Scalar a)) at' y = with_scalar g op spot at a at' y
 between g types op spot at (Some (side.Set e)) at' y = with_set g op spot e (set_in y)
 between g types op spot at (Some (side.Routine t e)) at' y = with_partner g spot e (equality_of op) (partner_of types t y)
@@ -224,17 +224,17 @@ between g types op spot at (Some (side.Procedure p)) at' y = with_partner g spot
 
 -- ---- what is made of two constants is a constant
 
-abbrev pub folded : (g : Gathers) → BinaryOp → Pos → Pos → Operand → Pos → Operand → Result Computed g.Told
+abbrev pub folded : (g : Gathers) → BinaryOp → Pos → Pos → Operand → Pos → Operand → Result Computed g.Reported
 folded g op spot at a at' b = of_value (binary g op spot at (Some a) at' (Some b))
 
-abbrev pub by_known : (g : Gathers) → Types → BinaryOp → Pos → Pos → Computed → Pos → Computed → Option Operand → Option Operand → Result Computed g.Told
+abbrev pub by_known : (g : Gathers) → Types → BinaryOp → Pos → Pos → Computed → Pos → Computed → Option Operand → Option Operand → Result Computed g.Reported
 by_known g types op spot at x at' y None b = between g types op spot at (side_of x) at' (side_of y)
 by_known g types op spot at x at' y (Some a) None = between g types op spot at (side_of x) at' (side_of y)
 by_known g types op spot at x at' y (Some a) (Some b) = folded g op spot at a at' b
 
-abbrev pub operated : (g : Gathers) → Types → BinaryOp → Pos → Pos → Computed → Pos → Computed → Result Computed g.Told
+abbrev pub operated : (g : Gathers) → Types → BinaryOp → Pos → Pos → Computed → Pos → Computed → Result Computed g.Reported
 operated g types op spot at x at' y = by_known g types op spot at x at' y (known_of x) (known_of y)
 
 -- an operator at a place, between two parts at theirs
-abbrev pub combined : (g : Gathers) → Types → BinaryOp → Pos → Pos → Result Computed g.Told → Pos → Result Computed g.Told → Result Computed g.Told
+abbrev pub combined : (g : Gathers) → Types → BinaryOp → Pos → Pos → Result Computed g.Reported → Pos → Result Computed g.Reported → Result Computed g.Reported
 combined g types op spot at x at' y = both g x y ▷ λ p. operated g types op spot at p.0 at' p.1

@@ -10,7 +10,7 @@ use Rattle.m2_typed.specs.declared.meaning.Value.TheVariants as constant
 use Rattle.m2_typed.specs.declared.known_types.Types.{Types}
 use Rattle.m2_typed.specs.Types.{are_same, is_numeric, char}
 use Rattle.m2_typed.specs.Known.{scalar_at}
-use Rattle.m2_judged.specs.Judged.{Gathers, told, told_where, ◌▷◌}
+use Rattle.m2_scopes.specs.Elaborated.{Gathers, reported, reported_where, ◌▷◌}
 use Rattle.m2_values.specs.declared.operand.Ordinal.{Ordinal}
 use Rattle.m2_values.specs.Numbers.{is_between}
 use Rattle.m2_computed.specs.declared.class.Class.{Class}
@@ -38,45 +38,45 @@ sort_suits asked None = is_numeric asked
 sort_suits asked (Some base) = bases_suit asked base
 
 -- a constant is one of the type
-abbrev pub known_suited : (g : Gathers) → ℕ → TypeNo → Range → Pos → Ordinal → Result TypedExpr g.Told
-known_suited g number t s at a = told_where g (not (sort_suits s.base a.sort)) at number (told_where g (not (is_between s.low a.number s.high)) at 52 (Ok (expr.Constant t a.number)))
+abbrev pub known_suited : (g : Gathers) → ℕ → TypeNo → Range → Pos → Ordinal → Result TypedExpr g.Reported
+known_suited g number t s at a = reported_where g (not (sort_suits s.base a.sort)) at number (reported_where g (not (is_between s.low a.number s.high)) at 52 (Ok (expr.Constant t a.number)))
 
-abbrev pub run_suited : (g : Gathers) → ℕ → Range → Pos → TypeNo → TypedExpr → Result TypedExpr g.Told
-run_suited g number s at b e = told_where g (not (bases_suit s.base b)) at number (Ok e)
+abbrev pub run_suited : (g : Gathers) → ℕ → Range → Pos → TypeNo → TypedExpr → Result TypedExpr g.Reported
+run_suited g number s at b e = reported_where g (not (bases_suit s.base b)) at number (Ok e)
 
-abbrev pub scalar_suited : (g : Gathers) → ℕ → TypeNo → Range → Pos → Option Side → Result TypedExpr g.Told
-scalar_suited g number t s at None = told g at number
+abbrev pub scalar_suited : (g : Gathers) → ℕ → TypeNo → Range → Pos → Option Side → Result TypedExpr g.Reported
+scalar_suited g number t s at None = reported g at number
 scalar_suited g number t s at (Some (side.Scalar (Known a))) = known_suited g number t s at a
 scalar_suited g number t s at (Some (side.Scalar (Run b e))) = run_suited g number s at b e
-scalar_suited g number t s at (Some (side.Set e)) = told g at number
-scalar_suited g number t s at (Some (side.Routine u e)) = told g at number
-scalar_suited g number t s at (Some (side.Procedure p)) = told g at number
+scalar_suited g number t s at (Some (side.Set e)) = reported g at number
+scalar_suited g number t s at (Some (side.Routine u e)) = reported g at number
+scalar_suited g number t s at (Some (side.Procedure p)) = reported g at number
 
 -- ---- sets and procedures
 
-abbrev pub set_suited : (g : Gathers) → ℕ → Pos → Option Side → Result TypedExpr g.Told
-set_suited g number at None = told g at number
-set_suited g number at (Some (side.Scalar a)) = told g at number
+abbrev pub set_suited : (g : Gathers) → ℕ → Pos → Option Side → Result TypedExpr g.Reported
+set_suited g number at None = reported g at number
+set_suited g number at (Some (side.Scalar a)) = reported g at number
 set_suited g number at (Some (side.Set e)) = Ok e
-set_suited g number at (Some (side.Routine u e)) = told g at number
-set_suited g number at (Some (side.Procedure p)) = told g at number
+set_suited g number at (Some (side.Routine u e)) = reported g at number
+set_suited g number at (Some (side.Procedure p)) = reported g at number
 
 -- a value of the type, or a procedure whose heading agrees
-abbrev pub procedure_suited : (g : Gathers) → ℕ → Types → TypeNo → Pos → Option Side → Result TypedExpr g.Told
-procedure_suited g number types t at None = told g at number
-procedure_suited g number types t at (Some (side.Scalar a)) = told g at number
-procedure_suited g number types t at (Some (side.Set e)) = told g at number
-procedure_suited g number types t at (Some (side.Routine u e)) = told_where g (not (are_same u t)) at number (Ok e)
-procedure_suited g number types t at (Some (side.Procedure p)) = told_where g (not (headings_agree types t p.heading)) at number (Ok (expr.Procedure p))
+abbrev pub procedure_suited : (g : Gathers) → ℕ → Types → TypeNo → Pos → Option Side → Result TypedExpr g.Reported
+procedure_suited g number types t at None = reported g at number
+procedure_suited g number types t at (Some (side.Scalar a)) = reported g at number
+procedure_suited g number types t at (Some (side.Set e)) = reported g at number
+procedure_suited g number types t at (Some (side.Routine u e)) = reported_where g (not (are_same u t)) at number (Ok e)
+procedure_suited g number types t at (Some (side.Procedure p)) = reported_where g (not (headings_agree types t p.heading)) at number (Ok (expr.Procedure p))
 
-abbrev pub value_in : (g : Gathers) → ℕ → Types → TypeNo → Pos → Option Side → Class → Result TypedExpr g.Told
+abbrev pub value_in : (g : Gathers) → ℕ → Types → TypeNo → Pos → Option Side → Class → Result TypedExpr g.Reported
 value_in g number types t at x (class.Scalar s) = scalar_suited g number t s at x
 value_in g number types t at x class.Set = set_suited g number at x
 value_in g number types t at x class.Procedure = procedure_suited g number types t at x
-value_in g number types t at x class.Whole = told g at number
+value_in g number types t at x class.Whole = reported g at number
 
 -- a value for a place of this type, which is no array and no record
-abbrev pub value_suited : (g : Gathers) → ℕ → Types → TypeNo → Pos → Computed → Result TypedExpr g.Told
+abbrev pub value_suited : (g : Gathers) → ℕ → Types → TypeNo → Pos → Computed → Result TypedExpr g.Reported
 value_suited g number types t at x = value_in g number types t at (side_of x) (class_at types t)
 
 -- ---- strings, arrays and records
@@ -94,31 +94,31 @@ text_fits_in types n (Some a) = are_same a.1 char && text_within n (scalar_at ty
 abbrev pub text_fits : Types → TypeNo → (length : ℕ) → Bool
 text_fits types t n = text_fits_in types n (array_at types t)
 
-abbrev pub text_suited : (g : Gathers) → ℕ → Types → TypeNo → Pos → Value → Result Accepted g.Told
-text_suited g number types t at (constant.Number n) = told g at number
-text_suited g number types t at (constant.Scalar s) = told g at number
-text_suited g number types t at (constant.Set bits) = told g at number
-text_suited g number types t at (constant.Text text) = told_where g (not (text_fits types t (length text))) at number (Ok (suits.Text text))
+abbrev pub text_suited : (g : Gathers) → ℕ → Types → TypeNo → Pos → Value → Result Accepted g.Reported
+text_suited g number types t at (constant.Number n) = reported g at number
+text_suited g number types t at (constant.Scalar s) = reported g at number
+text_suited g number types t at (constant.Set bits) = reported g at number
+text_suited g number types t at (constant.Text text) = reported_where g (not (text_fits types t (length text))) at number (Ok (suits.Text text))
 
 -- one of the type, or a string that fits
-abbrev pub whole_suited : (g : Gathers) → ℕ → Types → TypeNo → Pos → Computed → Result Accepted g.Told
+abbrev pub whole_suited : (g : Gathers) → ℕ → Types → TypeNo → Pos → Computed → Result Accepted g.Reported
 whole_suited g number types t at (value.Constant v) = text_suited g number types t at v
-whole_suited g number types t at (value.Whole u d) = told_where g (not (are_same u t)) at number (Ok (suits.Whole d))
-whole_suited g number types t at (value.Scalar u b e) = told g at number
-whole_suited g number types t at (value.Set e) = told g at number
-whole_suited g number types t at (value.Routine u e) = told g at number
-whole_suited g number types t at (value.Procedure p) = told g at number
-whole_suited g number types t at value.Untaken = told g at number
+whole_suited g number types t at (value.Whole u d) = reported_where g (not (are_same u t)) at number (Ok (suits.Whole d))
+whole_suited g number types t at (value.Scalar u b e) = reported g at number
+whole_suited g number types t at (value.Set e) = reported g at number
+whole_suited g number types t at (value.Routine u e) = reported g at number
+whole_suited g number types t at (value.Procedure p) = reported g at number
+whole_suited g number types t at value.Untaken = reported g at number
 
 abbrev pub of_expr : {T : Type 0} → Result TypedExpr T → Result Accepted T
 of_expr e = e ▷ λ x. Ok (suits.Value x)
 
-abbrev pub suited_in : (g : Gathers) → ℕ → Types → TypeNo → Pos → Computed → Class → Result Accepted g.Told
+abbrev pub suited_in : (g : Gathers) → ℕ → Types → TypeNo → Pos → Computed → Class → Result Accepted g.Reported
 suited_in g number types t at x (class.Scalar s) = of_expr (value_suited g number types t at x)
 suited_in g number types t at x class.Set = of_expr (value_suited g number types t at x)
 suited_in g number types t at x class.Procedure = of_expr (value_suited g number types t at x)
 suited_in g number types t at x class.Whole = whole_suited g number types t at x
 
 -- a value for a place of this type
-abbrev pub suited : (g : Gathers) → ℕ → Types → TypeNo → Pos → Computed → Result Accepted g.Told
+abbrev pub suited : (g : Gathers) → ℕ → Types → TypeNo → Pos → Computed → Result Accepted g.Reported
 suited g number types t at x = suited_in g number types t at x (class_at types t)

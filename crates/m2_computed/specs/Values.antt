@@ -18,7 +18,7 @@ use Rattle.m2_typed.specs.declared.meaning.Meaning.{Meaning}
 use Rattle.m2_typed.specs.declared.meaning.Meaning.TheVariants as meaning
 use Rattle.m2_typed.specs.declared.known_types.Types.{Types}
 use Rattle.m2_typed.specs.Chains.{behind, rooted}
-use Rattle.m2_judged.specs.Judged.{Gathers, told}
+use Rattle.m2_scopes.specs.Elaborated.{Gathers, reported}
 use Rattle.m2_computed.specs.declared.class.Class.{Class}
 use Rattle.m2_computed.specs.declared.class.Class.TheVariants as class
 use Rattle.m2_computed.specs.declared.computed.Computed.{Computed}
@@ -45,7 +45,7 @@ opened_by f = designated.Variable f.of (behind (rooted (root.With f.with)) (part
 abbrev pub nested_by : (level : ℕ) → NestedProcedure → LocalProcedure
 nested_by level p = record { up = level - p.level; number = p.number; heading = p.heading }
 
-abbrev pub designated_by : (g : Gathers) → (level : ℕ) → Pos → Meaning → Result Designated g.Told
+abbrev pub designated_by : (g : Gathers) → (level : ℕ) → Pos → Meaning → Result Designated g.Reported
 designated_by g level at (meaning.Constant v) = Ok (designated.Value (value.Constant v))
 designated_by g level at (meaning.Type t n) = Ok (designated.Type t)
 designated_by g level at (meaning.Variable v) = Ok (designated.Variable v.of (rooted (root.Global v)))
@@ -53,7 +53,7 @@ designated_by g level at (meaning.Local v) = Ok (local_by level v v.kind)
 designated_by g level at (meaning.Field f) = Ok (opened_by f)
 designated_by g level at (meaning.Procedure p) = Ok (designated.Procedure p)
 designated_by g level at (meaning.LocalProcedure p) = Ok (designated.Nested (nested_by level p))
-designated_by g level at meaning.Ahead = told g at 30
+designated_by g level at meaning.Ahead = reported g at 30
 designated_by g level at (meaning.Standard f) = Ok (designated.Standard f)
 designated_by g level at (meaning.Module k) = Ok (designated.Module k)
 
@@ -80,12 +80,12 @@ abbrev pub loaded : Types → TypeNo → Place → Computed
 loaded types t d = loaded_as t d (class_at types t)
 
 -- types and modules are no values, and neither are standard procedures and procedures of procedures
-abbrev pub taken : (g : Gathers) → Types → Pos → Designated → Result Computed g.Told
+abbrev pub taken : (g : Gathers) → Types → Pos → Designated → Result Computed g.Reported
 taken g types at (designated.Value x) = Ok x
 taken g types at (designated.Variable t d) = Ok (loaded types t d)
 taken g types at (designated.Open t slot) = Ok value.Untaken
-taken g types at (designated.Type t) = told g at 40
+taken g types at (designated.Type t) = reported g at 40
 taken g types at (designated.Procedure p) = Ok (value.Procedure p)
-taken g types at (designated.Nested p) = told g at 53
-taken g types at (designated.Standard f) = told g at 53
-taken g types at (designated.Module k) = told g at 40
+taken g types at (designated.Nested p) = reported g at 53
+taken g types at (designated.Standard f) = reported g at 53
+taken g types at (designated.Module k) = reported g at 40

@@ -1,11 +1,11 @@
 //! What names stand for in bodies, and what is taken as a value.
 
 ghost use Rattle.std.specs.Prelude.{◌≡◌, IfOk};
-ghost use Rattle.m2_judged.specs.Judged.{least};
+ghost use Rattle.m2_scopes.specs.Elaborated.{least};
 ghost use Rattle.m2_computed.specs.Values.{slot_of, local_by, opened_by, nested_by, designated_by, given, loaded, taken};
 
 use crate::class::{Class, class_of};
-use m2_judged::{Judged, told};
+use m2_scopes::{Elaborated, reported};
 use m2_tree::Pos;
 use m2_typed::{
     Component, LocalKind, LocalProcedure, LocalVariable, Meaning, NestedProcedure, OpenedField,
@@ -93,7 +93,7 @@ pub fn designated_by(
     level: usize,
     at: Pos,
     meaning: Meaning,
-) -> Result<Judged<Designated>, AllocError>
+) -> Result<Elaborated<Designated>, AllocError>
     ensures { IfOk result (λ d. d ≡ designated_by least level at meaning) }
 {
     match meaning {
@@ -109,7 +109,7 @@ pub fn designated_by(
         Meaning::LocalProcedure(procedure) => {
             Ok(Ok(Designated::Nested(nested_by(level, procedure))))
         }
-        Meaning::Ahead => Ok(told(at, 30)),
+        Meaning::Ahead => Ok(reported(at, 30)),
         Meaning::Standard(standard) => Ok(Ok(Designated::Standard(standard))),
         Meaning::Module(place) => Ok(Ok(Designated::Module(place))),
     }
@@ -141,17 +141,17 @@ pub fn loaded(types: &Types, t: TypeNo, place: Place) -> Computed
 
 /// What stands at a place, taken as a value. A type and a module are none: 40. A standard procedure and a procedure
 /// of a procedure are none: 53.
-pub fn taken(types: &Types, at: Pos, designated: Designated) -> Judged<Computed>
+pub fn taken(types: &Types, at: Pos, designated: Designated) -> Elaborated<Computed>
     ensures { result ≡ taken least types.now at designated }
 {
     match designated {
         Designated::Value(value) => Ok(value),
         Designated::Variable(t, place) => Ok(loaded(types, t, place)),
         Designated::Open(_, _) => Ok(Computed::Untaken),
-        Designated::Type(_) => told(at, 40),
+        Designated::Type(_) => reported(at, 40),
         Designated::Procedure(procedure) => Ok(Computed::Procedure(procedure)),
-        Designated::Nested(_) => told(at, 53),
-        Designated::Standard(_) => told(at, 53),
-        Designated::Module(_) => told(at, 40),
+        Designated::Nested(_) => reported(at, 53),
+        Designated::Standard(_) => reported(at, 53),
+        Designated::Module(_) => reported(at, 40),
     }
 }

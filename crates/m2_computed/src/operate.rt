@@ -1,7 +1,7 @@
 //! What operators make of values.
 
 ghost use Rattle.std.specs.Prelude.{◌≡◌, Ok, IfOk};
-ghost use Rattle.m2_judged.specs.Judged.{least, ◌▷◌};
+ghost use Rattle.m2_scopes.specs.Elaborated.{least, ◌▷◌};
 ghost use Rattle.m2_values.specs.Common.{common};
 ghost use Rattle.m2_computed.specs.Sides.{sort_of};
 ghost use Rattle.m2_computed.specs.Operations.{relation_step, step_of, relation_set_step, set_step_of, equality_of, is_in, built, fitting_of, divisor_of, fitting_both, stepped, on_amounts, element_fits, member, set_built, on_sets, on_procedures, with_scalar, set_in, with_set, partner_of, routine_of, with_partner, between, folded, by_known, operated, combined};
@@ -10,7 +10,7 @@ use crate::agree::headings_agree;
 use crate::computed::Computed;
 use crate::pieces::{boxed, of_value, truth_of};
 use crate::side::{Amount, Side, known_of, or_cardinal, run_of, side_of, sort_of};
-use m2_judged::{Judged, beside, both, told};
+use m2_scopes::{Elaborated, beside, both, reported};
 use m2_tree::{Pos, RelOp};
 use m2_typed::{
     Arithmetic, Comparison, Inclusion, Link, Procedure, SetOperator, TypeNo, TypedExpr, Types,
@@ -151,7 +151,7 @@ fn built(
     }
 }
 
-fn fitting_of(sort: Option<TypeNo>, at: Pos, a: &Amount) -> Judged<()>
+fn fitting_of(sort: Option<TypeNo>, at: Pos, a: &Amount) -> Elaborated<()>
     ensures { result ≡ fitting_of least sort at a.now }
 {
     match a {
@@ -160,7 +160,7 @@ fn fitting_of(sort: Option<TypeNo>, at: Pos, a: &Amount) -> Judged<()>
     }
 }
 
-fn divisor_of(op: BinaryOp, spot: Pos, b: &Amount) -> Judged<()>
+fn divisor_of(op: BinaryOp, spot: Pos, b: &Amount) -> Elaborated<()>
     ensures { result ≡ divisor_of least op spot b.now }
 {
     match b {
@@ -177,11 +177,11 @@ fn fitting_both(
     a: &Amount,
     other_at: Pos,
     b: &Amount,
-) -> Judged<()>
+) -> Elaborated<()>
     ensures { result ≡ fitting_both least op spot sort at a.now other_at b.now }
 {
     if !takes(op, sort) {
-        return told(spot, 40);
+        return reported(spot, 40);
     }
     let fit = beside(fitting_of(sort, at, a), fitting_of(sort, other_at, b));
     beside(divisor_of(op, spot, b), fit)
@@ -194,11 +194,11 @@ fn stepped(
     a: Amount,
     b: Amount,
     step: Option<Step>,
-) -> Result<Judged<Computed>, AllocError>
+) -> Result<Elaborated<Computed>, AllocError>
     ensures { IfOk result (λ v. v ≡ stepped least spot sort a b step) }
 {
     match step {
-        None => Ok(told(spot, 40)),
+        None => Ok(reported(spot, 40)),
         Some(step) => {
             let t = or_cardinal(sort);
             Ok(Ok(built(alloc, step, t, run_of(t, a), run_of(t, b))?))
@@ -215,12 +215,12 @@ fn on_amounts(
     a: Amount,
     other_at: Pos,
     b: Amount,
-) -> Result<Judged<Computed>, AllocError>
+) -> Result<Elaborated<Computed>, AllocError>
     ensures { IfOk result
         (λ v. v ≡ on_amounts least op spot at a other_at b (common (sort_of a) (sort_of b))) }
 {
     match common(sort_of(&a), sort_of(&b)) {
-        None => Ok(told(spot, 40)),
+        None => Ok(reported(spot, 40)),
         Some(sort) => match fitting_both(op, spot, sort, at, &a, other_at, &b) {
             Err(fault) => Ok(Err(fault)),
             Ok(()) => stepped(alloc, spot, sort, a, b, step_of(op)),
@@ -229,13 +229,13 @@ fn on_amounts(
 }
 
 /// The rule that a constant element is from 0 to 31.
-pub fn element_fits(at: Pos, a: &Amount) -> Judged<()>
+pub fn element_fits(at: Pos, a: &Amount) -> Elaborated<()>
     ensures { result ≡ element_fits least at a.now }
 {
     match a {
         Amount::Known(a) => {
             if !(0 <= a.number && a.number <= 31) {
-                return told(at, 52);
+                return reported(at, 52);
             }
             Ok(())
         }
@@ -251,12 +251,12 @@ fn member(
     at: Pos,
     a: Amount,
     set: TypedExpr,
-) -> Result<Judged<Computed>, AllocError>
+) -> Result<Elaborated<Computed>, AllocError>
     ensures { IfOk result (λ v. v ≡ member least op spot at a set) }
 {
     let sort = sort_of(&a);
     if !(is_in(op) && is_number(sort)) {
-        return Ok(told(spot, 40));
+        return Ok(reported(spot, 40));
     }
     match element_fits(at, &a) {
         Err(fault) => Ok(Err(fault)),
@@ -297,11 +297,11 @@ fn on_sets(
     x: TypedExpr,
     y: TypedExpr,
     step: Option<SetStep>,
-) -> Result<Judged<Computed>, AllocError>
+) -> Result<Elaborated<Computed>, AllocError>
     ensures { IfOk result (λ v. v ≡ on_sets least spot x y step) }
 {
     match step {
-        None => Ok(told(spot, 40)),
+        None => Ok(reported(spot, 40)),
         Some(step) => Ok(Ok(set_built(alloc, step, x, y)?)),
     }
 }
@@ -314,14 +314,14 @@ fn on_procedures(
     x: TypedExpr,
     y: TypedExpr,
     comparison: Option<Comparison>,
-) -> Result<Judged<Computed>, AllocError>
+) -> Result<Elaborated<Computed>, AllocError>
     ensures { IfOk result (λ v. v ≡ on_procedures least spot fit x y comparison) }
 {
     match comparison {
-        None => Ok(told(spot, 40)),
+        None => Ok(reported(spot, 40)),
         Some(comparison) => {
             if !fit {
-                return Ok(told(spot, 40));
+                return Ok(reported(spot, 40));
             }
             let (first, second) = boxed(alloc, x, y)?;
             Ok(Ok(truth_of(TypedExpr::Compare(comparison, first, second))))
@@ -337,15 +337,15 @@ fn with_scalar(
     a: Amount,
     other_at: Pos,
     y: Option<Side>,
-) -> Result<Judged<Computed>, AllocError>
+) -> Result<Elaborated<Computed>, AllocError>
     ensures { IfOk result (λ v. v ≡ with_scalar least op spot at a other_at y) }
 {
     match y {
-        None => Ok(told(spot, 40)),
+        None => Ok(reported(spot, 40)),
         Some(Side::Scalar(b)) => on_amounts(alloc, op, spot, at, a, other_at, b),
         Some(Side::Set(set)) => member(alloc, op, spot, at, a, set),
-        Some(Side::Routine(_, _)) => Ok(told(spot, 40)),
-        Some(Side::Procedure(_)) => Ok(told(spot, 40)),
+        Some(Side::Routine(_, _)) => Ok(reported(spot, 40)),
+        Some(Side::Procedure(_)) => Ok(reported(spot, 40)),
     }
 }
 
@@ -368,11 +368,11 @@ fn with_set(
     spot: Pos,
     x: TypedExpr,
     y: Option<TypedExpr>,
-) -> Result<Judged<Computed>, AllocError>
+) -> Result<Elaborated<Computed>, AllocError>
     ensures { IfOk result (λ v. v ≡ with_set least op spot x y) }
 {
     match y {
-        None => Ok(told(spot, 40)),
+        None => Ok(reported(spot, 40)),
         Some(set) => on_sets(alloc, spot, x, set, set_step_of(op)),
     }
 }
@@ -412,11 +412,11 @@ fn with_partner(
     x: TypedExpr,
     comparison: Option<Comparison>,
     partner: Option<(bool, TypedExpr)>,
-) -> Result<Judged<Computed>, AllocError>
+) -> Result<Elaborated<Computed>, AllocError>
     ensures { IfOk result (λ v. v ≡ with_partner least spot x comparison partner) }
 {
     match partner {
-        None => Ok(told(spot, 40)),
+        None => Ok(reported(spot, 40)),
         Some((fit, y)) => on_procedures(alloc, spot, fit, x, y, comparison),
     }
 }
@@ -431,11 +431,11 @@ fn between(
     x: Option<Side>,
     other_at: Pos,
     y: Option<Side>,
-) -> Result<Judged<Computed>, AllocError>
+) -> Result<Elaborated<Computed>, AllocError>
     ensures { IfOk result (λ v. v ≡ between least types.now op spot at x other_at y) }
 {
     match x {
-        None => Ok(told(spot, 40)),
+        None => Ok(reported(spot, 40)),
         Some(Side::Scalar(a)) => with_scalar(alloc, op, spot, at, a, other_at, y),
         Some(Side::Set(e)) => with_set(alloc, op, spot, e, set_in(y)),
         Some(Side::Routine(t, e)) => {
@@ -461,7 +461,7 @@ fn folded(
     a: Operand,
     other_at: Pos,
     b: Operand,
-) -> Judged<Computed>
+) -> Elaborated<Computed>
     ensures { result ≡ folded least op spot at a other_at b }
 {
     of_value(binary(op, spot, at, Some(a), other_at, Some(b)))
@@ -477,7 +477,7 @@ fn operated(
     x: Computed,
     other_at: Pos,
     y: Computed,
-) -> Result<Judged<Computed>, AllocError>
+) -> Result<Elaborated<Computed>, AllocError>
     ensures { IfOk result (λ v. v ≡ operated least types.now op spot at x other_at y) }
 {
     match known_of(&x) {
@@ -498,10 +498,10 @@ pub fn combined(
     op: BinaryOp,
     spot: Pos,
     at: Pos,
-    x: Judged<Computed>,
+    x: Elaborated<Computed>,
     other_at: Pos,
-    y: Judged<Computed>,
-) -> Result<Judged<Computed>, AllocError>
+    y: Elaborated<Computed>,
+) -> Result<Elaborated<Computed>, AllocError>
     ensures { IfOk result (λ v. v ≡ combined least types.now op spot at x other_at y) }
 {
     match both(x, y) {

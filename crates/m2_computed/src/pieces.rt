@@ -4,13 +4,13 @@ ghost use Rattle.std.specs.Prelude.{◌≡◌, IfOk};
 ghost use Rattle.m2_computed.specs.Operations.{of_value, truth_of};
 
 use crate::computed::Computed;
-use m2_judged::Judged;
+use m2_scopes::Elaborated;
 use m2_tree::Boxed;
 use m2_typed::{BOOLEAN, TypedExpr, Value};
 use std::alloc::{AllocError, Global};
 
 /// A constant as a value.
-pub fn of_value(value: Judged<Value>) -> Judged<Computed>
+pub fn of_value(value: Elaborated<Value>) -> Elaborated<Computed>
     ensures { result ≡ of_value value }
 {
     match value {

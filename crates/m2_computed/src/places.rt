@@ -1,14 +1,14 @@
 //! What places take.
 
 ghost use Rattle.std.specs.Prelude.{◌≡◌, length, IfOk};
-ghost use Rattle.m2_judged.specs.Judged.{least};
+ghost use Rattle.m2_scopes.specs.Elaborated.{least};
 ghost use Rattle.m2_computed.specs.Suits.{bases_suit, sort_suits, known_suited, run_suited, scalar_suited, set_suited, procedure_suited, value_suited, text_within, text_fits_in, text_fits, text_suited, whole_suited, of_expr, suited};
 
 use crate::agree::headings_agree;
 use crate::class::{Class, array_of, class_of};
 use crate::computed::Computed;
 use crate::side::{Amount, Side, side_of};
-use m2_judged::{Judged, told};
+use m2_scopes::{Elaborated, reported};
 use m2_tree::{Pos, Quoted};
 use m2_typed::{
     CHAR, Place, Scalar, Shared, TypeNo, TypedExpr, Types, Value, are_same, is_numeric, scalar_of,
@@ -43,23 +43,35 @@ pub fn sort_suits(asked: TypeNo, sort: Option<TypeNo>) -> bool
     }
 }
 
-fn known_suited(number: u32, t: TypeNo, scalar: Scalar, at: Pos, a: Ordinal) -> Judged<TypedExpr>
+fn known_suited(
+    number: u32,
+    t: TypeNo,
+    scalar: Scalar,
+    at: Pos,
+    a: Ordinal,
+) -> Elaborated<TypedExpr>
     ensures { result ≡ known_suited least number t scalar at a }
 {
     if !sort_suits(scalar.base, a.sort) {
-        return told(at, number);
+        return reported(at, number);
     }
     if !(scalar.low <= a.number && a.number <= scalar.high) {
-        return told(at, 52);
+        return reported(at, 52);
     }
     Ok(TypedExpr::Constant(t, a.number))
 }
 
-fn run_suited(number: u32, scalar: Scalar, at: Pos, base: TypeNo, e: TypedExpr) -> Judged<TypedExpr>
+fn run_suited(
+    number: u32,
+    scalar: Scalar,
+    at: Pos,
+    base: TypeNo,
+    e: TypedExpr,
+) -> Elaborated<TypedExpr>
     ensures { result ≡ run_suited least number scalar at base e }
 {
     if !bases_suit(scalar.base, base) {
-        return told(at, number);
+        return reported(at, number);
     }
     Ok(e)
 }
@@ -70,28 +82,28 @@ fn scalar_suited(
     scalar: Scalar,
     at: Pos,
     x: Option<Side>,
-) -> Judged<TypedExpr>
+) -> Elaborated<TypedExpr>
     ensures { result ≡ scalar_suited least number t scalar at x }
 {
     match x {
-        None => told(at, number),
+        None => reported(at, number),
         Some(Side::Scalar(Amount::Known(a))) => known_suited(number, t, scalar, at, a),
         Some(Side::Scalar(Amount::Run(base, e))) => run_suited(number, scalar, at, base, e),
-        Some(Side::Set(_)) => told(at, number),
-        Some(Side::Routine(_, _)) => told(at, number),
-        Some(Side::Procedure(_)) => told(at, number),
+        Some(Side::Set(_)) => reported(at, number),
+        Some(Side::Routine(_, _)) => reported(at, number),
+        Some(Side::Procedure(_)) => reported(at, number),
     }
 }
 
-fn set_suited(number: u32, at: Pos, x: Option<Side>) -> Judged<TypedExpr>
+fn set_suited(number: u32, at: Pos, x: Option<Side>) -> Elaborated<TypedExpr>
     ensures { result ≡ set_suited least number at x }
 {
     match x {
-        None => told(at, number),
-        Some(Side::Scalar(_)) => told(at, number),
+        None => reported(at, number),
+        Some(Side::Scalar(_)) => reported(at, number),
         Some(Side::Set(e)) => Ok(e),
-        Some(Side::Routine(_, _)) => told(at, number),
-        Some(Side::Procedure(_)) => told(at, number),
+        Some(Side::Routine(_, _)) => reported(at, number),
+        Some(Side::Procedure(_)) => reported(at, number),
     }
 }
 
@@ -101,22 +113,22 @@ fn procedure_suited(
     t: TypeNo,
     at: Pos,
     x: Option<Side>,
-) -> Judged<TypedExpr>
+) -> Elaborated<TypedExpr>
     ensures { result ≡ procedure_suited least number types.now t at x }
 {
     match x {
-        None => told(at, number),
-        Some(Side::Scalar(_)) => told(at, number),
-        Some(Side::Set(_)) => told(at, number),
+        None => reported(at, number),
+        Some(Side::Scalar(_)) => reported(at, number),
+        Some(Side::Set(_)) => reported(at, number),
         Some(Side::Routine(u, e)) => {
             if !are_same(u, t) {
-                return told(at, number);
+                return reported(at, number);
             }
             Ok(e)
         }
         Some(Side::Procedure(procedure)) => {
             if !headings_agree(types, t, procedure.heading) {
-                return told(at, number);
+                return reported(at, number);
             }
             Ok(TypedExpr::Procedure(procedure))
         }
@@ -131,14 +143,14 @@ pub fn value_suited(
     t: TypeNo,
     at: Pos,
     x: Computed,
-) -> Judged<TypedExpr>
+) -> Elaborated<TypedExpr>
     ensures { result ≡ value_suited least number types.now t at x }
 {
     match class_of(types, t) {
         Class::Scalar(scalar) => scalar_suited(number, t, scalar, at, side_of(x)),
         Class::Set => set_suited(number, at, side_of(x)),
         Class::Procedure => procedure_suited(number, types, t, at, side_of(x)),
-        Class::Whole => told(at, number),
+        Class::Whole => reported(at, number),
     }
 }
 
@@ -172,42 +184,42 @@ pub fn text_fits(types: &Types, t: TypeNo, length: usize) -> bool
     text_fits_in(types, length, array_of(types, t))
 }
 
-fn text_suited(number: u32, types: &Types, t: TypeNo, at: Pos, value: Value) -> Judged<Accepted>
+fn text_suited(number: u32, types: &Types, t: TypeNo, at: Pos, value: Value) -> Elaborated<Accepted>
     ensures { result ≡ text_suited least number types.now t at value }
 {
     match value {
-        Value::Number(_) => told(at, number),
-        Value::Scalar(_) => told(at, number),
-        Value::Set(_) => told(at, number),
+        Value::Number(_) => reported(at, number),
+        Value::Scalar(_) => reported(at, number),
+        Value::Set(_) => reported(at, number),
         Value::Text(text) => {
             if !text_fits(types, t, text.get().as_bytes().len()) {
-                return told(at, number);
+                return reported(at, number);
             }
             Ok(Accepted::Text(text))
         }
     }
 }
 
-fn whole_suited(number: u32, types: &Types, t: TypeNo, at: Pos, x: Computed) -> Judged<Accepted>
+fn whole_suited(number: u32, types: &Types, t: TypeNo, at: Pos, x: Computed) -> Elaborated<Accepted>
     ensures { result ≡ whole_suited least number types.now t at x }
 {
     match x {
         Computed::Constant(value) => text_suited(number, types, t, at, value),
         Computed::Whole(u, place) => {
             if !are_same(u, t) {
-                return told(at, number);
+                return reported(at, number);
             }
             Ok(Accepted::Whole(place))
         }
-        Computed::Scalar(_, _, _) => told(at, number),
-        Computed::Set(_) => told(at, number),
-        Computed::Routine(_, _) => told(at, number),
-        Computed::Procedure(_) => told(at, number),
-        Computed::Untaken => told(at, number),
+        Computed::Scalar(_, _, _) => reported(at, number),
+        Computed::Set(_) => reported(at, number),
+        Computed::Routine(_, _) => reported(at, number),
+        Computed::Procedure(_) => reported(at, number),
+        Computed::Untaken => reported(at, number),
     }
 }
 
-fn of_expr(e: Judged<TypedExpr>) -> Judged<Accepted>
+fn of_expr(e: Elaborated<TypedExpr>) -> Elaborated<Accepted>
     ensures { result ≡ of_expr e }
 {
     match e {
@@ -218,7 +230,7 @@ fn of_expr(e: Judged<TypedExpr>) -> Judged<Accepted>
 
 /// A value for a place of this type. One that is not assignment compatible breaks the rule of this number, and a constant
 /// out of range is 52, both at the value.
-pub fn suited(number: u32, types: &Types, t: TypeNo, at: Pos, x: Computed) -> Judged<Accepted>
+pub fn suited(number: u32, types: &Types, t: TypeNo, at: Pos, x: Computed) -> Elaborated<Accepted>
     ensures { result ≡ suited least number types.now t at x }
 {
     match class_of(types, t) {

@@ -2,13 +2,13 @@
 
 ghost use Rattle.std.specs.Prelude.{◌≡◌, IfOk};
 ghost use Rattle.std.specs.Option.{option_copied};
-ghost use Rattle.m2_judged.specs.Judged.{least};
+ghost use Rattle.m2_scopes.specs.Elaborated.{least};
 ghost use Rattle.m2_computed.specs.Selection.{numbered_field, field_named, record_field, component, field, array_indexed, indices, asked, picked, with_index, indexed};
 
 use crate::class::array_of;
 use crate::computed::{Computed, Designated};
 use crate::places::value_suited;
-use m2_judged::{Judged, both, fields_of, told};
+use m2_scopes::{Elaborated, both, fields_of, reported};
 use m2_tree::{Ident, Pos};
 use m2_typed::{
     CARDINAL, Component, Dictionary, Place, Root, Slot, TypeNo, TypedExpr, Types, behind, rooted,
@@ -24,11 +24,11 @@ fn numbered_field(fields: &Dictionary<TypeNo>, name: &[u8]) -> Option<(usize, Ty
     Some((number, *of))
 }
 
-fn field_named(at: Pos, found: Option<(usize, TypeNo)>) -> Judged<(usize, TypeNo)>
+fn field_named(at: Pos, found: Option<(usize, TypeNo)>) -> Elaborated<(usize, TypeNo)>
     ensures { result ≡ field_named least at found }
 {
     match found {
-        None => told(at, 30),
+        None => reported(at, 30),
         Some(found) => Ok(found),
     }
 }
@@ -37,11 +37,11 @@ fn record_field(
     at: Pos,
     name: &Ident,
     fields: Option<&Dictionary<TypeNo>>,
-) -> Judged<(usize, TypeNo)>
+) -> Elaborated<(usize, TypeNo)>
     ensures { result ≡ record_field least at name.now (option_copied fields.entry) }
 {
     match fields {
-        None => told(at, 40),
+        None => reported(at, 40),
         Some(fields) => field_named(name.pos, numbered_field(fields, name.name.as_bytes())),
     }
 }
@@ -52,7 +52,7 @@ fn component(
     name: &Ident,
     t: TypeNo,
     place: Place,
-) -> Result<Judged<Designated>, AllocError>
+) -> Result<Elaborated<Designated>, AllocError>
     ensures { IfOk result (λ d. d ≡ component least types.now at name.now t place) }
 {
     match record_field(at, name, fields_of(types, t)) {
@@ -70,21 +70,21 @@ pub fn field(
     at: Pos,
     name: &Ident,
     from: Designated,
-) -> Result<Judged<Designated>, AllocError>
+) -> Result<Elaborated<Designated>, AllocError>
     ensures { IfOk result (λ d. d ≡ field least types.now at name.now from) }
 {
     match from {
         Designated::Variable(t, place) => component(types, at, name, t, place),
         Designated::Value(value) => {
             drop(value);
-            Ok(told(at, 40))
+            Ok(reported(at, 40))
         }
-        Designated::Open(_, _) => Ok(told(at, 40)),
-        Designated::Type(_) => Ok(told(at, 40)),
-        Designated::Procedure(_) => Ok(told(at, 40)),
-        Designated::Nested(_) => Ok(told(at, 40)),
-        Designated::Standard(_) => Ok(told(at, 40)),
-        Designated::Module(_) => Ok(told(at, 40)),
+        Designated::Open(_, _) => Ok(reported(at, 40)),
+        Designated::Type(_) => Ok(reported(at, 40)),
+        Designated::Procedure(_) => Ok(reported(at, 40)),
+        Designated::Nested(_) => Ok(reported(at, 40)),
+        Designated::Standard(_) => Ok(reported(at, 40)),
+        Designated::Module(_) => Ok(reported(at, 40)),
     }
 }
 
@@ -102,17 +102,17 @@ fn array_indexed(
     t: TypeNo,
     place: Place,
     array: Option<(TypeNo, TypeNo)>,
-) -> Judged<Subscripted>
+) -> Elaborated<Subscripted>
     ensures { result ≡ array_indexed least at t place array }
 {
     match array {
-        None => told(at, 40),
+        None => reported(at, 40),
         Some((index, element)) => Ok(Subscripted::Array(t, index, element, place)),
     }
 }
 
 /// What stands before a bracket: 40 at the bracket where that is no array.
-pub fn indices(types: &Types, at: Pos, from: Designated) -> Judged<Subscripted>
+pub fn indices(types: &Types, at: Pos, from: Designated) -> Elaborated<Subscripted>
     ensures { result ≡ indices least types.now at from }
 {
     match from {
@@ -120,13 +120,13 @@ pub fn indices(types: &Types, at: Pos, from: Designated) -> Judged<Subscripted>
         Designated::Open(t, slot) => Ok(Subscripted::Open(t, slot)),
         Designated::Value(value) => {
             drop(value);
-            told(at, 40)
+            reported(at, 40)
         }
-        Designated::Type(_) => told(at, 40),
-        Designated::Procedure(_) => told(at, 40),
-        Designated::Nested(_) => told(at, 40),
-        Designated::Standard(_) => told(at, 40),
-        Designated::Module(_) => told(at, 40),
+        Designated::Type(_) => reported(at, 40),
+        Designated::Procedure(_) => reported(at, 40),
+        Designated::Nested(_) => reported(at, 40),
+        Designated::Standard(_) => reported(at, 40),
+        Designated::Module(_) => reported(at, 40),
     }
 }
 
@@ -161,7 +161,7 @@ fn with_index(
     at: Pos,
     array: Subscripted,
     index: Computed,
-) -> Result<Judged<Designated>, AllocError>
+) -> Result<Elaborated<Designated>, AllocError>
     ensures { IfOk result (λ d. d ≡ with_index least types.now at array index) }
 {
     match value_suited(41, types, asked(&array), at, index) {
@@ -175,10 +175,10 @@ fn with_index(
 pub fn indexed(
     alloc: Global,
     types: &Types,
-    array: Judged<Subscripted>,
+    array: Elaborated<Subscripted>,
     at: Pos,
-    index: Judged<Computed>,
-) -> Result<Judged<Designated>, AllocError>
+    index: Elaborated<Computed>,
+) -> Result<Elaborated<Designated>, AllocError>
     ensures { IfOk result (λ d. d ≡ indexed least types.now array at index) }
 {
     match both(array, index) {

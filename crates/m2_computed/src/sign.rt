@@ -1,12 +1,12 @@
 //! Signs and NOT.
 
 ghost use Rattle.std.specs.Prelude.{◌≡◌, Ok, IfOk};
-ghost use Rattle.m2_judged.specs.Judged.{least, ◌▷◌};
+ghost use Rattle.m2_scopes.specs.Elaborated.{least, ◌▷◌};
 ghost use Rattle.m2_computed.specs.Signs.{signed_scalar, signed_value, signed, negated_scalar, negated_value, negated};
 
 use crate::computed::Computed;
 use crate::pieces::{of_value, truth_of};
-use m2_judged::{Judged, told};
+use m2_scopes::{Elaborated, reported};
 use m2_tree::{Boxed, Pos, Sign};
 use m2_typed::{BOOLEAN, TypeNo, TypedExpr, are_same, is_integer, is_numeric};
 use std::alloc::{AllocError, Global};
@@ -17,20 +17,20 @@ fn signed_scalar(
     spot: Pos,
     base: TypeNo,
     e: TypedExpr,
-) -> Result<Judged<Computed>, AllocError>
+) -> Result<Elaborated<Computed>, AllocError>
     ensures { IfOk result (λ v. v ≡ signed_scalar least sign spot base e) }
 {
     match sign {
         Sign::Plus => {
             if !is_numeric(base) {
-                return Ok(told(spot, 40));
+                return Ok(reported(spot, 40));
             }
             let operand = Boxed::new(alloc, e)?;
             Ok(Ok(Computed::Scalar(base, base, TypedExpr::Plus(base, operand))))
         }
         Sign::Minus => {
             if !is_integer(base) {
-                return Ok(told(spot, 40));
+                return Ok(reported(spot, 40));
             }
             let operand = Boxed::new(alloc, e)?;
             Ok(Ok(Computed::Scalar(base, base, TypedExpr::Negate(operand))))
@@ -43,17 +43,17 @@ fn signed_value(
     sign: Sign,
     spot: Pos,
     value: Computed,
-) -> Result<Judged<Computed>, AllocError>
+) -> Result<Elaborated<Computed>, AllocError>
     ensures { IfOk result (λ v. v ≡ signed_value least sign spot value) }
 {
     match value {
         Computed::Constant(value) => Ok(of_value(m2_values::signed(sign, spot, Ok(value)))),
         Computed::Scalar(_, base, e) => signed_scalar(alloc, sign, spot, base, e),
-        Computed::Set(_) => Ok(told(spot, 40)),
-        Computed::Routine(_, _) => Ok(told(spot, 40)),
-        Computed::Procedure(_) => Ok(told(spot, 40)),
-        Computed::Whole(_, _) => Ok(told(spot, 40)),
-        Computed::Untaken => Ok(told(spot, 40)),
+        Computed::Set(_) => Ok(reported(spot, 40)),
+        Computed::Routine(_, _) => Ok(reported(spot, 40)),
+        Computed::Procedure(_) => Ok(reported(spot, 40)),
+        Computed::Whole(_, _) => Ok(reported(spot, 40)),
+        Computed::Untaken => Ok(reported(spot, 40)),
     }
 }
 
@@ -62,8 +62,8 @@ pub fn signed(
     alloc: Global,
     sign: Sign,
     spot: Pos,
-    x: Judged<Computed>,
-) -> Result<Judged<Computed>, AllocError>
+    x: Elaborated<Computed>,
+) -> Result<Elaborated<Computed>, AllocError>
     ensures { IfOk result (λ v. v ≡ signed least sign spot x) }
 {
     match x {
@@ -77,27 +77,31 @@ fn negated_scalar(
     spot: Pos,
     base: TypeNo,
     e: TypedExpr,
-) -> Result<Judged<Computed>, AllocError>
+) -> Result<Elaborated<Computed>, AllocError>
     ensures { IfOk result (λ v. v ≡ negated_scalar least spot base e) }
 {
     if !are_same(base, BOOLEAN) {
-        return Ok(told(spot, 40));
+        return Ok(reported(spot, 40));
     }
     let operand = Boxed::new(alloc, e)?;
     Ok(Ok(truth_of(TypedExpr::Not(operand))))
 }
 
-fn negated_value(alloc: Global, spot: Pos, value: Computed) -> Result<Judged<Computed>, AllocError>
+fn negated_value(
+    alloc: Global,
+    spot: Pos,
+    value: Computed,
+) -> Result<Elaborated<Computed>, AllocError>
     ensures { IfOk result (λ v. v ≡ negated_value least spot value) }
 {
     match value {
         Computed::Constant(value) => Ok(of_value(m2_values::negated(spot, Ok(value)))),
         Computed::Scalar(_, base, e) => negated_scalar(alloc, spot, base, e),
-        Computed::Set(_) => Ok(told(spot, 40)),
-        Computed::Routine(_, _) => Ok(told(spot, 40)),
-        Computed::Procedure(_) => Ok(told(spot, 40)),
-        Computed::Whole(_, _) => Ok(told(spot, 40)),
-        Computed::Untaken => Ok(told(spot, 40)),
+        Computed::Set(_) => Ok(reported(spot, 40)),
+        Computed::Routine(_, _) => Ok(reported(spot, 40)),
+        Computed::Procedure(_) => Ok(reported(spot, 40)),
+        Computed::Whole(_, _) => Ok(reported(spot, 40)),
+        Computed::Untaken => Ok(reported(spot, 40)),
     }
 }
 
@@ -105,8 +109,8 @@ fn negated_value(alloc: Global, spot: Pos, value: Computed) -> Result<Judged<Com
 pub fn negated(
     alloc: Global,
     spot: Pos,
-    x: Judged<Computed>,
-) -> Result<Judged<Computed>, AllocError>
+    x: Elaborated<Computed>,
+) -> Result<Elaborated<Computed>, AllocError>
     ensures { IfOk result (λ v. v ≡ negated least spot x) }
 {
     match x {

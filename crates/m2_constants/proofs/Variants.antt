@@ -19,9 +19,9 @@ use Rattle.m2_tree.specs.declared.expr.Item.{Item, Item-F, out-Item, map-Item, f
 use Rattle.m2_typed.specs.declared.meaning.Value.{Value}
 use Rattle.m2_typed.specs.declared.meaning.Value.TheVariants as value
 use Rattle.m2_typed.specs.Types.{char}
-use Rattle.m2_judged.specs.declared.fault.Fault.{Fault}
-use Rattle.m2_judged.specs.declared.scope.Scope.{Scope}
-use Rattle.m2_judged.specs.Judged.{least, ◌▷◌}
+use Rattle.m2_scopes.specs.declared.fault.Fault.{Fault}
+use Rattle.m2_scopes.specs.declared.scope.Scope.{Scope}
+use Rattle.m2_scopes.specs.Elaborated.{least, ◌▷◌}
 use Rattle.m2_values.specs.declared.operator.BinaryOp.TheVariants as op
 use Rattle.m2_values.specs.Operands.{valued}
 use Rattle.m2_values.specs.Operate.{combined, negated}
@@ -31,7 +31,7 @@ use Rattle.m2_constants.specs.Denote.{of_value, component}
 use Rattle.m2_constants.specs.Parts.{Part, Pick, Adds, part, pick, head, item, expr_layer, selector_layer, designator_layer, item_layer, constant, factor, term, factor_in, term_in, pick_in, item_in, with_item, added, named, field_of, set_of, set_type, set_place, sign_place, signed_first, used, mapped, related}
 
 abbrev T : Type 0
-T = least.Told
+T = least.Reported
 
 -- one layer, each part of which has its meaning
 abbrev opened : Expr-F Expr Selector Designator Item → Expr-F (Part T) (Pick T) (Part T) (Adds T)

@@ -8,7 +8,7 @@ use Rattle.m2_typed.specs.declared.meaning.Standard.{Standard}
 use Rattle.m2_typed.specs.declared.meaning.Standard.TheVariants.{Abs, Cap, Chr, High, Max, Min, Odd, Ord, Val, Inc, Dec, Incl, Excl, Halt, Put}
 use Rattle.m2_typed.specs.declared.known_types.Types.{Types}
 use Rattle.m2_typed.specs.Known.{scalar_at}
-use Rattle.m2_judged.specs.Judged.{Gathers, told, both, ◌▷◌}
+use Rattle.m2_scopes.specs.Elaborated.{Gathers, reported, both, ◌▷◌}
 use Rattle.m2_values.specs.Standards.{absolute, capital, character, is_odd, ordinal_of, bound_of, converted}
 use Rattle.m2_constants.specs.declared.denoted.Denoted.{Denoted}
 use Rattle.m2_constants.specs.declared.denoted.Denoted.TheVariants as denoted
@@ -34,41 +34,41 @@ sort_of Put = Never
 
 -- ---- arguments that name a type
 
-abbrev pub scalar_type : (g : Gathers) → Pos → TypeNo → Option Scalar → Result (TypeNo × Scalar) g.Told
-scalar_type g at t None = told g at 33
+abbrev pub scalar_type : (g : Gathers) → Pos → TypeNo → Option Scalar → Result (TypeNo × Scalar) g.Reported
+scalar_type g at t None = reported g at 33
 scalar_type g at t (Some s) = Ok (t, s)
 
-abbrev pub type_part : (g : Gathers) → Types → Pos → Denoted → Result (TypeNo × Scalar) g.Told
+abbrev pub type_part : (g : Gathers) → Types → Pos → Denoted → Result (TypeNo × Scalar) g.Reported
 type_part g types at (denoted.Type t) = scalar_type g at t (scalar_at types t)
-type_part g types at (denoted.Value v) = told g at 33
-type_part g types at denoted.Variable = told g at 33
-type_part g types at denoted.Procedure = told g at 33
-type_part g types at (denoted.Standard f) = told g at 33
-type_part g types at (denoted.Module k) = told g at 33
+type_part g types at (denoted.Value v) = reported g at 33
+type_part g types at denoted.Variable = reported g at 33
+type_part g types at denoted.Procedure = reported g at 33
+type_part g types at (denoted.Standard f) = reported g at 33
+type_part g types at (denoted.Module k) = reported g at 33
 
-abbrev pub type_argument : (g : Gathers) → Types → Pos → Result Denoted g.Told → Result (TypeNo × Scalar) g.Told
+abbrev pub type_argument : (g : Gathers) → Types → Pos → Result Denoted g.Reported → Result (TypeNo × Scalar) g.Reported
 type_argument g types at d = d ▷ type_part g types at
 
 -- ---- what they give
 
-abbrev pub unary_of : (g : Gathers) → Standard → Pos → Value → Result Value g.Told
+abbrev pub unary_of : (g : Gathers) → Standard → Pos → Value → Result Value g.Reported
 unary_of g Abs at v = absolute g at v
 unary_of g Cap at v = capital g at v
 unary_of g Chr at v = character g at v
-unary_of g High at v = told g at 34
-unary_of g Max at v = told g at 34
-unary_of g Min at v = told g at 34
+unary_of g High at v = reported g at 34
+unary_of g Max at v = reported g at 34
+unary_of g Min at v = reported g at 34
 unary_of g Odd at v = is_odd g at v
 unary_of g Ord at v = ordinal_of g at v
-unary_of g Val at v = told g at 34
-unary_of g Inc at v = told g at 34
-unary_of g Dec at v = told g at 34
-unary_of g Incl at v = told g at 34
-unary_of g Excl at v = told g at 34
-unary_of g Halt at v = told g at 34
-unary_of g Put at v = told g at 34
+unary_of g Val at v = reported g at 34
+unary_of g Inc at v = reported g at 34
+unary_of g Dec at v = reported g at 34
+unary_of g Incl at v = reported g at 34
+unary_of g Excl at v = reported g at 34
+unary_of g Halt at v = reported g at 34
+unary_of g Put at v = reported g at 34
 
-abbrev pub unary : (g : Gathers) → Standard → Result (Pos × Value) g.Told → Result Value g.Told
+abbrev pub unary : (g : Gathers) → Standard → Result (Pos × Value) g.Reported → Result Value g.Reported
 unary g f x = x ▷ λ p. unary_of g f p.0 p.1
 
 abbrev pub bound_by : Standard → TypeNo → Scalar → Value
@@ -91,5 +91,5 @@ bound_by Put t s = bound_of t s s.high
 abbrev pub bound : {T : Type 0} → Standard → Result (TypeNo × Scalar) T → Result Value T
 bound f x = x ▷ λ p. Ok (bound_by f p.0 p.1)
 
-abbrev pub converted_by : (g : Gathers) → Result (TypeNo × Scalar) g.Told → Pos → Result Value g.Told → Result Value g.Told
+abbrev pub converted_by : (g : Gathers) → Result (TypeNo × Scalar) g.Reported → Pos → Result Value g.Reported → Result Value g.Reported
 converted_by g to at v = both g to v ▷ λ p. converted g p.0.0 p.0.1 at p.1

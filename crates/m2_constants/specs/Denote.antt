@@ -9,7 +9,7 @@ use Rattle.m2_typed.specs.declared.meaning.Meaning.TheVariants as meaning
 use Rattle.m2_typed.specs.declared.table.Table.{Table}
 use Rattle.m2_typed.specs.Types.{are_same, bitset}
 use Rattle.m2_typed.specs.Names.{found}
-use Rattle.m2_judged.specs.Judged.{Gathers, told, told_where, ◌▷◌}
+use Rattle.m2_scopes.specs.Elaborated.{Gathers, reported, reported_where, ◌▷◌}
 use Rattle.m2_constants.specs.declared.denoted.Denoted.{Denoted}
 use Rattle.m2_constants.specs.declared.denoted.Denoted.TheVariants as denoted
 
@@ -27,50 +27,50 @@ denoted_by (meaning.Module k) = denoted.Module k
 
 -- ---- constants
 
-abbrev pub as_constant : (g : Gathers) → Pos → Denoted → Result Value g.Told
+abbrev pub as_constant : (g : Gathers) → Pos → Denoted → Result Value g.Reported
 as_constant g at (denoted.Value v) = Ok v
-as_constant g at (denoted.Type t) = told g at 34
-as_constant g at denoted.Variable = told g at 34
-as_constant g at denoted.Procedure = told g at 34
-as_constant g at (denoted.Standard f) = told g at 34
-as_constant g at (denoted.Module k) = told g at 34
+as_constant g at (denoted.Type t) = reported g at 34
+as_constant g at denoted.Variable = reported g at 34
+as_constant g at denoted.Procedure = reported g at 34
+as_constant g at (denoted.Standard f) = reported g at 34
+as_constant g at (denoted.Module k) = reported g at 34
 
-abbrev pub constant_by : (g : Gathers) → Pos → Result Denoted g.Told → Result Value g.Told
+abbrev pub constant_by : (g : Gathers) → Pos → Result Denoted g.Reported → Result Value g.Reported
 constant_by g at d = d ▷ as_constant g at
 
 abbrev pub of_value : {T : Type 0} → Result Value T → Result Denoted T
 of_value v = v ▷ λ x. Ok (denoted.Value x)
 
-abbrev pub is_bitset : (g : Gathers) → Pos → Meaning → Result (Unit {0}) g.Told
-is_bitset g at (meaning.Type t n) = told_where g (not (are_same t bitset)) at 33 (Ok tt)
-is_bitset g at (meaning.Constant v) = told g at 33
-is_bitset g at (meaning.Variable v) = told g at 33
-is_bitset g at (meaning.Local v) = told g at 33
-is_bitset g at (meaning.Field f) = told g at 33
-is_bitset g at (meaning.Procedure p) = told g at 33
-is_bitset g at (meaning.LocalProcedure p) = told g at 33
-is_bitset g at meaning.Ahead = told g at 33
-is_bitset g at (meaning.Standard f) = told g at 33
-is_bitset g at (meaning.Module k) = told g at 33
+abbrev pub is_bitset : (g : Gathers) → Pos → Meaning → Result (Unit {0}) g.Reported
+is_bitset g at (meaning.Type t n) = reported_where g (not (are_same t bitset)) at 33 (Ok tt)
+is_bitset g at (meaning.Constant v) = reported g at 33
+is_bitset g at (meaning.Variable v) = reported g at 33
+is_bitset g at (meaning.Local v) = reported g at 33
+is_bitset g at (meaning.Field f) = reported g at 33
+is_bitset g at (meaning.Procedure p) = reported g at 33
+is_bitset g at (meaning.LocalProcedure p) = reported g at 33
+is_bitset g at meaning.Ahead = reported g at 33
+is_bitset g at (meaning.Standard f) = reported g at 33
+is_bitset g at (meaning.Module k) = reported g at 33
 
 -- ---- components, and names of modules
 
 -- only variables have components
-abbrev pub component : (g : Gathers) → Pos → Denoted → Result Denoted g.Told
+abbrev pub component : (g : Gathers) → Pos → Denoted → Result Denoted g.Reported
 component g at denoted.Variable = Ok denoted.Variable
-component g at (denoted.Value v) = told g at 40
-component g at (denoted.Type t) = told g at 40
-component g at denoted.Procedure = told g at 40
-component g at (denoted.Standard f) = told g at 40
-component g at (denoted.Module k) = told g at 40
+component g at (denoted.Value v) = reported g at 40
+component g at (denoted.Type t) = reported g at 40
+component g at denoted.Procedure = reported g at 40
+component g at (denoted.Standard f) = reported g at 40
+component g at (denoted.Module k) = reported g at 40
 
 abbrev pub exported_by : List ℕ → Option Table → Option Meaning
 exported_by name None = None
 exported_by name (Some table) = found name table.exported
 
-abbrev pub exported : (g : Gathers) → Pos → Option Meaning → Result Meaning g.Told
-exported g at None = told g at 32
+abbrev pub exported : (g : Gathers) → Pos → Option Meaning → Result Meaning g.Reported
+exported g at None = reported g at 32
 exported g at (Some m) = Ok m
 
-abbrev pub member : (g : Gathers) → List Table → ℕ → Ident → Result Meaning g.Told
+abbrev pub member : (g : Gathers) → List Table → ℕ → Ident → Result Meaning g.Reported
 member g tables k name = exported g name.pos (exported_by name.name (slice_get tables k))

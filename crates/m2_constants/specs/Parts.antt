@@ -19,9 +19,9 @@ use Rattle.m2_typed.specs.declared.meaning.Value.{Value}
 use Rattle.m2_typed.specs.declared.meaning.Value.TheVariants as value
 use Rattle.m2_typed.specs.declared.meaning.Standard.{Standard}
 use Rattle.m2_typed.specs.Types.{char}
-use Rattle.m2_judged.specs.Judged.{Gathers, least, told, both, ◌▷◌}
-use Rattle.m2_judged.specs.declared.scope.Scope.{Scope}
-use Rattle.m2_judged.specs.Scopes.{looked_up}
+use Rattle.m2_scopes.specs.Elaborated.{Gathers, least, reported, both, ◌▷◌}
+use Rattle.m2_scopes.specs.declared.scope.Scope.{Scope}
+use Rattle.m2_scopes.specs.Scopes.{looked_up}
 use Rattle.m2_values.specs.declared.operand.Ordinal.{Ordinal}
 use Rattle.m2_values.specs.declared.operator.BinaryOp.TheVariants as op
 use Rattle.m2_values.specs.Operators.{mul_op, add_op}
@@ -63,38 +63,38 @@ set_place (Some name) at = name.pos
 abbrev pub value_at : {T : Type 0} → Pos → Result Value T → Result (Pos × Value) T
 value_at at v = v ▷ λ x. Ok (at, x)
 
-abbrev pub single_of : (g : Gathers) → Pos → Result Value g.Told → Result ℕ g.Told
+abbrev pub single_of : (g : Gathers) → Pos → Result Value g.Reported → Result ℕ g.Reported
 single_of g at v = v ▷ single g at
 
-abbrev pub element_of : (g : Gathers) → Pos → Result Value g.Told → Result Ordinal g.Told
+abbrev pub element_of : (g : Gathers) → Pos → Result Value g.Reported → Result Ordinal g.Reported
 element_of g at v = v ▷ element g at
 
-abbrev pub joined_bits : (g : Gathers) → Result ℕ g.Told → Result ℕ g.Told → Result ℕ g.Told
+abbrev pub joined_bits : (g : Gathers) → Result ℕ g.Reported → Result ℕ g.Reported → Result ℕ g.Reported
 joined_bits g so more = both g so more ▷ λ p. Ok (bit_or p.0 p.1)
 
-abbrev pub signed_first : (g : Gathers) → Option (Operator Sign) → Result Value g.Told → Result Value g.Told
+abbrev pub signed_first : (g : Gathers) → Option (Operator Sign) → Result Value g.Reported → Result Value g.Reported
 signed_first g None v = v
 signed_first g (Some o) v = signed g o.op o.pos v
 
-abbrev pub set_type : (g : Gathers) → Scope g.Told → Option Ident → Result (Unit {0}) g.Told
+abbrev pub set_type : (g : Gathers) → Scope g.Reported → Option Ident → Result (Unit {0}) g.Reported
 set_type g s None = Ok tt
 set_type g s (Some name) = looked_up g s name ▷ is_bitset g name.pos
 
-abbrev pub set_of : (g : Gathers) → Result (Unit {0}) g.Told → Result ℕ g.Told → Result Denoted g.Told
+abbrev pub set_of : (g : Gathers) → Result (Unit {0}) g.Reported → Result ℕ g.Reported → Result Denoted g.Reported
 set_of g t bits = both g t bits ▷ λ p. Ok (denoted.Value (value.Set p.1))
 
-abbrev pub related : (g : Gathers) → Operator RelOp → Pos → Result Value g.Told → Pos → Result Value g.Told → Result Denoted g.Told
+abbrev pub related : (g : Gathers) → Operator RelOp → Pos → Result Value g.Reported → Pos → Result Value g.Reported → Result Denoted g.Reported
 related g o at a at' b = of_value (combined g (op.Relation o.op) o.pos at a at' b)
 
 -- ---- designators
 
-abbrev pub named : (g : Gathers) → Scope g.Told → Ident → Result Denoted g.Told
+abbrev pub named : (g : Gathers) → Scope g.Reported → Ident → Result Denoted g.Reported
 named g s name = looked_up g s name ▷ λ m. Ok (denoted_by m)
 
-abbrev pub member_of : (g : Gathers) → Scope g.Told → ℕ → Ident → Result Denoted g.Told
+abbrev pub member_of : (g : Gathers) → Scope g.Reported → ℕ → Ident → Result Denoted g.Reported
 member_of g s k name = member g s.tables k name ▷ λ m. Ok (denoted_by m)
 
-abbrev pub field_of : (g : Gathers) → Scope g.Told → Pos → Ident → Denoted → Result Denoted g.Told
+abbrev pub field_of : (g : Gathers) → Scope g.Reported → Pos → Ident → Denoted → Result Denoted g.Reported
 field_of g s at name (denoted.Module k) = member_of g s k name
 field_of g s at name denoted.Variable = component g at denoted.Variable
 field_of g s at name (denoted.Value v) = component g at (denoted.Value v)
@@ -104,68 +104,68 @@ field_of g s at name (denoted.Standard f) = component g at (denoted.Standard f)
 
 module _ (g : Gathers) where
   -- a part taken as a constant
-  abbrev pub constant : Scope g.Told → Part g.Told → Result Value g.Told
+  abbrev pub constant : Scope g.Reported → Part g.Reported → Result Value g.Reported
   constant s x = constant_by g x.at (x.denotes s)
 
   -- ---- calls
 
-  abbrev pub one : Scope g.Told → Pos → List (Part g.Told) → Result (Pos × Value) g.Told
-  one s at [] = told g at 42
+  abbrev pub one : Scope g.Reported → Pos → List (Part g.Reported) → Result (Pos × Value) g.Reported
+  one s at [] = reported g at 42
   one s at (x ∷ []) = value_at x.at (constant s x)
-  one s at (x ∷ y ∷ xs) = told g at 42
+  one s at (x ∷ y ∷ xs) = reported g at 42
 
-  abbrev pub type_only : Scope g.Told → Pos → List (Part g.Told) → Result (TypeNo × Scalar) g.Told
-  type_only s at [] = told g at 42
+  abbrev pub type_only : Scope g.Reported → Pos → List (Part g.Reported) → Result (TypeNo × Scalar) g.Reported
+  type_only s at [] = reported g at 42
   type_only s at (x ∷ []) = type_argument g s.types x.at (x.denotes s)
-  type_only s at (x ∷ y ∷ xs) = told g at 42
+  type_only s at (x ∷ y ∷ xs) = reported g at 42
 
-  abbrev pub conversion : Scope g.Told → Pos → List (Part g.Told) → Result Value g.Told
-  conversion s at [] = told g at 42
-  conversion s at (t ∷ []) = told g at 42
+  abbrev pub conversion : Scope g.Reported → Pos → List (Part g.Reported) → Result Value g.Reported
+  conversion s at [] = reported g at 42
+  conversion s at (t ∷ []) = reported g at 42
   conversion s at (t ∷ x ∷ []) = converted_by g (type_argument g s.types t.at (t.denotes s)) x.at (constant s x)
-  conversion s at (t ∷ x ∷ y ∷ xs) = told g at 42
+  conversion s at (t ∷ x ∷ y ∷ xs) = reported g at 42
 
-  abbrev pub by_sort : Scope g.Told → Pos → Standard → List (Part g.Told) → Sort → Result Value g.Told
+  abbrev pub by_sort : Scope g.Reported → Pos → Standard → List (Part g.Reported) → Sort → Result Value g.Reported
   by_sort s at f args Unary = unary g f (one s at args)
   by_sort s at f args Bound = bound f (type_only s at args)
   by_sort s at f args Conversion = conversion s at args
-  by_sort s at f args Never = told g at 34
+  by_sort s at f args Never = reported g at 34
 
-  abbrev pub called_as : Scope g.Told → Pos → Denoted → List (Part g.Told) → Result Value g.Told
+  abbrev pub called_as : Scope g.Reported → Pos → Denoted → List (Part g.Reported) → Result Value g.Reported
   called_as s at (denoted.Standard f) args = by_sort s at f args (sort_of f)
-  called_as s at (denoted.Value v) args = told g at 34
-  called_as s at (denoted.Type t) args = told g at 34
-  called_as s at denoted.Variable args = told g at 34
-  called_as s at denoted.Procedure args = told g at 34
-  called_as s at (denoted.Module k) args = told g at 34
+  called_as s at (denoted.Value v) args = reported g at 34
+  called_as s at (denoted.Type t) args = reported g at 34
+  called_as s at denoted.Variable args = reported g at 34
+  called_as s at denoted.Procedure args = reported g at 34
+  called_as s at (denoted.Module k) args = reported g at 34
 
-  abbrev pub called : Scope g.Told → Pos → Result Denoted g.Told → List (Part g.Told) → Result Value g.Told
+  abbrev pub called : Scope g.Reported → Pos → Result Denoted g.Reported → List (Part g.Reported) → Result Value g.Reported
   called s at d args = d ▷ λ x. called_as s at x args
 
-  abbrev pub used_with : Scope g.Told → Part g.Told → Option (List (Part g.Told)) → Result Denoted g.Told
+  abbrev pub used_with : Scope g.Reported → Part g.Reported → Option (List (Part g.Reported)) → Result Denoted g.Reported
   used_with s d None = d.denotes s
   used_with s d (Some args) = of_value (called s d.at (d.denotes s) args)
 
   -- ---- operators
 
-  abbrev pub factor : Scope g.Told → Pos → Result Value g.Told → Operator MulOp × Part g.Told → Result Value g.Told
+  abbrev pub factor : Scope g.Reported → Pos → Result Value g.Reported → Operator MulOp × Part g.Reported → Result Value g.Reported
   factor s at left x = combined g (mul_op x.0.op) x.0.pos at left x.1.at (constant s x.1)
 
-  abbrev pub term : Scope g.Told → Pos → Result Value g.Told → Operator AddOp × Part g.Told → Result Value g.Told
+  abbrev pub term : Scope g.Reported → Pos → Result Value g.Reported → Operator AddOp × Part g.Reported → Result Value g.Reported
   term s at left x = combined g (add_op x.0.op) x.0.pos at left x.1.at (constant s x.1)
 
   -- ---- elements
 
-  abbrev pub added : Scope g.Told → Part g.Told → Option (Part g.Told) → Result ℕ g.Told
+  abbrev pub added : Scope g.Reported → Part g.Reported → Option (Part g.Reported) → Result ℕ g.Reported
   added s low None = single_of g low.at (constant s low)
   added s low (Some high) = spanned g low.at (element_of g low.at (constant s low)) high.at (element_of g high.at (constant s high))
 
-  abbrev pub with_item : Scope g.Told → Result ℕ g.Told → Adds g.Told → Result ℕ g.Told
+  abbrev pub with_item : Scope g.Reported → Result ℕ g.Reported → Adds g.Reported → Result ℕ g.Reported
   with_item s so i = joined_bits g so (i s)
 
   -- ---- the layers
 
-  abbrev pub expr_layer : Expr-F (Part g.Told) (Pick g.Told) (Part g.Told) (Adds g.Told) → Part g.Told
+  abbrev pub expr_layer : Expr-F (Part g.Reported) (Pick g.Reported) (Part g.Reported) (Adds g.Reported) → Part g.Reported
   expr_layer (layer.Number at n) = record { at = at; denotes = λ s. Ok (denoted.Value (value.Number (pos n))) }
   expr_layer (layer.Char at c) = record { at = at; denotes = λ s. Ok (denoted.Value (valued (Some char) (pos c))) }
   expr_layer (layer.Text at t) = record { at = at; denotes = λ s. Ok (denoted.Value (value.Text t)) }
@@ -177,45 +177,45 @@ module _ (g : Gathers) where
   expr_layer (layer.Sum sign e rest) = record { at = sign_place sign e.at; denotes = λ s. of_value (fold (term s (sign_place sign e.at)) (signed_first g sign (constant s e)) rest) }
   expr_layer (layer.Relation a o b) = record { at = a.at; denotes = λ s. related g o a.at (constant s a) b.at (constant s b) }
 
-  abbrev pub selector_layer : Selector-F (Part g.Told) (Pick g.Told) (Part g.Told) (Adds g.Told) → Pick g.Told
+  abbrev pub selector_layer : Selector-F (Part g.Reported) (Pick g.Reported) (Part g.Reported) (Adds g.Reported) → Pick g.Reported
   selector_layer (layer.Field at name) = λ s d. d ▷ field_of g s at name
   selector_layer (layer.Index at index) = λ s d. d ▷ component g at
 
-  abbrev pub designator_layer : Designator-F (Part g.Told) (Pick g.Told) (Part g.Told) (Adds g.Told) → Part g.Told
+  abbrev pub designator_layer : Designator-F (Part g.Reported) (Pick g.Reported) (Part g.Reported) (Adds g.Reported) → Part g.Reported
   designator_layer d = record { at = d.name.pos; denotes = λ s. fold (λ x p. p s x) (named g s d.name) d.selectors }
 
-  abbrev pub item_layer : Item-F (Part g.Told) (Pick g.Told) (Part g.Told) (Adds g.Told) → Adds g.Told
+  abbrev pub item_layer : Item-F (Part g.Reported) (Pick g.Reported) (Part g.Reported) (Adds g.Reported) → Adds g.Reported
   item_layer i = λ s. added s i.low i.high
 
-  unfoldable pub part : Expr → Part g.Told
-  part = fold-Expr (Part g.Told) (Pick g.Told) (Part g.Told) (Adds g.Told) expr_layer selector_layer designator_layer item_layer
+  unfoldable pub part : Expr → Part g.Reported
+  part = fold-Expr (Part g.Reported) (Pick g.Reported) (Part g.Reported) (Adds g.Reported) expr_layer selector_layer designator_layer item_layer
 
-  unfoldable pub pick : Selector → Pick g.Told
-  pick = fold-Selector (Part g.Told) (Pick g.Told) (Part g.Told) (Adds g.Told) expr_layer selector_layer designator_layer item_layer
+  unfoldable pub pick : Selector → Pick g.Reported
+  pick = fold-Selector (Part g.Reported) (Pick g.Reported) (Part g.Reported) (Adds g.Reported) expr_layer selector_layer designator_layer item_layer
 
-  unfoldable pub head : Designator → Part g.Told
-  head = fold-Designator (Part g.Told) (Pick g.Told) (Part g.Told) (Adds g.Told) expr_layer selector_layer designator_layer item_layer
+  unfoldable pub head : Designator → Part g.Reported
+  head = fold-Designator (Part g.Reported) (Pick g.Reported) (Part g.Reported) (Adds g.Reported) expr_layer selector_layer designator_layer item_layer
 
-  unfoldable pub item : Item → Adds g.Told
-  item = fold-Item (Part g.Told) (Pick g.Told) (Part g.Told) (Adds g.Told) expr_layer selector_layer designator_layer item_layer
+  unfoldable pub item : Item → Adds g.Reported
+  item = fold-Item (Part g.Reported) (Pick g.Reported) (Part g.Reported) (Adds g.Reported) expr_layer selector_layer designator_layer item_layer
 
 -- ---- the same, step by step
 
-abbrev pub factor_in : Scope (least).Told → Pos → Result Value (least).Told → Operator MulOp × Expr → Result Value (least).Told
+abbrev pub factor_in : Scope (least).Reported → Pos → Result Value (least).Reported → Operator MulOp × Expr → Result Value (least).Reported
 factor_in s at v x = factor least s at v (x.0, part least x.1)
 
-abbrev pub term_in : Scope (least).Told → Pos → Result Value (least).Told → Operator AddOp × Expr → Result Value (least).Told
+abbrev pub term_in : Scope (least).Reported → Pos → Result Value (least).Reported → Operator AddOp × Expr → Result Value (least).Reported
 term_in s at v x = term least s at v (x.0, part least x.1)
 
-abbrev pub pick_in : Scope (least).Told → Result Denoted (least).Told → Selector → Result Denoted (least).Told
+abbrev pub pick_in : Scope (least).Reported → Result Denoted (least).Reported → Selector → Result Denoted (least).Reported
 pick_in s d x = pick least x s d
 
-abbrev pub item_in : Scope (least).Told → Result ℕ (least).Told → Item → Result ℕ (least).Told
+abbrev pub item_in : Scope (least).Reported → Result ℕ (least).Reported → Item → Result ℕ (least).Reported
 item_in s so i = with_item least s so (item least i)
 
-abbrev pub mapped : Option (List Expr) → Option (List (Part (least).Told))
+abbrev pub mapped : Option (List Expr) → Option (List (Part (least).Reported))
 mapped None = None
 mapped (Some es) = Some (map (part least) es)
 
-abbrev pub used : Scope (least).Told → Part (least).Told → Option (List Expr) → Result Denoted (least).Told
+abbrev pub used : Scope (least).Reported → Part (least).Reported → Option (List Expr) → Result Denoted (least).Reported
 used s d args = used_with least s d (mapped args)

@@ -1,11 +1,11 @@
 //! Calls of standard procedures.
 
 ghost use Rattle.std.specs.Prelude.{◌≡◌};
-ghost use Rattle.m2_judged.specs.Judged.{least, ◌▷◌};
+ghost use Rattle.m2_scopes.specs.Elaborated.{least, ◌▷◌};
 ghost use Rattle.m2_constants.specs.Calls.{sort_of, scalar_type, type_part, type_argument, unary_of, unary, bound_by, bound, converted_by};
 
 use crate::denoted::Denoted;
-use m2_judged::{Judged, both, told};
+use m2_scopes::{Elaborated, both, reported};
 use m2_tree::Pos;
 use m2_typed::{Scalar, Standard, TypeNo, Types, Value, scalar_of};
 use m2_values::{absolute, bound_of, capital, character, converted, is_odd, ordinal_of};
@@ -44,30 +44,34 @@ pub fn sort_of(standard: Standard) -> Sort
 }
 
 /// A type that has to be scalar.
-pub fn scalar_type(at: Pos, t: TypeNo, scalar: Option<Scalar>) -> Judged<(TypeNo, Scalar)>
+pub fn scalar_type(at: Pos, t: TypeNo, scalar: Option<Scalar>) -> Elaborated<(TypeNo, Scalar)>
     ensures { result ≡ scalar_type least at t scalar }
 {
     match scalar {
-        None => told(at, 33),
+        None => reported(at, 33),
         Some(scalar) => Ok((t, scalar)),
     }
 }
 
-fn type_part(types: &Types, at: Pos, denoted: Denoted) -> Judged<(TypeNo, Scalar)>
+fn type_part(types: &Types, at: Pos, denoted: Denoted) -> Elaborated<(TypeNo, Scalar)>
     ensures { result ≡ type_part least types.now at denoted }
 {
     match denoted {
         Denoted::Type(t) => scalar_type(at, t, scalar_of(types, t)),
-        Denoted::Value(_) => told(at, 33),
-        Denoted::Variable => told(at, 33),
-        Denoted::Procedure => told(at, 33),
-        Denoted::Standard(_) => told(at, 33),
-        Denoted::Module(_) => told(at, 33),
+        Denoted::Value(_) => reported(at, 33),
+        Denoted::Variable => reported(at, 33),
+        Denoted::Procedure => reported(at, 33),
+        Denoted::Standard(_) => reported(at, 33),
+        Denoted::Module(_) => reported(at, 33),
     }
 }
 
 /// An argument that names a scalar type.
-pub fn type_argument(types: &Types, at: Pos, denoted: Judged<Denoted>) -> Judged<(TypeNo, Scalar)>
+pub fn type_argument(
+    types: &Types,
+    at: Pos,
+    denoted: Elaborated<Denoted>,
+) -> Elaborated<(TypeNo, Scalar)>
     ensures { result ≡ type_argument least types.now at denoted }
 {
     match denoted {
@@ -77,7 +81,7 @@ pub fn type_argument(types: &Types, at: Pos, denoted: Judged<Denoted>) -> Judged
 }
 
 /// What a standard procedure of one constant gives.
-pub fn unary_of(standard: Standard, at: Pos, value: &Value) -> Judged<Value>
+pub fn unary_of(standard: Standard, at: Pos, value: &Value) -> Elaborated<Value>
     ensures { result ≡ unary_of least standard at value.now }
 {
     match standard {
@@ -95,12 +99,12 @@ pub fn unary_of(standard: Standard, at: Pos, value: &Value) -> Judged<Value>
         | Standard::Incl
         | Standard::Excl
         | Standard::Halt
-        | Standard::Put => told(at, 34),
+        | Standard::Put => reported(at, 34),
     }
 }
 
 /// A standard procedure of one constant.
-pub fn unary(standard: Standard, argument: Judged<(Pos, Value)>) -> Judged<Value>
+pub fn unary(standard: Standard, argument: Elaborated<(Pos, Value)>) -> Elaborated<Value>
     ensures { result ≡ unary least standard argument }
 {
     match argument {
@@ -133,7 +137,7 @@ pub fn bound_by(standard: Standard, t: TypeNo, scalar: Scalar) -> Value
 }
 
 /// MIN, or else MAX, of a type.
-pub fn bound(standard: Standard, argument: Judged<(TypeNo, Scalar)>) -> Judged<Value>
+pub fn bound(standard: Standard, argument: Elaborated<(TypeNo, Scalar)>) -> Elaborated<Value>
     ensures { result ≡ bound standard argument }
 {
     match argument {
@@ -143,7 +147,11 @@ pub fn bound(standard: Standard, argument: Judged<(TypeNo, Scalar)>) -> Judged<V
 }
 
 /// VAL of a type and of what stands at a place.
-pub fn converted_by(to: Judged<(TypeNo, Scalar)>, at: Pos, value: Judged<Value>) -> Judged<Value>
+pub fn converted_by(
+    to: Elaborated<(TypeNo, Scalar)>,
+    at: Pos,
+    value: Elaborated<Value>,
+) -> Elaborated<Value>
     ensures { result ≡ converted_by least to at value }
 {
     match both(to, value) {

@@ -1,10 +1,10 @@
 //! What designators stand for.
 
 ghost use Rattle.std.specs.Prelude.{◌≡◌};
-ghost use Rattle.m2_judged.specs.Judged.{least, ◌▷◌};
+ghost use Rattle.m2_scopes.specs.Elaborated.{least, ◌▷◌};
 ghost use Rattle.m2_constants.specs.Denote.{denoted_by, as_constant, constant_by, is_bitset, component, of_value};
 
-use m2_judged::{Judged, told};
+use m2_scopes::{Elaborated, reported};
 use m2_tree::Pos;
 use m2_typed::{BITSET, Meaning, Standard, TypeNo, Value, are_same};
 
@@ -39,21 +39,21 @@ pub fn denoted_by(meaning: Meaning) -> Denoted
     }
 }
 
-fn as_constant(at: Pos, denoted: Denoted) -> Judged<Value>
+fn as_constant(at: Pos, denoted: Denoted) -> Elaborated<Value>
     ensures { result ≡ as_constant least at denoted }
 {
     match denoted {
         Denoted::Value(value) => Ok(value),
-        Denoted::Type(_) => told(at, 34),
-        Denoted::Variable => told(at, 34),
-        Denoted::Procedure => told(at, 34),
-        Denoted::Standard(_) => told(at, 34),
-        Denoted::Module(_) => told(at, 34),
+        Denoted::Type(_) => reported(at, 34),
+        Denoted::Variable => reported(at, 34),
+        Denoted::Procedure => reported(at, 34),
+        Denoted::Standard(_) => reported(at, 34),
+        Denoted::Module(_) => reported(at, 34),
     }
 }
 
 /// What stands at a place, taken as a constant.
-pub fn constant_by(at: Pos, denoted: Judged<Denoted>) -> Judged<Value>
+pub fn constant_by(at: Pos, denoted: Elaborated<Denoted>) -> Elaborated<Value>
     ensures { result ≡ constant_by least at denoted }
 {
     match denoted {
@@ -63,7 +63,7 @@ pub fn constant_by(at: Pos, denoted: Judged<Denoted>) -> Judged<Value>
 }
 
 /// A constant that stands for itself.
-pub fn of_value(value: Judged<Value>) -> Judged<Denoted>
+pub fn of_value(value: Elaborated<Value>) -> Elaborated<Denoted>
     ensures { result ≡ of_value value }
 {
     match value {
@@ -73,38 +73,38 @@ pub fn of_value(value: Judged<Value>) -> Judged<Denoted>
 }
 
 /// The type's name before a set.
-pub fn is_bitset(at: Pos, meaning: Meaning) -> Judged<()>
+pub fn is_bitset(at: Pos, meaning: Meaning) -> Elaborated<()>
     ensures { result ≡ is_bitset least at meaning }
 {
     match meaning {
         Meaning::Type(t, _) => {
             if !are_same(t, BITSET) {
-                return told(at, 33);
+                return reported(at, 33);
             }
             Ok(())
         }
-        Meaning::Constant(_) => told(at, 33),
-        Meaning::Variable(_) => told(at, 33),
-        Meaning::Local(_) => told(at, 33),
-        Meaning::Field(_) => told(at, 33),
-        Meaning::Procedure(_) => told(at, 33),
-        Meaning::LocalProcedure(_) => told(at, 33),
-        Meaning::Ahead => told(at, 33),
-        Meaning::Standard(_) => told(at, 33),
-        Meaning::Module(_) => told(at, 33),
+        Meaning::Constant(_) => reported(at, 33),
+        Meaning::Variable(_) => reported(at, 33),
+        Meaning::Local(_) => reported(at, 33),
+        Meaning::Field(_) => reported(at, 33),
+        Meaning::Procedure(_) => reported(at, 33),
+        Meaning::LocalProcedure(_) => reported(at, 33),
+        Meaning::Ahead => reported(at, 33),
+        Meaning::Standard(_) => reported(at, 33),
+        Meaning::Module(_) => reported(at, 33),
     }
 }
 
 /// A component of what stands before a bracket or a point.
-pub fn component(at: Pos, denoted: Denoted) -> Judged<Denoted>
+pub fn component(at: Pos, denoted: Denoted) -> Elaborated<Denoted>
     ensures { result ≡ component least at denoted }
 {
     match denoted {
         Denoted::Variable => Ok(Denoted::Variable),
-        Denoted::Value(_) => told(at, 40),
-        Denoted::Type(_) => told(at, 40),
-        Denoted::Procedure => told(at, 40),
-        Denoted::Standard(_) => told(at, 40),
-        Denoted::Module(_) => told(at, 40),
+        Denoted::Value(_) => reported(at, 40),
+        Denoted::Type(_) => reported(at, 40),
+        Denoted::Procedure => reported(at, 40),
+        Denoted::Standard(_) => reported(at, 40),
+        Denoted::Module(_) => reported(at, 40),
     }
 }

@@ -2,7 +2,7 @@
 
 ghost use Rattle.std.specs.Prelude.{◌≡◌, IfOk, Ok, map};
 ghost use Rattle.std.specs.List.{fold};
-ghost use Rattle.m2_judged.specs.Judged.{least, ◌▷◌};
+ghost use Rattle.m2_scopes.specs.Elaborated.{least, ◌▷◌};
 ghost use Rattle.m2_typed.specs.declared.meaning.Value.TheVariants as value;
 ghost use Rattle.m2_constants.specs.Calls.{sort_of};
 ghost use Rattle.m2_constants.specs.Denote.{component};
@@ -11,7 +11,7 @@ ghost use Rattle.m2_constants.specs.Parts.{related, part, pick, head, item, cons
 use crate::call::{Sort, bound, converted_by, sort_of, type_argument, unary};
 use crate::denoted::{Denoted, component, constant_by, denoted_by, is_bitset, of_value};
 use crate::qualified::member;
-use m2_judged::{Fault, Judged, Scope, both, looked_up, told};
+use m2_scopes::{Elaborated, Fault, Scope, both, looked_up, reported};
 use m2_tree::{
     AddOp, Designator, Expr, Ident, Item, MulOp, Operator, Pos, Quoted, RelOp, Selector, Sign,
 };
@@ -31,7 +31,7 @@ pub fn sign_place(sign: Option<Operator<Sign>>, at: Pos) -> Pos
     }
 }
 
-fn signed_first(sign: Option<Operator<Sign>>, value: Judged<Value>) -> Judged<Value>
+fn signed_first(sign: Option<Operator<Sign>>, value: Elaborated<Value>) -> Elaborated<Value>
     ensures { result ≡ signed_first least sign value }
 {
     match sign {
@@ -49,7 +49,7 @@ fn set_place(name: &Option<Ident>, at: Pos) -> Pos
     }
 }
 
-fn set_type(scope: &Scope<Fault>, name: &Option<Ident>) -> Result<Judged<()>, AllocError>
+fn set_type(scope: &Scope<Fault>, name: &Option<Ident>) -> Result<Elaborated<()>, AllocError>
     ensures { IfOk result (λ j. j ≡ set_type least scope.now name.now) }
 {
     match name {
@@ -61,7 +61,7 @@ fn set_type(scope: &Scope<Fault>, name: &Option<Ident>) -> Result<Judged<()>, Al
     }
 }
 
-fn set_of(of: Judged<()>, bits: Judged<u32>) -> Judged<Denoted>
+fn set_of(of: Elaborated<()>, bits: Elaborated<u32>) -> Elaborated<Denoted>
     ensures { result ≡ set_of least of bits }
 {
     match both(of, bits) {
@@ -70,7 +70,7 @@ fn set_of(of: Judged<()>, bits: Judged<u32>) -> Judged<Denoted>
     }
 }
 
-fn joined_bits(first: Judged<u32>, second: Judged<u32>) -> Judged<u32>
+fn joined_bits(first: Elaborated<u32>, second: Elaborated<u32>) -> Elaborated<u32>
     ensures { result ≡ joined_bits least first second }
 {
     match both(first, second) {
@@ -89,10 +89,10 @@ fn text_of(alloc: Global, bytes: &[u8]) -> Result<Value, AllocError>
 fn related(
     operator: &Operator<RelOp>,
     at: Pos,
-    left: Judged<Value>,
+    left: Elaborated<Value>,
     other_at: Pos,
-    right: Judged<Value>,
-) -> Judged<Denoted>
+    right: Elaborated<Value>,
+) -> Elaborated<Denoted>
     ensures { result ≡ related least operator.now at left other_at right }
 {
     let relation = BinaryOp::Relation(operator.op);
@@ -127,7 +127,7 @@ fn first_of(designator: &Designator) -> Pos
 }
 
 /// What the first name of a designator stands for.
-fn named(scope: &Scope<Fault>, name: &Ident) -> Result<Judged<Denoted>, AllocError>
+fn named(scope: &Scope<Fault>, name: &Ident) -> Result<Elaborated<Denoted>, AllocError>
     ensures { IfOk result (λ d. d ≡ named least scope.now name.now) }
 {
     match looked_up(scope, name)? {
@@ -140,7 +140,7 @@ fn member_of(
     scope: &Scope<Fault>,
     place: usize,
     name: &Ident,
-) -> Result<Judged<Denoted>, AllocError>
+) -> Result<Elaborated<Denoted>, AllocError>
     ensures { IfOk result (λ d. d ≡ member_of least scope.now place name.now) }
 {
     match member(scope, place, name)? {
@@ -154,7 +154,7 @@ fn field_of(
     at: Pos,
     name: &Ident,
     denoted: Denoted,
-) -> Result<Judged<Denoted>, AllocError>
+) -> Result<Elaborated<Denoted>, AllocError>
     ensures { IfOk result (λ d. d ≡ field_of least scope.now at name.now denoted) }
 {
     match denoted {
@@ -171,8 +171,8 @@ fn field_in(
     scope: &Scope<Fault>,
     at: Pos,
     name: &Ident,
-    from: Judged<Denoted>,
-) -> Result<Judged<Denoted>, AllocError>
+    from: Elaborated<Denoted>,
+) -> Result<Elaborated<Denoted>, AllocError>
     ensures { IfOk result (λ d. d ≡ (from ▷ field_of least scope.now at name.now)) }
 {
     match from {
@@ -181,7 +181,7 @@ fn field_in(
     }
 }
 
-fn component_in(at: Pos, from: Judged<Denoted>) -> Judged<Denoted>
+fn component_in(at: Pos, from: Elaborated<Denoted>) -> Elaborated<Denoted>
     ensures { result ≡ from ▷ component least at }
 {
     match from {
@@ -194,9 +194,9 @@ fn component_in(at: Pos, from: Judged<Denoted>) -> Judged<Denoted>
 #[tactic(auto, using(crate::proofs::Variants::variants))]
 fn pick(
     scope: &Scope<Fault>,
-    from: Judged<Denoted>,
+    from: Elaborated<Denoted>,
     selector: &Selector,
-) -> Result<Judged<Denoted>, AllocError>
+) -> Result<Elaborated<Denoted>, AllocError>
     ensures { IfOk result (λ d. d ≡ pick least selector.now scope.now from) }
 {
     match selector {
@@ -208,9 +208,9 @@ fn pick(
 /// What selectors pick, one after another.
 fn picked(
     scope: &Scope<Fault>,
-    first: Judged<Denoted>,
+    first: Elaborated<Denoted>,
     selectors: &[Selector],
-) -> Result<Judged<Denoted>, AllocError>
+) -> Result<Elaborated<Denoted>, AllocError>
     ensures { IfOk result (λ d. d ≡ fold (pick_in scope.now) first selectors.now) }
 {
     let mut denoted = first;
@@ -222,7 +222,10 @@ fn picked(
 
 /// What a designator stands for.
 #[tactic(auto, using(crate::proofs::Variants::variants))]
-fn designated(scope: &Scope<Fault>, designator: &Designator) -> Result<Judged<Denoted>, AllocError>
+fn designated(
+    scope: &Scope<Fault>,
+    designator: &Designator,
+) -> Result<Elaborated<Denoted>, AllocError>
     ensures { IfOk result (λ d. d ≡ (head least designator.now).denotes scope.now) }
 {
     let first = named(scope, &designator.name)?;
@@ -232,7 +235,7 @@ fn designated(scope: &Scope<Fault>, designator: &Designator) -> Result<Judged<De
 /// What a constant expression stands for.
 #[cycle(expr)]
 #[tactic(auto, using(crate::proofs::Variants::variants))]
-fn denotes(alloc: Global, scope: &Scope<Fault>, e: &Expr) -> Result<Judged<Denoted>, AllocError>
+fn denotes(alloc: Global, scope: &Scope<Fault>, e: &Expr) -> Result<Elaborated<Denoted>, AllocError>
     ensures { IfOk result (λ d. d ≡ (part least e.now).denotes scope.now) }
 {
     match e {
@@ -283,7 +286,7 @@ pub fn constant_of(
     alloc: Global,
     scope: &Scope<Fault>,
     e: &Expr,
-) -> Result<Judged<Value>, AllocError>
+) -> Result<Elaborated<Value>, AllocError>
     ensures { IfOk result (λ v. v ≡ constant least scope.now (part least e.now)) }
 {
     let denoted = denotes(alloc, scope, e)?;
@@ -296,9 +299,9 @@ fn called(
     alloc: Global,
     scope: &Scope<Fault>,
     at: Pos,
-    callee: Judged<Denoted>,
+    callee: Elaborated<Denoted>,
     args: &[Expr],
-) -> Result<Judged<Value>, AllocError>
+) -> Result<Elaborated<Value>, AllocError>
     ensures { IfOk result (λ v. v ≡ called least scope.now at callee (map (part least) args.now)) }
 {
     match callee {
@@ -314,16 +317,16 @@ fn called_as(
     at: Pos,
     callee: Denoted,
     args: &[Expr],
-) -> Result<Judged<Value>, AllocError>
+) -> Result<Elaborated<Value>, AllocError>
     ensures { IfOk result (λ v. v ≡ called_as least scope.now at callee (map (part least) args.now)) }
 {
     match callee {
         Denoted::Standard(standard) => by_sort(alloc, scope, at, standard, args),
-        Denoted::Value(_) => Ok(told(at, 34)),
-        Denoted::Type(_) => Ok(told(at, 34)),
-        Denoted::Variable => Ok(told(at, 34)),
-        Denoted::Procedure => Ok(told(at, 34)),
-        Denoted::Module(_) => Ok(told(at, 34)),
+        Denoted::Value(_) => Ok(reported(at, 34)),
+        Denoted::Type(_) => Ok(reported(at, 34)),
+        Denoted::Variable => Ok(reported(at, 34)),
+        Denoted::Procedure => Ok(reported(at, 34)),
+        Denoted::Module(_) => Ok(reported(at, 34)),
     }
 }
 
@@ -335,14 +338,14 @@ fn by_sort(
     at: Pos,
     standard: Standard,
     args: &[Expr],
-) -> Result<Judged<Value>, AllocError>
+) -> Result<Elaborated<Value>, AllocError>
     ensures { IfOk result (λ v. v ≡ by_sort least scope.now at standard (map (part least) args.now) (sort_of standard)) }
 {
     match sort_of(standard) {
         Sort::Unary => Ok(unary(standard, one(alloc, scope, at, args)?)),
         Sort::Bound => Ok(bound(standard, type_only(alloc, scope, at, args)?)),
         Sort::Conversion => conversion(alloc, scope, at, args),
-        Sort::Never => Ok(told(at, 34)),
+        Sort::Never => Ok(reported(at, 34)),
     }
 }
 
@@ -353,20 +356,20 @@ fn one(
     scope: &Scope<Fault>,
     at: Pos,
     args: &[Expr],
-) -> Result<Judged<(Pos, Value)>, AllocError>
+) -> Result<Elaborated<(Pos, Value)>, AllocError>
     ensures { IfOk result (λ x. x ≡ one least scope.now at (map (part least) args.now)) }
 {
     match args {
-        [] => Ok(told(at, 42)),
+        [] => Ok(reported(at, 42)),
         [argument] => {
             let value = constant_of(alloc, scope, argument)?;
             Ok(value_at(place_of(argument), value))
         }
-        [_, _, ..] => Ok(told(at, 42)),
+        [_, _, ..] => Ok(reported(at, 42)),
     }
 }
 
-fn value_at(at: Pos, value: Judged<Value>) -> Judged<(Pos, Value)>
+fn value_at(at: Pos, value: Elaborated<Value>) -> Elaborated<(Pos, Value)>
     ensures { result ≡ value_at at value }
 {
     match value {
@@ -382,16 +385,16 @@ fn type_only(
     scope: &Scope<Fault>,
     at: Pos,
     args: &[Expr],
-) -> Result<Judged<(TypeNo, Scalar)>, AllocError>
+) -> Result<Elaborated<(TypeNo, Scalar)>, AllocError>
     ensures { IfOk result (λ x. x ≡ type_only least scope.now at (map (part least) args.now)) }
 {
     match args {
-        [] => Ok(told(at, 42)),
+        [] => Ok(reported(at, 42)),
         [argument] => {
             let denoted = denotes(alloc, scope, argument)?;
             Ok(type_argument(&scope.types, place_of(argument), denoted))
         }
-        [_, _, ..] => Ok(told(at, 42)),
+        [_, _, ..] => Ok(reported(at, 42)),
     }
 }
 
@@ -402,19 +405,19 @@ fn conversion(
     scope: &Scope<Fault>,
     at: Pos,
     args: &[Expr],
-) -> Result<Judged<Value>, AllocError>
+) -> Result<Elaborated<Value>, AllocError>
     ensures { IfOk result (λ v. v ≡ conversion least scope.now at (map (part least) args.now)) }
 {
     match args {
-        [] => Ok(told(at, 42)),
-        [_] => Ok(told(at, 42)),
+        [] => Ok(reported(at, 42)),
+        [_] => Ok(reported(at, 42)),
         [to, argument] => {
             let denoted = denotes(alloc, scope, to)?;
             let t = type_argument(&scope.types, place_of(to), denoted);
             let value = constant_of(alloc, scope, argument)?;
             Ok(converted_by(t, place_of(argument), value))
         }
-        [_, _, _, ..] => Ok(told(at, 42)),
+        [_, _, _, ..] => Ok(reported(at, 42)),
     }
 }
 
@@ -424,9 +427,9 @@ fn factors(
     alloc: Global,
     scope: &Scope<Fault>,
     at: Pos,
-    left: Judged<Value>,
+    left: Elaborated<Value>,
     rest: &[(Operator<MulOp>, Expr)],
-) -> Result<Judged<Value>, AllocError>
+) -> Result<Elaborated<Value>, AllocError>
     ensures { IfOk result (λ v. v ≡ fold (factor_in scope.now at) left rest.now) }
 {
     let mut value = left;
@@ -450,9 +453,9 @@ fn terms(
     alloc: Global,
     scope: &Scope<Fault>,
     at: Pos,
-    left: Judged<Value>,
+    left: Elaborated<Value>,
     rest: &[(Operator<AddOp>, Expr)],
-) -> Result<Judged<Value>, AllocError>
+) -> Result<Elaborated<Value>, AllocError>
     ensures { IfOk result (λ v. v ≡ fold (term_in scope.now at) left rest.now) }
 {
     let mut value = left;
@@ -472,7 +475,11 @@ fn terms(
 
 /// The elements in braces.
 #[cycle(expr)]
-fn elements(alloc: Global, scope: &Scope<Fault>, items: &[Item]) -> Result<Judged<u32>, AllocError>
+fn elements(
+    alloc: Global,
+    scope: &Scope<Fault>,
+    items: &[Item],
+) -> Result<Elaborated<u32>, AllocError>
     ensures { IfOk result (λ b. b ≡ fold (item_in scope.now) (Ok 0) items.now) }
 {
     let mut bits = Ok(0);
@@ -486,7 +493,7 @@ fn elements(alloc: Global, scope: &Scope<Fault>, items: &[Item]) -> Result<Judge
 /// One element or a range of elements.
 #[cycle(expr)]
 #[tactic(auto, using(crate::proofs::Variants::variants))]
-fn added(alloc: Global, scope: &Scope<Fault>, element: &Item) -> Result<Judged<u32>, AllocError>
+fn added(alloc: Global, scope: &Scope<Fault>, element: &Item) -> Result<Elaborated<u32>, AllocError>
     ensures { IfOk result (λ b. b ≡ item least element.now scope.now) }
 {
     match &element.high {
@@ -504,7 +511,7 @@ fn added(alloc: Global, scope: &Scope<Fault>, element: &Item) -> Result<Judged<u
     }
 }
 
-fn single_of(at: Pos, value: Judged<Value>) -> Judged<u32>
+fn single_of(at: Pos, value: Elaborated<Value>) -> Elaborated<u32>
     ensures { result ≡ single_of least at value }
 {
     match value {
@@ -513,7 +520,7 @@ fn single_of(at: Pos, value: Judged<Value>) -> Judged<u32>
     }
 }
 
-fn element_of(at: Pos, value: Judged<Value>) -> Judged<Ordinal>
+fn element_of(at: Pos, value: Elaborated<Value>) -> Elaborated<Ordinal>
     ensures { result ≡ element_of least at value }
 {
     match value {

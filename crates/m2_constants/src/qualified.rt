@@ -2,10 +2,10 @@
 
 ghost use Rattle.std.specs.Prelude.{◌≡◌, IfOk};
 ghost use Rattle.std.specs.Option.{option_copied};
-ghost use Rattle.m2_judged.specs.Judged.{least};
+ghost use Rattle.m2_scopes.specs.Elaborated.{least};
 ghost use Rattle.m2_constants.specs.Denote.{exported_by, exported, member};
 
-use m2_judged::{Fault, Judged, Scope, told};
+use m2_scopes::{Elaborated, Fault, Scope, reported};
 use m2_tree::{Ident, Pos};
 use m2_typed::{Meaning, Shared, Table};
 use std::alloc::AllocError;
@@ -19,11 +19,11 @@ fn exported_by<'a>(table: Option<&'a Shared<Table>>, name: &[u8]) -> Option<&'a 
     }
 }
 
-fn exported(at: Pos, meaning: Option<&Meaning>) -> Result<Judged<Meaning>, AllocError>
+fn exported(at: Pos, meaning: Option<&Meaning>) -> Result<Elaborated<Meaning>, AllocError>
     ensures { IfOk result (λ m. m ≡ exported least at (option_copied meaning.entry)) }
 {
     match meaning {
-        None => Ok(told(at, 32)),
+        None => Ok(reported(at, 32)),
         Some(meaning) => Ok(Ok(meaning.copy()?)),
     }
 }
@@ -33,7 +33,7 @@ pub fn member(
     scope: &Scope<Fault>,
     place: usize,
     name: &Ident,
-) -> Result<Judged<Meaning>, AllocError>
+) -> Result<Elaborated<Meaning>, AllocError>
     ensures { IfOk result (λ m. m ≡ member least scope.now.tables place name.now) }
 {
     exported(

@@ -67,7 +67,7 @@ then_plain x is s d = emitted_seq x (plain is) s d ∙ emitted_plain is s (emitt
 pub plain_then : (is : List Instr) (x : Coded) (s : Setting) (d : Drafted) → emitted (plain is ⨾ x) s d ≡ emitted x s (put is d)
 plain_then is x s d = emitted_seq (plain is) x s d ∙ ap (λ (e : Drafted). emitted x s e) (emitted_plain is s d)
 
--- instructions that the setting tells
+-- instructions that the setting knows
 pub setting_plain : (f : Setting → List Instr) (s : Setting) (d : Drafted) → emitted (with_setting (λ s. plain (f s))) s d ≡ put (f s) d
 setting_plain f s d = emitted_setting (λ s. plain (f s)) s d ∙ emitted_plain (f s) s d
 

@@ -1,6 +1,6 @@
 -- What is kept of a layout is not cut.
 use Rattle.std.proofs.Common.{◌≡◌, ℕ, ◌+◌, ◌≤◌, List, map, sym, ap, ◌∙◌, arith}
-use Rattle.wasm_binary.specs.Binary.{module_spelling}
+use Rattle.wasm_binary.specs.Binary.{module_encoding}
 use Rattle.m2_typed.specs.declared.typed_module.TypedModule.{TypedModule}
 use Rattle.m2_layout.specs.declared.row.Row.{Row}
 use Rattle.m2_layout.specs.declared.layout.Layout.{Layout}
@@ -36,11 +36,11 @@ texts_are m x h f = h.texts ∙ whole_behind (size (module_row m)) (characters (
 abbrev made : List ℕ → List ℕ → (variables texts slots : ℕ) → ModuleBytes
 made name bytes v t s = record { name = name; bytes = bytes; variables = v; texts = t; slots = s }
 
-pub emitted_is : (m : TypedModule) (x : Layout) (name bytes : List ℕ) (n : ℕ) → IsLayout m x → AllFits m → name ≡ m.name → bytes ≡ module_spelling (typed_module m) → n ≡ slots m
+pub emitted_is : (m : TypedModule) (x : Layout) (name bytes : List ℕ) (n : ℕ) → IsLayout m x → AllFits m → name ≡ m.name → bytes ≡ module_encoding (typed_module m) → n ≡ slots m
     → made name bytes x.variables.size x.texts n ≡ emitted m
 unfolding emitted
 emitted_is m x name bytes n h f e b s =
     ap (λ (k : List ℕ). made k bytes x.variables.size x.texts n) e ∙ ap (λ (k : List ℕ). made m.name k x.variables.size x.texts n) b
-    ∙ ap (λ (k : ℕ). made m.name (module_spelling (typed_module m)) k x.texts n) (variables_are m x h f)
-    ∙ ap (λ (k : ℕ). made m.name (module_spelling (typed_module m)) (size (module_row m)) k n) (texts_are m x h f)
-    ∙ ap (λ (k : ℕ). made m.name (module_spelling (typed_module m)) (size (module_row m)) (characters (module_texts m)) k) s
+    ∙ ap (λ (k : ℕ). made m.name (module_encoding (typed_module m)) k x.texts n) (variables_are m x h f)
+    ∙ ap (λ (k : ℕ). made m.name (module_encoding (typed_module m)) (size (module_row m)) k n) (texts_are m x h f)
+    ∙ ap (λ (k : ℕ). made m.name (module_encoding (typed_module m)) (size (module_row m)) (characters (module_texts m)) k) s

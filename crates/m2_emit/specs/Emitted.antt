@@ -1,6 +1,6 @@
 -- What is emitted for a module.
 use Rattle.std.specs.Prelude.{List, [], ◌∷◌, ◌++◌, map, codes}
-use Rattle.wasm_binary.specs.Binary.{module_spelling}
+use Rattle.wasm_binary.specs.Binary.{module_encoding}
 use Rattle.m2_typed.specs.declared.typed_module.TypedModule.{TypedModule}
 use Rattle.m2_layout.specs.Sizes.{size}
 use Rattle.m2_layout.specs.Frames.{module_row}
@@ -15,7 +15,7 @@ use Rattle.m2_emit.specs.declared.emitted.ModuleBytes.{ModuleBytes}
 unfoldable pub emitted : TypedModule → ModuleBytes
 emitted m = record {
   name = m.name;
-  bytes = module_spelling (typed_module m);
+  bytes = module_encoding (typed_module m);
   variables = size (module_row m);
   texts = characters (module_texts m);
   slots = slots m;

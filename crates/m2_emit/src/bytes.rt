@@ -1,7 +1,7 @@
 //! The bytes of modules.
 
 ghost use Rattle.std.specs.Prelude.{◌≡◌, ◌≤◌, IfOk, OnOk, map, true};
-ghost use Rattle.wasm_binary.specs.Binary.{module_fits, Spells};
+ghost use Rattle.wasm_binary.specs.Binary.{module_fits, Encodes};
 ghost use Rattle.m2_layout.specs.Layouts.{IsLayout, AllFits};
 ghost use Rattle.m2_scheme.specs.Modules.{link_of, max_pages, typed_module};
 ghost use Rattle.m2_emit.specs.Emitted.{emitted, parts};
@@ -16,7 +16,7 @@ use std::alloc::{AllocError, Global};
 use wasm_binary::write_module;
 
 /// The bytes of a body's module, and what link needs of it. The layout is the module's, and nothing of it is too large, as
-/// `layout_of` answers it. The module has a spelling. The only error is that memory ran out, or that it has none, as a
+/// `layout_of` answers it. The module has an encoding. The only error is that memory ran out, or that it has none, as a
 /// number does not fit into 32 bits.
 pub fn emit(
     alloc: Global,
@@ -40,12 +40,12 @@ pub fn emit(
 }
 
 /// The bytes of the module link for these modules, which are in start order: it has so many pages (of 65536 bytes) of
-/// memory, and runs the bodies. The only error is that memory ran out, or that link has no spelling, as a number does not
+/// memory, and runs the bodies. The only error is that memory ran out, or that link has no encoding, as a number does not
 /// fit into 32 bits.
 pub fn emit_link(alloc: Global, modules: &[&ModuleBytes], pages: u32) -> Result<Vec<u8>, AllocError>
     requires { pages ≤ max_pages }
     ensures { let ms = parts (map (λ m. m.now) modules.now) in
-        IfOk result (λ bytes. Spells bytes.items (link_of ms pages)) }
+        IfOk result (λ bytes. Encodes bytes.items (link_of ms pages)) }
 {
     let tree = link_of(alloc, modules, pages)?;
     write_module(alloc, &tree)

@@ -8,24 +8,24 @@ use Rattle.wasm_tree.specs.declared.fault.WFault.TheVariants.{Malformed, Outside
 use Rattle.wasm_tree.specs.declared.module.WModule.{WModule}
 use Rattle.wasm_tree.specs.Format.{Fails}
 use Rattle.wasm_tree.specs.Linking.{link_name}
-use Rattle.wasm_binary.specs.Binary.{Spells, module_at}
+use Rattle.wasm_binary.specs.Binary.{Encodes, module_at}
 use Rattle.wasm_tree.specs.Validity.{IsValid}
 use Rattle.m2_execute.specs.declared.report.Report.{Report}
 use Rattle.m2_execute.specs.declared.report.Report.TheVariants.{Ran, Unread, Refused, Broken}
 use Rattle.m2_execute.specs.Directory.{Files, Stays, file_of, module_names, IsModule, AreModules, Empty, More}
-use Rattle.m2_execute.specs.Told.{IsOf, IsMissing, FirstMissing, IsRefused, Unspelled, NotValid, Memory, ComesOf, Comes}
+use Rattle.m2_execute.specs.Reported.{IsOf, IsMissing, FirstMissing, IsRefused, Unencoded, NotValid, Memory, ComesOf, Comes}
 
 module _ (gives : Files) (name : Bor (List ℕ)) (bytes slice : List ℕ) (given : gives (file_of name.now) (Some bytes)) (same : slice ≡ bytes) where
-  pub unspelled : (fault : WFault) → Fails fault (module_at slice) → IsMissing gives name.now (Refused name fault)
-  unspelled Malformed e = (refl, Unspelled Malformed bytes given (ap module_at (sym same) ∙ e))
-  unspelled OutsideProfile e = (refl, Unspelled OutsideProfile bytes given (ap module_at (sym same) ∙ e))
-  unspelled Invalid e = (refl, Unspelled Invalid bytes given (ap module_at (sym same) ∙ e))
-  unspelled Unlinked e = (refl, Unspelled Unlinked bytes given (ap module_at (sym same) ∙ e))
-  unspelled SegmentOutside e = (refl, Unspelled SegmentOutside bytes given (ap module_at (sym same) ∙ e))
-  unspelled NoMemory e = (refl, Memory)
+  pub unencoded : (fault : WFault) → Fails fault (module_at slice) → IsMissing gives name.now (Refused name fault)
+  unencoded Malformed e = (refl, Unencoded Malformed bytes given (ap module_at (sym same) ∙ e))
+  unencoded OutsideProfile e = (refl, Unencoded OutsideProfile bytes given (ap module_at (sym same) ∙ e))
+  unencoded Invalid e = (refl, Unencoded Invalid bytes given (ap module_at (sym same) ∙ e))
+  unencoded Unlinked e = (refl, Unencoded Unlinked bytes given (ap module_at (sym same) ∙ e))
+  unencoded SegmentOutside e = (refl, Unencoded SegmentOutside bytes given (ap module_at (sym same) ∙ e))
+  unencoded NoMemory e = (refl, Memory)
 
-  pub not_valid : (tree : WModule) (fault : WFault) → Spells slice tree → ((fault ≡ Invalid) × (IsValid tree → ⊥)) ⊎ (fault ≡ NoMemory) → IsMissing gives name.now (Refused name fault)
-  not_valid tree fault s (inl e) = (refl, subst (λ (f : WFault). IsRefused gives (file_of name.now) f) (sym e.0) (NotValid bytes tree given (subst (λ (b : List ℕ). Spells b tree) same s) e.1))
+  pub not_valid : (tree : WModule) (fault : WFault) → Encodes slice tree → ((fault ≡ Invalid) × (IsValid tree → ⊥)) ⊎ (fault ≡ NoMemory) → IsMissing gives name.now (Refused name fault)
+  not_valid tree fault s (inl e) = (refl, subst (λ (f : WFault). IsRefused gives (file_of name.now) f) (sym e.0) (NotValid bytes tree given (subst (λ (b : List ℕ). Encodes b tree) same s) e.1))
   not_valid tree fault s (inr e) = (refl, subst (λ (f : WFault). IsRefused gives (file_of name.now) f) (sym e) Memory)
 
 -- ---- what was seen later holds now
@@ -33,17 +33,17 @@ module _ (gives : Files) (name : Bor (List ℕ)) (bytes slice : List ℕ) (given
 module _ (now later : Files) (stays : Stays now later) where
   refused_before : (file : List ℕ) (f : WFault) → IsRefused later file f → IsRefused now file f
   refused_before file _ Memory = Memory
-  refused_before file _ (Unspelled fault bytes given e) = Unspelled fault bytes (stays file (Some bytes) given) e
+  refused_before file _ (Unencoded fault bytes given e) = Unencoded fault bytes (stays file (Some bytes) given) e
   refused_before file _ (NotValid bytes tree given s n) = NotValid bytes tree (stays file (Some bytes) given) s n
 
   pub missing_before : (name : List ℕ) (r : Report) → IsMissing later name r → IsMissing now name r
-  missing_before name (Unread told) h = (h.0, stays (file_of name) None h.1)
-  missing_before name (Refused told fault) h = (h.0, refused_before (file_of name) fault h.1)
+  missing_before name (Unread reported) h = (h.0, stays (file_of name) None h.1)
+  missing_before name (Refused reported fault) h = (h.0, refused_before (file_of name) fault h.1)
   missing_before name (Ran end) h = h
   missing_before name (Broken fault) h = h
 
   pub module_before : (name : List ℕ) (tree : WModule) → IsModule later name tree → IsModule now name tree
-  module_before name tree h = record { bytes = h.bytes; given = stays (file_of name) (Some h.bytes) h.given; spelled = h.spelled; valid = h.valid }
+  module_before name tree h = record { bytes = h.bytes; given = stays (file_of name) (Some h.bytes) h.given; encoded = h.encoded; valid = h.valid }
 
   all_before : (names : List (List ℕ)) (trees : List WModule) → AreModules later names trees → AreModules now names trees
   all_before _ _ Empty = Empty
@@ -53,11 +53,11 @@ module _ (now later : Files) (stays : Stays now later) where
   first_before names r h = record { before = h.before; name = h.name; after = h.after; are = h.are; trees = h.trees; there = all_before h.before h.trees h.there; missing = missing_before h.name r h.missing }
 
   -- what comes of the modules behind link
-  pub comes_behind : {S : Type 0} (told : S → Option (List ℕ)) (failed : S → ℕ) (link_tree : WModule) → IsModule now link_name link_tree → (steps : ℕ) (r : Report) (before after : S) (first : List WModule) (names : List (List ℕ)) → first ≡ link_tree ∷ [] → names ≡ module_names link_tree.exports
-      → ComesOf told failed later first names steps r before after → Comes told failed now steps r before after
-  comes_behind told failed link_tree held steps r before after first names alone are (inl h) =
-      inl (link_tree, held, inl (h.0, subst (λ (ns : List (List ℕ)). AreModules now ns h.0) are (all_before names h.0 h.1), subst (λ (ts : List WModule). IsOf told failed (ts ++ h.0) steps r before after) alone h.2))
-  comes_behind told failed link_tree held steps r before after first names alone are (inr h) = inl (link_tree, held, inr (subst (λ (ns : List (List ℕ)). FirstMissing now ns r) are (first_before names r h.0), h.1))
+  pub comes_behind : {S : Type 0} (reported : S → Option (List ℕ)) (failed : S → ℕ) (link_tree : WModule) → IsModule now link_name link_tree → (steps : ℕ) (r : Report) (before after : S) (first : List WModule) (names : List (List ℕ)) → first ≡ link_tree ∷ [] → names ≡ module_names link_tree.exports
+      → ComesOf reported failed later first names steps r before after → Comes reported failed now steps r before after
+  comes_behind reported failed link_tree held steps r before after first names alone are (inl h) =
+      inl (link_tree, held, inl (h.0, subst (λ (ns : List (List ℕ)). AreModules now ns h.0) are (all_before names h.0 h.1), subst (λ (ts : List WModule). IsOf reported failed (ts ++ h.0) steps r before after) alone h.2))
+  comes_behind reported failed link_tree held steps r before after first names alone are (inr h) = inl (link_tree, held, inr (subst (λ (ns : List (List ℕ)). FirstMissing now ns r) are (first_before names r h.0), h.1))
 
 -- ---- the modules so far
 

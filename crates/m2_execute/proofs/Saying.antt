@@ -5,14 +5,14 @@ use Rattle.std.specs.Borrow.{Bor}
 use Rattle.std.proofs.lemmas.List.{append-nil, take-append-drop}
 use Rattle.std.proofs.lemmas.Grind.{flat_map-append}
 use Rattle.std.proofs.Math.Seq.{drop-cons}
-use Rattle.wasm_engine.specs.Told.{with_bytes}
-use Rattle.m2_execute.specs.Told.{Printed, PartPrinted, Says}
+use Rattle.wasm_engine.specs.Reported.{with_bytes}
+use Rattle.m2_execute.specs.Reported.{Printed, PartPrinted, Says}
 
-more_bytes : (told : Option (List ℕ)) (a b : List ℕ) → with_bytes (with_bytes told a) b ≡ with_bytes told (a ++ b)
+more_bytes : (reported : Option (List ℕ)) (a b : List ℕ) → with_bytes (with_bytes reported a) b ≡ with_bytes reported (a ++ b)
 more_bytes None a b = refl
 more_bytes (Some bytes) a b = ap (λ (x : List ℕ). Some x) (append_assoc bytes a b)
 
-no_bytes : (told : Option (List ℕ)) → with_bytes told [] ≡ told
+no_bytes : (reported : Option (List ℕ)) → with_bytes reported [] ≡ reported
 no_bytes None = refl
 no_bytes (Some bytes) = ap (λ (x : List ℕ). Some x) (append-nil bytes)
 
@@ -28,26 +28,26 @@ split texts k d said h is =
     ∙ ap (λ (ts : List (Bor (List ℕ))). flat_map now_of (take k texts ++ ts)) (sym (drop-cons texts k d h))
     ∙ ap (flat_map now_of) (take-append-drop k texts)
 
-module _ {S : Type 0} (told : S → Option (List ℕ)) (failed : S → ℕ) where
-  pub nothing : (s : S) → Printed told failed [] s s
-  nothing s = record { taken = sym (no_bytes (told s)); failures = refl }
+module _ {S : Type 0} (reported : S → Option (List ℕ)) (failed : S → ℕ) where
+  pub nothing : (s : S) → Printed reported failed [] s s
+  nothing s = record { taken = sym (no_bytes (reported s)); failures = refl }
 
   -- bytes behind others
-  pub says_more : (ok : Bool) (a b : List ℕ) (before between after : S) → Printed told failed a before between → Says told failed ok b between after → Says told failed ok (a ++ b) before after
+  pub says_more : (ok : Bool) (a b : List ℕ) (before between after : S) → Printed reported failed a before between → Says reported failed ok b between after → Says reported failed ok (a ++ b) before after
   says_more true a b before between after first next = record {
-    taken = next.taken ∙ ap (λ (t : Option (List ℕ)). with_bytes t b) first.taken ∙ more_bytes (told before) a b;
+    taken = next.taken ∙ ap (λ (t : Option (List ℕ)). with_bytes t b) first.taken ∙ more_bytes (reported before) a b;
     failures = next.failures ∙ first.failures;
   }
   says_more false a b before between after first next = record {
     front = a ++ next.front;
     rest = next.rest;
     all = ap (λ (x : List ℕ). a ++ x) next.all ∙ sym (append_assoc a next.front next.rest);
-    taken = next.taken ∙ ap (λ (t : Option (List ℕ)). with_bytes t next.front) first.taken ∙ more_bytes (told before) a next.front;
+    taken = next.taken ∙ ap (λ (t : Option (List ℕ)). with_bytes t next.front) first.taken ∙ more_bytes (reported before) a next.front;
     failures = next.failures ∙ ap (λ (n : ℕ). n + 1) first.failures;
   }
 
   -- more was to be said where it failed
-  pub stopped : (a b : List ℕ) (before after : S) → PartPrinted told failed a before after → PartPrinted told failed (a ++ b) before after
+  pub stopped : (a b : List ℕ) (before after : S) → PartPrinted reported failed a before after → PartPrinted reported failed (a ++ b) before after
   stopped a b before after h = record {
     front = h.front;
     rest = h.rest ++ b;
@@ -57,7 +57,7 @@ module _ {S : Type 0} (told : S → Option (List ℕ)) (failed : S → ℕ) wher
   }
 
   -- a byte was not taken
-  pub not_taken : (bytes : List ℕ) (k : ℕ) (before between after : S) → Printed told failed (take k bytes) before between → failed after ≡ failed between + 1 → told after ≡ told between → PartPrinted told failed bytes before after
+  pub not_taken : (bytes : List ℕ) (k : ℕ) (before between after : S) → Printed reported failed (take k bytes) before between → failed after ≡ failed between + 1 → reported after ≡ reported between → PartPrinted reported failed bytes before after
   not_taken bytes k before between after so_far f t = record {
     front = take k bytes;
     rest = drop k bytes;
@@ -67,7 +67,7 @@ module _ {S : Type 0} (told : S → Option (List ℕ)) (failed : S → ℕ) wher
   }
 
   -- of several texts one was not said to its end
-  pub not_said : (texts : List (Bor (List ℕ))) (k : ℕ) (d : Bor (List ℕ)) (said : List ℕ) (before between after : S) → k < length texts → said ≡ (get_or texts k d).now → Printed told failed (flat_map (λ t. t.now) (take k texts)) before between → PartPrinted told failed said between after → PartPrinted told failed (flat_map (λ t. t.now) texts) before after
+  pub not_said : (texts : List (Bor (List ℕ))) (k : ℕ) (d : Bor (List ℕ)) (said : List ℕ) (before between after : S) → k < length texts → said ≡ (get_or texts k d).now → Printed reported failed (flat_map (λ t. t.now) (take k texts)) before between → PartPrinted reported failed said between after → PartPrinted reported failed (flat_map (λ t. t.now) texts) before after
   not_said texts k d said before between after h is so_far part =
       let whole = stopped (flat_map now_of (take k texts) ++ said) (flat_map now_of (drop (suc k) texts)) before after (says_more false (flat_map now_of (take k texts)) said before between after so_far part) in
-      subst (λ (bytes : List ℕ). PartPrinted told failed bytes before after) (split texts k d said h is) whole
+      subst (λ (bytes : List ℕ). PartPrinted reported failed bytes before after) (split texts k d said h is) whole

@@ -7,7 +7,7 @@ use Rattle.std.specs.Char.{is_ascii_alphabetic, is_ascii_alphanumeric}
 use Rattle.std.specs.Str.{bytes_eq}
 use Rattle.wasm_tree.specs.declared.module.Export.{Export}
 use Rattle.wasm_tree.specs.declared.module.WModule.{WModule}
-use Rattle.wasm_binary.specs.Binary.{Spells}
+use Rattle.wasm_binary.specs.Binary.{Encodes}
 use Rattle.wasm_tree.specs.Validity.{IsValid}
 use Rattle.wasm_tree.specs.Linking.{link_name}
 
@@ -45,11 +45,11 @@ Stays now later = (name : List ℕ) (bytes : Option (List ℕ)) → later name b
 abbrev pub file_of : List ℕ → List ℕ
 file_of name = name ++ codes ".wasm"
 
--- the file of the module of this name spells it, and it is valid
+-- the file of the module of this name encodes it, and it is valid
 pub record IsModule (gives : Files) (name : List ℕ) (tree : WModule) : Type 0 where
   pub bytes : List ℕ
   pub given : gives (file_of name) (Some bytes)
-  pub spelled : Spells bytes tree
+  pub encoded : Encodes bytes tree
   pub valid : IsValid tree
 
 -- each name's module, in their order

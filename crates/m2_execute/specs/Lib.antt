@@ -1,2 +1,2 @@
 pub mod Directory
-pub mod Told
+pub mod Reported

@@ -4,7 +4,7 @@ ghost use Rattle.std.specs.Prelude.{◌≡◌, ◌∷◌, [], ◌++◌, List, So
 ghost use Rattle.std.specs.String.{string_bytes};
 ghost use Rattle.wasm_tree.specs.declared.module.WModule.{WModule};
 ghost use Rattle.m2_execute.specs.Directory.{file_of, IsModule, AreModules, Stays};
-ghost use Rattle.m2_execute.specs.Told.{IsMissing, FirstMissing};
+ghost use Rattle.m2_execute.specs.Reported.{IsMissing, FirstMissing};
 
 use crate::dir::InDir;
 use crate::report::Report;

@@ -2,13 +2,13 @@
 
 ghost use Rattle.std.specs.Prelude.{◌≡◌, ◌+◌, ◌<◌, ◌^◌, map};
 ghost use Rattle.std.specs.String.{string_bytes};
-ghost use Rattle.m2_execute.specs.Told.{IsOf, ComesOf, Executes};
+ghost use Rattle.m2_execute.specs.Reported.{IsOf, ComesOf, Executes};
 
 use crate::dir::InDir;
 use crate::load::{alone, module_of, modules_of};
 use crate::names::module_names;
 use crate::report::Report;
-use crate::say::tell;
+use crate::say::write_report;
 use std::alloc::Global;
 use wasm_engine::{Instances, Sink};
 use wasm_tree::WFault;
@@ -22,7 +22,7 @@ fn run_all<S: Sink>(
     out: &mut S,
 ) -> Report<'static>
     requires { S.failed out.old + 1 < 2 ^ 64 }
-    ensures { IsOf S.told S.failed modules.now steps result out.old out.new }
+    ensures { IsOf S.reported S.failed modules.now steps result out.old out.new }
 {
     match Instances::link(alloc, modules) {
         Err(fault) => Report::Refused("link", fault),
@@ -43,7 +43,7 @@ fn run_named<'n, D: InDir, S: Sink>(
     out: &mut S,
 ) -> Report<'n>
     requires { S.failed out.old + 1 < 2 ^ 64 }
-    ensures { ComesOf S.told S.failed (D.gives dir.old) first.items (map string_bytes names.now) steps
+    ensures { ComesOf S.reported S.failed (D.gives dir.old) first.items (map string_bytes names.now) steps
         result out.old out.new }
 {
     match modules_of(alloc, dir, first, names) {
@@ -57,7 +57,7 @@ fn run_named<'n, D: InDir, S: Sink>(
 /// links them and executes them for so many reductions. The program prints on `out`.
 ///
 /// The answer is the status: 0 where the program ended by itself or by HALT; 1 where it ended otherwise; 3 where a file, a
-/// module, memory or `out` failed; 4 where it goes on. What 1 and 3 mean is told in a line on `err`. Each stream is left
+/// module, memory or `out` failed; 4 where it goes on. What 1 and 3 mean is reported in a line on `err`. Each stream is left
 /// alone after its first failure; one of `err` changes no status.
 pub fn execute<D: InDir, S: Sink, E: Sink>(
     alloc: Global,
@@ -68,18 +68,18 @@ pub fn execute<D: InDir, S: Sink, E: Sink>(
 ) -> u8
     requires out { S.failed out.old + 1 < 2 ^ 64 }
     requires err { E.failed err.old + 1 < 2 ^ 64 }
-    ensures { Executes S.told S.failed E.told E.failed (D.gives dir.old) steps result out.old out.new
+    ensures { Executes S.reported S.failed E.reported E.failed (D.gives dir.old) steps result out.old out.new
         err.old err.new }
 {
     let link = match module_of(alloc, dir, "link") {
         Ok(link) => link,
-        Err(report) => return tell(err, report),
+        Err(report) => return write_report(err, report),
     };
     let Ok(names) = module_names(alloc, link.exports()) else {
-        return tell(err, Report::Refused("link", WFault::NoMemory));
+        return write_report(err, Report::Refused("link", WFault::NoMemory));
     };
     let Ok(first) = alone(alloc, link) else {
-        return tell(err, Report::Refused("link", WFault::NoMemory));
+        return write_report(err, Report::Refused("link", WFault::NoMemory));
     };
-    tell(err, run_named(alloc, dir, first, &names, steps, out))
+    write_report(err, run_named(alloc, dir, first, &names, steps, out))
 }

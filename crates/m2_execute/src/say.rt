@@ -1,8 +1,8 @@
-//! What is told of a report.
+//! What is reported of a report.
 
 ghost use Rattle.std.specs.Prelude.{◌≡◌, ◌<◌, ◌^◌, ◌+◌, ◌++◌, Bool, codes};
 ghost use Rattle.std.specs.List.{flat_map};
-ghost use Rattle.m2_execute.specs.Told.{status, end_word, number_of, number_of_run, words, is_normal, Says};
+ghost use Rattle.m2_execute.specs.Reported.{status, end_word, number_of, number_of_run, words, is_normal, Says};
 
 use crate::report::Report;
 use itoa::Buffer;
@@ -12,7 +12,7 @@ use wasm_tree::WFault;
 /// Hands bytes to a stream, up to its first failure.
 fn say<E: Sink>(err: &mut E, bytes: &[u8]) -> bool
     requires { E.failed err.old + 1 < 2 ^ 64 }
-    ensures { Says E.told E.failed result bytes.now err.old err.new }
+    ensures { Says E.reported E.failed result bytes.now err.old err.new }
 {
     for byte in bytes {
         if !err.take(*byte) {
@@ -25,7 +25,7 @@ fn say<E: Sink>(err: &mut E, bytes: &[u8]) -> bool
 /// Hands several texts to a stream, up to its first failure.
 fn say_all<E: Sink>(err: &mut E, texts: &[&str]) -> bool
     requires { E.failed err.old + 1 < 2 ^ 64 }
-    ensures { Says E.told E.failed result (flat_map (λ t. t.now) texts.now) err.old err.new }
+    ensures { Says E.reported E.failed result (flat_map (λ t. t.now) texts.now) err.old err.new }
 {
     for text in texts {
         if !say(err, text.as_bytes()) {
@@ -93,10 +93,10 @@ fn number_of_run(fault: RunFault) -> u8
     }
 }
 
-/// Tells a report in one line, or says nothing where the run ended by itself or goes on. False where the stream failed.
+/// Writes a report in one line, or says nothing where the run ended by itself or goes on. False where the stream failed.
 fn say_report<E: Sink>(err: &mut E, report: Report<'_>) -> bool
     requires { E.failed err.old + 1 < 2 ^ 64 }
-    ensures { Says E.told E.failed result (words report.entry) err.old err.new }
+    ensures { Says E.reported E.failed result (words report.entry) err.old err.new }
 {
     let mut digits = Buffer::new();
     match report {
@@ -122,11 +122,11 @@ fn say_report<E: Sink>(err: &mut E, report: Report<'_>) -> bool
     }
 }
 
-/// Tells a report on a stream, and answers its status.
-pub fn tell<E: Sink>(err: &mut E, report: Report<'_>) -> u8
+/// Writes a report on a stream, and answers its status.
+pub fn write_report<E: Sink>(err: &mut E, report: Report<'_>) -> u8
     requires { E.failed err.old + 1 < 2 ^ 64 }
     ensures status { result ≡ status report.entry }
-    ensures says { (all : Bool) × Says E.told E.failed all (words report.entry) err.old err.new }
+    ensures says { (all : Bool) × Says E.reported E.failed all (words report.entry) err.old err.new }
 {
     say_report(err, report);
     status(report)

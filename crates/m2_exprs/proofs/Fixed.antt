@@ -10,14 +10,14 @@ use Rattle.m2_tree.specs.declared.expr.Expr.TheOpen as layer
 use Rattle.m2_tree.specs.declared.expr.Selector.{Selector, Selector-F, out-Selector, roll-Selector, out-roll-Selector, map-Selector, fold_out-Selector}
 use Rattle.m2_tree.specs.declared.expr.Designator.{Designator, Designator-F, out-Designator, roll-Designator, out-roll-Designator, map-Designator, fold_out-Designator}
 use Rattle.m2_tree.specs.declared.expr.Item.{Item, Item-F, out-Item, roll-Item, out-roll-Item, map-Item, fold_out-Item}
-use Rattle.m2_judged.specs.declared.fault.Fault.{Fault}
-use Rattle.m2_judged.specs.Judged.{least}
+use Rattle.m2_scopes.specs.declared.fault.Fault.{Fault}
+use Rattle.m2_scopes.specs.Elaborated.{least}
 use Rattle.m2_constants.specs.Parts.{Part, Pick, Adds}
 use Rattle.m2_constants.specs.Parts as constants
 use Rattle.m2_exprs.specs.Meanings.{Meant, Picks, expr_layer, selector_layer, designator_layer, item_layer, expr_fixed, selector_fixed, designator_fixed, meant, picks, head, item}
 
 abbrev T : Type 0
-T = least.Told
+T = least.Reported
 
 abbrev PE : Expr → Type 0
 PE e = (meant least e).fixed ≡ constants.part least e
@@ -124,8 +124,8 @@ maps b k h j p (x ∷ xs) = ap (λ a. a ∷ map h (map k (map b xs))) (p x) ∙ 
 abbrev bared : {O : Type 0} → Operator O × SE → Operator O × Expr
 bared a = (a.0, a.1.0)
 
-abbrev judged : {O : Type 0} → Operator O × Expr → Operator O × Meant T
-judged x = (x.0, meant least x.1)
+abbrev elaborated : {O : Type 0} → Operator O × Expr → Operator O × Meant T
+elaborated x = (x.0, meant least x.1)
 
 abbrev fixed_part : {O : Type 0} → Operator O × Meant T → Operator O × Part T
 fixed_part x = (x.0, x.1.fixed)
@@ -133,8 +133,8 @@ fixed_part x = (x.0, x.1.fixed)
 abbrev alone : {O : Type 0} → Operator O × Expr → Operator O × Part T
 alone x = (x.0, constants.part least x.1)
 
-operands : {O : Type 0} (xs : List (Operator O × SE)) → map (fixed_part {O = O}) (map (judged {O = O}) (map (bared {O = O}) xs)) ≡ map (alone {O = O}) (map (bared {O = O}) xs)
-operands {O = O} xs = maps (bared {O = O}) (judged {O = O}) (fixed_part {O = O}) (alone {O = O}) (λ a. ap {A = Part T} {B = Operator O × Part T} (λ q. (a.0, q)) a.1.1) xs
+operands : {O : Type 0} (xs : List (Operator O × SE)) → map (fixed_part {O = O}) (map (elaborated {O = O}) (map (bared {O = O}) xs)) ≡ map (alone {O = O}) (map (bared {O = O}) xs)
+operands {O = O} xs = maps (bared {O = O}) (elaborated {O = O}) (fixed_part {O = O}) (alone {O = O}) (λ a. ap {A = Part T} {B = Operator O × Part T} (λ q. (a.0, q)) a.1.1) xs
 
 exprs : (xs : List SE) → map (λ (x : Meant T). x.fixed) (map (meant least) (map (λ (a : SE). a.0) xs)) ≡ map (constants.part least) (map (λ (a : SE). a.0) xs)
 exprs xs = maps (λ (a : SE). a.0) (meant least) (λ (x : Meant T). x.fixed) (constants.part least) (λ a. a.1) xs
@@ -158,9 +158,9 @@ expr_beside (layer.Bracketed p e) = ap (λ (x : Part T). L (layer.Bracketed p x)
 expr_beside (layer.Use d None) = ap (λ (x : Part T). L (layer.Use x None)) d.1
 expr_beside (layer.Use d (Some es)) = ap (λ (x : Part T). L (layer.Use x (Some (map (λ (x : Meant T). x.fixed) (map (meant least) (map (λ (a : SE). a.0) es)))))) d.1
     ∙ ap (λ (ys : List (Part T)). L (layer.Use (constants.head least d.0) (Some ys))) (exprs es)
-expr_beside (layer.Term e xs) = ap (λ (x : Part T). L (layer.Term x (map fixed_part (map judged (map bared xs))))) e.1
+expr_beside (layer.Term e xs) = ap (λ (x : Part T). L (layer.Term x (map fixed_part (map elaborated (map bared xs))))) e.1
     ∙ ap (λ (ys : List (Operator MulOp × Part T)). L (layer.Term (constants.part least e.0) ys)) (operands xs)
-expr_beside (layer.Sum o e xs) = ap (λ (x : Part T). L (layer.Sum o x (map fixed_part (map judged (map bared xs))))) e.1
+expr_beside (layer.Sum o e xs) = ap (λ (x : Part T). L (layer.Sum o x (map fixed_part (map elaborated (map bared xs))))) e.1
     ∙ ap (λ (ys : List (Operator AddOp × Part T)). L (layer.Sum o (constants.part least e.0) ys)) (operands xs)
 expr_beside (layer.Relation a o b) = ap (λ (x : Part T). L (layer.Relation x o (meant least b.0).fixed)) a.1 ∙ ap (λ (x : Part T). L (layer.Relation (constants.part least a.0) o x)) b.1
 

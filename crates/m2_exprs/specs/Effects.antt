@@ -14,8 +14,8 @@ use Rattle.m2_typed.specs.declared.statement.Membership.TheVariants.{Include, Ex
 use Rattle.m2_typed.specs.declared.statement.TypedStmt.{TypedStmt}
 use Rattle.m2_typed.specs.declared.statement.TypedStmt.TheVariants as step
 use Rattle.m2_typed.specs.Types.{cardinal}
-use Rattle.m2_judged.specs.Judged.{Gathers, told, ◌▷◌}
-use Rattle.m2_judged.specs.declared.scope.Scope.{Scope}
+use Rattle.m2_scopes.specs.Elaborated.{Gathers, reported, ◌▷◌}
+use Rattle.m2_scopes.specs.declared.scope.Scope.{Scope}
 use Rattle.m2_computed.specs.declared.computed.Designated.{Designated}
 use Rattle.m2_computed.specs.Classes.{signature_at}
 use Rattle.m2_calls.specs.declared.callee.Callee.{Callee}
@@ -29,42 +29,42 @@ abbrev pub call_done : {T : Type 0} → Callee → Result (List Argument) T → 
 call_done c args = args ▷ λ xs. Ok (step.Call (call_by xs c))
 
 module _ (g : Gathers) where
-  abbrev pub routine_done : Scope g.Told → Pos → TypeNo → Callee → List (Meant g.Told) → Result TypedStmt g.Told
+  abbrev pub routine_done : Scope g.Reported → Pos → TypeNo → Callee → List (Meant g.Reported) → Result TypedStmt g.Reported
   routine_done s at h c args = proper_of g at (signature_at s.types h) (length args) ▷ λ fine. call_done c (actuals g s (formals_of (signature_at s.types h)) args)
 
   -- by 1, where nothing is written
-  abbrev pub changed_by : Scope g.Told → Pos → Change → List (Meant g.Told) → Result TypedStmt g.Told
-  changed_by s at o [] = told g at 42
+  abbrev pub changed_by : Scope g.Reported → Pos → Change → List (Meant g.Reported) → Result TypedStmt g.Reported
+  changed_by s at o [] = reported g at 42
   changed_by s at o (v ∷ []) = change_by g o (v.means s ▷ changed g s.types v.fixed.at) (Ok (expr.Constant cardinal (pos 1)))
   changed_by s at o (v ∷ n ∷ []) = change_by g o (v.means s ▷ changed g s.types v.fixed.at) (value_of g s n ▷ amount g n.fixed.at)
-  changed_by s at o (v ∷ n ∷ x ∷ xs) = told g at 42
+  changed_by s at o (v ∷ n ∷ x ∷ xs) = reported g at 42
 
-  abbrev pub member_by : Scope g.Told → Pos → Membership → List (Meant g.Told) → Result TypedStmt g.Told
-  member_by s at o [] = told g at 42
-  member_by s at o (v ∷ []) = told g at 42
+  abbrev pub member_by : Scope g.Reported → Pos → Membership → List (Meant g.Reported) → Result TypedStmt g.Reported
+  member_by s at o [] = reported g at 42
+  member_by s at o (v ∷ []) = reported g at 42
   member_by s at o (v ∷ n ∷ []) = membership_of g o (v.means s ▷ set_variable g s.types v.fixed.at) (value_of g s n ▷ element g n.fixed.at)
-  member_by s at o (v ∷ n ∷ x ∷ xs) = told g at 42
+  member_by s at o (v ∷ n ∷ x ∷ xs) = reported g at 42
 
-  abbrev pub halted : Pos → List (Meant g.Told) → Result TypedStmt g.Told
+  abbrev pub halted : Pos → List (Meant g.Reported) → Result TypedStmt g.Reported
   halted at [] = Ok step.Halt
-  halted at (x ∷ xs) = told g at 42
+  halted at (x ∷ xs) = reported g at 42
 
-  abbrev pub put_by : Scope g.Told → Pos → List (Meant g.Told) → Result TypedStmt g.Told
-  put_by s at [] = told g at 42
+  abbrev pub put_by : Scope g.Reported → Pos → List (Meant g.Reported) → Result TypedStmt g.Reported
+  put_by s at [] = reported g at 42
   put_by s at (x ∷ []) = value_of g s x ▷ put g s.types x.fixed.at
-  put_by s at (x ∷ y ∷ xs) = told g at 42
+  put_by s at (x ∷ y ∷ xs) = reported g at 42
 
   -- functions are no statements
-  abbrev pub standard_done : Scope g.Told → Pos → List (Meant g.Told) → Standard → Result TypedStmt g.Told
-  standard_done s at args Abs = told g at 40
-  standard_done s at args Cap = told g at 40
-  standard_done s at args Chr = told g at 40
-  standard_done s at args High = told g at 40
-  standard_done s at args Max = told g at 40
-  standard_done s at args Min = told g at 40
-  standard_done s at args Odd = told g at 40
-  standard_done s at args Ord = told g at 40
-  standard_done s at args Val = told g at 40
+  abbrev pub standard_done : Scope g.Reported → Pos → List (Meant g.Reported) → Standard → Result TypedStmt g.Reported
+  standard_done s at args Abs = reported g at 40
+  standard_done s at args Cap = reported g at 40
+  standard_done s at args Chr = reported g at 40
+  standard_done s at args High = reported g at 40
+  standard_done s at args Max = reported g at 40
+  standard_done s at args Min = reported g at 40
+  standard_done s at args Odd = reported g at 40
+  standard_done s at args Ord = reported g at 40
+  standard_done s at args Val = reported g at 40
   standard_done s at args Inc = changed_by s at Increase args
   standard_done s at args Dec = changed_by s at Decrease args
   standard_done s at args Incl = member_by s at Include args
@@ -72,10 +72,10 @@ module _ (g : Gathers) where
   standard_done s at args Halt = halted at args
   standard_done s at args Put = put_by s at args
 
-  abbrev pub done_as : Scope g.Told → Pos → List (Meant g.Told) → Called → Result TypedStmt g.Told
+  abbrev pub done_as : Scope g.Reported → Pos → List (Meant g.Reported) → Called → Result TypedStmt g.Reported
   done_as s at args (called.Routine h c) = routine_done s at h c args
   done_as s at args (called.Standard f) = standard_done s at args f
 
   -- a call of a designator as a statement
-  abbrev pub done_by : Scope g.Told → Meant g.Told → List (Meant g.Told) → Result TypedStmt g.Told
+  abbrev pub done_by : Scope g.Reported → Meant g.Reported → List (Meant g.Reported) → Result TypedStmt g.Reported
   done_by s d args = d.means s ▷ callee_of g s.types d.fixed.at ▷ done_as s d.fixed.at args

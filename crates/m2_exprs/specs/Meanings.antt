@@ -20,9 +20,9 @@ use Rattle.m2_typed.specs.declared.shape.Formal.{Formal}
 use Rattle.m2_typed.specs.declared.shape.Signature.{Signature}
 use Rattle.m2_typed.specs.declared.meaning.Standard.{Standard}
 use Rattle.m2_typed.specs.declared.known_types.Types.{Types}
-use Rattle.m2_judged.specs.Judged.{Gathers, least, told, both, ◌▷◌}
-use Rattle.m2_judged.specs.declared.scope.Scope.{Scope}
-use Rattle.m2_judged.specs.Scopes.{looked_up}
+use Rattle.m2_scopes.specs.Elaborated.{Gathers, least, reported, both, ◌▷◌}
+use Rattle.m2_scopes.specs.declared.scope.Scope.{Scope}
+use Rattle.m2_scopes.specs.Scopes.{looked_up}
 use Rattle.m2_values.specs.declared.operator.BinaryOp.TheVariants as op
 use Rattle.m2_values.specs.Operators.{mul_op, add_op}
 use Rattle.m2_constants.specs.Denote.{member}
@@ -63,26 +63,26 @@ pub record Picks (T : Type 0) : Type 0 where
 abbrev pub of_computed : {T : Type 0} → Result Computed T → Result Designated T
 of_computed x = x ▷ λ v. Ok (designated.Value v)
 
-abbrev pub taken_at : (g : Gathers) → Types → Pos → Result Designated g.Told → Result Computed g.Told
+abbrev pub taken_at : (g : Gathers) → Types → Pos → Result Designated g.Reported → Result Computed g.Reported
 taken_at g types at d = d ▷ taken g types at
 
-abbrev pub signed_first : (g : Gathers) → Option (Operator Sign) → Result Computed g.Told → Result Computed g.Told
+abbrev pub signed_first : (g : Gathers) → Option (Operator Sign) → Result Computed g.Reported → Result Computed g.Reported
 signed_first g None x = x
 signed_first g (Some o) x = signed g o.op o.pos x
 
-abbrev pub related : (g : Gathers) → Types → Operator RelOp → Pos → Result Computed g.Told → Pos → Result Computed g.Told → Result Computed g.Told
+abbrev pub related : (g : Gathers) → Types → Operator RelOp → Pos → Result Computed g.Reported → Pos → Result Computed g.Reported → Result Computed g.Reported
 related g types o at x at' y = combined g types (op.Relation o.op) o.pos at x at' y
 
 -- ---- designators
 
-abbrev pub named : (g : Gathers) → Scope g.Told → Ident → Result Designated g.Told
+abbrev pub named : (g : Gathers) → Scope g.Reported → Ident → Result Designated g.Reported
 named g s name = looked_up g s name ▷ designated_by g s.level name.pos
 
-abbrev pub member_of : (g : Gathers) → Scope g.Told → ℕ → Ident → Result Designated g.Told
+abbrev pub member_of : (g : Gathers) → Scope g.Reported → ℕ → Ident → Result Designated g.Reported
 member_of g s k name = member g s.tables k name ▷ designated_by g s.level name.pos
 
 -- a name of a module, or a field of a record
-abbrev pub field_of : (g : Gathers) → Scope g.Told → Pos → Ident → Designated → Result Designated g.Told
+abbrev pub field_of : (g : Gathers) → Scope g.Reported → Pos → Ident → Designated → Result Designated g.Reported
 field_of g s at name (designated.Module k) = member_of g s k name
 field_of g s at name (designated.Value x) = field g s.types at name (designated.Value x)
 field_of g s at name (designated.Variable t d) = field g s.types at name (designated.Variable t d)
@@ -92,11 +92,11 @@ field_of g s at name (designated.Procedure p) = field g s.types at name (designa
 field_of g s at name (designated.Nested p) = field g s.types at name (designated.Nested p)
 field_of g s at name (designated.Standard f) = field g s.types at name (designated.Standard f)
 
-abbrev pub field_at : (g : Gathers) → Scope g.Told → Pos → Ident → Result Designated g.Told → Result Designated g.Told
+abbrev pub field_at : (g : Gathers) → Scope g.Reported → Pos → Ident → Result Designated g.Reported → Result Designated g.Reported
 field_at g s at name d = d ▷ field_of g s at name
 
--- what stands before a bracket is judged beside the index
-abbrev pub index_at : (g : Gathers) → Types → Pos → Result Designated g.Told → Pos → Result Computed g.Told → Result Designated g.Told
+-- what stands before a bracket is elaborated beside the index
+abbrev pub index_at : (g : Gathers) → Types → Pos → Result Designated g.Reported → Pos → Result Computed g.Reported → Result Designated g.Reported
 index_at g types at d at' x = indexed g types (d ▷ indices g types at) at' x
 
 -- ---- formals
@@ -105,93 +105,93 @@ abbrev pub formals_of : Option Signature → List Formal
 formals_of None = []
 formals_of (Some h) = h.formals
 
-abbrev pub argument_by : (g : Gathers) → Types → Option Formal → Pos → Result Designated g.Told → Result Argument g.Told
-argument_by g types None at d = told g at 42
+abbrev pub argument_by : (g : Gathers) → Types → Option Formal → Pos → Result Designated g.Reported → Result Argument g.Reported
+argument_by g types None at d = reported g at 42
 argument_by g types (Some f) at d = d ▷ actual g types f at
 
-abbrev pub call_given : (g : Gathers) → Types → TypeNo → Callee → Result (List Argument) g.Told → Result Computed g.Told
+abbrev pub call_given : (g : Gathers) → Types → TypeNo → Callee → Result (List Argument) g.Reported → Result Computed g.Reported
 call_given g types t c args = args ▷ λ xs. Ok (given types t (expr.Call t (call_by xs c)))
 
 module _ (g : Gathers) where
   -- a constant expression as it stands
-  abbrev pub as_constant : Scope g.Told → Part g.Told → Result Designated g.Told
+  abbrev pub as_constant : Scope g.Reported → Part g.Reported → Result Designated g.Reported
   as_constant s x = constant g s x ▷ λ v. Ok (designated.Value (value.Constant v))
 
   -- a part taken as a value
-  abbrev pub value_of : Scope g.Told → Meant g.Told → Result Computed g.Told
+  abbrev pub value_of : Scope g.Reported → Meant g.Reported → Result Computed g.Reported
   value_of s x = taken_at g s.types x.fixed.at (x.means s)
 
   -- ---- calls
 
   -- the arguments, one after the other, with the formals that are left
-  abbrev pub with_actual : Scope g.Told → List Formal × Result (List Argument) g.Told → Meant g.Told → List Formal × Result (List Argument) g.Told
+  abbrev pub with_actual : Scope g.Reported → List Formal × Result (List Argument) g.Reported → Meant g.Reported → List Formal × Result (List Argument) g.Reported
   with_actual s st x = let n = next_formal st.0 in (n.1, with_argument g st.1 (argument_by g s.types n.0 x.fixed.at (x.means s)))
 
-  abbrev pub actuals : Scope g.Told → List Formal → List (Meant g.Told) → Result (List Argument) g.Told
+  abbrev pub actuals : Scope g.Reported → List Formal → List (Meant g.Reported) → Result (List Argument) g.Reported
   actuals s fs args = (fold (with_actual s) (fs, Ok []) args).1
 
-  -- the number of arguments is judged before them
-  abbrev pub routine_called : Scope g.Told → Pos → TypeNo → Callee → List (Meant g.Told) → Result Computed g.Told
+  -- the number of arguments is checked before them
+  abbrev pub routine_called : Scope g.Reported → Pos → TypeNo → Callee → List (Meant g.Reported) → Result Computed g.Reported
   routine_called s at h c args =
       function_of g at (signature_at s.types h) (length args) ▷ λ t. call_given g s.types t c (actuals s (formals_of (signature_at s.types h)) args)
 
-  abbrev pub unary : Scope g.Told → Pos → Standard → Unary → List (Meant g.Told) → Result Computed g.Told
-  unary s at f u [] = told g at 42
+  abbrev pub unary : Scope g.Reported → Pos → Standard → Unary → List (Meant g.Reported) → Result Computed g.Reported
+  unary s at f u [] = reported g at 42
   unary s at f u (x ∷ []) = value_of s x ▷ unary_at g f u x.fixed.at
-  unary s at f u (x ∷ y ∷ xs) = told g at 42
+  unary s at f u (x ∷ y ∷ xs) = reported g at 42
 
-  abbrev pub bound : Scope g.Told → Pos → Standard → List (Meant g.Told) → Result Computed g.Told
-  bound s at f [] = told g at 42
+  abbrev pub bound : Scope g.Reported → Pos → Standard → List (Meant g.Reported) → Result Computed g.Reported
+  bound s at f [] = reported g at 42
   bound s at f (x ∷ []) = bound_at f (x.means s ▷ type_named g s.types x.fixed.at)
-  bound s at f (x ∷ y ∷ xs) = told g at 42
+  bound s at f (x ∷ y ∷ xs) = reported g at 42
 
-  abbrev pub conversion : Scope g.Told → Pos → List (Meant g.Told) → Result Computed g.Told
-  conversion s at [] = told g at 42
-  conversion s at (t ∷ []) = told g at 42
+  abbrev pub conversion : Scope g.Reported → Pos → List (Meant g.Reported) → Result Computed g.Reported
+  conversion s at [] = reported g at 42
+  conversion s at (t ∷ []) = reported g at 42
   conversion s at (t ∷ x ∷ []) = conversion_at g (t.means s ▷ type_named g s.types t.fixed.at) x.fixed.at (value_of s x)
-  conversion s at (t ∷ x ∷ y ∷ xs) = told g at 42
+  conversion s at (t ∷ x ∷ y ∷ xs) = reported g at 42
 
-  abbrev pub high : Scope g.Told → Pos → List (Meant g.Told) → Result Computed g.Told
-  high s at [] = told g at 42
+  abbrev pub high : Scope g.Reported → Pos → List (Meant g.Reported) → Result Computed g.Reported
+  high s at [] = reported g at 42
   high s at (x ∷ []) = x.means s ▷ high_of g x.fixed.at
-  high s at (x ∷ y ∷ xs) = told g at 42
+  high s at (x ∷ y ∷ xs) = reported g at 42
 
-  abbrev pub by_form : Scope g.Told → Pos → Standard → List (Meant g.Told) → Form → Result Computed g.Told
+  abbrev pub by_form : Scope g.Reported → Pos → Standard → List (Meant g.Reported) → Form → Result Computed g.Reported
   by_form s at f args (form.Unary u) = unary s at f u args
   by_form s at f args form.Bound = bound s at f args
   by_form s at f args form.Conversion = conversion s at args
   by_form s at f args form.High = high s at args
-  by_form s at f args form.Proper = told g at 40
+  by_form s at f args form.Proper = reported g at 40
 
-  abbrev pub called_as : Scope g.Told → Pos → List (Meant g.Told) → Called → Result Computed g.Told
+  abbrev pub called_as : Scope g.Reported → Pos → List (Meant g.Reported) → Called → Result Computed g.Reported
   called_as s at args (called.Routine h c) = routine_called s at h c args
   called_as s at args (called.Standard f) = by_form s at f args (form_of f)
 
-  abbrev pub called_by : Scope g.Told → Pos → Result Designated g.Told → List (Meant g.Told) → Result Computed g.Told
+  abbrev pub called_by : Scope g.Reported → Pos → Result Designated g.Reported → List (Meant g.Reported) → Result Computed g.Reported
   called_by s at d args = d ▷ callee_of g s.types at ▷ called_as s at args
 
-  abbrev pub used_with : Scope g.Told → Meant g.Told → Option (List (Meant g.Told)) → Result Designated g.Told
+  abbrev pub used_with : Scope g.Reported → Meant g.Reported → Option (List (Meant g.Reported)) → Result Designated g.Reported
   used_with s d None = d.means s
   used_with s d (Some args) = of_computed (called_by s d.fixed.at (d.means s) args)
 
   -- ---- operators
 
-  abbrev pub factor : Scope g.Told → Pos → Result Computed g.Told → Operator MulOp × Meant g.Told → Result Computed g.Told
+  abbrev pub factor : Scope g.Reported → Pos → Result Computed g.Reported → Operator MulOp × Meant g.Reported → Result Computed g.Reported
   factor s at left x = combined g s.types (mul_op x.0.op) x.0.pos at left x.1.fixed.at (value_of s x.1)
 
-  abbrev pub term : Scope g.Told → Pos → Result Computed g.Told → Operator AddOp × Meant g.Told → Result Computed g.Told
+  abbrev pub term : Scope g.Reported → Pos → Result Computed g.Reported → Operator AddOp × Meant g.Reported → Result Computed g.Reported
   term s at left x = combined g s.types (add_op x.0.op) x.0.pos at left x.1.fixed.at (value_of s x.1)
 
-  abbrev pub relation : Scope g.Told → Meant g.Told → Operator RelOp → Meant g.Told → Result Computed g.Told
+  abbrev pub relation : Scope g.Reported → Meant g.Reported → Operator RelOp → Meant g.Reported → Result Computed g.Reported
   relation s a o b = related g s.types o a.fixed.at (value_of s a) b.fixed.at (value_of s b)
 
   -- ---- the layers
 
-  abbrev pub expr_fixed : Expr-F (Meant g.Told) (Picks g.Told) (Meant g.Told) (Adds g.Told) → Part g.Told
-  expr_fixed x = constants.expr_layer g (map-Expr (Meant g.Told) (Picks g.Told) (Meant g.Told) (Adds g.Told) (Part g.Told) (Pick g.Told) (Part g.Told) (Adds g.Told) (λ e. e.fixed) (λ e. e.fixed) (λ e. e.fixed) (λ e. e) x)
+  abbrev pub expr_fixed : Expr-F (Meant g.Reported) (Picks g.Reported) (Meant g.Reported) (Adds g.Reported) → Part g.Reported
+  expr_fixed x = constants.expr_layer g (map-Expr (Meant g.Reported) (Picks g.Reported) (Meant g.Reported) (Adds g.Reported) (Part g.Reported) (Pick g.Reported) (Part g.Reported) (Adds g.Reported) (λ e. e.fixed) (λ e. e.fixed) (λ e. e.fixed) (λ e. e) x)
 
   -- what stands for itself is a constant; sets have constant elements
-  abbrev pub expr_means : Expr-F (Meant g.Told) (Picks g.Told) (Meant g.Told) (Adds g.Told) → Part g.Told → Scope g.Told → Result Designated g.Told
+  abbrev pub expr_means : Expr-F (Meant g.Reported) (Picks g.Reported) (Meant g.Reported) (Adds g.Reported) → Part g.Reported → Scope g.Reported → Result Designated g.Reported
   expr_means (layer.Number at n) fixed s = as_constant s fixed
   expr_means (layer.Char at c) fixed s = as_constant s fixed
   expr_means (layer.Text at t) fixed s = as_constant s fixed
@@ -203,57 +203,57 @@ module _ (g : Gathers) where
   expr_means (layer.Sum sign e rest) fixed s = of_computed (fold (term s (sign_place sign e.fixed.at)) (signed_first g sign (value_of s e)) rest)
   expr_means (layer.Relation a o b) fixed s = of_computed (relation s a o b)
 
-  abbrev pub expr_layer : Expr-F (Meant g.Told) (Picks g.Told) (Meant g.Told) (Adds g.Told) → Meant g.Told
+  abbrev pub expr_layer : Expr-F (Meant g.Reported) (Picks g.Reported) (Meant g.Reported) (Adds g.Reported) → Meant g.Reported
   expr_layer x = record { fixed = expr_fixed x; means = expr_means x (expr_fixed x) }
 
-  abbrev pub selector_fixed : Selector-F (Meant g.Told) (Picks g.Told) (Meant g.Told) (Adds g.Told) → Pick g.Told
-  selector_fixed x = constants.selector_layer g (map-Selector (Meant g.Told) (Picks g.Told) (Meant g.Told) (Adds g.Told) (Part g.Told) (Pick g.Told) (Part g.Told) (Adds g.Told) (λ e. e.fixed) (λ e. e.fixed) (λ e. e.fixed) (λ e. e) x)
+  abbrev pub selector_fixed : Selector-F (Meant g.Reported) (Picks g.Reported) (Meant g.Reported) (Adds g.Reported) → Pick g.Reported
+  selector_fixed x = constants.selector_layer g (map-Selector (Meant g.Reported) (Picks g.Reported) (Meant g.Reported) (Adds g.Reported) (Part g.Reported) (Pick g.Reported) (Part g.Reported) (Adds g.Reported) (λ e. e.fixed) (λ e. e.fixed) (λ e. e.fixed) (λ e. e) x)
 
-  abbrev pub selector_picks : Selector-F (Meant g.Told) (Picks g.Told) (Meant g.Told) (Adds g.Told) → Scope g.Told → Result Designated g.Told → Result Designated g.Told
+  abbrev pub selector_picks : Selector-F (Meant g.Reported) (Picks g.Reported) (Meant g.Reported) (Adds g.Reported) → Scope g.Reported → Result Designated g.Reported → Result Designated g.Reported
   selector_picks (layer.Field at name) s d = field_at g s at name d
   selector_picks (layer.Index at x) s d = index_at g s.types at d x.fixed.at (value_of s x)
 
-  abbrev pub selector_layer : Selector-F (Meant g.Told) (Picks g.Told) (Meant g.Told) (Adds g.Told) → Picks g.Told
+  abbrev pub selector_layer : Selector-F (Meant g.Reported) (Picks g.Reported) (Meant g.Reported) (Adds g.Reported) → Picks g.Reported
   selector_layer x = record { fixed = selector_fixed x; picks = selector_picks x }
 
-  abbrev pub designator_fixed : Designator-F (Meant g.Told) (Picks g.Told) (Meant g.Told) (Adds g.Told) → Part g.Told
-  designator_fixed x = constants.designator_layer g (map-Designator (Meant g.Told) (Picks g.Told) (Meant g.Told) (Adds g.Told) (Part g.Told) (Pick g.Told) (Part g.Told) (Adds g.Told) (λ e. e.fixed) (λ e. e.fixed) (λ e. e.fixed) (λ e. e) x)
+  abbrev pub designator_fixed : Designator-F (Meant g.Reported) (Picks g.Reported) (Meant g.Reported) (Adds g.Reported) → Part g.Reported
+  designator_fixed x = constants.designator_layer g (map-Designator (Meant g.Reported) (Picks g.Reported) (Meant g.Reported) (Adds g.Reported) (Part g.Reported) (Pick g.Reported) (Part g.Reported) (Adds g.Reported) (λ e. e.fixed) (λ e. e.fixed) (λ e. e.fixed) (λ e. e) x)
 
-  abbrev pub designator_layer : Designator-F (Meant g.Told) (Picks g.Told) (Meant g.Told) (Adds g.Told) → Meant g.Told
+  abbrev pub designator_layer : Designator-F (Meant g.Reported) (Picks g.Reported) (Meant g.Reported) (Adds g.Reported) → Meant g.Reported
   designator_layer d = record { fixed = designator_fixed d; means = λ s. fold (λ x p. p.picks s x) (named g s d.name) d.selectors }
 
-  abbrev pub item_layer : Item-F (Meant g.Told) (Picks g.Told) (Meant g.Told) (Adds g.Told) → Adds g.Told
-  item_layer i = constants.item_layer g (map-Item (Meant g.Told) (Picks g.Told) (Meant g.Told) (Adds g.Told) (Part g.Told) (Pick g.Told) (Part g.Told) (Adds g.Told) (λ e. e.fixed) (λ e. e.fixed) (λ e. e.fixed) (λ e. e) i)
+  abbrev pub item_layer : Item-F (Meant g.Reported) (Picks g.Reported) (Meant g.Reported) (Adds g.Reported) → Adds g.Reported
+  item_layer i = constants.item_layer g (map-Item (Meant g.Reported) (Picks g.Reported) (Meant g.Reported) (Adds g.Reported) (Part g.Reported) (Pick g.Reported) (Part g.Reported) (Adds g.Reported) (λ e. e.fixed) (λ e. e.fixed) (λ e. e.fixed) (λ e. e) i)
 
-  unfoldable pub meant : Expr → Meant g.Told
-  meant = fold-Expr (Meant g.Told) (Picks g.Told) (Meant g.Told) (Adds g.Told) expr_layer selector_layer designator_layer item_layer
+  unfoldable pub meant : Expr → Meant g.Reported
+  meant = fold-Expr (Meant g.Reported) (Picks g.Reported) (Meant g.Reported) (Adds g.Reported) expr_layer selector_layer designator_layer item_layer
 
-  unfoldable pub picks : Selector → Picks g.Told
-  picks = fold-Selector (Meant g.Told) (Picks g.Told) (Meant g.Told) (Adds g.Told) expr_layer selector_layer designator_layer item_layer
+  unfoldable pub picks : Selector → Picks g.Reported
+  picks = fold-Selector (Meant g.Reported) (Picks g.Reported) (Meant g.Reported) (Adds g.Reported) expr_layer selector_layer designator_layer item_layer
 
-  unfoldable pub head : Designator → Meant g.Told
-  head = fold-Designator (Meant g.Told) (Picks g.Told) (Meant g.Told) (Adds g.Told) expr_layer selector_layer designator_layer item_layer
+  unfoldable pub head : Designator → Meant g.Reported
+  head = fold-Designator (Meant g.Reported) (Picks g.Reported) (Meant g.Reported) (Adds g.Reported) expr_layer selector_layer designator_layer item_layer
 
-  unfoldable pub item : Item → Adds g.Told
-  item = fold-Item (Meant g.Told) (Picks g.Told) (Meant g.Told) (Adds g.Told) expr_layer selector_layer designator_layer item_layer
+  unfoldable pub item : Item → Adds g.Reported
+  item = fold-Item (Meant g.Reported) (Picks g.Reported) (Meant g.Reported) (Adds g.Reported) expr_layer selector_layer designator_layer item_layer
 
 -- ---- the same, step by step
 
-abbrev pub factor_in : Scope (least).Told → Pos → Result Computed (least).Told → Operator MulOp × Expr → Result Computed (least).Told
+abbrev pub factor_in : Scope (least).Reported → Pos → Result Computed (least).Reported → Operator MulOp × Expr → Result Computed (least).Reported
 factor_in s at v x = factor least s at v (x.0, meant least x.1)
 
-abbrev pub term_in : Scope (least).Told → Pos → Result Computed (least).Told → Operator AddOp × Expr → Result Computed (least).Told
+abbrev pub term_in : Scope (least).Reported → Pos → Result Computed (least).Reported → Operator AddOp × Expr → Result Computed (least).Reported
 term_in s at v x = term least s at v (x.0, meant least x.1)
 
-abbrev pub pick_in : Scope (least).Told → Result Designated (least).Told → Selector → Result Designated (least).Told
+abbrev pub pick_in : Scope (least).Reported → Result Designated (least).Reported → Selector → Result Designated (least).Reported
 pick_in s d x = (picks least x).picks s d
 
-abbrev pub actual_in : Scope (least).Told → List Formal × Result (List Argument) (least).Told → Expr → List Formal × Result (List Argument) (least).Told
+abbrev pub actual_in : Scope (least).Reported → List Formal × Result (List Argument) (least).Reported → Expr → List Formal × Result (List Argument) (least).Reported
 actual_in s st x = with_actual least s st (meant least x)
 
-abbrev pub mapped : Option (List Expr) → Option (List (Meant (least).Told))
+abbrev pub mapped : Option (List Expr) → Option (List (Meant (least).Reported))
 mapped None = None
 mapped (Some es) = Some (map (meant least) es)
 
-abbrev pub used : Scope (least).Told → Meant (least).Told → Option (List Expr) → Result Designated (least).Told
+abbrev pub used : Scope (least).Reported → Meant (least).Reported → Option (List Expr) → Result Designated (least).Reported
 used s d args = used_with least s d (mapped args)

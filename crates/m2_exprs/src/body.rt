@@ -2,7 +2,7 @@
 
 ghost use Rattle.std.specs.Prelude.{◌≡◌, [], Ok, IfOk, map};
 ghost use Rattle.std.specs.List.{fold};
-ghost use Rattle.m2_judged.specs.Judged.{least};
+ghost use Rattle.m2_scopes.specs.Elaborated.{least};
 ghost use Rattle.m2_calls.specs.Functions.{form_of};
 ghost use Rattle.m2_exprs.specs.Meanings.{meant, picks, head, value_of, actual_in, routine_called, unary, bound, conversion, high, by_form, called_as, called_by, factor_in, term_in, pick_in};
 
@@ -16,7 +16,7 @@ use m2_calls::{
 };
 use m2_computed::{Computed, Designated, combined, negated, signature_of};
 use m2_constants::sign_place;
-use m2_judged::{Fault, Judged, Scope, told};
+use m2_scopes::{Elaborated, Fault, Scope, reported};
 use m2_tree::{AddOp, Designator, Expr, Items, MulOp, Operator, Pos, Selector};
 use m2_typed::{Argument, Formal, Standard, TypeNo};
 use m2_values::{add_op, mul_op};
@@ -29,7 +29,7 @@ pub fn stands_for(
     alloc: Global,
     scope: &Scope<Fault>,
     e: &Expr,
-) -> Result<Judged<Designated>, AllocError>
+) -> Result<Elaborated<Designated>, AllocError>
     ensures { IfOk result (λ d. d ≡ (meant least e.now).means scope.now) }
 {
     match e {
@@ -81,7 +81,7 @@ pub fn value_of(
     alloc: Global,
     scope: &Scope<Fault>,
     e: &Expr,
-) -> Result<Judged<Computed>, AllocError>
+) -> Result<Elaborated<Computed>, AllocError>
     ensures { IfOk result (λ v. v ≡ value_of least scope.now (meant least e.now)) }
 {
     let designated = stands_for(alloc, scope, e)?;
@@ -95,7 +95,7 @@ pub fn designated(
     alloc: Global,
     scope: &Scope<Fault>,
     designator: &Designator,
-) -> Result<Judged<Designated>, AllocError>
+) -> Result<Elaborated<Designated>, AllocError>
     ensures { IfOk result (λ d. d ≡ (head least designator.now).means scope.now) }
 {
     let first = named(alloc, scope, &designator.name)?;
@@ -107,9 +107,9 @@ pub fn designated(
 fn picked(
     alloc: Global,
     scope: &Scope<Fault>,
-    first: Judged<Designated>,
+    first: Elaborated<Designated>,
     selectors: &[Selector],
-) -> Result<Judged<Designated>, AllocError>
+) -> Result<Elaborated<Designated>, AllocError>
     ensures { IfOk result (λ d. d ≡ fold (pick_in scope.now) first selectors.now) }
 {
     let mut designated = first;
@@ -125,9 +125,9 @@ fn picked(
 fn pick(
     alloc: Global,
     scope: &Scope<Fault>,
-    from: Judged<Designated>,
+    from: Elaborated<Designated>,
     selector: &Selector,
-) -> Result<Judged<Designated>, AllocError>
+) -> Result<Elaborated<Designated>, AllocError>
     ensures { IfOk result (λ d. d ≡ (picks least selector.now).picks scope.now from) }
 {
     match selector {
@@ -145,9 +145,9 @@ fn factors(
     alloc: Global,
     scope: &Scope<Fault>,
     at: Pos,
-    left: Judged<Computed>,
+    left: Elaborated<Computed>,
     rest: &[(Operator<MulOp>, Expr)],
-) -> Result<Judged<Computed>, AllocError>
+) -> Result<Elaborated<Computed>, AllocError>
     ensures { IfOk result (λ v. v ≡ fold (factor_in scope.now at) left rest.now) }
 {
     let mut value = left;
@@ -175,9 +175,9 @@ fn terms(
     alloc: Global,
     scope: &Scope<Fault>,
     at: Pos,
-    left: Judged<Computed>,
+    left: Elaborated<Computed>,
     rest: &[(Operator<AddOp>, Expr)],
-) -> Result<Judged<Computed>, AllocError>
+) -> Result<Elaborated<Computed>, AllocError>
     ensures { IfOk result (λ v. v ≡ fold (term_in scope.now at) left rest.now) }
 {
     let mut value = left;
@@ -205,9 +205,9 @@ fn called_by(
     alloc: Global,
     scope: &Scope<Fault>,
     at: Pos,
-    callee: Judged<Designated>,
+    callee: Elaborated<Designated>,
     args: &[Expr],
-) -> Result<Judged<Computed>, AllocError>
+) -> Result<Elaborated<Computed>, AllocError>
     ensures { IfOk result (λ v. v ≡ called_by least scope.now at callee (map (meant least) args.now)) }
 {
     match callee {
@@ -226,7 +226,7 @@ fn called_as(
     at: Pos,
     args: &[Expr],
     called: Called,
-) -> Result<Judged<Computed>, AllocError>
+) -> Result<Elaborated<Computed>, AllocError>
     ensures { IfOk result (λ v. v ≡ called_as least scope.now at (map (meant least) args.now) called) }
 {
     match called {
@@ -247,7 +247,7 @@ fn routine_called(
     heading: TypeNo,
     callee: Callee,
     args: &[Expr],
-) -> Result<Judged<Computed>, AllocError>
+) -> Result<Elaborated<Computed>, AllocError>
     ensures { IfOk result
         (λ v. v ≡ routine_called least scope.now at heading callee (map (meant least) args.now)) }
 {
@@ -268,7 +268,7 @@ pub fn actuals(
     scope: &Scope<Fault>,
     formals: &[Formal],
     args: &[Expr],
-) -> Result<Judged<Items<Argument>>, AllocError>
+) -> Result<Elaborated<Items<Argument>>, AllocError>
     ensures { IfOk result
         (λ xs. xs ≡ (fold (actual_in scope.now) (formals.now, Ok []) args.now).1) }
 {
@@ -292,7 +292,7 @@ fn by_form(
     at: Pos,
     standard: Standard,
     args: &[Expr],
-) -> Result<Judged<Computed>, AllocError>
+) -> Result<Elaborated<Computed>, AllocError>
     ensures { IfOk result
         (λ v. v ≡ by_form least scope.now at standard (map (meant least) args.now) (form_of standard)) }
 {
@@ -301,7 +301,7 @@ fn by_form(
         Form::Bound => bound(alloc, scope, at, standard, args),
         Form::Conversion => conversion(alloc, scope, at, args),
         Form::High => high(alloc, scope, at, args),
-        Form::Proper => Ok(told(at, 40)),
+        Form::Proper => Ok(reported(at, 40)),
     }
 }
 
@@ -314,17 +314,17 @@ fn unary(
     standard: Standard,
     function: Unary,
     args: &[Expr],
-) -> Result<Judged<Computed>, AllocError>
+) -> Result<Elaborated<Computed>, AllocError>
     ensures { IfOk result
         (λ v. v ≡ unary least scope.now at standard function (map (meant least) args.now)) }
 {
     match args {
-        [] => Ok(told(at, 42)),
+        [] => Ok(reported(at, 42)),
         [arg] => {
             let value = value_of(alloc, scope, arg)?;
             unary_of(alloc, standard, function, place_of(arg), value)
         }
-        [_, _, ..] => Ok(told(at, 42)),
+        [_, _, ..] => Ok(reported(at, 42)),
     }
 }
 
@@ -336,16 +336,16 @@ fn bound(
     at: Pos,
     standard: Standard,
     args: &[Expr],
-) -> Result<Judged<Computed>, AllocError>
+) -> Result<Elaborated<Computed>, AllocError>
     ensures { IfOk result (λ v. v ≡ bound least scope.now at standard (map (meant least) args.now)) }
 {
     match args {
-        [] => Ok(told(at, 42)),
+        [] => Ok(reported(at, 42)),
         [arg] => {
             let designated = stands_for(alloc, scope, arg)?;
             Ok(bound_at(standard, type_at(&scope.types, place_of(arg), designated)))
         }
-        [_, _, ..] => Ok(told(at, 42)),
+        [_, _, ..] => Ok(reported(at, 42)),
     }
 }
 
@@ -356,19 +356,19 @@ fn conversion(
     scope: &Scope<Fault>,
     at: Pos,
     args: &[Expr],
-) -> Result<Judged<Computed>, AllocError>
+) -> Result<Elaborated<Computed>, AllocError>
     ensures { IfOk result (λ v. v ≡ conversion least scope.now at (map (meant least) args.now)) }
 {
     match args {
-        [] => Ok(told(at, 42)),
-        [_] => Ok(told(at, 42)),
+        [] => Ok(reported(at, 42)),
+        [_] => Ok(reported(at, 42)),
         [to, arg] => {
             let designated = stands_for(alloc, scope, to)?;
             let t = type_at(&scope.types, place_of(to), designated);
             let value = value_of(alloc, scope, arg)?;
             conversion_at(alloc, t, place_of(arg), value)
         }
-        [_, _, _, ..] => Ok(told(at, 42)),
+        [_, _, _, ..] => Ok(reported(at, 42)),
     }
 }
 
@@ -379,15 +379,15 @@ fn high(
     scope: &Scope<Fault>,
     at: Pos,
     args: &[Expr],
-) -> Result<Judged<Computed>, AllocError>
+) -> Result<Elaborated<Computed>, AllocError>
     ensures { IfOk result (λ v. v ≡ high least scope.now at (map (meant least) args.now)) }
 {
     match args {
-        [] => Ok(told(at, 42)),
+        [] => Ok(reported(at, 42)),
         [arg] => {
             let designated = stands_for(alloc, scope, arg)?;
             Ok(high_at(place_of(arg), designated))
         }
-        [_, _, ..] => Ok(told(at, 42)),
+        [_, _, ..] => Ok(reported(at, 42)),
     }
 }

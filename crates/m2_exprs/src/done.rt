@@ -1,7 +1,7 @@
 //! Calls as statements.
 
 ghost use Rattle.std.specs.Prelude.{◌≡◌, IfOk, map};
-ghost use Rattle.m2_judged.specs.Judged.{least, ◌▷◌};
+ghost use Rattle.m2_scopes.specs.Elaborated.{least, ◌▷◌};
 ghost use Rattle.m2_calls.specs.Effects.{changed, set_variable, amount, element};
 ghost use Rattle.m2_exprs.specs.Meanings.{meant, head, value_of};
 ghost use Rattle.m2_exprs.specs.Effects.{call_done, routine_done, changed_by, member_by, halted, put_by, standard_done, done_as, done_by};
@@ -13,14 +13,14 @@ use m2_calls::{
     proper_of, put, set_variable,
 };
 use m2_computed::signature_of;
-use m2_judged::{Fault, Judged, Scope, told};
+use m2_scopes::{Elaborated, Fault, Scope, reported};
 use m2_tree::{Designator, Expr, Items, Pos};
 use m2_typed::{
     Argument, CARDINAL, Change, Membership, Place, Standard, TypeNo, TypedExpr, TypedStmt,
 };
 use std::alloc::{AllocError, Global};
 
-fn call_done(callee: Callee, arguments: Judged<Items<Argument>>) -> Judged<TypedStmt>
+fn call_done(callee: Callee, arguments: Elaborated<Items<Argument>>) -> Elaborated<TypedStmt>
     ensures { result ≡ call_done callee arguments }
 {
     match arguments {
@@ -38,7 +38,7 @@ fn routine_done(
     heading: TypeNo,
     callee: Callee,
     args: &[Expr],
-) -> Result<Judged<TypedStmt>, AllocError>
+) -> Result<Elaborated<TypedStmt>, AllocError>
     ensures { IfOk result
         (λ j. j ≡ routine_done least scope.now at heading callee (map (meant least) args.now)) }
 {
@@ -57,7 +57,7 @@ fn changed_at(
     alloc: Global,
     scope: &Scope<Fault>,
     arg: &Expr,
-) -> Result<Judged<(TypeNo, Place)>, AllocError>
+) -> Result<Elaborated<(TypeNo, Place)>, AllocError>
     ensures { IfOk result
         (λ j. j ≡ ((meant least arg.now).means scope.now
         ▷ changed least scope.now.types (meant least arg.now).fixed.at)) }
@@ -73,7 +73,7 @@ fn amount_at(
     alloc: Global,
     scope: &Scope<Fault>,
     arg: &Expr,
-) -> Result<Judged<TypedExpr>, AllocError>
+) -> Result<Elaborated<TypedExpr>, AllocError>
     ensures { IfOk result
         (λ j. j ≡ (value_of least scope.now (meant least arg.now)
         ▷ amount least (meant least arg.now).fixed.at)) }
@@ -91,12 +91,12 @@ fn changed_by(
     at: Pos,
     change: Change,
     args: &[Expr],
-) -> Result<Judged<TypedStmt>, AllocError>
+) -> Result<Elaborated<TypedStmt>, AllocError>
     ensures { IfOk result
         (λ j. j ≡ changed_by least scope.now at change (map (meant least) args.now)) }
 {
     match args {
-        [] => Ok(told(at, 42)),
+        [] => Ok(reported(at, 42)),
         [variable] => {
             let variable = changed_at(alloc, scope, variable)?;
             Ok(change_by(change, variable, Ok(TypedExpr::Constant(CARDINAL, 1))))
@@ -106,12 +106,12 @@ fn changed_by(
             let by = amount_at(alloc, scope, by)?;
             Ok(change_by(change, variable, by))
         }
-        [_, _, _, ..] => Ok(told(at, 42)),
+        [_, _, _, ..] => Ok(reported(at, 42)),
     }
 }
 
 /// The set of INCL or EXCL.
-fn set_at(alloc: Global, scope: &Scope<Fault>, arg: &Expr) -> Result<Judged<Place>, AllocError>
+fn set_at(alloc: Global, scope: &Scope<Fault>, arg: &Expr) -> Result<Elaborated<Place>, AllocError>
     ensures { IfOk result
         (λ j. j ≡ ((meant least arg.now).means scope.now
         ▷ set_variable least scope.now.types (meant least arg.now).fixed.at)) }
@@ -127,7 +127,7 @@ fn element_at(
     alloc: Global,
     scope: &Scope<Fault>,
     arg: &Expr,
-) -> Result<Judged<TypedExpr>, AllocError>
+) -> Result<Elaborated<TypedExpr>, AllocError>
     ensures { IfOk result
         (λ j. j ≡ (value_of least scope.now (meant least arg.now)
         ▷ element least (meant least arg.now).fixed.at)) }
@@ -145,28 +145,28 @@ fn member_by(
     at: Pos,
     membership: Membership,
     args: &[Expr],
-) -> Result<Judged<TypedStmt>, AllocError>
+) -> Result<Elaborated<TypedStmt>, AllocError>
     ensures { IfOk result
         (λ j. j ≡ member_by least scope.now at membership (map (meant least) args.now)) }
 {
     match args {
-        [] => Ok(told(at, 42)),
-        [_] => Ok(told(at, 42)),
+        [] => Ok(reported(at, 42)),
+        [_] => Ok(reported(at, 42)),
         [set, arg] => {
             let set = set_at(alloc, scope, set)?;
             let element = element_at(alloc, scope, arg)?;
             Ok(membership_of(membership, set, element))
         }
-        [_, _, _, ..] => Ok(told(at, 42)),
+        [_, _, _, ..] => Ok(reported(at, 42)),
     }
 }
 
-fn halted(at: Pos, args: &[Expr]) -> Judged<TypedStmt>
+fn halted(at: Pos, args: &[Expr]) -> Elaborated<TypedStmt>
     ensures { result ≡ halted least at (map (meant least) args.now) }
 {
     match args {
         [] => Ok(TypedStmt::Halt),
-        [_, ..] => told(at, 42),
+        [_, ..] => reported(at, 42),
     }
 }
 
@@ -176,16 +176,16 @@ fn put_by(
     scope: &Scope<Fault>,
     at: Pos,
     args: &[Expr],
-) -> Result<Judged<TypedStmt>, AllocError>
+) -> Result<Elaborated<TypedStmt>, AllocError>
     ensures { IfOk result (λ j. j ≡ put_by least scope.now at (map (meant least) args.now)) }
 {
     match args {
-        [] => Ok(told(at, 42)),
+        [] => Ok(reported(at, 42)),
         [arg] => match value_of(alloc, scope, arg)? {
             Err(fault) => Ok(Err(fault)),
             Ok(value) => Ok(put(&scope.types, place_of(arg), value)),
         },
-        [_, _, ..] => Ok(told(at, 42)),
+        [_, _, ..] => Ok(reported(at, 42)),
     }
 }
 
@@ -196,7 +196,7 @@ fn standard_done(
     at: Pos,
     args: &[Expr],
     standard: Standard,
-) -> Result<Judged<TypedStmt>, AllocError>
+) -> Result<Elaborated<TypedStmt>, AllocError>
     ensures { IfOk result
         (λ j. j ≡ standard_done least scope.now at (map (meant least) args.now) standard) }
 {
@@ -215,7 +215,7 @@ fn standard_done(
         | Standard::Min
         | Standard::Odd
         | Standard::Ord
-        | Standard::Val => Ok(told(at, 40)),
+        | Standard::Val => Ok(reported(at, 40)),
     }
 }
 
@@ -225,7 +225,7 @@ fn done_as(
     at: Pos,
     args: &[Expr],
     called: Called,
-) -> Result<Judged<TypedStmt>, AllocError>
+) -> Result<Elaborated<TypedStmt>, AllocError>
     ensures { IfOk result (λ j. j ≡ done_as least scope.now at (map (meant least) args.now) called) }
 {
     match called {
@@ -237,13 +237,13 @@ fn done_as(
 }
 
 /// A call of a designator as a statement. What is no procedure, and a function, are 40 at the designator, a wrong number
-/// of arguments is 42 there; each argument is judged for itself.
+/// of arguments is 42 there; each argument is elaborated for itself.
 pub fn done_by(
     alloc: Global,
     scope: &Scope<Fault>,
     designator: &Designator,
     args: &[Expr],
-) -> Result<Judged<TypedStmt>, AllocError>
+) -> Result<Elaborated<TypedStmt>, AllocError>
     ensures { IfOk result
         (λ j. j ≡ done_by least scope.now (head least designator.now) (map (meant least) args.now)) }
 {

@@ -2,7 +2,7 @@
 
 ghost use Rattle.std.specs.Prelude.{◌≡◌, IfOk};
 ghost use Rattle.std.specs.Option.{option_copied};
-ghost use Rattle.m2_judged.specs.Judged.{least, ◌▷◌};
+ghost use Rattle.m2_scopes.specs.Elaborated.{least, ◌▷◌};
 ghost use Rattle.m2_calls.specs.Functions.{type_named, high_of, unary_at};
 ghost use Rattle.m2_exprs.specs.Meanings.{meant, head, of_computed, taken_at, signed_first, related, named, member_of, field_of, field_at, index_at, formals_of, argument_by, call_given, as_constant};
 
@@ -11,7 +11,7 @@ use m2_computed::{
     Computed, Designated, combined, designated_by, field, given, indexed, indices, signed, taken,
 };
 use m2_constants::{constant_of, member};
-use m2_judged::{Fault, Judged, Scope, looked_up, told};
+use m2_scopes::{Elaborated, Fault, Scope, looked_up, reported};
 use m2_tree::{Boxed, Designator, Expr, Ident, Items, Operator, Pos, RelOp, Sign};
 use m2_typed::{Argument, Formal, Scalar, Signature, Standard, TypeNo, TypedExpr, Types};
 use m2_values::BinaryOp;
@@ -39,7 +39,7 @@ pub fn as_constant(
     alloc: Global,
     scope: &Scope<Fault>,
     e: &Expr,
-) -> Result<Judged<Designated>, AllocError>
+) -> Result<Elaborated<Designated>, AllocError>
     ensures { IfOk result (λ d. d ≡ as_constant least scope.now (meant least e.now).fixed) }
 {
     match constant_of(alloc, scope, e)? {
@@ -49,7 +49,7 @@ pub fn as_constant(
 }
 
 /// A value stands for itself.
-pub fn of_computed(value: Judged<Computed>) -> Judged<Designated>
+pub fn of_computed(value: Elaborated<Computed>) -> Elaborated<Designated>
     ensures { result ≡ of_computed value }
 {
     match value {
@@ -59,7 +59,7 @@ pub fn of_computed(value: Judged<Computed>) -> Judged<Designated>
 }
 
 /// What stands at a place, taken as a value.
-pub fn taken_at(types: &Types, at: Pos, designated: Judged<Designated>) -> Judged<Computed>
+pub fn taken_at(types: &Types, at: Pos, designated: Elaborated<Designated>) -> Elaborated<Computed>
     ensures { result ≡ taken_at least types.now at designated }
 {
     match designated {
@@ -72,8 +72,8 @@ pub fn taken_at(types: &Types, at: Pos, designated: Judged<Designated>) -> Judge
 pub fn signed_first(
     alloc: Global,
     sign: Option<Operator<Sign>>,
-    value: Judged<Computed>,
-) -> Result<Judged<Computed>, AllocError>
+    value: Elaborated<Computed>,
+) -> Result<Elaborated<Computed>, AllocError>
     ensures { IfOk result (λ v. v ≡ signed_first least sign value) }
 {
     match sign {
@@ -87,11 +87,11 @@ pub fn related(
     alloc: Global,
     types: &Types,
     first: &Expr,
-    left: Judged<Computed>,
+    left: Elaborated<Computed>,
     operator: &Operator<RelOp>,
     second: &Expr,
-    right: Judged<Computed>,
-) -> Result<Judged<Computed>, AllocError>
+    right: Elaborated<Computed>,
+) -> Result<Elaborated<Computed>, AllocError>
     ensures { IfOk result (λ v. v ≡ related least types.now operator.now
         (meant least first.now).fixed.at left (meant least second.now).fixed.at right) }
 {
@@ -115,7 +115,7 @@ pub fn named(
     alloc: Global,
     scope: &Scope<Fault>,
     name: &Ident,
-) -> Result<Judged<Designated>, AllocError>
+) -> Result<Elaborated<Designated>, AllocError>
     ensures { IfOk result (λ d. d ≡ named least scope.now name.now) }
 {
     match looked_up(scope, name)? {
@@ -129,7 +129,7 @@ fn member_of(
     scope: &Scope<Fault>,
     place: usize,
     name: &Ident,
-) -> Result<Judged<Designated>, AllocError>
+) -> Result<Elaborated<Designated>, AllocError>
     ensures { IfOk result (λ d. d ≡ member_of least scope.now place name.now) }
 {
     match member(scope, place, name)? {
@@ -144,7 +144,7 @@ fn field_of(
     at: Pos,
     name: &Ident,
     from: Designated,
-) -> Result<Judged<Designated>, AllocError>
+) -> Result<Elaborated<Designated>, AllocError>
     ensures { IfOk result (λ d. d ≡ field_of least scope.now at name.now from) }
 {
     match from {
@@ -173,8 +173,8 @@ pub fn field_at(
     scope: &Scope<Fault>,
     at: Pos,
     name: &Ident,
-    from: Judged<Designated>,
-) -> Result<Judged<Designated>, AllocError>
+    from: Elaborated<Designated>,
+) -> Result<Elaborated<Designated>, AllocError>
     ensures { IfOk result (λ d. d ≡ field_at least scope.now at name.now from) }
 {
     match from {
@@ -188,10 +188,10 @@ pub fn index_at(
     alloc: Global,
     types: &Types,
     at: Pos,
-    from: Judged<Designated>,
+    from: Elaborated<Designated>,
     other_at: Pos,
-    index: Judged<Computed>,
-) -> Result<Judged<Designated>, AllocError>
+    index: Elaborated<Computed>,
+) -> Result<Elaborated<Designated>, AllocError>
     ensures { IfOk result (λ d. d ≡ index_at least types.now at from other_at index) }
 {
     let array = match from {
@@ -216,12 +216,12 @@ pub fn argument_by(
     types: &Types,
     formal: Option<Formal>,
     at: Pos,
-    designated: Judged<Designated>,
-) -> Judged<Argument>
+    designated: Elaborated<Designated>,
+) -> Elaborated<Argument>
     ensures { result ≡ argument_by least types.now formal at designated }
 {
     match formal {
-        None => told(at, 42),
+        None => reported(at, 42),
         Some(formal) => match designated {
             Err(fault) => Err(fault),
             Ok(designated) => actual(types, formal, at, designated),
@@ -235,8 +235,8 @@ pub fn call_given(
     types: &Types,
     t: TypeNo,
     callee: Callee,
-    arguments: Judged<Items<Argument>>,
-) -> Result<Judged<Computed>, AllocError>
+    arguments: Elaborated<Items<Argument>>,
+) -> Result<Elaborated<Computed>, AllocError>
     ensures { IfOk result (λ v. v ≡ call_given least types.now t callee arguments) }
 {
     match arguments {
@@ -249,7 +249,11 @@ pub fn call_given(
 }
 
 /// An argument that names a type.
-pub fn type_at(types: &Types, at: Pos, designated: Judged<Designated>) -> Judged<(TypeNo, Scalar)>
+pub fn type_at(
+    types: &Types,
+    at: Pos,
+    designated: Elaborated<Designated>,
+) -> Elaborated<(TypeNo, Scalar)>
     ensures { result ≡ (designated ▷ type_named least types.now at) }
 {
     match designated {
@@ -259,7 +263,7 @@ pub fn type_at(types: &Types, at: Pos, designated: Judged<Designated>) -> Judged
 }
 
 /// HIGH of an argument.
-pub fn high_at(at: Pos, designated: Judged<Designated>) -> Judged<Computed>
+pub fn high_at(at: Pos, designated: Elaborated<Designated>) -> Elaborated<Computed>
     ensures { result ≡ (designated ▷ high_of least at) }
 {
     match designated {
@@ -274,8 +278,8 @@ pub fn unary_of(
     standard: Standard,
     function: Unary,
     at: Pos,
-    value: Judged<Computed>,
-) -> Result<Judged<Computed>, AllocError>
+    value: Elaborated<Computed>,
+) -> Result<Elaborated<Computed>, AllocError>
     ensures { IfOk result (λ v. v ≡ (value ▷ unary_at least standard function at)) }
 {
     match value {

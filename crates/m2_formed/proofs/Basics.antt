@@ -10,7 +10,7 @@ use Rattle.m2_typed.specs.declared.types.Home.{Home}
 use Rattle.m2_typed.specs.declared.types.Home.TheVariants.{Predeclared, Module}
 use Rattle.m2_typed.specs.declared.types.TypeNo.{TypeNo}
 use Rattle.m2_typed.specs.Known.{made_at, is_result_shape, is_result_made, is_result_from, is_result}
-use Rattle.m2_judged.specs.Judged.{Gathers, told, told_where, both, ◌▷◌}
+use Rattle.m2_scopes.specs.Elaborated.{Gathers, reported, reported_where, both, ◌▷◌}
 use Rattle.m2_computed.specs.declared.class.Class.{Class}
 use Rattle.m2_computed.specs.declared.class.Class.TheVariants as class
 use Rattle.m2_computed.specs.Classes.{class_shape, class_made, class_from, class_at, signature_shape, signature_made, signature_at}
@@ -28,14 +28,14 @@ holds_weaker k (fine x p) = fine x (k x p)
 holds_weaker k (broken e) = broken e
 
 module _ (g : Gathers) where
-  pub told_holds : {A : Type 0} {P : A → Type 0} (at : Pos) (n : ℕ) → Holds P (told g {A = A} at n)
-  told_holds at n = broken _
+  pub reported_holds : {A : Type 0} {P : A → Type 0} (at : Pos) (n : ℕ) → Holds P (reported g {A = A} at n)
+  reported_holds at n = broken _
 
-  pub where_holds : {A : Type 0} {P : A → Type 0} (q : Bool) (at : Pos) (n : ℕ) {r : Result A g.Told} → Holds P r → Holds P (told_where g q at n r)
+  pub where_holds : {A : Type 0} {P : A → Type 0} (q : Bool) (at : Pos) (n : ℕ) {r : Result A g.Reported} → Holds P r → Holds P (reported_where g q at n r)
   where_holds true at n h = broken _
   where_holds false at n h = h
 
-  pub both_holds : {A B : Type 0} {P : A → Type 0} {Q : B → Type 0} {a : Result A g.Told} {b : Result B g.Told} → Holds P a → Holds Q b → Holds (λ (x : A × B). P x.0 × Q x.1) (both g a b)
+  pub both_holds : {A B : Type 0} {P : A → Type 0} {Q : B → Type 0} {a : Result A g.Reported} {b : Result B g.Reported} → Holds P a → Holds Q b → Holds (λ (x : A × B). P x.0 × Q x.1) (both g a b)
   both_holds (fine x p) (fine y q) = fine (x, y) (p, q)
   both_holds (fine x p) (broken e) = broken e
   both_holds (broken e) (fine y q) = broken e

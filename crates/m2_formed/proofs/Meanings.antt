@@ -31,8 +31,8 @@ use Rattle.m2_typed.specs.declared.shape.Signature.{Signature}
 use Rattle.m2_typed.specs.declared.typed_module.TypedModule.{TypedModule}
 use Rattle.m2_typed.specs.declared.types.TypeNo.{TypeNo}
 use Rattle.m2_typed.specs.Chains.{rooted}
-use Rattle.m2_judged.specs.Judged.{Gathers, told_where, ◌▷◌}
-use Rattle.m2_judged.specs.declared.scope.Scope.{Scope}
+use Rattle.m2_scopes.specs.Elaborated.{Gathers, reported_where, ◌▷◌}
+use Rattle.m2_scopes.specs.declared.scope.Scope.{Scope}
 use Rattle.m2_constants.specs.Parts.{Part, Adds, sign_place}
 use Rattle.m2_values.specs.Operators.{mul_op, add_op}
 use Rattle.m2_values.specs.declared.operator.BinaryOp.TheVariants as op
@@ -55,42 +55,42 @@ use Rattle.m2_exprs.specs.Meanings.{Meant, Picks, of_computed, signed_first, nam
 use Rattle.m2_scheme.specs.Exprs.{is_there}
 use Rattle.m2_valid.specs.WellFormed.{FunctionCall, AreArguments, no_arguments, FieldOf}
 use Rattle.m2_formed.specs.Formed.{Holds, fine, broken, FormedMeaning, FormedValue, FormedDesignated, IsFormed}
-use Rattle.m2_formed.proofs.Basics.{then_holds, told_holds, both_holds, any_holds, heading_kept}
+use Rattle.m2_formed.proofs.Basics.{then_holds, reported_holds, both_holds, any_holds, heading_kept}
 use Rattle.m2_formed.proofs.Operators.{behind_formed, rooted_formed, signed_formed, negated_formed, combined_formed, field_formed, indexed_formed}
 use Rattle.m2_formed.proofs.Calls.{given_formed, taken_formed, actual_formed, arguments_more, FormedCallee, FormedCalled, callee_formed, call_formed, unary_formed, bound_formed, conversion_formed, high_formed}
 
-module _ (g : Gathers) (m : TypedModule) (opens : ℕ → Bool) (w : ℕ) (s : Scope g.Told) (h : IsFormed g m opens w s) where
-  abbrev pub Value_ : Result Computed g.Told → Type 0
+module _ (g : Gathers) (m : TypedModule) (opens : ℕ → Bool) (w : ℕ) (s : Scope g.Reported) (h : IsFormed g m opens w s) where
+  abbrev pub Value_ : Result Computed g.Reported → Type 0
   Value_ r = Holds (FormedValue m w) r
 
-  abbrev pub Designated_ : Result Designated g.Told → Type 0
+  abbrev pub Designated_ : Result Designated g.Reported → Type 0
   Designated_ r = Holds (FormedDesignated m opens w) r
 
-  abbrev pub FM : Meant g.Told → Type 0
+  abbrev pub FM : Meant g.Reported → Type 0
   FM x = Designated_ (x.means s)
 
-  abbrev FP : Picks g.Told → Type 0
-  FP p = (d : Result Designated g.Told) → Designated_ d → Designated_ (p.picks s d)
+  abbrev FP : Picks g.Reported → Type 0
+  FP p = (d : Result Designated g.Reported) → Designated_ d → Designated_ (p.picks s d)
 
-  abbrev pub AllM : List (Meant g.Told) → Type 0
+  abbrev pub AllM : List (Meant g.Reported) → Type 0
   AllM [] = Unit {0}
   AllM (x ∷ xs) = FM x × AllM xs
 
-  abbrev AllT : {O : Type 0} → List (Operator O × Meant g.Told) → Type 0
+  abbrev AllT : {O : Type 0} → List (Operator O × Meant g.Reported) → Type 0
   AllT [] = Unit {0}
   AllT (x ∷ xs) = FM x.1 × AllT xs
 
-  abbrev AllP : List (Picks g.Told) → Type 0
+  abbrev AllP : List (Picks g.Reported) → Type 0
   AllP [] = Unit {0}
   AllP (x ∷ xs) = FP x × AllP xs
 
-  pub value_formed : (x : Meant g.Told) → FM x → Value_ (value_of g s x)
+  pub value_formed : (x : Meant g.Reported) → FM x → Value_ (value_of g s x)
   value_formed x p = then_holds p (λ d k. taken_formed g m w opens s.types h.types x.fixed.at d k)
 
-  constant_meant : (x : Part g.Told) → Designated_ (as_constant g s x)
+  constant_meant : (x : Part g.Reported) → Designated_ (as_constant g s x)
   constant_meant x = then_holds (any_holds _) (λ v k. fine (designated.Value (value.Constant v)) tt)
 
-  computed_formed : {r : Result Computed g.Told} → Value_ r → Designated_ (of_computed r)
+  computed_formed : {r : Result Computed g.Reported} → Value_ r → Designated_ (of_computed r)
   computed_formed p = then_holds p (λ v k. fine (designated.Value v) k)
 
   -- ---- names
@@ -109,7 +109,7 @@ module _ (g : Gathers) (m : TypedModule) (opens : ℕ → Bool) (w : ℕ) (s : S
   by_meaning level at (meaning.Field f) p = fine _ (behind_formed m w (rooted (root.With f.with)) (part.Field f.whole f.number) (rooted_formed m w (root.With f.with) p) (FieldOf f.whole f.number))
   by_meaning level at (meaning.Procedure f) p = fine (designated.Procedure f) p
   by_meaning level at (meaning.LocalProcedure f) p = fine _ p
-  by_meaning level at meaning.Ahead p = told_holds g at 30
+  by_meaning level at meaning.Ahead p = reported_holds g at 30
   by_meaning level at (meaning.Standard f) p = fine (designated.Standard f) tt
   by_meaning level at (meaning.Module k) p = fine (designated.Module k) p
 
@@ -128,7 +128,7 @@ module _ (g : Gathers) (m : TypedModule) (opens : ℕ → Bool) (w : ℕ) (s : S
 
   -- ---- calls
 
-  pub args_formed : (args : List (Meant g.Told)) (fs taken : List Formal) (r : Result (List Argument) g.Told) → length fs ≡ length args → Holds (λ xs. AreArguments m w xs taken) r → AllM args
+  pub args_formed : (args : List (Meant g.Reported)) (fs taken : List Formal) (r : Result (List Argument) g.Reported) → length fs ≡ length args → Holds (λ xs. AreArguments m w xs taken) r → AllM args
       → Holds (λ xs. AreArguments m w xs (taken ++ fs)) (fold (with_actual g s) (fs, r) args).1
   args_formed [] [] taken r e p all = subst (λ (fs : List Formal). Holds (λ xs. AreArguments m w xs fs) r) (sym (append-nil taken)) p
   args_formed [] (f ∷ fs) taken r e p all = absurd (omega (arith, e))
@@ -139,10 +139,10 @@ module _ (g : Gathers) (m : TypedModule) (opens : ℕ → Bool) (w : ℕ) (s : S
       in
       subst (λ (es : List Formal). Holds (λ xs. AreArguments m w xs es) (fold (with_actual g s) (f ∷ fs, r) (x ∷ args)).1) (append_assoc taken (f ∷ []) fs) (args_formed args fs (taken ++ f ∷ []) _ (omega (arith, e)) one all.1)
 
-  pub actuals_formed : (args : List (Meant g.Told)) (fs : List Formal) → length fs ≡ length args → AllM args → Holds (λ xs. AreArguments m w xs fs) (actuals g s fs args)
+  pub actuals_formed : (args : List (Meant g.Reported)) (fs : List Formal) → length fs ≡ length args → AllM args → Holds (λ xs. AreArguments m w xs fs) (actuals g s fs args)
   actuals_formed args fs e all = args_formed args fs [] (Ok []) e (fine [] no_arguments) all
 
-  module _ (at : Pos) (t : TypeNo) (c : Callee) (args : List (Meant g.Told)) (there : FormedCallee g m w opens s.types h.types t c) (all : AllM args) where
+  module _ (at : Pos) (t : TypeNo) (c : Callee) (args : List (Meant g.Reported)) (there : FormedCallee g m w opens s.types h.types t c) (all : AllM args) where
     given_call : (k : Signature) (r : TypeNo) → signature_at s.types t ≡ Some k → k.result ≡ Some r → length k.formals ≡ length args → Value_ (call_given g s.types r c (actuals g s k.formals args))
     given_call k r e q count =
         let heading = heading_kept s.types m.types h.types t k e in
@@ -151,7 +151,7 @@ module _ (g : Gathers) (m : TypedModule) (opens : ℕ → Bool) (w : ℕ) (s : S
         (FunctionCall r (call_by xs c) (call_formed g m w opens s.types h.types c t xs true there (heading.result ∙ ap (λ (o : Option TypeNo). is_there o) q) (subst (λ (fs : List Formal). AreArguments m w xs fs) (sym heading.formals) p)))))
 
     by_count : (k : Signature) (r : TypeNo) (q : Bool) → (length k.formals == length args) ≡ q → signature_at s.types t ≡ Some k → k.result ≡ Some r
-        → Value_ ((told_where g {A = Unit {0}} (not q) at 42 (Ok (tt {0})) ▷ λ fine. Ok r) ▷ λ r. call_given g s.types r c (actuals g s k.formals args))
+        → Value_ ((reported_where g {A = Unit {0}} (not q) at 42 (Ok (tt {0})) ▷ λ fine. Ok r) ▷ λ r. call_given g s.types r c (actuals g s k.formals args))
     by_count k r true count e q = given_call k r e q (eqb-true (length k.formals) (length args) count)
     by_count k r false count e q = broken _
 
@@ -169,59 +169,59 @@ module _ (g : Gathers) (m : TypedModule) (opens : ℕ → Bool) (w : ℕ) (s : S
 
   -- ---- standard functions
 
-  unary_all : (at : Pos) (f : Standard) (u : Unary) (args : List (Meant g.Told)) → AllM args → Value_ (unary g s at f u args)
-  unary_all at f u [] all = told_holds g at 42
+  unary_all : (at : Pos) (f : Standard) (u : Unary) (args : List (Meant g.Reported)) → AllM args → Value_ (unary g s at f u args)
+  unary_all at f u [] all = reported_holds g at 42
   unary_all at f u (x ∷ []) all = then_holds (value_formed x all.0) (λ v p. unary_formed g m w opens s.types h.types f u x.fixed.at v p)
-  unary_all at f u (x ∷ y ∷ xs) all = told_holds g at 42
+  unary_all at f u (x ∷ y ∷ xs) all = reported_holds g at 42
 
-  bound_all : (at : Pos) (f : Standard) (args : List (Meant g.Told)) → Value_ (bound g s at f args)
-  bound_all at f [] = told_holds g at 42
+  bound_all : (at : Pos) (f : Standard) (args : List (Meant g.Reported)) → Value_ (bound g s at f args)
+  bound_all at f [] = reported_holds g at 42
   bound_all at f (x ∷ []) = bound_formed g m w opens s.types h.types f _
-  bound_all at f (x ∷ y ∷ xs) = told_holds g at 42
+  bound_all at f (x ∷ y ∷ xs) = reported_holds g at 42
 
-  conversion_all : (at : Pos) (args : List (Meant g.Told)) → AllM args → Value_ (conversion g s at args)
-  conversion_all at [] all = told_holds g at 42
-  conversion_all at (t ∷ []) all = told_holds g at 42
+  conversion_all : (at : Pos) (args : List (Meant g.Reported)) → AllM args → Value_ (conversion g s at args)
+  conversion_all at [] all = reported_holds g at 42
+  conversion_all at (t ∷ []) all = reported_holds g at 42
   conversion_all at (t ∷ x ∷ []) all = conversion_formed g m w opens s.types h.types _ x.fixed.at (value_formed x all.1.0)
-  conversion_all at (t ∷ x ∷ y ∷ xs) all = told_holds g at 42
+  conversion_all at (t ∷ x ∷ y ∷ xs) all = reported_holds g at 42
 
-  high_all : (at : Pos) (args : List (Meant g.Told)) → AllM args → Value_ (high g s at args)
-  high_all at [] all = told_holds g at 42
+  high_all : (at : Pos) (args : List (Meant g.Reported)) → AllM args → Value_ (high g s at args)
+  high_all at [] all = reported_holds g at 42
   high_all at (x ∷ []) all = then_holds all.0 (λ d p. high_formed g m w opens s.types h.types x.fixed.at d)
-  high_all at (x ∷ y ∷ xs) all = told_holds g at 42
+  high_all at (x ∷ y ∷ xs) all = reported_holds g at 42
 
-  form_formed : (at : Pos) (f : Standard) (args : List (Meant g.Told)) (o : Form) → AllM args → Value_ (by_form g s at f args o)
+  form_formed : (at : Pos) (f : Standard) (args : List (Meant g.Reported)) (o : Form) → AllM args → Value_ (by_form g s at f args o)
   form_formed at f args (form.Unary u) all = unary_all at f u args all
   form_formed at f args form.Bound all = bound_all at f args
   form_formed at f args form.Conversion all = conversion_all at args all
   form_formed at f args form.High all = high_all at args all
-  form_formed at f args form.Proper all = told_holds g at 40
+  form_formed at f args form.Proper all = reported_holds g at 40
 
-  called_as_formed : (at : Pos) (args : List (Meant g.Told)) (x : Called) → FormedCalled g m w opens s.types h.types x → AllM args → Value_ (called_as g s at args x)
+  called_as_formed : (at : Pos) (args : List (Meant g.Reported)) (x : Called) → FormedCalled g m w opens s.types h.types x → AllM args → Value_ (called_as g s at args x)
   called_as_formed at args (called.Routine t c) p all = routine_formed at t c args p all
   called_as_formed at args (called.Standard f) p all = form_formed at f args (form_of f) all
 
-  called_formed : (at : Pos) {d : Result Designated g.Told} (args : List (Meant g.Told)) → Designated_ d → AllM args → Value_ (called_by g s at d args)
+  called_formed : (at : Pos) {d : Result Designated g.Reported} (args : List (Meant g.Reported)) → Designated_ d → AllM args → Value_ (called_by g s at d args)
   called_formed at args p all = then_holds (then_holds p (λ d k. callee_formed g m w opens s.types h.types at d k)) (λ x k. called_as_formed at args x k all)
 
   -- ---- operators
 
-  factors_formed : (at : Pos) (rest : List (Operator MulOp × Meant g.Told)) (v : Result Computed g.Told) → Value_ v → AllT rest → Value_ (fold (factor g s at) v rest)
+  factors_formed : (at : Pos) (rest : List (Operator MulOp × Meant g.Reported)) (v : Result Computed g.Reported) → Value_ v → AllT rest → Value_ (fold (factor g s at) v rest)
   factors_formed at [] v p all = p
   factors_formed at (x ∷ xs) v p all = factors_formed at xs (factor g s at v x) (combined_formed m w g s.types (mul_op x.0.op) x.0.pos at x.1.fixed.at p (value_formed x.1 all.0)) all.1
 
-  terms_formed : (at : Pos) (rest : List (Operator AddOp × Meant g.Told)) (v : Result Computed g.Told) → Value_ v → AllT rest → Value_ (fold (term g s at) v rest)
+  terms_formed : (at : Pos) (rest : List (Operator AddOp × Meant g.Reported)) (v : Result Computed g.Reported) → Value_ v → AllT rest → Value_ (fold (term g s at) v rest)
   terms_formed at [] v p all = p
   terms_formed at (x ∷ xs) v p all = terms_formed at xs (term g s at v x) (combined_formed m w g s.types (add_op x.0.op) x.0.pos at x.1.fixed.at p (value_formed x.1 all.0)) all.1
 
-  first_formed : (o : Option (Operator Sign)) {x : Result Computed g.Told} → Value_ x → Value_ (signed_first g o x)
+  first_formed : (o : Option (Operator Sign)) {x : Result Computed g.Reported} → Value_ x → Value_ (signed_first g o x)
   first_formed None p = p
   first_formed (Some o) p = signed_formed m w g o.op o.pos p
 
-  relation_formed : (a : Meant g.Told) (o : Operator RelOp) (b : Meant g.Told) → FM a → FM b → Value_ (relation g s a o b)
+  relation_formed : (a : Meant g.Reported) (o : Operator RelOp) (b : Meant g.Reported) → FM a → FM b → Value_ (relation g s a o b)
   relation_formed a o b p q = combined_formed m w g s.types (op.Relation o.op) o.pos a.fixed.at b.fixed.at (value_formed a p) (value_formed b q)
 
-  picks_formed : (ps : List (Picks g.Told)) (d : Result Designated g.Told) → Designated_ d → AllP ps → Designated_ (fold (λ x p. p.picks s x) d ps)
+  picks_formed : (ps : List (Picks g.Reported)) (d : Result Designated g.Reported) → Designated_ d → AllP ps → Designated_ (fold (λ x p. p.picks s x) d ps)
   picks_formed [] d p all = p
   picks_formed (x ∷ ps) d p all = picks_formed ps (x.picks s d) (all.0 d p) all.1
 
@@ -251,26 +251,26 @@ module _ (g : Gathers) (m : TypedModule) (opens : ℕ → Bool) (w : ℕ) (s : S
   abbrev SI : Type 0
   SI = (e : Item) × PI e
 
-  abbrev opened : Expr-F Expr Selector Designator Item → Expr-F (Meant g.Told) (Picks g.Told) (Meant g.Told) (Adds g.Told)
-  opened x = map-Expr Expr Selector Designator Item (Meant g.Told) (Picks g.Told) (Meant g.Told) (Adds g.Told) (meant g) (picks g) (head g) (item g) x
+  abbrev opened : Expr-F Expr Selector Designator Item → Expr-F (Meant g.Reported) (Picks g.Reported) (Meant g.Reported) (Adds g.Reported)
+  opened x = map-Expr Expr Selector Designator Item (Meant g.Reported) (Picks g.Reported) (Meant g.Reported) (Adds g.Reported) (meant g) (picks g) (head g) (item g) x
 
-  abbrev opened_selector : Selector-F Expr Selector Designator Item → Selector-F (Meant g.Told) (Picks g.Told) (Meant g.Told) (Adds g.Told)
-  opened_selector x = map-Selector Expr Selector Designator Item (Meant g.Told) (Picks g.Told) (Meant g.Told) (Adds g.Told) (meant g) (picks g) (head g) (item g) x
+  abbrev opened_selector : Selector-F Expr Selector Designator Item → Selector-F (Meant g.Reported) (Picks g.Reported) (Meant g.Reported) (Adds g.Reported)
+  opened_selector x = map-Selector Expr Selector Designator Item (Meant g.Reported) (Picks g.Reported) (Meant g.Reported) (Adds g.Reported) (meant g) (picks g) (head g) (item g) x
 
-  abbrev opened_designator : Designator-F Expr Selector Designator Item → Designator-F (Meant g.Told) (Picks g.Told) (Meant g.Told) (Adds g.Told)
-  opened_designator x = map-Designator Expr Selector Designator Item (Meant g.Told) (Picks g.Told) (Meant g.Told) (Adds g.Told) (meant g) (picks g) (head g) (item g) x
+  abbrev opened_designator : Designator-F Expr Selector Designator Item → Designator-F (Meant g.Reported) (Picks g.Reported) (Meant g.Reported) (Adds g.Reported)
+  opened_designator x = map-Designator Expr Selector Designator Item (Meant g.Reported) (Picks g.Reported) (Meant g.Reported) (Adds g.Reported) (meant g) (picks g) (head g) (item g) x
 
   at_expr : (e : Expr) (x : Expr-F Expr Selector Designator Item) → out-Expr e ≡ x → meant g e ≡ expr_layer g (opened x)
   unfolding meant picks head item
-  at_expr e x q = fold_out-Expr (Meant g.Told) (Picks g.Told) (Meant g.Told) (Adds g.Told) (expr_layer g) (selector_layer g) (designator_layer g) (item_layer g) e ∙ ap (λ (y : Expr-F Expr Selector Designator Item). expr_layer g (opened y)) q
+  at_expr e x q = fold_out-Expr (Meant g.Reported) (Picks g.Reported) (Meant g.Reported) (Adds g.Reported) (expr_layer g) (selector_layer g) (designator_layer g) (item_layer g) e ∙ ap (λ (y : Expr-F Expr Selector Designator Item). expr_layer g (opened y)) q
 
   at_selector : (e : Selector) (x : Selector-F Expr Selector Designator Item) → out-Selector e ≡ x → picks g e ≡ selector_layer g (opened_selector x)
   unfolding meant picks head item
-  at_selector e x q = fold_out-Selector (Meant g.Told) (Picks g.Told) (Meant g.Told) (Adds g.Told) (expr_layer g) (selector_layer g) (designator_layer g) (item_layer g) e ∙ ap (λ (y : Selector-F Expr Selector Designator Item). selector_layer g (opened_selector y)) q
+  at_selector e x q = fold_out-Selector (Meant g.Reported) (Picks g.Reported) (Meant g.Reported) (Adds g.Reported) (expr_layer g) (selector_layer g) (designator_layer g) (item_layer g) e ∙ ap (λ (y : Selector-F Expr Selector Designator Item). selector_layer g (opened_selector y)) q
 
   at_designator : (e : Designator) (x : Designator-F Expr Selector Designator Item) → out-Designator e ≡ x → head g e ≡ designator_layer g (opened_designator x)
   unfolding meant picks head item
-  at_designator e x q = fold_out-Designator (Meant g.Told) (Picks g.Told) (Meant g.Told) (Adds g.Told) (expr_layer g) (selector_layer g) (designator_layer g) (item_layer g) e ∙ ap (λ (y : Designator-F Expr Selector Designator Item). designator_layer g (opened_designator y)) q
+  at_designator e x q = fold_out-Designator (Meant g.Reported) (Picks g.Reported) (Meant g.Reported) (Adds g.Reported) (expr_layer g) (selector_layer g) (designator_layer g) (item_layer g) e ∙ ap (λ (y : Designator-F Expr Selector Designator Item). designator_layer g (opened_designator y)) q
 
   abbrev bare : Expr-F SE SS SD SI → Expr-F Expr Selector Designator Item
   bare x = map-Expr SE SS SD SI Expr Selector Designator Item (λ e. e.0) (λ e. e.0) (λ e. e.0) (λ e. e.0) x

@@ -25,8 +25,8 @@ use Rattle.m2_typed.specs.declared.typed_module.TypedModule.{TypedModule}
 use Rattle.m2_typed.specs.declared.types.TypeNo.{TypeNo}
 use Rattle.m2_typed.specs.Chains.{linked_to, linked, rooted, behind}
 use Rattle.m2_typed.specs.Types.{are_same, is_integer, is_numeric, boolean, bitset}
-use Rattle.m2_judged.specs.Judged.{Gathers, ◌▷◌}
-use Rattle.m2_judged.specs.Scopes.{fields_at}
+use Rattle.m2_scopes.specs.Elaborated.{Gathers, ◌▷◌}
+use Rattle.m2_scopes.specs.Scopes.{fields_at}
 use Rattle.m2_values.specs.Common.{common}
 use Rattle.m2_values.specs.Operands.{operand_of, is_number}
 use Rattle.m2_values.specs.declared.operand.Operand.{Operand}
@@ -56,7 +56,7 @@ use Rattle.m2_computed.specs.declared.side.Side.{Side}
 use Rattle.m2_computed.specs.declared.side.Side.TheVariants as side
 use Rattle.m2_valid.specs.WellFormed.{IsProcedure, IsRoot, IsExpr, Constant, Load, ProcedureValue, Plus, Negate, Chain, Compare, Not, Include, In, Abs, Cap, Chr, Odd, Ord, Val, High, FunctionCall, AreLinks, no_links, more_links, IsLink, Operated, And, Or, Combine, IsPlace, Designator, AreComponents, no_components, more_components, IsComponent, FieldOf, Element, OpenElement}
 use Rattle.m2_formed.specs.Formed.{Holds, fine, FormedValue, FormedDesignated}
-use Rattle.m2_formed.proofs.Basics.{then_holds, told_holds, where_holds, both_holds, any_holds}
+use Rattle.m2_formed.proofs.Basics.{then_holds, reported_holds, where_holds, both_holds, any_holds}
 
 module _ (m : TypedModule) (w : ℕ) where
   -- ---- chains and components
@@ -127,10 +127,10 @@ module _ (m : TypedModule) (w : ℕ) where
   run_formed t (Run b e) p = p
 
   module _ (g : Gathers) where
-    abbrev Value_ : Result Computed g.Told → Type 0
+    abbrev Value_ : Result Computed g.Reported → Type 0
     Value_ r = Holds (FormedValue m w) r
 
-    pub of_value_formed : (r : Result Value g.Told) → Value_ (of_value r)
+    pub of_value_formed : (r : Result Value g.Reported) → Value_ (of_value r)
     of_value_formed r = then_holds (any_holds r) (λ x h. fine (value.Constant x) tt)
 
     -- ---- signs
@@ -142,25 +142,25 @@ module _ (m : TypedModule) (w : ℕ) where
     signed_value_formed : (o : Sign) (at : Pos) (x : Computed) → FormedValue m w x → Value_ (signed_value g o at x)
     signed_value_formed o at (value.Constant v) p = of_value_formed _
     signed_value_formed o at (value.Scalar t b e) p = signed_scalar_formed o at b e p
-    signed_value_formed o at (value.Set e) p = told_holds g at 40
-    signed_value_formed o at (value.Routine t e) p = told_holds g at 40
-    signed_value_formed o at (value.Procedure f) p = told_holds g at 40
-    signed_value_formed o at (value.Whole t d) p = told_holds g at 40
-    signed_value_formed o at value.Untaken p = told_holds g at 40
+    signed_value_formed o at (value.Set e) p = reported_holds g at 40
+    signed_value_formed o at (value.Routine t e) p = reported_holds g at 40
+    signed_value_formed o at (value.Procedure f) p = reported_holds g at 40
+    signed_value_formed o at (value.Whole t d) p = reported_holds g at 40
+    signed_value_formed o at value.Untaken p = reported_holds g at 40
 
-    pub signed_formed : (o : Sign) (at : Pos) {x : Result Computed g.Told} → Value_ x → Value_ (signed g o at x)
+    pub signed_formed : (o : Sign) (at : Pos) {x : Result Computed g.Reported} → Value_ x → Value_ (signed g o at x)
     signed_formed o at h = then_holds h (λ x p. signed_value_formed o at x p)
 
     negated_value_formed : (at : Pos) (x : Computed) → FormedValue m w x → Value_ (negated_value g at x)
     negated_value_formed at (value.Constant v) p = of_value_formed _
     negated_value_formed at (value.Scalar t b e) p = where_holds g (not (are_same b boolean)) at 40 (fine (truth_of (expr.Not e)) (Not e p))
-    negated_value_formed at (value.Set e) p = told_holds g at 40
-    negated_value_formed at (value.Routine t e) p = told_holds g at 40
-    negated_value_formed at (value.Procedure f) p = told_holds g at 40
-    negated_value_formed at (value.Whole t d) p = told_holds g at 40
-    negated_value_formed at value.Untaken p = told_holds g at 40
+    negated_value_formed at (value.Set e) p = reported_holds g at 40
+    negated_value_formed at (value.Routine t e) p = reported_holds g at 40
+    negated_value_formed at (value.Procedure f) p = reported_holds g at 40
+    negated_value_formed at (value.Whole t d) p = reported_holds g at 40
+    negated_value_formed at value.Untaken p = reported_holds g at 40
 
-    pub negated_formed : (at : Pos) {x : Result Computed g.Told} → Value_ x → Value_ (negated g at x)
+    pub negated_formed : (at : Pos) {x : Result Computed g.Reported} → Value_ x → Value_ (negated g at x)
     negated_formed at h = then_holds h (λ x p. negated_value_formed at x p)
 
     -- ---- operators
@@ -172,11 +172,11 @@ module _ (m : TypedModule) (w : ℕ) where
     built_formed t x y (step.Compare c) p q = Compare c x y p q
 
     stepped_formed : (at : Pos) (sort : Option TypeNo) (a b : Amount) (o : Option Step) → FormedAmount a → FormedAmount b → Value_ (stepped g at sort a b o)
-    stepped_formed at sort a b None p q = told_holds g at 40
+    stepped_formed at sort a b None p q = reported_holds g at 40
     stepped_formed at sort a b (Some o) p q = fine (built (or_cardinal sort) (run_of (or_cardinal sort) a) (run_of (or_cardinal sort) b) o) (built_formed (or_cardinal sort) (run_of (or_cardinal sort) a) (run_of (or_cardinal sort) b) o (run_formed (or_cardinal sort) a p) (run_formed (or_cardinal sort) b q))
 
     amounts_formed : (op : BinaryOp) (spot at : Pos) (a : Amount) (at' : Pos) (b : Amount) (o : Option (Option TypeNo)) → FormedAmount a → FormedAmount b → Value_ (on_amounts g op spot at a at' b o)
-    amounts_formed op spot at a at' b None p q = told_holds g spot 40
+    amounts_formed op spot at a at' b None p q = reported_holds g spot 40
     amounts_formed op spot at a at' b (Some sort) p q = then_holds (any_holds (fitting_both g op spot sort at a at' b)) (λ f h. stepped_formed spot sort a b (step_of op) p q)
 
     member_formed : (op : BinaryOp) (spot at : Pos) (a : Amount) (s : TypedExpr) → FormedAmount a → IsExpr m w s → Value_ (member g op spot at a s)
@@ -189,25 +189,25 @@ module _ (m : TypedModule) (w : ℕ) where
     set_built_formed x y (set_step.Include i) p q = Include i x y p q
 
     sets_formed : (at : Pos) (x y : TypedExpr) (o : Option SetStep) → IsExpr m w x → IsExpr m w y → Value_ (on_sets g at x y o)
-    sets_formed at x y None p q = told_holds g at 40
+    sets_formed at x y None p q = reported_holds g at 40
     sets_formed at x y (Some o) p q = fine (set_built x y o) (set_built_formed x y o p q)
 
     scalar_formed : (op : BinaryOp) (spot at : Pos) (a : Amount) (at' : Pos) (y : Option Side) → FormedAmount a → FormedSide y → Value_ (with_scalar g op spot at a at' y)
-    scalar_formed op spot at a at' None p q = told_holds g spot 40
+    scalar_formed op spot at a at' None p q = reported_holds g spot 40
     scalar_formed op spot at a at' (Some (side.Scalar b)) p q = amounts_formed op spot at a at' b (common (sort_of a) (sort_of b)) p q
     scalar_formed op spot at a at' (Some (side.Set s)) p q = member_formed op spot at a s p q
-    scalar_formed op spot at a at' (Some (side.Routine t e)) p q = told_holds g spot 40
-    scalar_formed op spot at a at' (Some (side.Procedure f)) p q = told_holds g spot 40
+    scalar_formed op spot at a at' (Some (side.Routine t e)) p q = reported_holds g spot 40
+    scalar_formed op spot at a at' (Some (side.Procedure f)) p q = reported_holds g spot 40
 
     with_set_formed : (op : BinaryOp) (spot : Pos) (x : TypedExpr) (y : Option Side) → IsExpr m w x → FormedSide y → Value_ (with_set g op spot x (set_in y))
-    with_set_formed op spot x None p q = told_holds g spot 40
-    with_set_formed op spot x (Some (side.Scalar b)) p q = told_holds g spot 40
+    with_set_formed op spot x None p q = reported_holds g spot 40
+    with_set_formed op spot x (Some (side.Scalar b)) p q = reported_holds g spot 40
     with_set_formed op spot x (Some (side.Set s)) p q = sets_formed spot x s (set_step_of op) p q
-    with_set_formed op spot x (Some (side.Routine t e)) p q = told_holds g spot 40
-    with_set_formed op spot x (Some (side.Procedure f)) p q = told_holds g spot 40
+    with_set_formed op spot x (Some (side.Routine t e)) p q = reported_holds g spot 40
+    with_set_formed op spot x (Some (side.Procedure f)) p q = reported_holds g spot 40
 
     procedures_formed : (at : Pos) (fit : Bool) (x y : TypedExpr) (o : Option Comparison) → IsExpr m w x → IsExpr m w y → Value_ (on_procedures g at fit x y o)
-    procedures_formed at fit x y None p q = told_holds g at 40
+    procedures_formed at fit x y None p q = reported_holds g at 40
     procedures_formed at fit x y (Some c) p q = where_holds g (not fit) at 40 (fine (truth_of (expr.Compare c x y)) (Compare c x y p q))
 
     abbrev FormedPartner : Option (Bool × TypedExpr) → Type 0
@@ -229,11 +229,11 @@ module _ (m : TypedModule) (w : ℕ) where
     routine_formed types f (Some (side.Procedure h)) q = tt
 
     with_partner_formed : (at : Pos) (x : TypedExpr) (c : Option Comparison) (o : Option (Bool × TypedExpr)) → IsExpr m w x → FormedPartner o → Value_ (with_partner g at x c o)
-    with_partner_formed at x c None p q = told_holds g at 40
+    with_partner_formed at x c None p q = reported_holds g at 40
     with_partner_formed at x c (Some o) p q = procedures_formed at o.0 x o.1 c p q
 
     between_formed : (types : Types) (op : BinaryOp) (spot at : Pos) (x : Option Side) (at' : Pos) (y : Option Side) → FormedSide x → FormedSide y → Value_ (between g types op spot at x at' y)
-    between_formed types op spot at None at' y p q = told_holds g spot 40
+    between_formed types op spot at None at' y p q = reported_holds g spot 40
     between_formed types op spot at (Some (side.Scalar a)) at' y p q = scalar_formed op spot at a at' y p q
     between_formed types op spot at (Some (side.Set e)) at' y p q = with_set_formed op spot e y p q
     between_formed types op spot at (Some (side.Routine t e)) at' y p q = with_partner_formed spot e (equality_of op) (partner_of types t y) p (partner_formed types t y q)
@@ -244,33 +244,33 @@ module _ (m : TypedModule) (w : ℕ) where
     known_formed types op spot at x at' y (Some a) None p q = between_formed types op spot at (side_of x) at' (side_of y) (side_formed x p) (side_formed y q)
     known_formed types op spot at x at' y (Some a) (Some b) p q = of_value_formed _
 
-    pub combined_formed : (types : Types) (op : BinaryOp) (spot at : Pos) {x : Result Computed g.Told} (at' : Pos) {y : Result Computed g.Told} → Value_ x → Value_ y → Value_ (combined g types op spot at x at' y)
+    pub combined_formed : (types : Types) (op : BinaryOp) (spot at : Pos) {x : Result Computed g.Reported} (at' : Pos) {y : Result Computed g.Reported} → Value_ x → Value_ y → Value_ (combined g types op spot at x at' y)
     combined_formed types op spot at at' p q = then_holds (both_holds g p q) (λ v h. known_formed types op spot at v.0 at' v.1 (known_of v.0) (known_of v.1) h.0 h.1)
 
     -- ---- what places take
 
-    abbrev Expr_ : Result TypedExpr g.Told → Type 0
+    abbrev Expr_ : Result TypedExpr g.Reported → Type 0
     Expr_ r = Holds (IsExpr m w) r
 
     scalar_suited_formed : (number : ℕ) (t : TypeNo) (s : Range) (at : Pos) (x : Option Side) → FormedSide x → Expr_ (scalar_suited g number t s at x)
-    scalar_suited_formed number t s at None p = told_holds g at number
+    scalar_suited_formed number t s at None p = reported_holds g at number
     scalar_suited_formed number t s at (Some (side.Scalar (Known a))) p = where_holds g _ at number (where_holds g _ at 52 (fine (expr.Constant t a.number) (Constant t a.number)))
     scalar_suited_formed number t s at (Some (side.Scalar (Run b e))) p = where_holds g _ at number (fine e p)
-    scalar_suited_formed number t s at (Some (side.Set e)) p = told_holds g at number
-    scalar_suited_formed number t s at (Some (side.Routine u e)) p = told_holds g at number
-    scalar_suited_formed number t s at (Some (side.Procedure f)) p = told_holds g at number
+    scalar_suited_formed number t s at (Some (side.Set e)) p = reported_holds g at number
+    scalar_suited_formed number t s at (Some (side.Routine u e)) p = reported_holds g at number
+    scalar_suited_formed number t s at (Some (side.Procedure f)) p = reported_holds g at number
 
     set_suited_formed : (number : ℕ) (at : Pos) (x : Option Side) → FormedSide x → Expr_ (set_suited g number at x)
-    set_suited_formed number at None p = told_holds g at number
-    set_suited_formed number at (Some (side.Scalar a)) p = told_holds g at number
+    set_suited_formed number at None p = reported_holds g at number
+    set_suited_formed number at (Some (side.Scalar a)) p = reported_holds g at number
     set_suited_formed number at (Some (side.Set e)) p = fine e p
-    set_suited_formed number at (Some (side.Routine u e)) p = told_holds g at number
-    set_suited_formed number at (Some (side.Procedure f)) p = told_holds g at number
+    set_suited_formed number at (Some (side.Routine u e)) p = reported_holds g at number
+    set_suited_formed number at (Some (side.Procedure f)) p = reported_holds g at number
 
     procedure_suited_formed : (number : ℕ) (types : Types) (t : TypeNo) (at : Pos) (x : Option Side) → FormedSide x → Expr_ (procedure_suited g number types t at x)
-    procedure_suited_formed number types t at None p = told_holds g at number
-    procedure_suited_formed number types t at (Some (side.Scalar a)) p = told_holds g at number
-    procedure_suited_formed number types t at (Some (side.Set e)) p = told_holds g at number
+    procedure_suited_formed number types t at None p = reported_holds g at number
+    procedure_suited_formed number types t at (Some (side.Scalar a)) p = reported_holds g at number
+    procedure_suited_formed number types t at (Some (side.Set e)) p = reported_holds g at number
     procedure_suited_formed number types t at (Some (side.Routine u e)) p = where_holds g _ at number (fine e p)
     procedure_suited_formed number types t at (Some (side.Procedure f)) p = where_holds g _ at number (fine (expr.Procedure f) (ProcedureValue f p))
 
@@ -278,7 +278,7 @@ module _ (m : TypedModule) (w : ℕ) where
     value_in_formed number types t at x (class.Scalar s) p = scalar_suited_formed number t s at x p
     value_in_formed number types t at x class.Set p = set_suited_formed number at x p
     value_in_formed number types t at x class.Procedure p = procedure_suited_formed number types t at x p
-    value_in_formed number types t at x class.Whole p = told_holds g at number
+    value_in_formed number types t at x class.Whole p = reported_holds g at number
 
     pub suited_formed : (number : ℕ) (types : Types) (t : TypeNo) (at : Pos) (x : Computed) → FormedValue m w x → Expr_ (value_suited g number types t at x)
     suited_formed number types t at x p = value_in_formed number types t at (side_of x) (class_at types t) (side_formed x p)
@@ -286,42 +286,42 @@ module _ (m : TypedModule) (w : ℕ) where
     -- ---- components
 
     module _ (opens : ℕ → Bool) where
-      abbrev Designated_ : Result Designated g.Told → Type 0
+      abbrev Designated_ : Result Designated g.Reported → Type 0
       Designated_ r = Holds (FormedDesignated m opens w) r
 
       pub field_formed : (types : Types) (at : Pos) (name : Ident) (d : Designated) → FormedDesignated m opens w d → Designated_ (field g types at name d)
       field_formed types at name (designated.Variable t d) p = then_holds (any_holds (record_field g at name (fields_at types t))) (λ f h. fine (designated.Variable f.1 (behind d (part.Field t f.0))) (behind_formed d (part.Field t f.0) p (FieldOf t f.0)))
-      field_formed types at name (designated.Value x) p = told_holds g at 40
-      field_formed types at name (designated.Open t slot) p = told_holds g at 40
-      field_formed types at name (designated.Type t) p = told_holds g at 40
-      field_formed types at name (designated.Procedure f) p = told_holds g at 40
-      field_formed types at name (designated.Nested f) p = told_holds g at 40
-      field_formed types at name (designated.Standard f) p = told_holds g at 40
-      field_formed types at name (designated.Module k) p = told_holds g at 40
+      field_formed types at name (designated.Value x) p = reported_holds g at 40
+      field_formed types at name (designated.Open t slot) p = reported_holds g at 40
+      field_formed types at name (designated.Type t) p = reported_holds g at 40
+      field_formed types at name (designated.Procedure f) p = reported_holds g at 40
+      field_formed types at name (designated.Nested f) p = reported_holds g at 40
+      field_formed types at name (designated.Standard f) p = reported_holds g at 40
+      field_formed types at name (designated.Module k) p = reported_holds g at 40
 
       abbrev FormedSubscripted : Subscripted → Type 0
       FormedSubscripted (indexes.Array t i e d) = IsPlace m w d
       FormedSubscripted (indexes.Open t slot) = Unit {0}
 
       array_formed : (at : Pos) (t : TypeNo) (d : Place) (o : Option (TypeNo × TypeNo)) → IsPlace m w d → Holds FormedSubscripted (array_indexed g at t d o)
-      array_formed at t d None p = told_holds g at 40
+      array_formed at t d None p = reported_holds g at 40
       array_formed at t d (Some a) p = fine (indexes.Array t a.0 a.1 d) p
 
       indices_formed : (types : Types) (at : Pos) (d : Designated) → FormedDesignated m opens w d → Holds FormedSubscripted (indices g types at d)
       indices_formed types at (designated.Variable t d) p = array_formed at t d (array_at types t) p
       indices_formed types at (designated.Open t slot) p = fine (indexes.Open t slot) tt
-      indices_formed types at (designated.Value x) p = told_holds g at 40
-      indices_formed types at (designated.Type t) p = told_holds g at 40
-      indices_formed types at (designated.Procedure f) p = told_holds g at 40
-      indices_formed types at (designated.Nested f) p = told_holds g at 40
-      indices_formed types at (designated.Standard f) p = told_holds g at 40
-      indices_formed types at (designated.Module k) p = told_holds g at 40
+      indices_formed types at (designated.Value x) p = reported_holds g at 40
+      indices_formed types at (designated.Type t) p = reported_holds g at 40
+      indices_formed types at (designated.Procedure f) p = reported_holds g at 40
+      indices_formed types at (designated.Nested f) p = reported_holds g at 40
+      indices_formed types at (designated.Standard f) p = reported_holds g at 40
+      indices_formed types at (designated.Module k) p = reported_holds g at 40
 
       picked_formed : (x : TypedExpr) (a : Subscripted) → IsExpr m w x → FormedSubscripted a → FormedDesignated m opens w (picked x a)
       picked_formed x (indexes.Array t i e d) p q = behind_formed d (part.Element t x) q (Element t x p)
       picked_formed x (indexes.Open t slot) p q = behind_formed (rooted (root.Open slot)) (part.OpenElement slot t x) (rooted_formed (root.Open slot) tt) (OpenElement slot t x p)
 
-      pub indexed_formed : (types : Types) (at : Pos) {d : Result Designated g.Told} (at' : Pos) {x : Result Computed g.Told} → Designated_ d → Value_ x → Designated_ (indexed g types (d ▷ indices g types at) at' x)
+      pub indexed_formed : (types : Types) (at : Pos) {d : Result Designated g.Reported} (at' : Pos) {x : Result Computed g.Reported} → Designated_ d → Value_ x → Designated_ (indexed g types (d ▷ indices g types at) at' x)
       indexed_formed types at at' p q =
           then_holds (both_holds g (then_holds p (λ d h. indices_formed types at d h)) q)
           (λ v h. then_holds (suited_formed 41 types (asked v.0) at' v.1 h.1) (λ e k. fine (picked e v.0) (picked_formed e v.0 k h.0)))

@@ -8,9 +8,9 @@ use Rattle.m2_typed.specs.declared.shape.Made.{Made}
 use Rattle.m2_typed.specs.declared.typed_module.TypedModule.{TypedModule}
 use Rattle.m2_typed.specs.declared.types.TypeNo.{TypeNo}
 use Rattle.m2_typed.specs.Known.{made_at}
-use Rattle.m2_judged.specs.Judged.{Gathers}
-use Rattle.m2_judged.specs.Scopes.{looked_up}
-use Rattle.m2_judged.specs.declared.scope.Scope.{Scope}
+use Rattle.m2_scopes.specs.Elaborated.{Gathers}
+use Rattle.m2_scopes.specs.Scopes.{looked_up}
+use Rattle.m2_scopes.specs.declared.scope.Scope.{Scope}
 use Rattle.m2_constants.specs.Denote.{member}
 use Rattle.m2_computed.specs.declared.computed.Computed.{Computed}
 use Rattle.m2_computed.specs.declared.computed.Computed.TheVariants as value
@@ -61,7 +61,7 @@ module _ (m : TypedModule) (opens : ℕ → Bool) (withs : ℕ) where
 
 -- The types that are known in a scope are those of the module, its names mean what is there, and so do those that open
 -- modules export.
-pub record IsFormed (g : Gathers) (m : TypedModule) (opens : ℕ → Bool) (withs : ℕ) (s : Scope g.Told) : Type 0 where
+pub record IsFormed (g : Gathers) (m : TypedModule) (opens : ℕ → Bool) (withs : ℕ) (s : Scope g.Reported) : Type 0 where
   pub types : (t : TypeNo) (x : Made) → made_at s.types t ≡ Some x → made_at m.types t ≡ Some x
   pub names : (name : Ident) → Holds (FormedMeaning m opens withs) (looked_up g s name)
   pub members : (k : ℕ) (name : Ident) → opens k ≡ true
@@ -69,6 +69,6 @@ pub record IsFormed (g : Gathers) (m : TypedModule) (opens : ℕ → Bool) (with
 
 -- what the checker makes of an expression, where broken rules are gathered so
 abbrev pub ExpressionsAreFormed : Gathers → Type 0
-ExpressionsAreFormed g = (m : TypedModule) (opens : ℕ → Bool) (withs : ℕ) (s : Scope g.Told)
+ExpressionsAreFormed g = (m : TypedModule) (opens : ℕ → Bool) (withs : ℕ) (s : Scope g.Reported)
     → IsFormed g m opens withs s → (e : Expr)
     → Holds (FormedDesignated m opens withs) ((meant g e).means s)

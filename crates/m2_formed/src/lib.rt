@@ -5,7 +5,7 @@
 //!   `m2_computed` and `m2_calls`, and `proofs/Meanings` those of `m2_exprs`, with the induction.
 #![tactic(auto)]
 
-ghost use Rattle.m2_judged.specs.Judged.{least, every};
+ghost use Rattle.m2_scopes.specs.Elaborated.{least, every};
 ghost use Rattle.m2_formed.specs.Formed.{ExpressionsAreFormed};
 
 /// What the checker makes of expressions is well formed.

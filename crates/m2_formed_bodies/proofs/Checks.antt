@@ -18,11 +18,11 @@ use Rattle.m2_typed.specs.declared.types.TypeNo.{TypeNo}
 use Rattle.m2_typed.specs.Known.{made_at}
 use Rattle.m2_typed.specs.Names.{found}
 use Rattle.m2_typed.specs.Types.{integer}
-use Rattle.m2_judged.specs.Judged.{Gathers}
-use Rattle.m2_judged.specs.declared.known.Known.{Known}
-use Rattle.m2_judged.specs.declared.known.Known.TheVariants.{Headed}
-use Rattle.m2_judged.specs.declared.scope.Block.{Block}
-use Rattle.m2_judged.specs.declared.scope.Scope.{Scope}
+use Rattle.m2_scopes.specs.Elaborated.{Gathers}
+use Rattle.m2_scopes.specs.declared.known.Known.{Known}
+use Rattle.m2_scopes.specs.declared.known.Known.TheVariants.{Headed}
+use Rattle.m2_scopes.specs.declared.scope.Block.{Block}
+use Rattle.m2_scopes.specs.declared.scope.Scope.{Scope}
 use Rattle.m2_made.specs.Headings.{result_of}
 use Rattle.m2_scheme.specs.Exprs.{is_there, result_made, has_result}
 use Rattle.m2_blocks.specs.Inner.{inwards, split_last, popped}
@@ -35,8 +35,8 @@ use Rattle.m2_formed_scopes.specs.FormedScopes.{AreFormedNames, Leads}
 use Rattle.m2_formed_scopes.proofs.Declarations.{ResultIs, beside_left, beside_right, result_holds}
 use Rattle.m2_bodies.specs.declared.procedure.Walk.{Walk}
 use Rattle.m2_bodies.specs.declared.procedure.Begun.{Begun}
-use Rattle.m2_bodies.specs.Judging.{Judges}
-use Rattle.m2_bodies.specs.Inside.{returns_of, which_of, begun_procedure, told_in, with_routine}
+use Rattle.m2_bodies.specs.Elaborating.{Elaborates}
+use Rattle.m2_bodies.specs.Inside.{returns_of, which_of, begun_procedure, reported_in, with_routine}
 use Rattle.m2_bodies.specs.Bodies.{Checked, ChecksBlock, procedure_checked}
 use Rattle.m2_formed_bodies.specs.FormedBodies.{AreNumbered, Keeps, Adds, Suits, AddsFormed, Begins, FormedBlock}
 use Rattle.m2_formed_bodies.proofs.Places.{set_length, set_other, set_same, before_end}
@@ -109,18 +109,18 @@ routine_count s name around n None body rs = refl
 routine_count s name around n (Some p) (Ok xs) rs = filled_count rs p.which (routine s name p around n xs)
 routine_count s name around n (Some p) (Err e) rs = refl
 
-pub body_of : {T : Type 0} (r : Result (List TypedStmt) T) → told_in r ≡ Ok tt → (xs : List TypedStmt) × (r ≡ Ok xs)
+pub body_of : {T : Type 0} (r : Result (List TypedStmt) T) → reported_in r ≡ Ok tt → (xs : List TypedStmt) × (r ≡ Ok xs)
 body_of (Ok xs) e = (xs, refl)
 body_of (Err x) e = absurd cc
 
 -- ---- results
 
-there_if : (g : Gathers) (o : Option Qualified) (r : Result (Option TypeNo) g.Told) → is_there o ≡ true → Holds (λ x. is_there x ≡ is_there o) r → is_there (returns_of r) ≡ true
+there_if : (g : Gathers) (o : Option Qualified) (r : Result (Option TypeNo) g.Reported) → is_there o ≡ true → Holds (λ x. is_there x ≡ is_there o) r → is_there (returns_of r) ≡ true
 there_if g o _ e (fine None k) = k ∙ e
 there_if g o _ e (fine (Some t) k) = refl
 there_if g o _ e (broken x) = refl
 
-returns_there : (g : Gathers) (s : Scope g.Told) (o : Option Qualified) → is_there (returns_of (result_of g s o)) ≡ is_there o
+returns_there : (g : Gathers) (s : Scope g.Reported) (o : Option Qualified) → is_there (returns_of (result_of g s o)) ≡ is_there o
 returns_there g s None = refl
 returns_there g s (Some q) = there_if g (Some q) (result_of g s (Some q)) refl (result_holds g s (Some q))
 
@@ -136,47 +136,47 @@ holds_at _ (broken y) x e = absurd cc
 
 -- ---- one procedure
 
-module _ (g : Gathers) (judges : Judges g.Told) (ends : List ℕ) (h : Heading) (block : ChecksBlock g.Told) (ks : List ℕ) (f : FormedBlock g ends block ks) (around : Option Which) (seen : ℕ) (w : Walk g.Told) where
+module _ (g : Gathers) (elaborates : Elaborates g.Reported) (ends : List ℕ) (h : Heading) (block : ChecksBlock g.Reported) (ks : List ℕ) (f : FormedBlock g ends block ks) (around : Option Which) (seen : ℕ) (w : Walk g.Reported) where
   -- where its block begins, where it ends, and behind the procedure
-  abbrev pub entry : Walk g.Told × Begun g.Told
+  abbrev pub entry : Walk g.Reported × Begun g.Reported
   entry = begun_procedure g w seen h
 
-  abbrev pub inner : Checked g.Told
+  abbrev pub inner : Checked g.Reported
   inner = block (which_of entry.1.procedure) entry.1.returns entry.0
 
-  abbrev pub ended : Walk g.Told
-  ended = procedure_checked g judges ends h block around seen w
+  abbrev pub ended : Walk g.Reported
+  ended = procedure_checked g elaborates ends h block around seen w
 
   pub inside : Keeps entry.0.scope inner.0.scope
   inside = f.keeps (which_of entry.1.procedure) entry.1.returns entry.0
 
-  abbrev pub around_it : Block g.Told
+  abbrev pub around_it : Block g.Reported
   around_it = record { names = w.scope.own; seen = seen }
 
   pub taken : popped (split_last inner.0.scope.outer) ≡ (w.scope.outer, w.scope.own)
-  taken = ap (λ (bs : List (Block g.Told)). popped (split_last bs)) inside.outer ∙ ap (λ (o : Option (List (Block g.Told) × Block g.Told)). popped o) (split_more w.scope.outer around_it)
+  taken = ap (λ (bs : List (Block g.Reported)). popped (split_last bs)) inside.outer ∙ ap (λ (o : Option (List (Block g.Reported) × Block g.Reported)). popped o) (split_more w.scope.outer around_it)
 
   pub procedure_own : ended.scope.own ≡ w.scope.own
-  procedure_own = ap (λ (p : List (Block g.Told) × List (List ℕ × Known g.Told)). p.1) taken
+  procedure_own = ap (λ (p : List (Block g.Reported) × List (List ℕ × Known g.Reported)). p.1) taken
 
   pub procedure_keeps : Keeps w.scope ended.scope
   procedure_keeps = record {
     tables = inside.tables;
-    outer = ap (λ (p : List (Block g.Told) × List (List ℕ × Known g.Told)). p.0) taken;
+    outer = ap (λ (p : List (Block g.Reported) × List (List ℕ × Known g.Reported)). p.0) taken;
     level = refl;
     withs = inside.withs;
     home = inside.home;
     types = inside.types;
   }
 
-  pub procedure_told : ended.so_far ≡ Ok tt → w.so_far ≡ Ok tt
-  procedure_told e = f.told (which_of entry.1.procedure) entry.1.returns entry.0 (beside_left g inner.0.so_far (told_in inner.1) e)
+  pub procedure_reported : ended.so_far ≡ Ok tt → w.so_far ≡ Ok tt
+  procedure_reported e = f.reported (which_of entry.1.procedure) entry.1.returns entry.0 (beside_left g inner.0.so_far (reported_in inner.1) e)
 
   pub inner_ok : ended.so_far ≡ Ok tt → inner.0.so_far ≡ Ok tt
-  inner_ok e = beside_left g inner.0.so_far (told_in inner.1) e
+  inner_ok e = beside_left g inner.0.so_far (reported_in inner.1) e
 
   pub body_ok : ended.so_far ≡ Ok tt → (xs : List TypedStmt) × (inner.1 ≡ Ok xs)
-  body_ok e = body_of inner.1 (beside_right g inner.0.so_far (told_in inner.1) e)
+  body_ok e = body_of inner.1 (beside_right g inner.0.so_far (reported_in inner.1) e)
 
   pub inner_count : 0 < length w.scope.outer → length ended.bodies.locals ≡ length entry.0.bodies.locals + length ks
   inner_count deep =
@@ -221,8 +221,8 @@ module _ (g : Gathers) (judges : Judges g.Told) (ends : List ℕ) (h : Heading) 
 
       bodies_are : ended.bodies ≡ filled inner.0.bodies (which.Local (length w.bodies.locals)) new
       bodies_are =
-          ap (λ (o : Option (Known g.Told)). with_routine inner.0.scope h.name around entry.1.formals (numbered_known o) inner.1 inner.0.bodies) head
-          ∙ ap (λ (r : Result (List TypedStmt) g.Told). with_routine inner.0.scope h.name around entry.1.formals (Some numbered) r inner.0.bodies) (body_ok ok).1
+          ap (λ (o : Option (Known g.Reported)). with_routine inner.0.scope h.name around entry.1.formals (numbered_known o) inner.1 inner.0.bodies) head
+          ∙ ap (λ (r : Result (List TypedStmt) g.Reported). with_routine inner.0.scope h.name around entry.1.formals (Some numbered) r inner.0.bodies) (body_ok ok).1
 
       locals_are : ended.bodies.locals ≡ slice_set inner.0.bodies.locals (length w.bodies.locals) new
       locals_are = ap (λ (rs : Bodies). rs.locals) bodies_are

@@ -14,20 +14,20 @@ use Rattle.m2_typed.specs.declared.typed_module.TypedModule.{TypedModule}
 use Rattle.m2_typed.specs.declared.types.TypeNo.{TypeNo}
 use Rattle.m2_typed.specs.Known.{made_at}
 use Rattle.m2_typed.specs.Names.{same_name, found, place_of, entered}
-use Rattle.m2_judged.specs.Judged.{Gathers, told}
-use Rattle.m2_judged.specs.Scopes.{or_outside, Sight, seen_at, in_block, nearer, known_outside, or_around, known, means_seen, means_as, opened, means_or}
-use Rattle.m2_judged.specs.declared.known.Known.{Known}
-use Rattle.m2_judged.specs.declared.known.Known.TheVariants.{Later, Ahead, Begun, Headed, Declared}
-use Rattle.m2_judged.specs.declared.known.Origin.{Origin}
-use Rattle.m2_judged.specs.declared.known.Origin.TheVariants.{Here, Module, Export}
-use Rattle.m2_judged.specs.declared.scope.Block.{Block}
-use Rattle.m2_judged.specs.declared.scope.OpenedRecord.{OpenedRecord}
-use Rattle.m2_judged.specs.declared.scope.Scope.{Scope}
+use Rattle.m2_scopes.specs.Elaborated.{Gathers, reported}
+use Rattle.m2_scopes.specs.Scopes.{or_outside, Sight, seen_at, in_block, nearer, known_outside, or_around, known, means_seen, means_as, opened, means_or}
+use Rattle.m2_scopes.specs.declared.known.Known.{Known}
+use Rattle.m2_scopes.specs.declared.known.Known.TheVariants.{Later, Ahead, Begun, Headed, Declared}
+use Rattle.m2_scopes.specs.declared.known.Origin.{Origin}
+use Rattle.m2_scopes.specs.declared.known.Origin.TheVariants.{Here, Module, Export}
+use Rattle.m2_scopes.specs.declared.scope.Block.{Block}
+use Rattle.m2_scopes.specs.declared.scope.OpenedRecord.{OpenedRecord}
+use Rattle.m2_scopes.specs.declared.scope.Scope.{Scope}
 use Rattle.m2_constants.specs.Denote.{member}
 use Rattle.m2_made.specs.Headings.{formal_of}
 use Rattle.m2_blocks.specs.Inner.{formal_kind, formal_meaning, Formals, with_formal, with_section, formals_in}
 use Rattle.m2_formed.specs.Formed.{Holds, fine, FormedMeaning, IsFormed}
-use Rattle.m2_formed.proofs.Basics.{then_holds, holds_weaker, told_holds, any_holds}
+use Rattle.m2_formed.proofs.Basics.{then_holds, holds_weaker, reported_holds, any_holds}
 use Rattle.m2_formed_scopes.specs.FormedScopes.{picked, is_awaiting, FormedFrom, FormedKnown, AreFormedNames, AreFormedBlocks}
 use Rattle.m2_formed_scopes.proofs.Names.{none_entered}
 use Rattle.m2_formed_scopes.proofs.Growth.{names_more}
@@ -77,31 +77,31 @@ module _ (m : TypedModule) (opens : ℕ → Bool) {T : Type 0} where
   blocks_more (x ∷ bs) b p q = (p.0, blocks_more bs b p.1 q)
 
 module _ (m : TypedModule) (opens : ℕ → Bool) (g : Gathers) where
-  abbrev Means_ : Result Meaning g.Told → Type 0
+  abbrev Means_ : Result Meaning g.Reported → Type 0
   Means_ r = Holds (FormedMeaning m opens 0) r
 
-  from_means : (o : Origin) (r : Result Meaning g.Told) → FormedFrom m opens o r → Means_ r
+  from_means : (o : Origin) (r : Result Meaning g.Reported) → FormedFrom m opens o r → Means_ r
   from_means Here r p = holds_weaker (λ x q. q.0) p
   from_means (Module k) r p = p
   from_means (Export k) r p = p
 
-  declared_means : (at : Pos) (seen : Bool) (r : Result Meaning g.Told) → Means_ r → Means_ (cond seen r (told g at 30))
+  declared_means : (at : Pos) (seen : Bool) (r : Result Meaning g.Reported) → Means_ r → Means_ (cond seen r (reported g at 30))
   declared_means at true r p = p
-  declared_means at false r p = told_holds g at 30
+  declared_means at false r p = reported_holds g at 30
 
-  seen_means : (at : Pos) (k : Known g.Told) (seen : Bool) → FormedKnown m opens k → Means_ (means_seen g at k seen)
-  seen_means at Later seen p = told_holds g at 30
+  seen_means : (at : Pos) (k : Known g.Reported) (seen : Bool) → FormedKnown m opens k → Means_ (means_seen g at k seen)
+  seen_means at Later seen p = reported_holds g at 30
   seen_means at Ahead seen p = fine meaning.Ahead tt
-  seen_means at Begun seen p = told_holds g at 30
+  seen_means at Begun seen p = reported_holds g at 30
   seen_means at (Headed r) seen p = holds_weaker (λ x q. q.0) p
   seen_means at (Declared o r) seen p = declared_means at seen r (from_means o r p)
 
-  means_formed : (at : Pos) (o : Sight g.Told) → FormedSight m opens o → Means_ (means_as g at o)
-  means_formed at None p = told_holds g at 30
+  means_formed : (at : Pos) (o : Sight g.Reported) → FormedSight m opens o → Means_ (means_as g at o)
+  means_formed at None p = reported_holds g at 30
   means_formed at (Some k) p = seen_means at k.0 k.1 p
 
   -- types that are the module's, names that are formed, and modules that are open
-  pub scope_formed : (s : Scope g.Told) → ((t : TypeNo) (x : Made) → made_at s.types t ≡ Some x → made_at m.types t ≡ Some x) → AreFormedNames m opens s.own → AreFormedBlocks m opens s.outer → s.withs ≡ []
+  pub scope_formed : (s : Scope g.Reported) → ((t : TypeNo) (x : Made) → made_at s.types t ≡ Some x → made_at m.types t ≡ Some x) → AreFormedNames m opens s.own → AreFormedBlocks m opens s.outer → s.withs ≡ []
       → ((k : ℕ) (name : Ident) → opens k ≡ true → Holds (FormedMeaning m opens 0) (member g s.tables k name)) → IsFormed g m opens 0 s
   scope_formed s types own outer withs members = record {
     types = types;
@@ -113,45 +113,45 @@ module _ (m : TypedModule) (opens : ℕ → Bool) (g : Gathers) where
 
   -- ---- formals
 
-  formal_known : (level n : ℕ) (f : Result Formal g.Told) → FormedKnown m opens (Declared Here (formal_meaning level n f))
+  formal_known : (level n : ℕ) (f : Result Formal g.Reported) → FormedKnown m opens (Declared Here (formal_meaning level n f))
   formal_known level n f = then_holds (any_holds f) (λ x k. fine (meaning.Local (record { level = level; number = n; kind = formal_kind x; of = x.of })) (tt, tt))
 
-  unless_by : (b : Bool) (name : List ℕ) (k : Known g.Told) (ns : List (List ℕ × Known g.Told)) → FormedKnown m opens k → AreFormedNames m opens ns → AreFormedNames m opens (cond b ns (entered name k ns))
+  unless_by : (b : Bool) (name : List ℕ) (k : Known g.Reported) (ns : List (List ℕ × Known g.Reported)) → FormedKnown m opens k → AreFormedNames m opens ns → AreFormedNames m opens (cond b ns (entered name k ns))
   unless_by true name k ns p q = q
   unless_by false name k ns p q = names_more m opens name k ns p q
 
-  formal_names : (level : ℕ) (f : Result Formal g.Told) (names : List Ident) (fs : Formals g.Told) → AreFormedNames m opens fs.0 → AreFormedNames m opens (fold (with_formal level f) fs names).0
+  formal_names : (level : ℕ) (f : Result Formal g.Reported) (names : List Ident) (fs : Formals g.Reported) → AreFormedNames m opens fs.0 → AreFormedNames m opens (fold (with_formal level f) fs names).0
   formal_names level f [] fs p = p
   formal_names level f (x ∷ xs) fs p =
       formal_names level f xs (with_formal level f fs x) (unless_by (is_some (found x.name fs.0)) x.name (Declared Here (formal_meaning level (length fs.1) f)) fs.0 (formal_known level (length fs.1) f) p)
 
-  section_names : (s : Scope g.Told) (xs : List Section) (fs : Formals g.Told) → AreFormedNames m opens fs.0 → AreFormedNames m opens (fold (with_section g s) fs xs).0
+  section_names : (s : Scope g.Reported) (xs : List Section) (fs : Formals g.Reported) → AreFormedNames m opens fs.0 → AreFormedNames m opens (fold (with_section g s) fs xs).0
   section_names s [] fs p = p
   section_names s (x ∷ xs) fs p = section_names s xs (with_section g s fs x) (formal_names s.level (formal_of g s x.is_var x.of) x.names fs p)
 
-  pub formals_formed : (s : Scope g.Told) (xs : List Section) → AreFormedNames m opens (formals_in g s xs).0
+  pub formals_formed : (s : Scope g.Reported) (xs : List Section) → AreFormedNames m opens (formals_in g s xs).0
   formals_formed s xs = section_names s xs ([], []) tt
 
 module _ (g : Gathers) where
-  abbrev NoneAwaits : List (List ℕ × Known g.Told) → Type 0
+  abbrev NoneAwaits : List (List ℕ × Known g.Reported) → Type 0
   NoneAwaits ns = (name : List ℕ) → picked is_awaiting (found name ns) ≡ false
 
-  formal_awaits : (level n : ℕ) (f : Result Formal g.Told) → is_awaiting (Declared Here (formal_meaning level n f)) ≡ false
+  formal_awaits : (level n : ℕ) (f : Result Formal g.Reported) → is_awaiting (Declared Here (formal_meaning level n f)) ≡ false
   formal_awaits level n (Ok f) = refl
   formal_awaits level n (Err e) = refl
 
-  awaits_by : (b : Bool) (name : List ℕ) (k : Known g.Told) (ns : List (List ℕ × Known g.Told)) → is_awaiting k ≡ false → NoneAwaits ns → NoneAwaits (cond b ns (entered name k ns))
+  awaits_by : (b : Bool) (name : List ℕ) (k : Known g.Reported) (ns : List (List ℕ × Known g.Reported)) → is_awaiting k ≡ false → NoneAwaits ns → NoneAwaits (cond b ns (entered name k ns))
   awaits_by true name k ns e p = p
   awaits_by false name k ns e p = λ other. none_entered is_awaiting name k ns other e (p other)
 
-  names_await : (level : ℕ) (f : Result Formal g.Told) (names : List Ident) (fs : Formals g.Told) → NoneAwaits fs.0 → NoneAwaits (fold (with_formal level f) fs names).0
+  names_await : (level : ℕ) (f : Result Formal g.Reported) (names : List Ident) (fs : Formals g.Reported) → NoneAwaits fs.0 → NoneAwaits (fold (with_formal level f) fs names).0
   names_await level f [] fs p = p
   names_await level f (x ∷ xs) fs p =
       names_await level f xs (with_formal level f fs x) (awaits_by (is_some (found x.name fs.0)) x.name (Declared Here (formal_meaning level (length fs.1) f)) fs.0 (formal_awaits level (length fs.1) f) p)
 
-  sections_await : (s : Scope g.Told) (xs : List Section) (fs : Formals g.Told) → NoneAwaits fs.0 → NoneAwaits (fold (with_section g s) fs xs).0
+  sections_await : (s : Scope g.Reported) (xs : List Section) (fs : Formals g.Reported) → NoneAwaits fs.0 → NoneAwaits (fold (with_section g s) fs xs).0
   sections_await s [] fs p = p
   sections_await s (x ∷ xs) fs p = sections_await s xs (with_section g s fs x) (names_await s.level (formal_of g s x.is_var x.of) x.names fs p)
 
-  pub formals_await : (s : Scope g.Told) (xs : List Section) (name : List ℕ) → picked is_awaiting (found name (formals_in g s xs).0) ≡ false
+  pub formals_await : (s : Scope g.Reported) (xs : List Section) (name : List ℕ) → picked is_awaiting (found name (formals_in g s xs).0) ≡ false
   formals_await s xs = sections_await s xs ([], []) (λ name. refl)

@@ -19,8 +19,8 @@ use Rattle.m2_typed.specs.declared.known_types.Types.{Types}
 use Rattle.m2_typed.specs.declared.typed_module.TypedModule.{TypedModule}
 use Rattle.m2_typed.specs.declared.typed_module.Which.{Which}
 use Rattle.m2_typed.specs.Known.{in_list, made_in}
-use Rattle.m2_judged.specs.Judged.{Gathers}
-use Rattle.m2_judged.specs.declared.scope.Scope.{Scope}
+use Rattle.m2_scopes.specs.Elaborated.{Gathers}
+use Rattle.m2_scopes.specs.declared.scope.Scope.{Scope}
 use Rattle.m2_types.specs.Predeclared.{console, first_scope}
 use Rattle.m2_types.specs.Importing.{numbered_modules}
 use Rattle.m2_types.specs.Declare.{with_variable_type, with_procedure_type}
@@ -31,11 +31,11 @@ use Rattle.m2_modules.specs.Imports.{all_imports, typed_imports}
 use Rattle.m2_modules.specs.Own.{exported_variables, implementation_scope}
 use Rattle.m2_modules.specs.Routines.{typed_module}
 use Rattle.m2_bodies.specs.declared.procedure.Walk.{Walk}
-use Rattle.m2_bodies.specs.Judging.{Judges}
+use Rattle.m2_bodies.specs.Elaborating.{Elaborates}
 use Rattle.m2_bodies.specs.Bodies.{Checked, ChecksBlock, Steps, with_body, steps_layer, block_layer, steps, checks_block, checks_decl}
 use Rattle.m2_bodies.specs.Checked.{walked, of_body, of_implementation, of_contents, checked}
 use Rattle.m2_formed.specs.Formed.{Holds, fine, broken}
-use Rattle.m2_formed.proofs.Basics.{then_holds, both_holds, any_holds, told_holds}
+use Rattle.m2_formed.proofs.Basics.{then_holds, both_holds, any_holds, reported_holds}
 use Rattle.m2_formed_imports.proofs.Walks.{walk_keeps}
 use Rattle.m2_formed_ranges.specs.FormedRanges.{first_types}
 use Rattle.m2_formed_types.specs.Ordered.{AreOrdered}
@@ -80,45 +80,45 @@ abbrev pub BeginWith : List TypeNo → List TypeNo → Type 0
 BeginWith first all = (more : List TypeNo) × (all ≡ first ++ more)
 
 module _ (g : Gathers) where
-  varied : (first : List TypeNo) (s : Scope g.Told) (t : Result TypeNo g.Told) → BeginWith first s.variables → BeginWith first (with_variable_type s t).variables
+  varied : (first : List TypeNo) (s : Scope g.Reported) (t : Result TypeNo g.Reported) → BeginWith first s.variables → BeginWith first (with_variable_type s t).variables
   varied first s (Ok t) h = (h.0 ++ t ∷ [], ap (λ (ts : List TypeNo). ts ++ t ∷ []) h.1 ∙ append_assoc first h.0 (t ∷ []))
   varied first s (Err e) h = h
 
-  headed : (first : List TypeNo) (s : Scope g.Told) (t : Result TypeNo g.Told) → BeginWith first s.variables → BeginWith first (with_procedure_type s t).variables
+  headed : (first : List TypeNo) (s : Scope g.Reported) (t : Result TypeNo g.Reported) → BeginWith first s.variables → BeginWith first (with_procedure_type s t).variables
   headed first s (Ok t) h = h
   headed first s (Err e) h = h
 
-  variables_begin : (first : List TypeNo) (modules : List (List ℕ × ℕ)) (ends : List ℕ) (s : Scope g.Told) (m : Module) (ds : List Decl) → BeginWith first s.variables → BeginWith first (declared_module g modules ends s m ds).0.variables
+  variables_begin : (first : List TypeNo) (modules : List (List ℕ × ℕ)) (ends : List ℕ) (s : Scope g.Reported) (m : Module) (ds : List Decl) → BeginWith first s.variables → BeginWith first (declared_module g modules ends s m ds).0.variables
   variables_begin first modules ends s m ds h = module_keeps g (λ x. BeginWith first x.variables) (λ x name k p. p) (λ x made p. p) (varied first) (headed first) modules ends s m ds h
 
-  module _ (judges : Judges g.Told) (ends : List ℕ) where
-    abbrev steps_of : Decl → Steps g.Told
-    steps_of = steps g judges ends
+  module _ (elaborates : Elaborates g.Reported) (ends : List ℕ) where
+    abbrev steps_of : Decl → Steps g.Reported
+    steps_of = steps g elaborates ends
 
-    abbrev block_of : Block → ChecksBlock g.Told
-    block_of = checks_block g judges ends
+    abbrev block_of : Block → ChecksBlock g.Reported
+    block_of = checks_block g elaborates ends
 
-    abbrev opened : Decl-F Decl Block → Decl-F (Steps g.Told) (ChecksBlock g.Told)
-    opened x = map-Decl Decl Block (Steps g.Told) (ChecksBlock g.Told) steps_of block_of x
+    abbrev opened : Decl-F Decl Block → Decl-F (Steps g.Reported) (ChecksBlock g.Reported)
+    opened x = map-Decl Decl Block (Steps g.Reported) (ChecksBlock g.Reported) steps_of block_of x
 
-    step_is : (e : Decl) (x : Decl-F Decl Block) → out-Decl e ≡ x → steps_of e ≡ steps_layer g judges ends (opened x)
+    step_is : (e : Decl) (x : Decl-F Decl Block) → out-Decl e ≡ x → steps_of e ≡ steps_layer g elaborates ends (opened x)
     unfolding steps checks_block
-    step_is e x h = fold_out-Decl (Steps g.Told) (ChecksBlock g.Told) (steps_layer g judges ends) (block_layer g judges ends) e ∙ ap (λ (y : Decl-F Decl Block). steps_layer g judges ends (opened y)) h
+    step_is e x h = fold_out-Decl (Steps g.Reported) (ChecksBlock g.Reported) (steps_layer g elaborates ends) (block_layer g elaborates ends) e ∙ ap (λ (y : Decl-F Decl Block). steps_layer g elaborates ends (opened y)) h
 
-    layer_variables : (x : Decl-F Decl Block) (around : Option Which) (seen : ℕ) (w : Walk g.Told) → ((steps_layer g judges ends (opened x)).checks around seen w).scope.variables ≡ w.scope.variables
+    layer_variables : (x : Decl-F Decl Block) (around : Option Which) (seen : ℕ) (w : Walk g.Reported) → ((steps_layer g elaborates ends (opened x)).checks around seen w).scope.variables ≡ w.scope.variables
     layer_variables (layer.Constants cs) around seen w = refl
     layer_variables (layer.Types ts) around seen w = refl
     layer_variables (layer.Variables vs) around seen w = refl
     layer_variables (layer.Procedure h b) around seen w = refl
 
-    decl_variables : (d : Decl) (around : Option Which) (seen : ℕ) (w : Walk g.Told) → (checks_decl g judges ends d around seen w).scope.variables ≡ w.scope.variables
-    decl_variables d around seen w = ap (λ (x : Steps g.Told). (x.checks around seen w).scope.variables) (step_is d (out-Decl d) refl) ∙ layer_variables (out-Decl d) around seen w
+    decl_variables : (d : Decl) (around : Option Which) (seen : ℕ) (w : Walk g.Reported) → (checks_decl g elaborates ends d around seen w).scope.variables ≡ w.scope.variables
+    decl_variables d around seen w = ap (λ (x : Steps g.Reported). (x.checks around seen w).scope.variables) (step_is d (out-Decl d) refl) ∙ layer_variables (out-Decl d) around seen w
 
-    bodies_variables : (seen : List ℕ) (ds : List Decl) (st : Walk g.Told × ℕ) → (fold (with_body (λ d. checks_decl g judges ends d None) seen) st ds).0.scope.variables ≡ st.0.scope.variables
+    bodies_variables : (seen : List ℕ) (ds : List Decl) (st : Walk g.Reported × ℕ) → (fold (with_body (λ d. checks_decl g elaborates ends d None) seen) st ds).0.scope.variables ≡ st.0.scope.variables
     bodies_variables seen [] st = refl
-    bodies_variables seen (d ∷ ds) st = bodies_variables seen ds (with_body (λ d. checks_decl g judges ends d None) seen st d) ∙ decl_variables d None (unwrap_or (slice_get seen st.1) 0) st.0
+    bodies_variables seen (d ∷ ds) st = bodies_variables seen ds (with_body (λ d. checks_decl g elaborates ends d None) seen st d) ∙ decl_variables d None (unwrap_or (slice_get seen st.1) 0) st.0
 
-    walked_variables : (modules : List (List ℕ × ℕ)) (s : Scope g.Told) (m : Module) (b : Block) → BeginWith s.variables (walked g judges modules ends s m b).0.scope.variables
+    walked_variables : (modules : List (List ℕ × ℕ)) (s : Scope g.Reported) (m : Module) (b : Block) → BeginWith s.variables (walked g elaborates modules ends s m b).0.scope.variables
     walked_variables modules s m b =
         let ds : List Decl = (out-Block b).decls in
         let d = variables_begin s.variables modules ends s m ds ([], sym (append-nil s.variables)) in
@@ -133,8 +133,8 @@ record IsBodyIn {T : Type 0} (base : Types) (s : Scope T) (own : Option Table) (
   variables : BeginWith s.variables t.variables
   imports : t.imports ≡ typed_imports (numbered_modules s.tables).0 s.tables (all_imports (numbered_modules s.tables).0 s.tables own m.imports)
 
-module _ (g : Gathers) (judges : Judges g.Told) where
-  module_in : (base : Types) (s : Scope g.Told) (own : Option Table) (m : Module) (after : Scope g.Told) (rs : Bodies) (body : List TypedStmt) → ScopeFormed base after → after.tables ≡ s.tables → BeginWith s.variables after.variables
+module _ (g : Gathers) (elaborates : Elaborates g.Reported) where
+  module_in : (base : Types) (s : Scope g.Reported) (own : Option Table) (m : Module) (after : Scope g.Reported) (rs : Bodies) (body : List TypedStmt) → ScopeFormed base after → after.tables ≡ s.tables → BeginWith s.variables after.variables
       → IsBodyIn base s own m (typed_module after (numbered_modules s.tables).0 own m rs body)
   module_in base s own m after rs body h e v = record {
     ordered = h.ordered.types;
@@ -144,14 +144,14 @@ module _ (g : Gathers) (judges : Judges g.Told) where
     imports = ap (λ (ts : List Table). typed_imports (numbered_modules s.tables).0 ts (all_imports (numbered_modules s.tables).0 ts own m.imports)) e;
   }
 
-  body_in : (base : Types) (s : Scope g.Told) (own : Option Table) (m : Module) (b : Block) → fits_block b ≡ true → ScopeFormed base s → Holds (IsBodyIn base s own m) (of_body g judges s own m b)
+  body_in : (base : Types) (s : Scope g.Reported) (own : Option Table) (m : Module) (b : Block) → fits_block b ≡ true → ScopeFormed base s → Holds (IsBodyIn base s own m) (of_body g elaborates s own m b)
   body_in base s own m b e h =
       let ends : List ℕ = procedure_ends (out-Block b).decls in
       let modules : List (List ℕ × ℕ) = (numbered_modules s.tables).0 in
-      let w : Checked g.Told = walked g judges modules ends s m b in
-      let keeps = walk_keeps g judges ends modules s m b in
-      then_holds (both_holds g (walked_formed g judges ends base modules s m b e h) (any_holds w.1)) (λ x k.
-      fine _ (module_in base s own m w.0.scope w.0.bodies x.1 k.0 (ap (λ (p : List Table × ℕ). p.0) keeps) (walked_variables g judges ends modules s m b)))
+      let w : Checked g.Reported = walked g elaborates modules ends s m b in
+      let keeps = walk_keeps g elaborates ends modules s m b in
+      then_holds (both_holds g (walked_formed g elaborates ends base modules s m b e h) (any_holds w.1)) (λ x k.
+      fine _ (module_in base s own m w.0.scope w.0.bodies x.1 k.0 (ap (λ (p : List Table × ℕ). p.0) keeps) (walked_variables g elaborates ends modules s m b)))
 
 -- what is known of the module's own definition
 abbrev pub OwnIn : Option Table → TypedModule → Type 0
@@ -173,10 +173,10 @@ IsKnown m own number ts t (contents.Definition ds) = ⊥
 IsKnown m own number ts t (contents.Implementation b) = (o : Table) × (own ≡ Some o) × IsKnownBy m (Some o) o.number ts t
 IsKnown m own number ts t (contents.Program b) = IsKnownBy m None number ts t
 
-module _ (g : Gathers) (judges : Judges g.Told) (types_of : ℕ → List Made) (number : ℕ) (m : Module) where
-  program_known : (ts : List Table) (b : Block) → fits_block b ≡ true → TablesFormed types_of number ts → Holds (IsKnownBy m None number ts) (of_body g judges (first_scope number ts) None m b)
+module _ (g : Gathers) (elaborates : Elaborates g.Reported) (types_of : ℕ → List Made) (number : ℕ) (m : Module) where
+  program_known : (ts : List Table) (b : Block) → fits_block b ≡ true → TablesFormed types_of number ts → Holds (IsKnownBy m None number ts) (of_body g elaborates (first_scope number ts) None m b)
   program_known ts b e p =
-      then_holds_of (body_in g judges (first_types number ts) (first_scope number ts) None m b e (first_formed types_of number ts p)) (λ t h. record {
+      then_holds_of (body_in g elaborates (first_types number ts) (first_scope number ts) None m b e (first_formed types_of number ts p)) (λ t h. record {
         ordered = h.ordered;
         home_is = h.started.home;
         name = h.name;
@@ -190,11 +190,11 @@ module _ (g : Gathers) (judges : Judges g.Told) (types_of : ℕ → List Made) (
       then_holds_of (broken e) k = broken e
 
   own_known : (own : Option Table) (ts : List Table) (b : Block) → fits_block b ≡ true → OwnFormed types_of number own → TablesFormed types_of number ts
-      → Holds (λ t. (o : Table) × (own ≡ Some o) × IsKnownBy m (Some o) o.number ts t) (of_implementation g judges m own ts b)
-  own_known None ts b e f p = told_holds g m.name.pos 24
+      → Holds (λ t. (o : Table) × (own ≡ Some o) × IsKnownBy m (Some o) o.number ts t) (of_implementation g elaborates m own ts b)
+  own_known None ts b e f p = reported_holds g m.name.pos 24
   own_known (Some o) ts b e f p =
       let base : Types = begun_types types_of number o ts f.0 f.1 p in
-      then_holds_of (body_in g judges base (implementation_scope o ts) (Some o) m b e (implementation_formed types_of number o ts f.0 f.1 p)) (λ t h. (
+      then_holds_of (body_in g elaborates base (implementation_scope o ts) (Some o) m b e (implementation_formed types_of number o ts f.0 f.1 p)) (λ t h. (
         o,
         refl,
         record {
@@ -211,11 +211,11 @@ module _ (g : Gathers) (judges : Judges g.Told) (types_of : ℕ → List Made) (
       then_holds_of (fine x p) k = fine x (k x p)
       then_holds_of (broken e) k = broken e
 
-  contents_known : (own : Option Table) (ts : List Table) (c : Contents) → fits_contents c ≡ true → OwnFormed types_of number own → TablesFormed types_of number ts → Holds (λ t. IsKnown m own number ts t c) (of_contents g judges number m own ts c)
-  contents_known own ts (contents.Definition ds) e f p = told_holds g m.name.pos 24
+  contents_known : (own : Option Table) (ts : List Table) (c : Contents) → fits_contents c ≡ true → OwnFormed types_of number own → TablesFormed types_of number ts → Holds (λ t. IsKnown m own number ts t c) (of_contents g elaborates number m own ts c)
+  contents_known own ts (contents.Definition ds) e f p = reported_holds g m.name.pos 24
   contents_known own ts (contents.Implementation b) e f p = own_known own ts b e f p
   contents_known own ts (contents.Program b) e f p = program_known ts b e p
 
   pub module_known : (own : Option Table) (ts : List Table) → fits_contents m.contents ≡ true → OwnFormed types_of number own → TablesFormed types_of number ts
-      → Holds (λ t. IsKnown m own number (ts ++ console ∷ []) t m.contents) (checked g judges number m own ts)
+      → Holds (λ t. IsKnown m own number (ts ++ console ∷ []) t m.contents) (checked g elaborates number m own ts)
   module_known own ts e f p = contents_known own (ts ++ console ∷ []) m.contents e f (each_more (TableFormed types_of number) ts console p (console_formed types_of number))

@@ -28,8 +28,8 @@ use Rattle.m2_typed.specs.declared.table.Table.{Table}
 use Rattle.m2_typed.specs.declared.typed_module.Imported.{Imported}
 use Rattle.m2_typed.specs.declared.typed_module.TypedModule.{TypedModule}
 use Rattle.m2_typed.specs.Names.{same_name}
-use Rattle.m2_judged.specs.Judged.{least}
-use Rattle.m2_check.specs.Checks.{judged}
+use Rattle.m2_scopes.specs.Elaborated.{least}
+use Rattle.m2_check.specs.Checks.{elaborated}
 use Rattle.m2_links.specs.Linked.{Program}
 use Rattle.m2_agree_linked.specs.Knows.{IsCoherent}
 use Rattle.m2_ranges.specs.Ranges.{AreRanged}
@@ -41,7 +41,7 @@ use Rattle.m2_formed_known.specs.FormedKnown.{fits_module}
 use Rattle.m2_compile.specs.declared.outcome.Compiled.TheVariants.{Defined}
 use Rattle.m2_compile.specs.Own.{own_table, tables_behind}
 use Rattle.m2_compile.specs.Compiling.{tables_of, typed_body}
-use Rattle.m2_jobs.specs.Spelled.{needed_of}
+use Rattle.m2_jobs.specs.Encoded.{needed_of}
 use Rattle.m2_formed_reach.specs.FormedReach.{result_of}
 use Rattle.m2_formed_reach.proofs.Reach.{tree_fits, tables_needed, bodies_know}
 use Rattle.m2_formed_coherent.specs.FormedCoherent.{IsBodyOf, IsWhole, IsBodyIn, AreBodiesIn}
@@ -206,7 +206,7 @@ module _ (fs : List (List ℕ × Module)) (files : List ℕ) (jobs : List (List 
   module_stands : (t : TypedModule) (b : IsBodyOf ms files jobs t) → StandsOnImports b.tree (own_table b.tree (tables_of (needed_of ms files jobs b.job))) t
   module_stands t b =
       if_ok (StandsOnImports b.tree (own_table b.tree (tables_of (needed_of ms files jobs b.job)))) (typed_body b.tree b.job (tables_of (needed_of ms files jobs b.job))) t
-      (modules_stand least (judged least) b.job b.tree (own_table b.tree (tables_of (needed_of ms files jobs b.job))) (tables_behind (own_table b.tree (tables_of (needed_of ms files jobs b.job))) (tables_of (needed_of ms files jobs b.job)))) b.typed
+      (modules_stand least (elaborated least) b.job b.tree (own_table b.tree (tables_of (needed_of ms files jobs b.job))) (tables_behind (own_table b.tree (tables_of (needed_of ms files jobs b.job))) (tables_of (needed_of ms files jobs b.job)))) b.typed
 
   here : (s : ℕ) (ss : List ℕ) (m : Module) → slice_get ms s ≡ Some m → at_places ms (s ∷ ss) ≡ m ∷ at_places ms ss
   here s ss m e = ap (λ (o : Option Module). cons_option o (at_places ms ss)) e

@@ -16,10 +16,10 @@ use Rattle.m2_typed.specs.declared.table.Table.{Table}
 use Rattle.m2_typed.specs.declared.types.TypeNo.{TypeNo}
 use Rattle.m2_typed.specs.declared.typed_module.Imported.{Imported}
 use Rattle.m2_typed.specs.declared.typed_module.TypedModule.{TypedModule}
-use Rattle.m2_judged.specs.declared.fault.Fault.{Fault}
-use Rattle.m2_judged.specs.Judged.{Gathers, least}
-use Rattle.m2_judged.specs.Scopes.{State}
-use Rattle.m2_judged.specs.declared.scope.Scope.{Scope}
+use Rattle.m2_scopes.specs.declared.fault.Fault.{Fault}
+use Rattle.m2_scopes.specs.Elaborated.{Gathers, least}
+use Rattle.m2_scopes.specs.Scopes.{State}
+use Rattle.m2_scopes.specs.declared.scope.Scope.{Scope}
 use Rattle.m2_layout.specs.Types.{Ty}
 use Rattle.m2_layout.specs.Shapes.{tree}
 use Rattle.m2_layout.specs.Layouts.{too_large}
@@ -30,12 +30,12 @@ use Rattle.m2_types.specs.Declare.{with_def}
 use Rattle.m2_types.specs.Export.{imported_modules}
 use Rattle.m2_types.specs.Compiled as types
 use Rattle.m2_modules.specs.Own.{exported_variables}
-use Rattle.m2_check.specs.Checks.{judged}
+use Rattle.m2_check.specs.Checks.{elaborated}
 use Rattle.m2_meaning.specs.Around.{module_place}
 use Rattle.m2_links.specs.Linked.{Program}
 use Rattle.m2_agree_linked.specs.Knows.{Knows, IsCoherent}
 use Rattle.m2_formed.specs.Formed.{Holds, fine, broken}
-use Rattle.m2_formed.proofs.Basics.{then_holds, any_holds, told_holds}
+use Rattle.m2_formed.proofs.Basics.{then_holds, any_holds, reported_holds}
 use Rattle.m2_formed_imports.specs.FormedImports.{NamesImports}
 use Rattle.m2_formed_imports.proofs.Lists.{same_refl, same_is, all_each}
 use Rattle.m2_formed_imports.proofs.Imports.{tables_named}
@@ -49,7 +49,7 @@ use Rattle.m2_compile.specs.declared.outcome.Compiled.TheVariants.{Defined, Bloc
 use Rattle.m2_compile.specs.Own.{own_table, tables_behind}
 use Rattle.m2_compile.specs.Compiling.{is_sound, tables_of, of_definition, of_fit, of_checked, of_contents, typed_body, compiled}
 use Rattle.m2_jobs.specs.Jobs.{compiled_in}
-use Rattle.m2_jobs.specs.Spelled.{needed_of}
+use Rattle.m2_jobs.specs.Encoded.{needed_of}
 use Rattle.m2_formed_reach.specs.FormedReach.{result_of, types_of}
 use Rattle.m2_formed_reach.proofs.Reach.{tree_fits, IsNeeded, own_formed, behind_formed, known_below, tables_needed, tables_same}
 use Rattle.m2_formed_coherent.specs.FormedCoherent.{IsBodyOf, IsWhole}
@@ -103,24 +103,24 @@ place_alone p n m e one =
 -- ---- the table of a definition
 
 module _ (g : Gathers) (m : Module) where
-  tables_stay : (modules : List (List ℕ × ℕ)) (s : Scope g.Told) (defs : List Def) → (types.declared_in g m modules s defs).0.tables ≡ s.tables
+  tables_stay : (modules : List (List ℕ × ℕ)) (s : Scope g.Reported) (defs : List Def) → (types.declared_in g m modules s defs).0.tables ≡ s.tables
   tables_stay modules s defs =
       let t = fold marked_def s defs in
       ap (λ (k : List Table × ℕ). k.0)
-      (fold_keeps (λ (st : State (Unit {0}) g.Told). st.0) (with_def g) (def_keeps g) defs (fold (with_import g modules) (t, Ok tt) m.imports)
-      ∙ (import_keeps g modules m.imports (t, Ok tt) ∙ fold_keeps (λ (s : Scope g.Told). s) marked_def (def_marks g.Told) defs s))
+      (fold_keeps (λ (st : State (Unit {0}) g.Reported). st.0) (with_def g) (def_keeps g) defs (fold (with_import g modules) (t, Ok tt) m.imports)
+      ∙ (import_keeps g modules m.imports (t, Ok tt) ∙ fold_keeps (λ (s : Scope g.Reported). s) marked_def (def_marks g.Reported) defs s))
 
   module _ (IsMade : Table → Type 0) (home : ℕ) where
     definition_listed : (tables : List Table) → AreMade IsMade tables → (defs : List Def) → Holds (λ t. AreListed IsMade t.imports) (types.of_definition g home m tables defs)
     definition_listed tables made defs =
         let modules : List (List ℕ × ℕ) = (numbered_modules tables).0 in
-        let st : State (Unit {0}) g.Told = types.declared_in g m modules (first_scope home tables) defs in
+        let st : State (Unit {0}) g.Reported = types.declared_in g m modules (first_scope home tables) defs in
         then_holds (any_holds st.1) (λ x k. fine _ (subst (λ (ts : List Table). AreListed IsMade (imported_modules modules ts m.imports)) (sym (tables_stay modules (first_scope home tables) defs)) (table_imports IsMade tables made m.imports)))
 
     contents_listed : (tables : List Table) → AreMade IsMade tables → (c : Contents) → Holds (λ t. AreListed IsMade t.imports) (types.of_contents g home m tables c)
     contents_listed tables made (contents.Definition defs) = definition_listed tables made defs
-    contents_listed tables made (contents.Implementation b) = told_holds g m.name.pos 24
-    contents_listed tables made (contents.Program b) = told_holds g m.name.pos 24
+    contents_listed tables made (contents.Implementation b) = reported_holds g m.name.pos 24
+    contents_listed tables made (contents.Program b) = reported_holds g m.name.pos 24
 
 module _ (trees : List Module) (files : List ℕ) (jobs : List (List ℕ)) (fit : list_all fits_module trees ≡ true) where
   abbrev one : ℕ → Compiled
@@ -270,7 +270,7 @@ module _ (trees : List Module) (files : List ℕ) (jobs : List (List ℕ)) (fit 
       let all = tables_needed trees files jobs fit b.job in
       let own : Option Table = own_table b.tree (needed b.job) in
       part_by b.tree b.job b.is_job t b.is_tree b.tree.contents refl
-      (holds_ok (module_known least (judged least) its_types b.job b.tree own (tables_behind own (needed b.job)) (tree_fits trees fit (slice_index_or files b.job 0) b.tree b.is_tree)
+      (holds_ok (module_known least (elaborated least) its_types b.job b.tree own (tables_behind own (needed b.job)) (tree_fits trees fit (slice_index_or files b.job 0) b.tree b.is_tree)
       (own_formed trees files jobs fit b.job (known_below trees files jobs fit b.job) b.tree (needed b.job) all) (behind_formed trees files jobs fit b.job (known_below trees files jobs fit b.job) own (needed b.job) all)) t b.typed)
 
   -- ---- numbers and names

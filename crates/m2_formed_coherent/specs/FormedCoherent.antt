@@ -13,7 +13,7 @@ use Rattle.m2_links.specs.Linked.{Program}
 use Rattle.m2_agree_linked.specs.Knows.{IsCoherent}
 use Rattle.m2_compile.specs.declared.outcome.Compiled.TheVariants.{Defined}
 use Rattle.m2_compile.specs.Compiling.{tables_of, typed_body}
-use Rattle.m2_jobs.specs.Spelled.{needed_of}
+use Rattle.m2_jobs.specs.Encoded.{needed_of}
 use Rattle.m2_ranges.specs.Ranges.{AreRanged}
 use Rattle.m2_formed_types.specs.Ordered.{AreOrdered}
 use Rattle.m2_formed_known.specs.FormedKnown.{fits_module}

@@ -62,12 +62,12 @@ fits_d x = fold-Designator Bool Bool Bool Bool fits_layer fits_selector fits_des
 abbrev fits_i : Item → Bool
 fits_i x = fold-Item Bool Bool Bool Bool fits_layer fits_selector fits_designator fits_item x
 
-abbrev judged : Expr-F Expr Selector Designator Item → Expr-F Bool Bool Bool Bool
-judged x = map-Expr Expr Selector Designator Item Bool Bool Bool Bool fits fits_s fits_d fits_i x
+abbrev elaborated : Expr-F Expr Selector Designator Item → Expr-F Bool Bool Bool Bool
+elaborated x = map-Expr Expr Selector Designator Item Bool Bool Bool Bool fits fits_s fits_d fits_i x
 
-at : (x : Expr) (y : Expr-F Expr Selector Designator Item) → out-Expr x ≡ y → fits x ≡ fits_layer (judged y)
+at : (x : Expr) (y : Expr-F Expr Selector Designator Item) → out-Expr x ≡ y → fits x ≡ fits_layer (elaborated y)
 unfolding fits
-at x y q = fold_out-Expr Bool Bool Bool Bool fits_layer fits_selector fits_designator fits_item x ∙ ap (λ (z : Expr-F Expr Selector Designator Item). fits_layer (judged z)) q
+at x y q = fold_out-Expr Bool Bool Bool Bool fits_layer fits_selector fits_designator fits_item x ∙ ap (λ (z : Expr-F Expr Selector Designator Item). fits_layer (elaborated z)) q
 
 designator_fits : (d : Designator) → fits_d d ≡ true
 designator_fits d = fold_out-Designator Bool Bool Bool Bool fits_layer fits_selector fits_designator fits_item d
@@ -115,19 +115,19 @@ relation_fits x o y h k = at (e.Relation x o y) (layer.Relation x o y) (outs-Rel
 abbrev pub fits_list : Field → Bool
 fits_list f = fold-Field Bool Bool fits_type_layer fits_field f
 
-abbrev judged_type : TypeExpr-F TypeExpr Field → TypeExpr-F Bool Bool
-judged_type x = map-TypeExpr TypeExpr Field Bool Bool fits_type fits_list x
+abbrev elaborated_type : TypeExpr-F TypeExpr Field → TypeExpr-F Bool Bool
+elaborated_type x = map-TypeExpr TypeExpr Field Bool Bool fits_type fits_list x
 
-abbrev judged_field : Field-F TypeExpr Field → Field-F Bool Bool
-judged_field x = map-Field TypeExpr Field Bool Bool fits_type fits_list x
+abbrev elaborated_field : Field-F TypeExpr Field → Field-F Bool Bool
+elaborated_field x = map-Field TypeExpr Field Bool Bool fits_type fits_list x
 
-at_type : (t : TypeExpr) (x : TypeExpr-F TypeExpr Field) → out-TypeExpr t ≡ x → fits_type t ≡ fits_type_layer (judged_type x)
+at_type : (t : TypeExpr) (x : TypeExpr-F TypeExpr Field) → out-TypeExpr t ≡ x → fits_type t ≡ fits_type_layer (elaborated_type x)
 unfolding fits_type
-at_type t x q = fold_out-TypeExpr Bool Bool fits_type_layer fits_field t ∙ ap (λ (y : TypeExpr-F TypeExpr Field). fits_type_layer (judged_type y)) q
+at_type t x q = fold_out-TypeExpr Bool Bool fits_type_layer fits_field t ∙ ap (λ (y : TypeExpr-F TypeExpr Field). fits_type_layer (elaborated_type y)) q
 
-at_field : (f : Field) (x : Field-F TypeExpr Field) → out-Field f ≡ x → fits_list f ≡ fits_field (judged_field x)
+at_field : (f : Field) (x : Field-F TypeExpr Field) → out-Field f ≡ x → fits_list f ≡ fits_field (elaborated_field x)
 unfolding fits_type
-at_field f x q = fold_out-Field Bool Bool fits_type_layer fits_field f ∙ ap (λ (y : Field-F TypeExpr Field). fits_field (judged_field y)) q
+at_field f x q = fold_out-Field Bool Bool fits_type_layer fits_field f ∙ ap (λ (y : Field-F TypeExpr Field). fits_field (elaborated_field y)) q
 
 pub simple_type_fits : (t : Simple) → fits_simple t ≡ true → fits_type (ty.Simple t) ≡ true
 simple_type_fits t h = at_type (ty.Simple t) (tlayer.Simple t) (outs-Simple t) ∙ h
@@ -146,19 +146,19 @@ field_fits names t h = at_field (roll-Field (record { names = names; of = t })) 
 
 -- ---- declarations
 
-abbrev judged_decl : Decl-F Decl Block → Decl-F Bool Bool
-judged_decl x = map-Decl Decl Block Bool Bool fits_within fits_block x
+abbrev elaborated_decl : Decl-F Decl Block → Decl-F Bool Bool
+elaborated_decl x = map-Decl Decl Block Bool Bool fits_within fits_block x
 
-abbrev judged_block : Block-F Decl Block → Block-F Bool Bool
-judged_block x = map-Block Decl Block Bool Bool fits_within fits_block x
+abbrev elaborated_block : Block-F Decl Block → Block-F Bool Bool
+elaborated_block x = map-Block Decl Block Bool Bool fits_within fits_block x
 
-at_decl : (d : Decl) (x : Decl-F Decl Block) → out-Decl d ≡ x → fits_within d ≡ fits_within_layer (judged_decl x)
+at_decl : (d : Decl) (x : Decl-F Decl Block) → out-Decl d ≡ x → fits_within d ≡ fits_within_layer (elaborated_decl x)
 unfolding fits_within fits_block
-at_decl d x q = fold_out-Decl Bool Bool fits_within_layer fits_block_layer d ∙ ap (λ (y : Decl-F Decl Block). fits_within_layer (judged_decl y)) q
+at_decl d x q = fold_out-Decl Bool Bool fits_within_layer fits_block_layer d ∙ ap (λ (y : Decl-F Decl Block). fits_within_layer (elaborated_decl y)) q
 
-at_block : (b : Block) (x : Block-F Decl Block) → out-Block b ≡ x → fits_block b ≡ fits_block_layer (judged_block x)
+at_block : (b : Block) (x : Block-F Decl Block) → out-Block b ≡ x → fits_block b ≡ fits_block_layer (elaborated_block x)
 unfolding fits_within fits_block
-at_block b x q = fold_out-Block Bool Bool fits_within_layer fits_block_layer b ∙ ap (λ (y : Block-F Decl Block). fits_block_layer (judged_block y)) q
+at_block b x q = fold_out-Block Bool Bool fits_within_layer fits_block_layer b ∙ ap (λ (y : Block-F Decl Block). fits_block_layer (elaborated_block y)) q
 
 pub constants_fit : (cs : List Constant) → list_all fits_constant cs ≡ true → fits_within (decl.Constants cs) ≡ true
 constants_fit cs h = at_decl (decl.Constants cs) (dlayer.Constants cs) (outs-Constants cs) ∙ h

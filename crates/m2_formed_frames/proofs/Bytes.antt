@@ -1,4 +1,4 @@
--- The texts of a module that has a spelling.
+-- The texts of a module that has an encoding.
 use Rattle.std.proofs.Common.{◌≡◌, ℕ, ◌<◌, ◌^◌, Bool, true, false, ◌&&◌, List, [], ◌∷◌, length, refl, arith}
 use Rattle.std.specs.Prelude.{nat_lt, All}
 use Rattle.std.specs.List.{list_all, AllByRecursion}
@@ -7,7 +7,7 @@ use Rattle.wasm_tree.specs.declared.module.WModule.{WModule}
 use Rattle.wasm_bytes.specs.Number.{unsigned}
 use Rattle.wasm_bytes.specs.Parts.{vector, entries, sized, bytes_left, section}
 use Rattle.wasm_code.specs.Instructions.{code}
-use Rattle.wasm_binary.specs.Binary.{func_type, import, table_type, memory_type, global, export, element, body, data_segment, types_of, bodies_spelling, module_fits}
+use Rattle.wasm_binary.specs.Binary.{func_type, import, table_type, memory_type, global, export, element, body, data_segment, types_of, bodies_encoding, module_fits}
 use Rattle.m2_scheme.specs.Modules.{all_characters, data_of, typed_module}
 use Rattle.m2_layout.specs.Texts.{module_texts}
 use Rattle.m2_formed_imports.proofs.Lists.{all_each}
@@ -29,7 +29,7 @@ data_fits t e =
     ((section 1 func_type).fits t.types && (section 2 import).fits t.imports && (section 3 unsigned).fits (types_of t.functions)
     && (section 4 table_type).fits t.tables && (section 5 memory_type).fits t.memories && (section 6 global).fits t.globals
     && (section 7 export).fits t.exports && (section 9 element).fits t.elements && list_all (λ f. body.fits f.body) t.functions
-    && nat_lt (length (bodies_spelling t.functions)) (2 ^ 32))
+    && nat_lt (length (bodies_encoding t.functions)) (2 ^ 32))
     ((section 11 data_segment).fits t.data) e
 
 -- and so do the bytes of each segment
@@ -42,7 +42,7 @@ segment_bytes d e =
 
 one_segment : (d : Data) → (section 11 data_segment).fits (d ∷ []) ≡ true → data_segment.fits d ≡ true
 one_segment d e =
-    let all = left ((entries data_segment).fits (d ∷ [])) (nat_lt (length ((entries data_segment).spelling (d ∷ []))) (2 ^ 32)) e in
+    let all = left ((entries data_segment).fits (d ∷ [])) (nat_lt (length ((entries data_segment).encoding (d ∷ []))) (2 ^ 32)) e in
     let some = right (nat_lt 0 (length (d ∷ []))) ((vector data_segment).fits (d ∷ [])) all in
     let each = right (nat_lt (length (d ∷ [])) (2 ^ 32)) (list_all data_segment.fits (d ∷ [])) some in
     left (data_segment.fits d) (list_all data_segment.fits []) each

@@ -11,7 +11,7 @@ use Rattle.m2_layout.specs.Layouts.{most, with_size, with_frame, least_with, dat
 use Rattle.m2_formed_imports.proofs.Lists.{all_each}
 use Rattle.m2_formed_frames.specs.FormedFrames.{HasRoom, FramesHaveRoom}
 
--- no place is told of, so none was told of before, and the size is not too large
+-- no place is reported, so none was reported before, and the size is not too large
 pub record Fits (found : Option Pos) (n : ℕ) : Type 0 where
   pub before : found ≡ None
   pub small : n < 2 ^ 31

@@ -6,7 +6,7 @@ use Rattle.m2_typed.specs.declared.table.Table.{Table}
 use Rattle.m2_typed.specs.declared.typed_module.Routine.{Routine}
 use Rattle.m2_typed.specs.declared.typed_module.Which.{Which}
 use Rattle.m2_typed.specs.declared.typed_module.TypedModule.{TypedModule}
-use Rattle.m2_judged.specs.Judged.{Gathers}
+use Rattle.m2_scopes.specs.Elaborated.{Gathers}
 use Rattle.m2_layout.specs.Sizes.{size}
 use Rattle.m2_layout.specs.Frames.{frame}
 use Rattle.m2_layout.specs.Layouts.{too_large}
@@ -33,7 +33,7 @@ FramesHaveRoom = (m : TypedModule) → too_large m ≡ None → HaveRoom m
 
 -- ---- texts
 
--- Where the module has a spelling, as each has that the build makes, the characters of its texts are bytes.
+-- Where the module has an encoding, as each has that the build makes, the characters of its texts are bytes.
 abbrev pub TextsAreBytes : Type 0
 TextsAreBytes = (m : TypedModule) → module_fits (typed_module m) ≡ true → All (λ b. b < 256) (all_characters (module_texts m))
 

@@ -7,7 +7,7 @@
 //!   modules.
 #![tactic(auto)]
 
-ghost use Rattle.m2_judged.specs.Judged.{least, every};
+ghost use Rattle.m2_scopes.specs.Elaborated.{least, every};
 ghost use Rattle.m2_formed_frames.specs.FormedFrames.{FramesHaveRoom, TextsAreBytes, ModulesAreNested};
 
 /// Frames that the build accepts have room, texts are bytes, and each procedure stands in a procedure that is there, or in
@@ -15,7 +15,7 @@ ghost use Rattle.m2_formed_frames.specs.FormedFrames.{FramesHaveRoom, TextsAreBy
 pub fn frame_laws()
     // What the build accepts has frames of less than two gigabytes.
     ensures room { FramesHaveRoom }
-    // What has a spelling has texts of bytes.
+    // What has an encoding has texts of bytes.
     ensures texts { TextsAreBytes }
     // Procedures stand where they are to stand, where the least broken rule is kept,
     ensures least { ModulesAreNested least }

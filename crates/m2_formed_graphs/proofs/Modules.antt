@@ -8,7 +8,7 @@ use Rattle.m2_graph.specs.Graph.{IsGraph, CompileEach}
 use Rattle.m2_typed.specs.declared.table.Table.{Table}
 use Rattle.m2_typed.specs.declared.typed_module.Routine.{Routine}
 use Rattle.m2_typed.specs.declared.typed_module.TypedModule.{TypedModule}
-use Rattle.m2_judged.specs.Judged.{least}
+use Rattle.m2_scopes.specs.Elaborated.{least}
 use Rattle.m2_links.specs.Linked.{Program}
 use Rattle.m2_valid.specs.WellFormed.{IsWellFormed}
 use Rattle.m2_formed.specs.Formed.{Holds, fine, broken}
@@ -19,7 +19,7 @@ use Rattle.m2_formed_frames.proofs.Bytes.{texts_are_bytes}
 use Rattle.m2_formed_frames.proofs.Modules.{modules_nested}
 use Rattle.m2_compile.specs.Own.{own_table, tables_behind}
 use Rattle.m2_compile.specs.Compiling.{tables_of, typed_body}
-use Rattle.m2_jobs.specs.Spelled.{needed_of}
+use Rattle.m2_jobs.specs.Encoded.{needed_of}
 use Rattle.m2_formed_programs.proofs.Programs.{tables_for, programs_formed}
 use Rattle.m2_formed_coherent.specs.FormedCoherent.{trees_of, IsBodyIn, AreBodiesIn}
 use Rattle.m2_formed_coherent.proofs.Graphs.{graphs_coherent}
@@ -72,5 +72,5 @@ module _ (fs : List (List ℕ × Module)) (files : List ℕ) (jobs : List (List 
         room_locals = room.locals;
         outermost = there.nested.outermost;
         inside = λ k d l. inside_of m _ (there.nested.inside k d l);
-        texts = texts_are_bytes m there.fits.spelled;
+        texts = texts_are_bytes m there.fits.encoded;
       }

@@ -13,10 +13,10 @@ use Rattle.m2_formed_known.specs.FormedKnown.{fits_module}
 use Rattle.m2_formed_coherent.specs.FormedCoherent.{trees_of, AreBodiesIn}
 use Rattle.m2_agree_linked.specs.Modules.{AreModules}
 
--- nothing of the module is too large, and it has a spelling
+-- nothing of the module is too large, and it has an encoding
 pub record IsFit (m : TypedModule) : Type 0 where
   pub small : too_large m ≡ None
-  pub spelled : module_fits (typed_module m) ≡ true
+  pub encoded : module_fits (typed_module m) ≡ true
 
 -- The files have this graph, and their trees fit; these are the bodies that start, and they fit too.
 abbrev pub GraphsAreModules : Type 0

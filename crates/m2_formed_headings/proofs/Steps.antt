@@ -12,14 +12,14 @@ use Rattle.m2_typed.specs.declared.types.Home.TheVariants as home
 use Rattle.m2_typed.specs.declared.types.TypeNo.{TypeNo}
 use Rattle.m2_typed.specs.Known.{made_from, made_at}
 use Rattle.m2_typed.specs.Names.{same_name, found, entered}
-use Rattle.m2_judged.specs.Judged.{Gathers, told}
-use Rattle.m2_judged.specs.Scopes.{State, is_free, with_known, unless_declared, begun, is_begun, finished, unless_marked, marked}
-use Rattle.m2_judged.specs.declared.known.Known.{Known}
-use Rattle.m2_judged.specs.declared.known.Known.TheVariants.{Later, Ahead, Begun, Headed, Declared}
-use Rattle.m2_judged.specs.declared.known.Origin.TheVariants.{Here}
-use Rattle.m2_judged.specs.declared.scope.Block.{Block}
-use Rattle.m2_judged.specs.declared.scope.OpenedRecord.{OpenedRecord}
-use Rattle.m2_judged.specs.declared.scope.Scope.{Scope}
+use Rattle.m2_scopes.specs.Elaborated.{Gathers, reported}
+use Rattle.m2_scopes.specs.Scopes.{State, is_free, with_known, unless_declared, begun, is_begun, finished, unless_marked, marked}
+use Rattle.m2_scopes.specs.declared.known.Known.{Known}
+use Rattle.m2_scopes.specs.declared.known.Known.TheVariants.{Later, Ahead, Begun, Headed, Declared}
+use Rattle.m2_scopes.specs.declared.known.Origin.TheVariants.{Here}
+use Rattle.m2_scopes.specs.declared.scope.Block.{Block}
+use Rattle.m2_scopes.specs.declared.scope.OpenedRecord.{OpenedRecord}
+use Rattle.m2_scopes.specs.declared.scope.Scope.{Scope}
 use Rattle.m2_made.specs.Made.{with_shape, with_made}
 use Rattle.m2_types.specs.Marking.{Marks}
 use Rattle.m2_formed_scopes.specs.FormedScopes.{picked, is_awaiting}
@@ -205,12 +205,12 @@ known_changes s name m v u = record {
   others = λ z other h. other_name s name.name v other (same_name other name.name) refl (λ e. marked_there z name m (ap (λ (n : List ℕ). found n (marked name m z).own) (sym e) ∙ h));
 }
 
-module _ (g : Gathers) (s : Scope g.Told) (name : Ident) (m : Known g.Told) where
-  unless_by : (b : Bool) (v : Known g.Told) → (b ≡ true → picked is_settled (found name.name s.own) ≡ false) → Changes (λ z. marked name m z) s (cond {A = State (Unit {0}) g.Told} b (with_known name.name v s, Ok tt) (s, told g name.pos 31)).0
+module _ (g : Gathers) (s : Scope g.Reported) (name : Ident) (m : Known g.Reported) where
+  unless_by : (b : Bool) (v : Known g.Reported) → (b ≡ true → picked is_settled (found name.name s.own) ≡ false) → Changes (λ z. marked name m z) s (cond {A = State (Unit {0}) g.Reported} b (with_known name.name v s, Ok tt) (s, reported g name.pos 31)).0
   unless_by true v h = known_changes s name m v (h refl)
   unless_by false v h = changes_refl (λ z. marked name m z) s
 
-  pub unless_changes : (v : Known g.Told) → Changes (λ z. marked name m z) s (unless_declared g s name v).0
+  pub unless_changes : (v : Known g.Reported) → Changes (λ z. marked name m z) s (unless_declared g s name v).0
   unless_changes v = unless_by (is_free (found name.name s.own)) v (λ e. free_unsettled (found name.name s.own) e)
 
   pub begun_changes : Changes (λ z. marked name m z) s (begun g s name).0

@@ -9,10 +9,10 @@ use Rattle.m2_tree.specs.declared.decl.TypeExpr.{TypeExpr, TypeExpr-F, out-TypeE
 use Rattle.m2_tree.specs.declared.decl.TypeExpr.TheOpen as layer
 use Rattle.m2_tree.specs.declared.decl.Field.{Field, Field-F, out-Field, roll-Field, out-roll-Field, map-Field, fold_out-Field}
 use Rattle.m2_typed.specs.declared.types.TypeNo.{TypeNo}
-use Rattle.m2_judged.specs.Judged.{Gathers}
-use Rattle.m2_judged.specs.declared.known.Known.TheVariants.{Later, Declared}
-use Rattle.m2_judged.specs.declared.known.Origin.TheVariants.{Here}
-use Rattle.m2_judged.specs.declared.scope.Scope.{Scope}
+use Rattle.m2_scopes.specs.Elaborated.{Gathers}
+use Rattle.m2_scopes.specs.declared.known.Known.TheVariants.{Later, Declared}
+use Rattle.m2_scopes.specs.declared.known.Origin.TheVariants.{Here}
+use Rattle.m2_scopes.specs.declared.scope.Scope.{Scope}
 use Rattle.m2_made.specs.declared.field.Fields.{Fields}
 use Rattle.m2_made.specs.Fields.{no_fields}
 use Rattle.m2_made.specs.Made.{next_type, with_shape, enumeration_constant, enumeration_scalar, too_many, listed, simple_type, index_type, Makes, MakesFields, then_fields, type_layer, field_layer, type_of, field_list}
@@ -89,14 +89,14 @@ module _ (T : Type 0) where
 -- ---- types that are made
 
 module _ (g : Gathers) where
-  listed_all : (t : TypeNo) (names : List Ident) (l : Scope g.Told × ℕ × Result (Unit {0}) g.Told) → Changes (λ z. fold marked_later z names) l.0 (fold (listed g t) l names).0
+  listed_all : (t : TypeNo) (names : List Ident) (l : Scope g.Reported × ℕ × Result (Unit {0}) g.Reported) → Changes (λ z. fold marked_later z names) l.0 (fold (listed g t) l names).0
   listed_all t [] l = changes_refl _ l.0
   listed_all t (x ∷ xs) l =
       changes_then
       (changes_first (λ z. marked_later z x) (λ z. fold marked_later z xs) (later_all xs) (unless_changes g l.0 x Later (Declared Here (Ok (enumeration_constant t (pos l.1))))))
       (changes_second (λ z. marked_later z x) (λ z. fold marked_later z xs) (listed_all t xs (listed g t l x)))
 
-  simple_changes : (s : Scope g.Told) (t : Simple) → Changes (marked_simple t) s (simple_type g s t).0
+  simple_changes : (s : Scope g.Reported) (t : Simple) → Changes (marked_simple t) s (simple_type g s t).0
   simple_changes s (simple.Named q) = changes_refl _ s
   simple_changes s (simple.Enumeration at names) =
       changes_then (shape_changes (λ z. fold marked_later z names) s (enumeration_scalar (next_type s) names))
@@ -104,10 +104,10 @@ module _ (g : Gathers) where
   simple_changes s (simple.Subrange o at low high) = made_changes (λ z. z) s _
 
   abbrev PT : TypeExpr → Type 0
-  PT t = (s : Scope g.Told) → Changes (marked_in t) s (type_of g t s).0
+  PT t = (s : Scope g.Reported) → Changes (marked_in t) s (type_of g t s).0
 
   abbrev Fielded : Type 0
-  Fielded = Scope g.Told × Fields × Result (Unit {0}) g.Told
+  Fielded = Scope g.Reported × Fields × Result (Unit {0}) g.Reported
 
   abbrev PF : Field → Type 0
   PF f = (st : Fielded) → Changes (marked_field f) st.0 (field_list g f st).0
@@ -141,25 +141,25 @@ module _ (g : Gathers) where
   abbrev bare_fields : List SF → List Field
   bare_fields fs = map (λ (f : SF). f.0) fs
 
-  abbrev field_names : List SF → Marks g.Told
-  field_names fs z = fold then_marks z (map (marked_field {T = g.Told}) (bare_fields fs))
+  abbrev field_names : List SF → Marks g.Reported
+  field_names fs z = fold then_marks z (map (marked_field {T = g.Reported}) (bare_fields fs))
 
   names_marked : (fs : List SF) → MarksAll (field_names fs)
   names_marked [] s = marked_refl s
-  names_marked (f ∷ fs) s = marked_then (field_marked g.Told f.0 s) (names_marked fs (marked_field f.0 s))
+  names_marked (f ∷ fs) s = marked_then (field_marked g.Reported f.0 s) (names_marked fs (marked_field f.0 s))
 
   fields_change : (fs : List SF) (st : Fielded) → Changes (field_names fs) st.0 (fold (then_fields g) st (map (field_list g) (bare_fields fs))).0
   fields_change [] st = changes_refl _ st.0
   fields_change (f ∷ fs) st =
       changes_then (changes_first (marked_field f.0) (field_names fs) (names_marked fs) (f.1 st)) (changes_second (marked_field f.0) (field_names fs) (fields_change fs (field_list g f.0 st)))
 
-  abbrev Makes' : (Makes g) → Marks g.Told → Type 0
-  Makes' f marks = (s : Scope g.Told) → Changes marks s (f s).0
+  abbrev Makes' : (Makes g) → Marks g.Reported → Type 0
+  Makes' f marks = (s : Scope g.Reported) → Changes marks s (f s).0
 
-  type_changes : (y : TypeExpr-F ST SF) → Makes' (type_layer g (opened (bare y))) (marking.type_layer (marks_opened g.Told (bare y)))
+  type_changes : (y : TypeExpr-F ST SF) → Makes' (type_layer g (opened (bare y))) (marking.type_layer (marks_opened g.Reported (bare y)))
   type_changes (layer.Simple t) = λ s. simple_changes s t
   type_changes (layer.Array at index t) = λ s.
-      changes_then (changes_first (marked_simple index) (marked_in t.0) (type_marked g.Told t.0) (simple_changes s index))
+      changes_then (changes_first (marked_simple index) (marked_in t.0) (type_marked g.Reported t.0) (simple_changes s index))
       (changes_then (changes_second (marked_simple index) (marked_in t.0) (t.1 (index_type g s index).0)) (made_changes _ (type_of g t.0 (index_type g s index).0).0 _))
   type_changes (layer.Record at fields) = λ s. changes_then (fields_change fields (s, no_fields, Ok tt)) (made_changes _ _ _)
   type_changes (layer.Procedure at formals t) = λ s. made_changes _ s _
@@ -168,13 +168,13 @@ module _ (g : Gathers) where
   step_type x y q =
       let o : out-TypeExpr (roll-TypeExpr x) ≡ bare y = out-roll-TypeExpr x ∙ sym q in
       subst (λ (f : Makes g). Makes' f (marked_in (roll-TypeExpr x))) (sym (at (roll-TypeExpr x) (bare y) o))
-      (subst (λ (m : Marks g.Told). Makes' (type_layer g (opened (bare y))) m) (sym (marks_at g.Told (roll-TypeExpr x) (bare y) o)) (type_changes y))
+      (subst (λ (m : Marks g.Reported). Makes' (type_layer g (opened (bare y))) m) (sym (marks_at g.Reported (roll-TypeExpr x) (bare y) o)) (type_changes y))
 
   step_field : (x : Field-F TypeExpr Field) (y : Field-F ST SF) → bare_field y ≡ x → PF (roll-Field x)
   step_field x y q =
       let o : out-Field (roll-Field x) ≡ bare_field y = out-roll-Field x ∙ sym q in
       subst (λ (f : MakesFields g). (st : Fielded) → Changes (marked_field (roll-Field x)) st.0 (f st).0) (sym (at_field (roll-Field x) (bare_field y) o))
-      (subst (λ (m : Marks g.Told). (st : Fielded) → Changes m st.0 (field_layer g (opened_field (bare_field y)) st).0) (sym (marks_at_field g.Told (roll-Field x) (bare_field y) o)) (λ st. y.of.1 st.0))
+      (subst (λ (m : Marks g.Reported). (st : Fielded) → Changes m st.0 (field_layer g (opened_field (bare_field y)) st).0) (sym (marks_at_field g.Reported (roll-Field x) (bare_field y) o)) (λ st. y.of.1 st.0))
 
   pub type_changed : (t : TypeExpr) → PT t
   type_changed = ind-TypeExpr PT PF step_type step_field

@@ -7,7 +7,7 @@
 //! - `proofs/Agreeing` says that headings which agree are equal, and `proofs/Headings` what a heading leaves under its name.
 #![tactic(auto)]
 
-ghost use Rattle.m2_judged.specs.Judged.{least, every};
+ghost use Rattle.m2_scopes.specs.Elaborated.{least, every};
 ghost use Rattle.m2_formed_headings.specs.FormedHeadings.{HeadingsStay, NamesStay};
 
 /// What a heading is where it is declared it is where its procedure's block begins, whether the least broken rule is kept or

@@ -18,9 +18,9 @@ use Rattle.m2_typed.specs.declared.statement.TypedStmt.{TypedStmt}
 use Rattle.m2_typed.specs.declared.typed_module.Imported.{Imported}
 use Rattle.m2_typed.specs.declared.typed_module.TypedModule.{TypedModule}
 use Rattle.m2_typed.specs.Names.{same_name, found, entered}
-use Rattle.m2_judged.specs.Judged.{Gathers, both, ◌▷◌}
-use Rattle.m2_judged.specs.Scopes.{State}
-use Rattle.m2_judged.specs.declared.scope.Scope.{Scope}
+use Rattle.m2_scopes.specs.Elaborated.{Gathers, both, ◌▷◌}
+use Rattle.m2_scopes.specs.Scopes.{State}
+use Rattle.m2_scopes.specs.declared.scope.Scope.{Scope}
 use Rattle.m2_types.specs.Compiled.{table_of, table_or, declared_in, of_definition, of_contents, compiled}
 use Rattle.m2_types.specs.Declare.{with_def}
 use Rattle.m2_types.specs.Export.{with_table_if, with_place_if, with_imported, with_imports_of, with_import_of, imported_modules}
@@ -32,7 +32,7 @@ use Rattle.m2_modules.specs.Imports.{with_import_copy, definition_imports, all_i
 use Rattle.m2_modules.specs.Own.{implementation_scope}
 use Rattle.m2_modules.specs.Routines.{typed_module}
 use Rattle.m2_modules.specs.declared.routine.Bodies.{Bodies}
-use Rattle.m2_bodies.specs.Judging.{Judges}
+use Rattle.m2_bodies.specs.Elaborating.{Elaborates}
 use Rattle.m2_bodies.specs.Checked.{module_or, walked, of_walk, of_body, of_implementation, checked}
 use Rattle.m2_bodies.specs.Checked as bodies
 use Rattle.m2_formed_imports.specs.FormedImports.{is_imported, is_imported_by, IsImport, NamesImports, StandsOnImports}
@@ -138,27 +138,27 @@ module _ (m : Module) where
   own_imports = imports_in (λ name. is_imported m name ≡ true) m.imports (λ name h. h)
 
 module _ (g : Gathers) (m : Module) where
-  table_names : (home : ℕ) (modules : List (List ℕ × ℕ)) (s : Scope g.Told) → s.types.home ≡ home → NamesImports m home (table_of m modules s)
+  table_names : (home : ℕ) (modules : List (List ℕ × ℕ)) (s : Scope g.Reported) → s.types.home ≡ home → NamesImports m home (table_of m modules s)
   table_names home modules s e = record {
     name = refl;
     number = e;
     imports = all_each (λ (x : List ℕ × ℕ). is_imported m x.0 ≡ true) (imported_modules modules s.tables m.imports) (imports_are (λ name. is_imported m name ≡ true) modules s.tables m.imports [] (own_imports m) tt);
   }
 
-  named_or : (home : ℕ) (modules : List (List ℕ × ℕ)) (s : Scope g.Told) (r : Result (Unit {0}) g.Told) → s.types.home ≡ home → IfOk (table_or m modules s r) (NamesImports m home)
+  named_or : (home : ℕ) (modules : List (List ℕ × ℕ)) (s : Scope g.Reported) (r : Result (Unit {0}) g.Reported) → s.types.home ≡ home → IfOk (table_or m modules s r) (NamesImports m home)
   named_or home modules s (Ok x) e = table_names home modules s e
   named_or home modules s (Err f) e = tt
 
-  declared_keeps : (modules : List (List ℕ × ℕ)) (s : Scope g.Told) (defs : List Def) → Keeps s (declared_in g m modules s defs).0
+  declared_keeps : (modules : List (List ℕ × ℕ)) (s : Scope g.Reported) (defs : List Def) → Keeps s (declared_in g m modules s defs).0
   declared_keeps modules s defs =
       let t = fold marked_def s defs in
-      fold_keeps (λ (st : State (Unit {0}) g.Told). st.0) (with_def g) (def_keeps g) defs (fold (with_import g modules) (t, Ok tt) m.imports)
-      ∙ (import_keeps g modules m.imports (t, Ok tt) ∙ fold_keeps (λ (s : Scope g.Told). s) marked_def (def_marks g.Told) defs s)
+      fold_keeps (λ (st : State (Unit {0}) g.Reported). st.0) (with_def g) (def_keeps g) defs (fold (with_import g modules) (t, Ok tt) m.imports)
+      ∙ (import_keeps g modules m.imports (t, Ok tt) ∙ fold_keeps (λ (s : Scope g.Reported). s) marked_def (def_marks g.Reported) defs s)
 
   definition_named : (home : ℕ) (tables : List Table) (defs : List Def) → IfOk (of_definition g home m tables defs) (NamesImports m home)
   definition_named home tables defs =
       let modules = (numbered_modules tables).0 in
-      let s : Scope g.Told = first_scope home tables in
+      let s : Scope g.Reported = first_scope home tables in
       let st = declared_in g m modules s defs in
       named_or home modules st.0 st.1 (ap (λ (k : List Table × ℕ). k.1) (declared_keeps modules s defs))
 
@@ -196,37 +196,37 @@ module _ (m : Module) (own : Option Table) where
   imports_at tables others e = subst (λ (ts : List Table). AllByRecursion (IsImport m own) (typed_imports (numbered_modules tables).0 ts (all_imports (numbered_modules tables).0 ts own m.imports))) (sym e) (modules_are tables)
 
   module _ (g : Gathers) where
-    module_stands : (s : Scope g.Told) (tables : List Table) (rs : Bodies) (body : List TypedStmt) → s.tables ≡ tables → StandsOnImports m own (typed_module s (numbered_modules tables).0 own m rs body)
+    module_stands : (s : Scope g.Reported) (tables : List Table) (rs : Bodies) (body : List TypedStmt) → s.tables ≡ tables → StandsOnImports m own (typed_module s (numbered_modules tables).0 own m rs body)
     module_stands s tables rs body e = record { name = refl; imports = all_each (IsImport m own) _ (imports_at tables s.tables e) }
 
-    stands_if : (s : Scope g.Told) (tables : List Table) (rs : Bodies) (r : Result (Unit {0} × List TypedStmt) g.Told) → s.tables ≡ tables
+    stands_if : (s : Scope g.Reported) (tables : List Table) (rs : Bodies) (r : Result (Unit {0} × List TypedStmt) g.Reported) → s.tables ≡ tables
         → IfOk (r ▷ λ p. Ok (typed_module s (numbered_modules tables).0 own m rs p.1)) (StandsOnImports m own)
     stands_if s tables rs (Ok p) e = module_stands s tables rs p.1 e
     stands_if s tables rs (Err f) e = tt
 
-    body_stands : (judges : Judges g.Told) (s : Scope g.Told) (b : Block) → IfOk (of_body g judges s own m b) (StandsOnImports m own)
-    body_stands judges s b =
+    body_stands : (elaborates : Elaborates g.Reported) (s : Scope g.Reported) (b : Block) → IfOk (of_body g elaborates s own m b) (StandsOnImports m own)
+    body_stands elaborates s b =
         let modules = (numbered_modules s.tables).0 in
-        let c = walked g judges modules (procedure_ends (out-Block b).decls) s m b in
-        stands_if c.0.scope s.tables c.0.bodies (both g c.0.so_far c.1) (ap (λ (k : List Table × ℕ). k.0) (walk_keeps g judges (procedure_ends (out-Block b).decls) modules s m b))
+        let c = walked g elaborates modules (procedure_ends (out-Block b).decls) s m b in
+        stands_if c.0.scope s.tables c.0.bodies (both g c.0.so_far c.1) (ap (λ (k : List Table × ℕ). k.0) (walk_keeps g elaborates (procedure_ends (out-Block b).decls) modules s m b))
 
-module _ (g : Gathers) (judges : Judges g.Told) (m : Module) where
-  implementation_stands : (o : Option Table) (tables : List Table) (b : Block) → IfOk (of_implementation g judges m o tables b) (StandsOnImports m o)
+module _ (g : Gathers) (elaborates : Elaborates g.Reported) (m : Module) where
+  implementation_stands : (o : Option Table) (tables : List Table) (b : Block) → IfOk (of_implementation g elaborates m o tables b) (StandsOnImports m o)
   implementation_stands None tables b = tt
-  implementation_stands (Some own) tables b = body_stands m (Some own) g judges (implementation_scope own tables) b
+  implementation_stands (Some own) tables b = body_stands m (Some own) g elaborates (implementation_scope own tables) b
 
   -- a program has no definition of its own
   program_import : (o : Option Table) (i : Imported) → IsImport m None i → IsImport m o i
   program_import o i k = record { known = or_right (is_imported_by o i.name) (is_imported m i.name) k.known; instance = k.instance }
 
-  program_if : (o : Option Table) (r : Result TypedModule g.Told) → IfOk r (StandsOnImports m None) → IfOk r (StandsOnImports m o)
+  program_if : (o : Option Table) (r : Result TypedModule g.Reported) → IfOk r (StandsOnImports m None) → IfOk r (StandsOnImports m o)
   program_if o (Ok t) p = record { name = p.name; imports = λ k d h. program_import o _ (p.imports k d h) }
   program_if o (Err f) p = tt
 
-  contents_stand : (home : ℕ) (o : Option Table) (tables : List Table) (c : Contents) → IfOk (bodies.of_contents g judges home m o tables c) (StandsOnImports m o)
+  contents_stand : (home : ℕ) (o : Option Table) (tables : List Table) (c : Contents) → IfOk (bodies.of_contents g elaborates home m o tables c) (StandsOnImports m o)
   contents_stand home o tables (contents.Definition defs) = tt
   contents_stand home o tables (contents.Implementation b) = implementation_stands o tables b
-  contents_stand home o tables (contents.Program b) = program_if o _ (body_stands m None g judges (first_scope home tables) b)
+  contents_stand home o tables (contents.Program b) = program_if o _ (body_stands m None g elaborates (first_scope home tables) b)
 
-pub modules_stand : (g : Gathers) (judges : Judges g.Told) (home : ℕ) (m : Module) (own : Option Table) (tables : List Table) → IfOk (checked g judges home m own tables) (StandsOnImports m own)
-modules_stand g judges home m own tables = contents_stand g judges m home own (tables ++ console ∷ []) m.contents
+pub modules_stand : (g : Gathers) (elaborates : Elaborates g.Reported) (home : ℕ) (m : Module) (own : Option Table) (tables : List Table) → IfOk (checked g elaborates home m own tables) (StandsOnImports m own)
+modules_stand g elaborates home m own tables = contents_stand g elaborates m home own (tables ++ console ∷ []) m.contents

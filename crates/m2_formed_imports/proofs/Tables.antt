@@ -21,14 +21,14 @@ use Rattle.m2_typed.specs.declared.shape.Made.{Made}
 use Rattle.m2_typed.specs.declared.table.Table.{Table}
 use Rattle.m2_typed.specs.declared.types.TypeNo.{TypeNo}
 use Rattle.m2_typed.specs.Names.{found, place_of}
-use Rattle.m2_judged.specs.Judged.{Gathers, told}
-use Rattle.m2_judged.specs.Scopes.{State, is_free, with_known, unless_declared, begun, is_begun, finished, is_again, imported, unless_marked, marked}
-use Rattle.m2_judged.specs.declared.known.Origin.{Origin}
-use Rattle.m2_judged.specs.declared.known.Origin.TheVariants.{Module, Export}
-use Rattle.m2_judged.specs.declared.known.Known.{Known}
-use Rattle.m2_judged.specs.declared.known.Known.TheVariants.{Later, Ahead, Begun, Declared}
-use Rattle.m2_judged.specs.declared.known.Origin.TheVariants.{Here}
-use Rattle.m2_judged.specs.declared.scope.Scope.{Scope}
+use Rattle.m2_scopes.specs.Elaborated.{Gathers, reported}
+use Rattle.m2_scopes.specs.Scopes.{State, is_free, with_known, unless_declared, begun, is_begun, finished, is_again, imported, unless_marked, marked}
+use Rattle.m2_scopes.specs.declared.known.Origin.{Origin}
+use Rattle.m2_scopes.specs.declared.known.Origin.TheVariants.{Module, Export}
+use Rattle.m2_scopes.specs.declared.known.Known.{Known}
+use Rattle.m2_scopes.specs.declared.known.Known.TheVariants.{Later, Ahead, Begun, Declared}
+use Rattle.m2_scopes.specs.declared.known.Origin.TheVariants.{Here}
+use Rattle.m2_scopes.specs.declared.scope.Scope.{Scope}
 use Rattle.m2_constants.specs.Parts.{part, constant}
 use Rattle.m2_made.specs.declared.field.Fields.{Fields}
 use Rattle.m2_made.specs.Fields.{no_fields}
@@ -37,7 +37,7 @@ use Rattle.m2_made.specs.Made.{next_type, with_shape, with_made, enumeration_sca
 use Rattle.m2_types.specs.Marking.{Marks, marked_later, marked_simple, then_marks, marked_in, marked_field, marked_constant, marked_type, marked_variables, marked_def}
 use Rattle.m2_types.specs.Marking as marking
 use Rattle.m2_types.specs.Declare.{constant_meaning, with_constant, type_meaning, brings_with, with_type, begun_name, variable_meaning, with_variable_type, finished_variable, with_variables, with_procedure_type, with_procedure, with_def}
-use Rattle.m2_types.specs.Importing.{module_named, with_module_as, with_module_name, with_entry, brings_in, told_of_taken, unless_taken, from_place, with_from, exports_of, from_module, with_imports, with_import}
+use Rattle.m2_types.specs.Importing.{module_named, with_module_as, with_module_name, with_entry, brings_in, reported_of_taken, unless_taken, from_place, with_from, exports_of, from_module, with_imports, with_import}
 
 module _ {T : Type 0} where
   abbrev pub kept : Scope T → List Table × ℕ
@@ -174,25 +174,25 @@ module _ {T : Type 0} where
   variable_keeps t s name = finished_keeps (with_variable_type s t) name (variable_meaning s.types.home (length s.variables) t) ∙ variable_type_keeps s t
 
 module _ (g : Gathers) where
-  unless_keeps : (s : Scope g.Told) (name : Ident) (k : Known g.Told) → Keeps s (unless_declared g s name k).0
-  unless_keeps s name k = either s (is_free (found name.name s.own)) (with_known name.name k s, Ok tt) (s, told g name.pos 31) refl refl
+  unless_keeps : (s : Scope g.Reported) (name : Ident) (k : Known g.Reported) → Keeps s (unless_declared g s name k).0
+  unless_keeps s name k = either s (is_free (found name.name s.own)) (with_known name.name k s, Ok tt) (s, reported g name.pos 31) refl refl
 
-  begun_keeps : (s : Scope g.Told) (name : Ident) → Keeps s (begun g s name).0
+  begun_keeps : (s : Scope g.Reported) (name : Ident) → Keeps s (begun g s name).0
   begun_keeps s name = unless_keeps s name Begun
 
-  listed_keeps : (t : TypeNo) (l : Scope g.Told × ℕ × Result (Unit {0}) g.Told) (x : Ident) → Keeps l.0 (listed g t l x).0
+  listed_keeps : (t : TypeNo) (l : Scope g.Reported × ℕ × Result (Unit {0}) g.Reported) (x : Ident) → Keeps l.0 (listed g t l x).0
   listed_keeps t l x = unless_keeps l.0 x _
 
-  simple_keeps : (s : Scope g.Told) (t : Simple) → Keeps s (simple_type g s t).0
+  simple_keeps : (s : Scope g.Reported) (t : Simple) → Keeps s (simple_type g s t).0
   simple_keeps s (simple.Named q) = refl
-  simple_keeps s (simple.Enumeration at names) = fold_keeps (λ (l : Scope g.Told × ℕ × Result (Unit {0}) g.Told). l.0) (listed g (next_type s)) (listed_keeps (next_type s)) names (with_shape s (enumeration_scalar (next_type s) names), 0, too_many g names)
+  simple_keeps s (simple.Enumeration at names) = fold_keeps (λ (l : Scope g.Reported × ℕ × Result (Unit {0}) g.Reported). l.0) (listed g (next_type s)) (listed_keeps (next_type s)) names (with_shape s (enumeration_scalar (next_type s) names), 0, too_many g names)
   simple_keeps s (simple.Subrange o at low high) = made_keeps s _
 
   abbrev KeepingMakes : Makes g → Type 0
-  KeepingMakes f = (s : Scope g.Told) → Keeps s (f s).0
+  KeepingMakes f = (s : Scope g.Reported) → Keeps s (f s).0
 
   abbrev KeepingFields : MakesFields g → Type 0
-  KeepingFields f = (st : Scope g.Told × Fields × Result (Unit {0}) g.Told) → Keeps st.0 (f st).0
+  KeepingFields f = (st : Scope g.Reported × Fields × Result (Unit {0}) g.Reported) → Keeps st.0 (f st).0
 
   abbrev PT : TypeExpr → Type 0
   PT t = KeepingMakes (type_of g t)
@@ -226,7 +226,7 @@ module _ (g : Gathers) where
   abbrev bare_field : Field-F ST SF → Field-F TypeExpr Field
   bare_field x = map-Field ST SF TypeExpr Field (λ t. t.0) (λ f. f.0) x
 
-  fields_keep : (fs : List SF) (st : Scope g.Told × Fields × Result (Unit {0}) g.Told) → Keeps st.0 (fold (then_fields g) st (map (field_list g) (map (λ (f : SF). f.0) fs))).0
+  fields_keep : (fs : List SF) (st : Scope g.Reported × Fields × Result (Unit {0}) g.Reported) → Keeps st.0 (fold (then_fields g) st (map (field_list g) (map (λ (f : SF). f.0) fs))).0
   fields_keep [] st = refl
   fields_keep (f ∷ fs) st = fields_keep fs (field_list g f.0 st) ∙ f.1 st
 
@@ -247,32 +247,32 @@ module _ (g : Gathers) where
 
   -- ---- declarations
 
-  pub constant_keeps : (st : State (Unit {0}) g.Told) (c : Constant) → Keeps st.0 (with_constant g st c).0
+  pub constant_keeps : (st : State (Unit {0}) g.Reported) (c : Constant) → Keeps st.0 (with_constant g st c).0
   constant_keeps st c =
       let b = begun g st.0 c.name in
       finished_keeps b.0 c.name (constant_meaning (constant g b.0 (part g c.value))) ∙ begun_keeps st.0 c.name
 
-  pub type_decl_keeps : (st : State (Unit {0}) g.Told) (d : TypeDecl) → Keeps st.0 (with_type g st d).0
+  pub type_decl_keeps : (st : State (Unit {0}) g.Reported) (d : TypeDecl) → Keeps st.0 (with_type g st d).0
   type_decl_keeps st d =
       let b = begun g st.0 d.name in
       let t = type_of g d.of b.0 in
       finished_keeps t.0 d.name (type_meaning t.1 (brings_with d.of)) ∙ (type_of_keeps d.of b.0 ∙ begun_keeps st.0 d.name)
 
-  pub begun_all_keeps : (names : List Ident) (st : State (Unit {0}) g.Told) → Keeps st.0 (fold (begun_name g) st names).0
+  pub begun_all_keeps : (names : List Ident) (st : State (Unit {0}) g.Reported) → Keeps st.0 (fold (begun_name g) st names).0
   begun_all_keeps names st = fold_keeps state (begun_name g) (λ st x. begun_keeps st.0 x) names st
 
-  pub variables_keep : (st : State (Unit {0}) g.Told) (v : Variables) → Keeps st.0 (with_variables g st v).0
+  pub variables_keep : (st : State (Unit {0}) g.Reported) (v : Variables) → Keeps st.0 (with_variables g st v).0
   variables_keep st v =
       let b = fold (begun_name g) st v.names in
       let t = type_of g v.of b.0 in
       fold_keeps same (finished_variable t.1) (variable_keeps t.1) v.names t.0 ∙ (type_of_keeps v.of b.0 ∙ begun_all_keeps v.names st)
 
-  procedure_keeps : (st : State (Unit {0}) g.Told) (h : Heading) → Keeps st.0 (with_procedure g st h).0
+  procedure_keeps : (st : State (Unit {0}) g.Reported) (h : Heading) → Keeps st.0 (with_procedure g st h).0
   procedure_keeps st h =
       let t = with_made st.0 (heading_of g st.0 h) in
       unless_keeps (with_procedure_type t.0 t.1) h.name _ ∙ (procedure_type_keeps t.0 t.1 ∙ made_keeps st.0 (heading_of g st.0 h))
 
-  pub def_keeps : (st : State (Unit {0}) g.Told) (d : Def) → Keeps st.0 (with_def g st d).0
+  pub def_keeps : (st : State (Unit {0}) g.Reported) (d : Def) → Keeps st.0 (with_def g st d).0
   def_keeps st (def.Constants cs) = fold_keeps state (with_constant g) constant_keeps cs st
   def_keeps st (def.Types ts) = fold_keeps state (with_type g) type_decl_keeps ts st
   def_keeps st (def.Variables vs) = fold_keeps state (with_variables g) variables_keep vs st
@@ -280,39 +280,39 @@ module _ (g : Gathers) where
 
   -- ---- imports
 
-  imported_keeps : (s : Scope g.Told) (at : Pos) (name : List ℕ) (o : Origin) (m : Result Meaning g.Told) → Keeps s (imported g s at name o m).0
+  imported_keeps : (s : Scope g.Reported) (at : Pos) (name : List ℕ) (o : Origin) (m : Result Meaning g.Reported) → Keeps s (imported g s at name o m).0
   imported_keeps s at name o m =
-      either s (is_again (found name s.own) o) (s, Ok tt) (cond (is_free (found name s.own)) (with_known name (Declared o m) s, Ok tt) (s, told g at 31)) refl
-      (either s (is_free (found name s.own)) (with_known name (Declared o m) s, Ok tt) (s, told g at 31) refl refl)
+      either s (is_again (found name s.own) o) (s, Ok tt) (cond (is_free (found name s.own)) (with_known name (Declared o m) s, Ok tt) (s, reported g at 31)) refl
+      (either s (is_free (found name s.own)) (with_known name (Declared o m) s, Ok tt) (s, reported g at 31) refl refl)
 
-  module_as_keeps : (s : Scope g.Told) (name : Ident) (r : Result ℕ g.Told) → Keeps s (with_module_as g s name r).0
+  module_as_keeps : (s : Scope g.Reported) (name : Ident) (r : Result ℕ g.Reported) → Keeps s (with_module_as g s name r).0
   module_as_keeps s name (Ok k) = imported_keeps s name.pos name.name (Module k) _
   module_as_keeps s name (Err e) = refl
 
-  module_name_keeps : (modules : List (List ℕ × ℕ)) (st : State (Unit {0}) g.Told) (name : Ident) → Keeps st.0 (with_module_name g modules st name).0
+  module_name_keeps : (modules : List (List ℕ × ℕ)) (st : State (Unit {0}) g.Reported) (name : Ident) → Keeps st.0 (with_module_name g modules st name).0
   module_name_keeps modules st name = module_as_keeps st.0 name (module_named g modules name)
 
-  entry_keeps : (at : Pos) (k : ℕ) (st : State (Unit {0}) g.Told) (e : List ℕ × Meaning) → Keeps st.0 (with_entry g at k st e).0
+  entry_keeps : (at : Pos) (k : ℕ) (st : State (Unit {0}) g.Reported) (e : List ℕ × Meaning) → Keeps st.0 (with_entry g at k st e).0
   entry_keeps at k st e = imported_keeps st.0 at e.0 (Export k) (Ok e.1)
 
-  taken_keeps : (s : Scope g.Told) (at : Pos) (k : ℕ) (es : List (List ℕ × Meaning)) (i : ℕ) (o : Option (Result (Unit {0}) g.Told)) → Keeps s (unless_taken g s at k es i o).0
+  taken_keeps : (s : Scope g.Reported) (at : Pos) (k : ℕ) (es : List (List ℕ × Meaning)) (i : ℕ) (o : Option (Result (Unit {0}) g.Reported)) → Keeps s (unless_taken g s at k es i o).0
   taken_keeps s at k es i (Some j) = refl
   taken_keeps s at k es i None = fold_keeps state (with_entry g at k) (entry_keeps at k) (take (brings_in (slice_get es i)) (drop i es)) (s, Ok tt)
 
-  place_keeps : (s : Scope g.Told) (name : Ident) (k : ℕ) (es : List (List ℕ × Meaning)) (o : Option ℕ) → Keeps s (from_place g s name k es o).0
+  place_keeps : (s : Scope g.Reported) (name : Ident) (k : ℕ) (es : List (List ℕ × Meaning)) (o : Option ℕ) → Keeps s (from_place g s name k es o).0
   place_keeps s name k es None = refl
-  place_keeps s name k es (Some i) = taken_keeps s name.pos k es i (told_of_taken g name.pos k (found name.name s.own))
+  place_keeps s name k es (Some i) = taken_keeps s name.pos k es i (reported_of_taken g name.pos k (found name.name s.own))
 
-  from_keeps : (k : ℕ) (es : List (List ℕ × Meaning)) (st : State (Unit {0}) g.Told) (name : Ident) → Keeps st.0 (with_from g k es st name).0
+  from_keeps : (k : ℕ) (es : List (List ℕ × Meaning)) (st : State (Unit {0}) g.Reported) (name : Ident) → Keeps st.0 (with_from g k es st name).0
   from_keeps k es st name = place_keeps st.0 name k es (place_of name.name es)
 
-  from_module_keeps : (r : Result ℕ g.Told) (st : State (Unit {0}) g.Told) (names : List Ident) → Keeps st.0 (from_module g r st names).0
+  from_module_keeps : (r : Result ℕ g.Reported) (st : State (Unit {0}) g.Reported) (names : List Ident) → Keeps st.0 (from_module g r st names).0
   from_module_keeps (Ok k) st names = fold_keeps state (with_from g k (exports_of (slice_get st.0.tables k))) (from_keeps k (exports_of (slice_get st.0.tables k))) names st
   from_module_keeps (Err e) st names = refl
 
-  imports_keep : (modules : List (List ℕ × ℕ)) (st : State (Unit {0}) g.Told) (from : Option Ident) (names : List Ident) → Keeps st.0 (with_imports g modules st from names).0
+  imports_keep : (modules : List (List ℕ × ℕ)) (st : State (Unit {0}) g.Reported) (from : Option Ident) (names : List Ident) → Keeps st.0 (with_imports g modules st from names).0
   imports_keep modules st None names = fold_keeps state (with_module_name g modules) (module_name_keeps modules) names st
   imports_keep modules st (Some m) names = from_module_keeps (module_named g modules m) st names
 
-  pub import_keeps : (modules : List (List ℕ × ℕ)) (is : List Import) (st : State (Unit {0}) g.Told) → Keeps st.0 (fold (with_import g modules) st is).0
+  pub import_keeps : (modules : List (List ℕ × ℕ)) (is : List Import) (st : State (Unit {0}) g.Reported) → Keeps st.0 (fold (with_import g modules) st is).0
   import_keeps modules is st = fold_keeps state (with_import g modules) (λ st i. imports_keep modules st i.from i.names) is st

@@ -7,9 +7,9 @@ use Rattle.m2_typed.specs.declared.table.Table.{Table}
 use Rattle.m2_typed.specs.declared.typed_module.Imported.{Imported}
 use Rattle.m2_typed.specs.declared.typed_module.TypedModule.{TypedModule}
 use Rattle.m2_typed.specs.Names.{same_name}
-use Rattle.m2_judged.specs.Judged.{Gathers}
+use Rattle.m2_scopes.specs.Elaborated.{Gathers}
 use Rattle.m2_types.specs.Compiled.{compiled}
-use Rattle.m2_bodies.specs.Judging.{Judges}
+use Rattle.m2_bodies.specs.Elaborating.{Elaborates}
 use Rattle.m2_bodies.specs.Checked.{checked}
 
 -- the tree imports a module of this name
@@ -45,5 +45,5 @@ pub record StandsOnImports (m : Module) (own : Option Table) (t : TypedModule) :
 
 -- whatever the statements of its bodies come to
 abbrev pub ModulesNameImports : Gathers → Type 0
-ModulesNameImports g = (judges : Judges g.Told) (number : ℕ) (m : Module) (own : Option Table)
-    (tables : List Table) → IfOk (checked g judges number m own tables) (StandsOnImports m own)
+ModulesNameImports g = (elaborates : Elaborates g.Reported) (number : ℕ) (m : Module) (own : Option Table)
+    (tables : List Table) → IfOk (checked g elaborates number m own tables) (StandsOnImports m own)

@@ -5,7 +5,7 @@
 //! - `proofs/Lists` has what is done with lists of names, and `proofs/Imports` the laws.
 #![tactic(auto)]
 
-ghost use Rattle.m2_judged.specs.Judged.{least, every};
+ghost use Rattle.m2_scopes.specs.Elaborated.{least, every};
 ghost use Rattle.m2_formed_imports.specs.FormedImports.{TablesNameImports, ModulesNameImports};
 
 /// The modules that a table or a typed module names are imported.

@@ -15,10 +15,10 @@ use Rattle.m2_typed.specs.declared.table.Table.{Table}
 use Rattle.m2_typed.specs.declared.known_types.Types.{Types}
 use Rattle.m2_typed.specs.Known.{scalar_from, scalar_made, in_list}
 use Rattle.m2_typed.specs.Names.{same_name, entered}
-use Rattle.m2_judged.specs.declared.known.Known.{Known}
-use Rattle.m2_judged.specs.declared.known.Known.TheVariants.{Declared}
-use Rattle.m2_judged.specs.declared.known.Origin.TheVariants.{Here}
-use Rattle.m2_judged.specs.declared.scope.Scope.{Scope}
+use Rattle.m2_scopes.specs.declared.known.Known.{Known}
+use Rattle.m2_scopes.specs.declared.known.Known.TheVariants.{Declared}
+use Rattle.m2_scopes.specs.declared.known.Origin.TheVariants.{Here}
+use Rattle.m2_scopes.specs.declared.scope.Scope.{Scope}
 use Rattle.m2_types.specs.Predeclared.{console, with_table, others_of, predeclared_block, first_scope}
 use Rattle.m2_modules.specs.Own.{with_own_name, own_names, exported_variables, exported_headings, with_field_copy, shape_copy, made_copy, types_made_in, own_types, implementation_scope}
 use Rattle.m2_formed.specs.Formed.{fine}

@@ -16,15 +16,15 @@ use Rattle.m2_typed.specs.declared.table.ModuleTypes.{ModuleTypes}
 use Rattle.m2_typed.specs.declared.table.Table.{Table}
 use Rattle.m2_typed.specs.declared.known_types.Types.{Types}
 use Rattle.m2_typed.specs.Known.{in_list, made_in, scalar_from, scalar_made}
-use Rattle.m2_judged.specs.Judged.{Gathers}
-use Rattle.m2_judged.specs.declared.scope.Scope.{Scope}
+use Rattle.m2_scopes.specs.Elaborated.{Gathers}
+use Rattle.m2_scopes.specs.declared.scope.Scope.{Scope}
 use Rattle.m2_types.specs.Predeclared.{console, first_scope}
 use Rattle.m2_types.specs.Importing.{numbered_modules}
 use Rattle.m2_types.specs.Export.{with_types as reached_with, own_types, reached_of, exports}
 use Rattle.m2_types.specs.Compiled.{table_of, declared_in, of_contents, compiled}
 use Rattle.m2_modules.specs.Own.{types_made_in}
 use Rattle.m2_formed.specs.Formed.{Holds, fine, broken}
-use Rattle.m2_formed.proofs.Basics.{then_holds, told_holds}
+use Rattle.m2_formed.proofs.Basics.{then_holds, reported_holds}
 use Rattle.m2_formed_ranges.specs.FormedRanges.{AllBased, OthersBased, ScopeRanged, first_types, fits_def}
 use Rattle.m2_formed_ranges.proofs.Types.{Kept, all_kept, tables_kept}
 use Rattle.m2_formed_ranges.proofs.Tables.{exports_ranged, reached_ranged}
@@ -156,7 +156,7 @@ behind : (es : List (ℕ × List Made)) (k : ℕ) (ms : List Made) → OthersOrd
 behind es k [] o f p = subst (λ (xs : List (ℕ × List Made)). OthersOrdered [] xs) (sym (append-nil es)) o
 behind es k (m ∷ ms) o f p = others_more es [] k (m ∷ ms) o f p
 
-module _ (g : Gathers) (types_of : ℕ → List Made) (number : ℕ) (ts : List Table) (p : TablesFormed types_of number ts) (m : Module) (modules : List (List ℕ × ℕ)) (s : Scope g.Told) (h : ScopeFormed (first_types number ts) s) where
+module _ (g : Gathers) (types_of : ℕ → List Made) (number : ℕ) (ts : List Table) (p : TablesFormed types_of number ts) (m : Module) (modules : List (List ℕ × ℕ)) (s : Scope g.Reported) (h : ScopeFormed (first_types number ts) s) where
   its_home : s.types.home ≡ number
   its_home = h.ordered.started.home
 
@@ -196,7 +196,7 @@ module _ (g : Gathers) (types_of : ℕ → List Made) (number : ℕ) (m : Module
 
   definition_formed : (ts : List Table) → TablesFormed types_of number ts → (ds : List Def) → list_all fits_def ds ≡ true → Holds (λ x. ScopeFormed (first_types number ts) (declared_in g m (numbered_modules ts).0 (first_scope number ts) ds).0) (declared_in g m (numbered_modules ts).0 (first_scope number ts) ds).1
   definition_formed ts p ds e =
-      let s : ScopeFormed (first_types number ts) (first_scope {T = g.Told} number ts) = first_formed types_of number ts p in
+      let s : ScopeFormed (first_types number ts) (first_scope {T = g.Reported} number ts) = first_formed types_of number ts p in
       then_two (definition_ranged g m (numbered_modules ts).0 (first_scope number ts) ds e s.ranged) (definition_ordered (first_types number ts) g m (numbered_modules ts).0 (first_scope number ts) ds s.ordered)
     where
       then_two : {A T : Type 0} {base : Types} {s : Scope T} {r : Result A T} → Holds (λ x. ScopeRanged s) r → Holds (λ x. ScopeOrdered base s) r → Holds (λ x. ScopeFormed base s) r
@@ -206,8 +206,8 @@ module _ (g : Gathers) (types_of : ℕ → List Made) (number : ℕ) (m : Module
   contents_formed : (ts : List Table) → TablesFormed types_of number ts → (c : Contents) → fits_contents c ≡ true → Holds IsFormedTable (of_contents g number m ts c)
   contents_formed ts p (contents.Definition ds) e =
       then_holds (definition_formed ts p ds e) (λ x h. fine _ (h.ordered.started.home, λ k. table_formed g types_of number ts p m (numbered_modules ts).0 (declared_in g m (numbered_modules ts).0 (first_scope number ts) ds).0 h k))
-  contents_formed ts p (contents.Implementation b) e = told_holds g m.name.pos 24
-  contents_formed ts p (contents.Program b) e = told_holds g m.name.pos 24
+  contents_formed ts p (contents.Implementation b) e = reported_holds g m.name.pos 24
+  contents_formed ts p (contents.Program b) e = reported_holds g m.name.pos 24
 
   pub tables_formed : (ts : List Table) → fits_contents m.contents ≡ true → TablesFormed types_of number ts → Holds IsFormedTable (compiled g number m ts)
   tables_formed ts e p = contents_formed (ts ++ console ∷ []) (each_more (TableFormed types_of number) ts console p (console_formed types_of number)) m.contents e

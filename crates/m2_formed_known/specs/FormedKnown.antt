@@ -12,10 +12,10 @@ use Rattle.m2_typed.specs.declared.table.ModuleTypes.{ModuleTypes}
 use Rattle.m2_typed.specs.declared.table.Table.{Table}
 use Rattle.m2_typed.specs.declared.known_types.Types.{Types}
 use Rattle.m2_typed.specs.Known.{made_in}
-use Rattle.m2_judged.specs.Judged.{Gathers}
+use Rattle.m2_scopes.specs.Elaborated.{Gathers}
 use Rattle.m2_types.specs.Compiled.{compiled}
 use Rattle.m2_modules.specs.Own.{types_made_in}
-use Rattle.m2_bodies.specs.Judging.{Judges}
+use Rattle.m2_bodies.specs.Elaborating.{Elaborates}
 use Rattle.m2_bodies.specs.Checked.{checked}
 use Rattle.m2_formed.specs.Formed.{Holds}
 use Rattle.m2_ranges.specs.Ranges.{AreRanged}
@@ -84,6 +84,6 @@ TablesAreFormed g = (types_of : ℕ → List Made) (home : ℕ) (m : Module) (ta
 
 -- The types that the module of a body knows have ranges of the language, and stand in order.
 abbrev pub BodiesAreFormed : Gathers → Type 0
-BodiesAreFormed g = (judges : Judges g.Told) (types_of : ℕ → List Made) (number : ℕ) (m : Module) (own : Option Table) (tables : List Table) → fits_module m ≡ true
+BodiesAreFormed g = (elaborates : Elaborates g.Reported) (types_of : ℕ → List Made) (number : ℕ) (m : Module) (own : Option Table) (tables : List Table) → fits_module m ≡ true
     → OwnFormed types_of number own → TablesFormed types_of number tables
-    → Holds (λ t. AreRanged t.types × AreOrdered t.types) (checked g judges number m own tables)
+    → Holds (λ t. AreRanged t.types × AreOrdered t.types) (checked g elaborates number m own tables)

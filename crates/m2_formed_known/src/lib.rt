@@ -6,7 +6,7 @@
 //! - `proofs/Walks` has the bodies of procedures, with the induction over blocks.
 #![tactic(auto)]
 
-ghost use Rattle.m2_judged.specs.Judged.{least, every};
+ghost use Rattle.m2_scopes.specs.Elaborated.{least, every};
 ghost use Rattle.m2_formed_known.specs.FormedKnown.{BodiesAreFormed, TablesAreFormed};
 
 /// Tables of definitions reach types in order, with ranges of the language, and so the modules of bodies know such types.

@@ -13,10 +13,10 @@ use Rattle.m2_typed.specs.declared.typed_module.TypedModule.{TypedModule}
 use Rattle.m2_typed.specs.declared.types.TypeNo.{TypeNo}
 use Rattle.m2_typed.specs.Types.{integer, cardinal, boolean, char, bitset}
 use Rattle.m2_typed.specs.Names.{same_name, found}
-use Rattle.m2_judged.specs.Judged.{Gathers}
-use Rattle.m2_judged.specs.declared.known.Known.{Known}
-use Rattle.m2_judged.specs.declared.known.Known.TheVariants.{Declared}
-use Rattle.m2_judged.specs.declared.known.Origin.TheVariants.{Here}
+use Rattle.m2_scopes.specs.Elaborated.{Gathers}
+use Rattle.m2_scopes.specs.declared.known.Known.{Known}
+use Rattle.m2_scopes.specs.declared.known.Known.TheVariants.{Declared}
+use Rattle.m2_scopes.specs.declared.known.Origin.TheVariants.{Here}
 use Rattle.m2_constants.specs.Denote.{exported_by, exported, member}
 use Rattle.m2_types.specs.Predeclared.{predeclared_as, with_types, with_truth, with_functions, with_bounds, with_procedures, predeclared, predeclared_block, console}
 use Rattle.m2_types.specs.Importing.{exports_of}
@@ -25,7 +25,7 @@ use Rattle.m2_blocks.specs.Headings.{standing_known, name_standing}
 use Rattle.m2_modules.specs.Own.{with_own_name, own_names}
 use Rattle.m2_valid.specs.WellFormed.{IsKnown, IsRoutine}
 use Rattle.m2_formed.specs.Formed.{Holds, fine, FormedMeaning}
-use Rattle.m2_formed.proofs.Basics.{told_holds}
+use Rattle.m2_formed.proofs.Basics.{reported_holds}
 use Rattle.m2_formed_scopes.specs.FormedScopes.{FormedOwn, AreFormedNames, AreFormedBlocks, ExportsFormed}
 use Rattle.m2_formed_scopes.proofs.Growth.{names_more}
 use Rattle.m2_formed_scopes.proofs.Declarations.{same_home}
@@ -183,11 +183,11 @@ module _ (m : TypedModule) (opens : ℕ → Bool) where
     found_by at false x o p k = k
 
     found_formed : (at : Pos) (name : List ℕ) (es : List (List ℕ × Meaning)) → ExportsFormed m opens es → Holds (FormedMeaning m opens 0) (exported g at (found name es))
-    found_formed at name [] k = told_holds g at 32
+    found_formed at name [] k = reported_holds g at 32
     found_formed at name (e ∷ es) k = found_by at (same_name name e.0) e.1 (found name es) k.0 (found_formed at name es k.1)
 
     member_formed : (name : Ident) (o : Option Table) → ExportsFormed m opens (exports_of o) → Holds (FormedMeaning m opens 0) (exported g name.pos (exported_by name.name o))
-    member_formed name None k = told_holds g name.pos 32
+    member_formed name None k = reported_holds g name.pos 32
     member_formed name (Some t) k = found_formed name.pos name.name t.exported k
 
     pub members_formed : (tables : List Table) → OpenTables m opens g tables → (k : ℕ) (name : Ident) → opens k ≡ true → Holds (FormedMeaning m opens 0) (member g tables k name)

@@ -9,7 +9,7 @@ use Rattle.m2_typed.specs.declared.table.Table.{Table}
 use Rattle.m2_typed.specs.declared.typed_module.Imported.{Imported}
 use Rattle.m2_typed.specs.declared.typed_module.TypedModule.{TypedModule}
 use Rattle.m2_typed.specs.Names.{same_name, found, entered}
-use Rattle.m2_judged.specs.Judged.{Gathers}
+use Rattle.m2_scopes.specs.Elaborated.{Gathers}
 use Rattle.m2_types.specs.Export.{with_table_if, with_place_if, with_imported, with_imports_of, with_import_of}
 use Rattle.m2_modules.specs.Imports.{definition_imports, all_imports, imported_as, with_table_of, with_place_of, with_module_of, typed_imports}
 use Rattle.m2_formed_scopes.specs.FormedScopes.{OpensNames, OpensImports}

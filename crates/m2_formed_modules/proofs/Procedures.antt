@@ -17,10 +17,10 @@ use Rattle.m2_typed.specs.declared.typed_module.Which.TheVariants as which
 use Rattle.m2_typed.specs.declared.types.TypeNo.{TypeNo}
 use Rattle.m2_typed.specs.Known.{made_at}
 use Rattle.m2_typed.specs.Names.{found}
-use Rattle.m2_judged.specs.Judged.{Gathers}
-use Rattle.m2_judged.specs.declared.known.Known.{Known}
-use Rattle.m2_judged.specs.declared.known.Known.TheVariants.{Headed}
-use Rattle.m2_judged.specs.declared.scope.Block.{Block}
+use Rattle.m2_scopes.specs.Elaborated.{Gathers}
+use Rattle.m2_scopes.specs.declared.known.Known.{Known}
+use Rattle.m2_scopes.specs.declared.known.Known.TheVariants.{Headed}
+use Rattle.m2_scopes.specs.declared.scope.Block.{Block}
 use Rattle.m2_blocks.specs.Inner.{inwards}
 use Rattle.m2_modules.specs.declared.routine.Bodies.{Bodies}
 use Rattle.m2_modules.specs.declared.routine.Numbered.{Numbered}
@@ -32,7 +32,7 @@ use Rattle.m2_formed.specs.Formed.{Holds, FormedMeaning}
 use Rattle.m2_formed_scopes.specs.FormedScopes.{AreFormedNames, AreFormedBlocks}
 use Rattle.m2_formed_scopes.proofs.Declarations.{ResultIs}
 use Rattle.m2_bodies.specs.declared.procedure.Walk.{Walk}
-use Rattle.m2_bodies.specs.Judging.{Judges}
+use Rattle.m2_bodies.specs.Elaborating.{Elaborates}
 use Rattle.m2_bodies.specs.Inside.{with_routine}
 use Rattle.m2_bodies.specs.Bodies.{ChecksBlock, Steps, checked_by, with_body}
 use Rattle.m2_formed_bodies.specs.FormedBodies.{AreNumbered, Keeps, Adds, Suits, AddsFormed, Begins, FormedBlock}
@@ -40,7 +40,7 @@ use Rattle.m2_formed_bodies.proofs.Places.{set_length, set_other, set_same, is_w
 use Rattle.m2_formed_bodies.proofs.Scopes.{blocks_more, formals_formed, formals_await}
 use Rattle.m2_formed_bodies.proofs.Parts.{IsStep, constants_step, types_step, variables_step, procedure_step, AreSteps, no_steps, more_steps}
 use Rattle.m2_formed_bodies.proofs.Checks.{nonzero, begun_module_locals, holds_at, entry, inner, ended, inside, around_it, inner_ok, body_ok, inner_count, gives_result}
-use Rattle.m2_formed_bodies.proofs.Blocks.{Order, at_least, less, nat_order, from, step_own, step_keeps, all_keep, checked_told}
+use Rattle.m2_formed_bodies.proofs.Blocks.{Order, at_least, less, nat_order, from, step_own, step_keeps, all_keep, checked_reported}
 use Rattle.m2_formed_modules.proofs.Heads.{ModuleHeadOf, ModuleHeadsIn}
 
 -- procedures in procedures are added, whatever becomes of the module's own
@@ -98,28 +98,28 @@ headings_set procs rs p r e h all n t k = by (compared p.number n) where
 
 -- ---- one procedure
 
-module _ (g : Gathers) (judges : Judges g.Told) (ends : List ℕ) (h : Heading) (block : ChecksBlock g.Told) (ks : List ℕ) (f : FormedBlock g ends block ks) (around : Option Which) (seen : ℕ) (w : Walk g.Told)
+module _ (g : Gathers) (elaborates : Elaborates g.Reported) (ends : List ℕ) (h : Heading) (block : ChecksBlock g.Reported) (ks : List ℕ) (f : FormedBlock g ends block ks) (around : Option Which) (seen : ℕ) (w : Walk g.Reported)
     (level : (w.scope.level == 0) ≡ true) (single : length w.scope.outer ≡ 1) where
-  abbrev first : Walk g.Told
-  first = (entry g judges ends h block ks f around seen w).0
+  abbrev first : Walk g.Reported
+  first = (entry g elaborates ends h block ks f around seen w).0
 
-  abbrev last : Walk g.Told
-  last = (inner g judges ends h block ks f around seen w).0
+  abbrev last : Walk g.Reported
+  last = (inner g elaborates ends h block ks f around seen w).0
 
-  abbrev behind : Walk g.Told
-  behind = ended g judges ends h block ks f around seen w
+  abbrev behind : Walk g.Reported
+  behind = ended g elaborates ends h block ks f around seen w
 
   first_bodies : first.bodies ≡ w.bodies
   first_bodies = begun_module_locals (w.scope.level == 0) level w.bodies
 
   pub module_count : length behind.bodies.locals ≡ length w.bodies.locals + length ks
-  module_count = inner_count g judges ends h block ks f around seen w (omega (arith, single)) ∙ ap (λ (rs : Bodies). length rs.locals + length ks) first_bodies
+  module_count = inner_count g elaborates ends h block ks f around seen w (omega (arith, single)) ∙ ap (λ (rs : Bodies). length rs.locals + length ks) first_bodies
 
   module _ (p : Procedure) (head : found h.name.name w.scope.own ≡ Some (Headed (Ok (meaning.Procedure p)))) (numbers : AreNumbered ends (length w.bodies.locals) ks) (ok : behind.so_far ≡ Ok tt) where
     begins : Begins ends first ks
     begins = record {
       level = nonzero (length w.scope.outer) (omega (arith, single));
-      deep = let e : length first.scope.outer ≡ length w.scope.outer + 1 = length-append w.scope.outer (around_it g judges ends h block ks f around seen w ∷ []) in omega (arith, single, e);
+      deep = let e : length first.scope.outer ≡ length w.scope.outer + 1 = length-append w.scope.outer (around_it g elaborates ends h block ks f around seen w ∷ []) in omega (arith, single, e);
       awaits = λ name. formals_await g (inwards w.scope seen) h.formals name;
       numbers = subst (λ (rs : Bodies). AreNumbered ends (length rs.locals) ks) (sym first_bodies) numbers;
     }
@@ -128,27 +128,27 @@ module _ (g : Gathers) (judges : Judges g.Told) (ends : List ℕ) (h : Heading) 
     numbered = record { which = which.Module p.number; heading = p.heading }
 
     abbrev statements : List TypedStmt
-    statements = (body_ok g judges ends h block ks f around seen w ok).0
+    statements = (body_ok g elaborates ends h block ks f around seen w ok).0
 
     abbrev new : Routine
-    new = routine last.scope h.name numbered around (entry g judges ends h block ks f around seen w).1.formals statements
+    new = routine last.scope h.name numbered around (entry g elaborates ends h block ks f around seen w).1.formals statements
 
     bodies_are : behind.bodies ≡ filled last.bodies (which.Module p.number) new
     bodies_are =
-        ap (λ (o : Option (Known g.Told)). with_routine last.scope h.name around (entry g judges ends h block ks f around seen w).1.formals (numbered_known o) (inner g judges ends h block ks f around seen w).1 last.bodies) head
-        ∙ ap (λ (r : Result (List TypedStmt) g.Told). with_routine last.scope h.name around (entry g judges ends h block ks f around seen w).1.formals (Some numbered) r last.bodies) (body_ok g judges ends h block ks f around seen w ok).1
+        ap (λ (o : Option (Known g.Reported)). with_routine last.scope h.name around (entry g elaborates ends h block ks f around seen w).1.formals (numbered_known o) (inner g elaborates ends h block ks f around seen w).1 last.bodies) head
+        ∙ ap (λ (r : Result (List TypedStmt) g.Reported). with_routine last.scope h.name around (entry g elaborates ends h block ks f around seen w).1.formals (Some numbered) r last.bodies) (body_ok g elaborates ends h block ks f around seen w ok).1
 
     locals_are : behind.bodies.locals ≡ last.bodies.locals
     locals_are = ap (λ (rs : Bodies). rs.locals) bodies_are
 
     inner_adds : Adds first last
-    inner_adds = f.adds _ (entry g judges ends h block ks f around seen w).1.returns first begins (inner_ok g judges ends h block ks f around seen w ok)
+    inner_adds = f.adds _ (entry g elaborates ends h block ks f around seen w).1.returns first begins (inner_ok g elaborates ends h block ks f around seen w ok)
 
     procedures_are : behind.bodies.procedures ≡ slice_set w.bodies.procedures p.number new
     procedures_are = ap (λ (rs : Bodies). rs.procedures) bodies_are ∙ ap (λ (rs : List Routine). slice_set rs p.number new) (inner_adds.procedures ∙ ap (λ (rs : Bodies). rs.procedures) first_bodies)
 
     new_level : new.level ≡ 1
-    new_level = (inside g judges ends h block ks f around seen w).level ∙ single
+    new_level = (inside g elaborates ends h block ks f around seen w).level ∙ single
 
     pub module_adds : AddsNested w behind
     module_adds = record {
@@ -177,18 +177,18 @@ module _ (g : Gathers) (judges : Judges g.Told) (ends : List ℕ) (h : Heading) 
             suits.locals n (subst (λ (rs : Bodies). length rs.locals ≤ n) first_bodies a) (subst (λ (rs : List Routine). n < length rs) (sym locals_are) b)
             ∙ ap (λ (rs : List Routine). slice_get rs n) locals_are;
         members = suits.members;
-        outer = blocks_more m opens w.scope.outer (around_it g judges ends h block ks f around seen w) suits.outer own;
+        outer = blocks_more m opens w.scope.outer (around_it g elaborates ends h block ks f around seen w) suits.outer own;
         withs = suits.withs;
       }
 
-      inner_formed : AddsFormed g m opens first last × Holds (AreStmts m (is_there (entry g judges ends h block ks f around seen w).1.returns) 0 false) (inner g judges ends h block ks f around seen w).1
-      inner_formed = f.formed _ (entry g judges ends h block ks f around seen w).1.returns first begins (inner_ok g judges ends h block ks f around seen w ok) m opens inner_suits (formals_formed m opens g (inwards w.scope seen) h.formals)
+      inner_formed : AddsFormed g m opens first last × Holds (AreStmts m (is_there (entry g elaborates ends h block ks f around seen w).1.returns) 0 false) (inner g elaborates ends h block ks f around seen w).1
+      inner_formed = f.formed _ (entry g elaborates ends h block ks f around seen w).1.returns first begins (inner_ok g elaborates ends h block ks f around seen w ok) m opens inner_suits (formals_formed m opens g (inwards w.scope seen) h.formals)
 
       new_formed : IsBody m new
       new_formed = record {
         body = subst (λ (b : Bool). AreStmts m b 0 false statements)
-            (gives_result g judges ends h block ks f around seen w m p.heading types (λ u x e. suits.types u x ((inside g judges ends h block ks f around seen w).types u x (grown u x e))) result)
-            (holds_at (inner g judges ends h block ks f around seen w).1 inner_formed.1 statements (body_ok g judges ends h block ks f around seen w ok).1);
+            (gives_result g elaborates ends h block ks f around seen w m p.heading types (λ u x e. suits.types u x ((inside g elaborates ends h block ks f around seen w).types u x (grown u x e))) result)
+            (holds_at (inner g elaborates ends h block ks f around seen w).1 inner_formed.1 statements (body_ok g elaborates ends h block ks f around seen w ok).1);
       }
 
       pub module_formed : AddsFormed g m opens w behind
@@ -199,111 +199,111 @@ module _ (g : Gathers) (judges : Judges g.Told) (ends : List ℕ) (h : Heading) 
 
 -- ---- all of them
 
-module _ (g : Gathers) (judges : Judges g.Told) (ends : List ℕ) (around : Option Which) where
+module _ (g : Gathers) (elaborates : Elaborates g.Reported) (ends : List ℕ) (around : Option Which) where
   -- the numbers of the procedures in each
-  abbrev pub NumbersOf : (n : ℕ) {x : Steps g.Told} {ks : List ℕ} → IsStep g judges ends x ks → Type 0
+  abbrev pub NumbersOf : (n : ℕ) {x : Steps g.Reported} {ks : List ℕ} → IsStep g elaborates ends x ks → Type 0
   NumbersOf n (constants_step cs) = Unit {0}
   NumbersOf n (types_step ts) = Unit {0}
   NumbersOf n (variables_step vs) = Unit {0}
   NumbersOf n (procedure_step h block ks f) = AreNumbered ends n ks
 
-  abbrev pub count_of : {x : Steps g.Told} {ks : List ℕ} → IsStep g judges ends x ks → ℕ
+  abbrev pub count_of : {x : Steps g.Reported} {ks : List ℕ} → IsStep g elaborates ends x ks → ℕ
   count_of (constants_step cs) = 0
   count_of (types_step ts) = 0
   count_of (variables_step vs) = 0
   count_of (procedure_step h block ks f) = length ks
 
-  abbrev pub NumbersIn : (n : ℕ) {xs : List (Steps g.Told)} {ls : List ℕ} → AreSteps g judges ends xs ls → Type 0
+  abbrev pub NumbersIn : (n : ℕ) {xs : List (Steps g.Reported)} {ls : List ℕ} → AreSteps g elaborates ends xs ls → Type 0
   NumbersIn n no_steps = Unit {0}
   NumbersIn n (more_steps x xs ks ls p ps) = NumbersOf n p × NumbersIn (n + count_of p) ps
 
-  module _ (own : List (List ℕ × Known g.Told)) (types : Types) (procs : List TypeNo) where
-    pub record Stands (w : Walk g.Told) (n : ℕ) : Type 0 where
+  module _ (own : List (List ℕ × Known g.Reported)) (types : Types) (procs : List TypeNo) where
+    pub record Stands (w : Walk g.Reported) (n : ℕ) : Type 0 where
       pub names : w.scope.own ≡ own
       pub outermost : (w.scope.level == 0) ≡ true
       pub single : length w.scope.outer ≡ 1
       pub count : n ≡ length w.bodies.locals
       pub grown : (t : TypeNo) (y : Made) → made_at types t ≡ Some y → made_at w.scope.types t ≡ Some y
 
-    abbrev HeadAt : {x : Steps g.Told} {ks : List ℕ} → IsStep g judges ends x ks → Type 0
-    HeadAt p = ModuleHeadOf g judges ends own types procs p
+    abbrev HeadAt : {x : Steps g.Reported} {ks : List ℕ} → IsStep g elaborates ends x ks → Type 0
+    HeadAt p = ModuleHeadOf g elaborates ends own types procs p
 
-    step_count : {x : Steps g.Told} {ks : List ℕ} (p : IsStep g judges ends x ks) (seen : ℕ) (w : Walk g.Told) (n : ℕ) → Stands w n → length (checked_by x around seen w).bodies.locals ≡ length w.bodies.locals + count_of p
+    step_count : {x : Steps g.Reported} {ks : List ℕ} (p : IsStep g elaborates ends x ks) (seen : ℕ) (w : Walk g.Reported) (n : ℕ) → Stands w n → length (checked_by x around seen w).bodies.locals ≡ length w.bodies.locals + count_of p
     step_count (constants_step cs) seen w n s = omega arith
     step_count (types_step ts) seen w n s = omega arith
     step_count (variables_step vs) seen w n s = omega arith
-    step_count (procedure_step h block ks f) seen w n s = module_count g judges ends h block ks f around seen w s.outermost s.single
+    step_count (procedure_step h block ks f) seen w n s = module_count g elaborates ends h block ks f around seen w s.outermost s.single
 
-    pub record Goes (w w' : Walk g.Told) : Type 0 where
+    pub record Goes (w w' : Walk g.Reported) : Type 0 where
       pub adds : AddsNested w w'
       pub outermost : AreOutermost w.bodies.procedures → AreOutermost w'.bodies.procedures
       pub headings : Headings procs w.bodies.procedures → Headings procs w'.bodies.procedures
 
-    goes_refl : (w : Walk g.Told) → Goes w w
+    goes_refl : (w : Walk g.Reported) → Goes w w
     goes_refl w = record {
       adds = record { below = λ n e. refl; nested = λ n a b. absurd (omega (arith, a, b)) };
       outermost = λ all. all;
       headings = λ all. all;
     }
 
-    step_goes : {x : Steps g.Told} {ks : List ℕ} (p : IsStep g judges ends x ks) (seen : ℕ) (w : Walk g.Told) (n : ℕ) → Stands w n → HeadAt p → NumbersOf n p → (checked_by x around seen w).so_far ≡ Ok tt → Goes w (checked_by x around seen w)
+    step_goes : {x : Steps g.Reported} {ks : List ℕ} (p : IsStep g elaborates ends x ks) (seen : ℕ) (w : Walk g.Reported) (n : ℕ) → Stands w n → HeadAt p → NumbersOf n p → (checked_by x around seen w).so_far ≡ Ok tt → Goes w (checked_by x around seen w)
     step_goes (constants_step cs) seen w n s k u q = goes_refl w
     step_goes (types_step ts) seen w n s k u q = goes_refl w
     step_goes (variables_step vs) seen w n s k u q = goes_refl w
     step_goes (procedure_step h block ks f) seen w n s k u q =
-        let head = ap (λ (es : List (List ℕ × Known g.Told)). found h.name.name es) s.names ∙ k.1.0 in
+        let head = ap (λ (es : List (List ℕ × Known g.Reported)). found h.name.name es) s.names ∙ k.1.0 in
         let numbers = subst (λ (i : ℕ). AreNumbered ends i ks) s.count u in
         record {
-          adds = module_adds g judges ends h block ks f around seen w s.outermost s.single k.0 head numbers q;
-          outermost = module_outermost g judges ends h block ks f around seen w s.outermost s.single k.0 head numbers q;
-          headings = module_headings g judges ends h block ks f around seen w s.outermost s.single k.0 head numbers q procs k.1.1.0.1;
+          adds = module_adds g elaborates ends h block ks f around seen w s.outermost s.single k.0 head numbers q;
+          outermost = module_outermost g elaborates ends h block ks f around seen w s.outermost s.single k.0 head numbers q;
+          headings = module_headings g elaborates ends h block ks f around seen w s.outermost s.single k.0 head numbers q procs k.1.1.0.1;
         }
 
-    abbrev pub FormedTo : TypedModule → (ℕ → Bool) → Walk g.Told → Walk g.Told → Type 0
+    abbrev pub FormedTo : TypedModule → (ℕ → Bool) → Walk g.Reported → Walk g.Reported → Type 0
     FormedTo m opens w w' = AddsFormed g m opens w w' × (AreBodies m w.bodies.procedures → AreBodies m w'.bodies.procedures)
 
-    none_formed : (m : TypedModule) (opens : ℕ → Bool) (w : Walk g.Told) → FormedTo m opens w w
+    none_formed : (m : TypedModule) (opens : ℕ → Bool) (w : Walk g.Reported) → FormedTo m opens w w
     none_formed m opens w = (λ n r a e. absurd (let b : n < length w.bodies.locals = is_within w.bodies.locals n r e in omega (arith, a, b)), λ all. all)
 
-    step_formed : {x : Steps g.Told} {ks : List ℕ} (p : IsStep g judges ends x ks) (seen : ℕ) (w : Walk g.Told) (n : ℕ) → Stands w n → HeadAt p → NumbersOf n p → (checked_by x around seen w).so_far ≡ Ok tt
+    step_formed : {x : Steps g.Reported} {ks : List ℕ} (p : IsStep g elaborates ends x ks) (seen : ℕ) (w : Walk g.Reported) (n : ℕ) → Stands w n → HeadAt p → NumbersOf n p → (checked_by x around seen w).so_far ≡ Ok tt
         → (m : TypedModule) (opens : ℕ → Bool) → Suits g m opens w (checked_by x around seen w) → AreFormedNames m opens own → FormedTo m opens w (checked_by x around seen w)
     step_formed (constants_step cs) seen w n s k u q m opens suits o = none_formed m opens w
     step_formed (types_step ts) seen w n s k u q m opens suits o = none_formed m opens w
     step_formed (variables_step vs) seen w n s k u q m opens suits o = none_formed m opens w
     step_formed (procedure_step h block ks f) seen w n s k u q m opens suits o =
-        let head = ap (λ (es : List (List ℕ × Known g.Told)). found h.name.name es) s.names ∙ k.1.0 in
+        let head = ap (λ (es : List (List ℕ × Known g.Reported)). found h.name.name es) s.names ∙ k.1.0 in
         let numbers = subst (λ (i : ℕ). AreNumbered ends i ks) s.count u in
-        let names = subst (λ (es : List (List ℕ × Known g.Told)). AreFormedNames m opens es) (sym s.names) o in (
-          module_formed g judges ends h block ks f around seen w s.outermost s.single k.0 head numbers q types k.1.1.1 s.grown m opens suits names,
-          module_bodies g judges ends h block ks f around seen w s.outermost s.single k.0 head numbers q types k.1.1.1 s.grown m opens suits names,
+        let names = subst (λ (es : List (List ℕ × Known g.Reported)). AreFormedNames m opens es) (sym s.names) o in (
+          module_formed g elaborates ends h block ks f around seen w s.outermost s.single k.0 head numbers q types k.1.1.1 s.grown m opens suits names,
+          module_bodies g elaborates ends h block ks f around seen w s.outermost s.single k.0 head numbers q types k.1.1.1 s.grown m opens suits names,
         )
 
     module _ (seen : List ℕ) where
-      abbrev next : Walk g.Told × ℕ → Steps g.Told → Walk g.Told × ℕ
-      next st x = with_body (λ (x : Steps g.Told). checked_by x around) seen st x
+      abbrev next : Walk g.Reported × ℕ → Steps g.Reported → Walk g.Reported × ℕ
+      next st x = with_body (λ (x : Steps g.Reported). checked_by x around) seen st x
 
-      abbrev end : Walk g.Told × ℕ → List (Steps g.Told) → Walk g.Told
-      end st xs = from g judges ends around seen st xs
+      abbrev end : Walk g.Reported × ℕ → List (Steps g.Reported) → Walk g.Reported
+      end st xs = from g elaborates ends around seen st xs
 
       abbrev at_step : ℕ → ℕ
       at_step i = unwrap_or (slice_get seen i) 0
 
-      stands_next : {x : Steps g.Told} {ks : List ℕ} (p : IsStep g judges ends x ks) (st : Walk g.Told × ℕ) (n : ℕ) → Stands st.0 n → Stands (next st x).0 (n + count_of p)
+      stands_next : {x : Steps g.Reported} {ks : List ℕ} (p : IsStep g elaborates ends x ks) (st : Walk g.Reported × ℕ) (n : ℕ) → Stands st.0 n → Stands (next st x).0 (n + count_of p)
       stands_next p st n s =
-          let k = step_keeps g judges ends around p (at_step st.1) st.0 in
+          let k = step_keeps g elaborates ends around p (at_step st.1) st.0 in
           record {
-            names = step_own g judges ends around p (at_step st.1) st.0 ∙ s.names;
+            names = step_own g elaborates ends around p (at_step st.1) st.0 ∙ s.names;
             outermost = ap (λ (n : ℕ). n == 0) k.level ∙ s.outermost;
-            single = ap (λ (bs : List (Block g.Told)). length bs) k.outer ∙ s.single;
+            single = ap (λ (bs : List (Block g.Reported)). length bs) k.outer ∙ s.single;
             count = let c = step_count p (at_step st.1) st.0 n s in let e = s.count in omega (arith, c, e);
             grown = λ t y e. k.types t y (s.grown t y e);
           }
 
-      nested_by : (a b c : Walk g.Told) → AddsNested a b → AddsNested b c → (n : ℕ) → length a.bodies.locals ≤ n → n < length c.bodies.locals → Order (length b.bodies.locals) n → (r : Routine) × ((slice_get c.bodies.locals n ≡ Some r) × (1 < r.level))
+      nested_by : (a b c : Walk g.Reported) → AddsNested a b → AddsNested b c → (n : ℕ) → length a.bodies.locals ≤ n → n < length c.bodies.locals → Order (length b.bodies.locals) n → (r : Routine) × ((slice_get c.bodies.locals n ≡ Some r) × (1 < r.level))
       nested_by a b c p q n e f (at_least z) = q.nested n z f
       nested_by a b c p q n e f (less z) = let r = p.nested n e z in (r.0, (q.below n z ∙ r.1.0, r.1.1))
 
-      goes_then : (a b c : Walk g.Told) → length a.bodies.locals ≤ length b.bodies.locals → Goes a b → Goes b c → Goes a c
+      goes_then : (a b c : Walk g.Reported) → length a.bodies.locals ≤ length b.bodies.locals → Goes a b → Goes b c → Goes a c
       goes_then a b c grows p q = record {
         adds = record {
           below = λ n e. q.adds.below n (omega (arith, e, grows)) ∙ p.adds.below n e;
@@ -313,14 +313,14 @@ module _ (g : Gathers) (judges : Judges g.Told) (ends : List ℕ) (around : Opti
         headings = λ all. q.headings (p.headings all);
       }
 
-      pub all_go : {xs : List (Steps g.Told)} {ls : List ℕ} (ps : AreSteps g judges ends xs ls) (st : Walk g.Told × ℕ) (n : ℕ) → Stands st.0 n → ModuleHeadsIn g judges ends own types procs ps → NumbersIn n ps → (end st xs).so_far ≡ Ok tt → Goes st.0 (end st xs)
+      pub all_go : {xs : List (Steps g.Reported)} {ls : List ℕ} (ps : AreSteps g elaborates ends xs ls) (st : Walk g.Reported × ℕ) (n : ℕ) → Stands st.0 n → ModuleHeadsIn g elaborates ends own types procs ps → NumbersIn n ps → (end st xs).so_far ≡ Ok tt → Goes st.0 (end st xs)
       all_go no_steps st n s k u q = goes_refl st.0
       all_go (more_steps x xs ks ls p ps) st n s k u q =
           goes_then st.0 (next st x).0 (end st (x ∷ xs)) (let c = step_count p (at_step st.1) st.0 n s in omega (arith, c))
-          (step_goes p (at_step st.1) st.0 n s k.0 u.0 (checked_told g judges ends around seen ps (next st x) q))
+          (step_goes p (at_step st.1) st.0 n s k.0 u.0 (checked_reported g elaborates ends around seen ps (next st x) q))
           (all_go ps (next st x) (n + count_of p) (stands_next p st n s) k.1 u.1 q)
 
-      all_grow : {xs : List (Steps g.Told)} {ls : List ℕ} (ps : AreSteps g judges ends xs ls) (st : Walk g.Told × ℕ) (n : ℕ) → Stands st.0 n → length st.0.bodies.locals ≤ length (end st xs).bodies.locals
+      all_grow : {xs : List (Steps g.Reported)} {ls : List ℕ} (ps : AreSteps g elaborates ends xs ls) (st : Walk g.Reported × ℕ) (n : ℕ) → Stands st.0 n → length st.0.bodies.locals ≤ length (end st xs).bodies.locals
       all_grow no_steps st n s = omega arith
       all_grow (more_steps x xs ks ls p ps) st n s =
           let c = step_count p (at_step st.1) st.0 n s in
@@ -328,7 +328,7 @@ module _ (g : Gathers) (judges : Judges g.Told) (ends : List ℕ) (around : Opti
           omega (arith, c, d)
 
       module _ (m : TypedModule) (opens : ℕ → Bool) where
-        suits_first : (a b c : Walk g.Told) → Keeps b.scope c.scope → AddsNested b c → length b.bodies.locals ≤ length c.bodies.locals → Suits g m opens a c → Suits g m opens a b
+        suits_first : (a b c : Walk g.Reported) → Keeps b.scope c.scope → AddsNested b c → length b.bodies.locals ≤ length c.bodies.locals → Suits g m opens a c → Suits g m opens a b
         suits_first a b c k p grows u = record {
           home = u.home;
           types = λ t x e. u.types t x (k.types t x e);
@@ -338,30 +338,30 @@ module _ (g : Gathers) (judges : Judges g.Told) (ends : List ℕ) (around : Opti
           withs = u.withs;
         }
 
-        suits_rest : (a b c : Walk g.Told) → Keeps a.scope b.scope → length a.bodies.locals ≤ length b.bodies.locals → Suits g m opens a c → Suits g m opens b c
+        suits_rest : (a b c : Walk g.Reported) → Keeps a.scope b.scope → length a.bodies.locals ≤ length b.bodies.locals → Suits g m opens a c → Suits g m opens b c
         suits_rest a b c k grows u = record {
           home = k.home ∙ u.home;
           types = u.types;
           locals = λ n e f. u.locals n (omega (arith, e, grows)) f;
           members = λ i name e. subst (λ (ts : List Table). Holds (FormedMeaning m opens 0) (member g ts i name)) (sym k.tables) (u.members i name e);
-          outer = subst (λ (bs : List (Block g.Told)). AreFormedBlocks m opens bs) (sym k.outer) u.outer;
+          outer = subst (λ (bs : List (Block g.Reported)). AreFormedBlocks m opens bs) (sym k.outer) u.outer;
           withs = k.withs ∙ u.withs;
         }
 
-        added_by : (a b c : Walk g.Told) → AddsNested b c → AddsFormed g m opens a b → AddsFormed g m opens b c → (n : ℕ) (r : Routine) → length a.bodies.locals ≤ n → slice_get c.bodies.locals n ≡ Some r → Order (length b.bodies.locals) n → IsBody m r
+        added_by : (a b c : Walk g.Reported) → AddsNested b c → AddsFormed g m opens a b → AddsFormed g m opens b c → (n : ℕ) (r : Routine) → length a.bodies.locals ≤ n → slice_get c.bodies.locals n ≡ Some r → Order (length b.bodies.locals) n → IsBody m r
         added_by a b c d p q n r e f (at_least z) = q n r z f
         added_by a b c d p q n r e f (less z) = p n r e (sym (d.below n z) ∙ f)
 
-        pub all_formed_to : {xs : List (Steps g.Told)} {ls : List ℕ} (ps : AreSteps g judges ends xs ls) (st : Walk g.Told × ℕ) (n : ℕ) → Stands st.0 n → ModuleHeadsIn g judges ends own types procs ps → NumbersIn n ps → (end st xs).so_far ≡ Ok tt
+        pub all_formed_to : {xs : List (Steps g.Reported)} {ls : List ℕ} (ps : AreSteps g elaborates ends xs ls) (st : Walk g.Reported × ℕ) (n : ℕ) → Stands st.0 n → ModuleHeadsIn g elaborates ends own types procs ps → NumbersIn n ps → (end st xs).so_far ≡ Ok tt
             → Suits g m opens st.0 (end st xs) → AreFormedNames m opens own → FormedTo m opens st.0 (end st xs)
         all_formed_to no_steps st n s k u q suits o = none_formed m opens st.0
         all_formed_to (more_steps x xs ks ls p ps) st n s k u q suits o =
             let one = next st x in
-            let all : Walk g.Told = end st (x ∷ xs) in
+            let all : Walk g.Reported = end st (x ∷ xs) in
             let here = stands_next p st n s in
             let later = all_go ps one (n + count_of p) here k.1 u.1 q in
             let c = step_count p (at_step st.1) st.0 n s in
-            let a = step_formed p (at_step st.1) st.0 n s k.0 u.0 (checked_told g judges ends around seen ps one q) m opens
-            (suits_first st.0 one.0 all (all_keep g judges ends around seen ps one) later.adds (all_grow ps one (n + count_of p) here) suits) o in
-            let b = all_formed_to ps one (n + count_of p) here k.1 u.1 q (suits_rest st.0 one.0 all (step_keeps g judges ends around p (at_step st.1) st.0) (omega (arith, c)) suits) o in
+            let a = step_formed p (at_step st.1) st.0 n s k.0 u.0 (checked_reported g elaborates ends around seen ps one q) m opens
+            (suits_first st.0 one.0 all (all_keep g elaborates ends around seen ps one) later.adds (all_grow ps one (n + count_of p) here) suits) o in
+            let b = all_formed_to ps one (n + count_of p) here k.1 u.1 q (suits_rest st.0 one.0 all (step_keeps g elaborates ends around p (at_step st.1) st.0) (omega (arith, c)) suits) o in
             (λ i r e f. added_by st.0 one.0 all later.adds a.0 b.0 i r e f (nat_order (length one.0.bodies.locals) i), λ z. b.1 (a.1 z))

@@ -7,15 +7,15 @@ use Rattle.m2_tree.specs.declared.decl.Decl.{Decl, Decl-F, out-Decl, map-Decl, f
 use Rattle.m2_tree.specs.declared.decl.Decl.TheOpen as layer
 use Rattle.m2_tree.specs.declared.decl.Block.{Block}
 use Rattle.m2_typed.specs.declared.typed_module.Which.{Which}
-use Rattle.m2_judged.specs.Judged.{Gathers}
-use Rattle.m2_judged.specs.Scopes.{State}
-use Rattle.m2_judged.specs.declared.scope.Scope.{Scope}
+use Rattle.m2_scopes.specs.Elaborated.{Gathers}
+use Rattle.m2_scopes.specs.Scopes.{State}
+use Rattle.m2_scopes.specs.declared.scope.Scope.{Scope}
 use Rattle.m2_blocks.specs.Naming.{marked_layer, marked_decl, with_marks, all_marked}
 use Rattle.m2_blocks.specs.Nesting as nesting
 use Rattle.m2_blocks.specs.Nesting.{within_decl, within, ends_from, with_procedure_ends, with_decl_ends}
 use Rattle.m2_blocks.specs.Declarations.{Course, Declared, decl_layer, with_decl, all_declared, declared_block}
 use Rattle.m2_bodies.specs.declared.procedure.Walk.{Walk}
-use Rattle.m2_bodies.specs.Judging.{Judges}
+use Rattle.m2_bodies.specs.Elaborating.{Elaborates}
 use Rattle.m2_bodies.specs.Bodies.{ChecksBlock, Steps, marked_by, declared_by, checked_by, with_body, with_bodies, steps_layer, block_layer, steps, checks_block, checks_decl, bodies_checked}
 use Rattle.m2_formed_bodies.specs.FormedBodies.{AreNumbered, FormsStatements}
 use Rattle.m2_formed_bodies.proofs.Places.{before_end, behind_end, is_within}
@@ -72,56 +72,56 @@ ends_more so (d ∷ ds) =
     let new : List ℕ = ends_from (length so) (inside (within_decl d)) in
     (new ++ k.0, k.1 ∙ ap (λ (es : List ℕ). es ++ k.0) (decl_ends so d) ∙ append_assoc so new k.0)
 
-module _ (g : Gathers) (judges : Judges g.Told) (forms : FormsStatements g judges) (ends : List ℕ) where
-  abbrev pub steps_of : Decl → Steps g.Told
-  steps_of d = steps g judges ends d
+module _ (g : Gathers) (elaborates : Elaborates g.Reported) (forms : FormsStatements g elaborates) (ends : List ℕ) where
+  abbrev pub steps_of : Decl → Steps g.Reported
+  steps_of d = steps g elaborates ends d
 
-  abbrev opened : Decl-F Decl Block → Decl-F (Steps g.Told) (ChecksBlock g.Told)
-  opened x = map-Decl Decl Block (Steps g.Told) (ChecksBlock g.Told) (steps g judges ends) (checks_block g judges ends) x
+  abbrev opened : Decl-F Decl Block → Decl-F (Steps g.Reported) (ChecksBlock g.Reported)
+  opened x = map-Decl Decl Block (Steps g.Reported) (ChecksBlock g.Reported) (steps g elaborates ends) (checks_block g elaborates ends) x
 
-  at : (d : Decl) → steps g judges ends d ≡ steps_layer g judges ends (opened (out-Decl d))
+  at : (d : Decl) → steps g elaborates ends d ≡ steps_layer g elaborates ends (opened (out-Decl d))
   unfolding steps checks_block
-  at d = fold_out-Decl (Steps g.Told) (ChecksBlock g.Told) (steps_layer g judges ends) (block_layer g judges ends) d
+  at d = fold_out-Decl (Steps g.Reported) (ChecksBlock g.Reported) (steps_layer g elaborates ends) (block_layer g elaborates ends) d
 
   -- ---- the walks
 
-  marked_mapped : (s : Scope g.Told) (x : Decl-F Decl Block) → marked_layer s (opened x) ≡ marked_layer s x
+  marked_mapped : (s : Scope g.Reported) (x : Decl-F Decl Block) → marked_layer s (opened x) ≡ marked_layer s x
   marked_mapped s (layer.Constants cs) = refl
   marked_mapped s (layer.Types ts) = refl
   marked_mapped s (layer.Variables vs) = refl
   marked_mapped s (layer.Procedure h b) = refl
 
-  marks_is : (s : Scope g.Told) (d : Decl) → (steps_of d).marks s ≡ marked_decl s d
-  marks_is s d = ap (λ (x : Steps g.Told). x.marks s) (at d) ∙ marked_mapped s (out-Decl d)
+  marks_is : (s : Scope g.Reported) (d : Decl) → (steps_of d).marks s ≡ marked_decl s d
+  marks_is s d = ap (λ (x : Steps g.Reported). x.marks s) (at d) ∙ marked_mapped s (out-Decl d)
 
-  declared_mapped : (c : Course g.Told) (x : Decl-F Decl Block) → decl_layer g ends c (opened x) ≡ decl_layer g ends c x
+  declared_mapped : (c : Course g.Reported) (x : Decl-F Decl Block) → decl_layer g ends c (opened x) ≡ decl_layer g ends c x
   declared_mapped c (layer.Constants cs) = refl
   declared_mapped c (layer.Types ts) = refl
   declared_mapped c (layer.Variables vs) = refl
   declared_mapped c (layer.Procedure h b) = refl
 
-  declares_is : (c : Course g.Told) (d : Decl) → (steps_of d).declares c ≡ with_decl g ends c d
-  declares_is c d = ap (λ (x : Steps g.Told). x.declares c) (at d) ∙ declared_mapped c (out-Decl d)
+  declares_is : (c : Course g.Reported) (d : Decl) → (steps_of d).declares c ≡ with_decl g ends c d
+  declares_is c d = ap (λ (x : Steps g.Reported). x.declares c) (at d) ∙ declared_mapped c (out-Decl d)
 
-  all_marks : (s : Scope g.Told) (ds : List Decl) → all_marked marked_by s (map (steps g judges ends) ds) ≡ all_marked marked_decl s ds
-  all_marks s ds = fold_agrees (with_marks marked_by) (with_marks marked_decl) (steps g judges ends)
-      (λ st d. ap (λ (x : Scope g.Told). (x, st.1 ++ length st.0.own ∷ [])) (marks_is st.0 d)) (s, []) ds
+  all_marks : (s : Scope g.Reported) (ds : List Decl) → all_marked marked_by s (map (steps g elaborates ends) ds) ≡ all_marked marked_decl s ds
+  all_marks s ds = fold_agrees (with_marks marked_by) (with_marks marked_decl) (steps g elaborates ends)
+      (λ st d. ap (λ (x : Scope g.Reported). (x, st.1 ++ length st.0.own ∷ [])) (marks_is st.0 d)) (s, []) ds
 
-  all_declares : (c : Course g.Told) (ds : List Decl) → fold declared_by c (map (steps g judges ends) ds) ≡ fold (with_decl g ends) c ds
-  all_declares c ds = fold_agrees declared_by (with_decl g ends) (steps g judges ends) declares_is c ds
+  all_declares : (c : Course g.Reported) (ds : List Decl) → fold declared_by c (map (steps g elaborates ends) ds) ≡ fold (with_decl g ends) c ds
+  all_declares c ds = fold_agrees declared_by (with_decl g ends) (steps g elaborates ends) declares_is c ds
 
-  abbrev behind : List ℕ → Course g.Told → Declared g.Told
+  abbrev behind : List ℕ → Course g.Reported → Declared g.Reported
   behind seen c = (c.0, c.1, seen)
 
-  pub declared_is : (st : State (Unit {0}) g.Told) (first : ℕ) (ds : List Decl) → declared_block g ends st first ds ≡ all_declared marked_by declared_by st first (map (steps g judges ends) ds)
+  pub declared_is : (st : State (Unit {0}) g.Reported) (first : ℕ) (ds : List Decl) → declared_block g ends st first ds ≡ all_declared marked_by declared_by st first (map (steps g elaborates ends) ds)
   declared_is st first ds =
-      sym (ap (λ (m : Scope g.Told × List ℕ). behind m.1 (fold declared_by (m.0, st.1, first) (map (steps g judges ends) ds))) (all_marks st.0 ds)
+      sym (ap (λ (m : Scope g.Reported × List ℕ). behind m.1 (fold declared_by (m.0, st.1, first) (map (steps g elaborates ends) ds))) (all_marks st.0 ds)
       ∙ ap (behind (all_marked marked_decl st.0 ds).1) (all_declares ((all_marked marked_decl st.0 ds).0, st.1, first) ds))
 
-  pub bodies_are : (around : Option Which) (seen : List ℕ) (w : Walk g.Told) (ds : List Decl) → bodies_checked g judges ends around seen w ds ≡ with_bodies (λ x. checked_by x around) seen w (map (steps g judges ends) ds)
+  pub bodies_are : (around : Option Which) (seen : List ℕ) (w : Walk g.Reported) (ds : List Decl) → bodies_checked g elaborates ends around seen w ds ≡ with_bodies (λ x. checked_by x around) seen w (map (steps g elaborates ends) ds)
   bodies_are around seen w ds =
-      sym (ap (λ (st : Walk g.Told × ℕ). st.0)
-      (fold_agrees (with_body (λ x. checked_by x around) seen) (with_body (λ d. checks_decl g judges ends d around) seen) (steps g judges ends) (λ st d. refl) (w, 0) ds))
+      sym (ap (λ (st : Walk g.Reported × ℕ). st.0)
+      (fold_agrees (with_body (λ x. checked_by x around) seen) (with_body (λ d. checks_decl g elaborates ends d around) seen) (steps g elaborates ends) (λ st d. refl) (w, 0) ds))
 
   -- ---- steps
 
@@ -129,18 +129,18 @@ module _ (g : Gathers) (judges : Judges g.Told) (forms : FormsStatements g judge
   total [] = []
   total (d ∷ ds) = within_decl d ++ total ds
 
-  pub are_steps : (ds : List Decl) → AreSteps g judges ends (map (steps g judges ends) ds) (total ds)
+  pub are_steps : (ds : List Decl) → AreSteps g elaborates ends (map (steps g elaborates ends) ds) (total ds)
   are_steps [] = no_steps
-  are_steps (d ∷ ds) = more_steps (steps g judges ends d) (map (steps g judges ends) ds) (within_decl d) (total ds) (decls_formed g judges forms ends d) (are_steps ds)
+  are_steps (d ∷ ds) = more_steps (steps g elaborates ends d) (map (steps g elaborates ends) ds) (within_decl d) (total ds) (decls_formed g elaborates forms ends d) (are_steps ds)
 
   module _ (around : Option Which) where
-    step_numbers : {x : Steps g.Told} {ks : List ℕ} (p : IsStep g judges ends x ks) (n : ℕ) → AreNumbered ends n (inside ks) → NumbersOf g judges ends around n p
+    step_numbers : {x : Steps g.Reported} {ks : List ℕ} (p : IsStep g elaborates ends x ks) (n : ℕ) → AreNumbered ends n (inside ks) → NumbersOf g elaborates ends around n p
     step_numbers (constants_step cs) n k = tt
     step_numbers (types_step ts) n k = tt
     step_numbers (variables_step vs) n k = tt
     step_numbers (procedure_step h block ks f) n k = k
 
-    step_count : {x : Steps g.Told} {ks : List ℕ} (p : IsStep g judges ends x ks) → count_of g judges ends around p ≡ length (inside ks)
+    step_count : {x : Steps g.Reported} {ks : List ℕ} (p : IsStep g elaborates ends x ks) → count_of g elaborates ends around p ≡ length (inside ks)
     step_count (constants_step cs) = refl
     step_count (types_step ts) = refl
     step_count (variables_step vs) = refl
@@ -156,17 +156,17 @@ module _ (g : Gathers) (judges : Judges g.Told) (forms : FormsStatements g judge
         ∙ before_end new k.0 i (subst (λ (l : ℕ). i < l) (sym (ends_length (length so) ks)) (is_within ks i c e))
         ∙ ends_at (length so) ks i c e
 
-    numbers_from : (so : List ℕ) (ds : List Decl) → ends ≡ fold with_decl_ends so ds → NumbersIn g judges ends around (length so) (are_steps ds)
+    numbers_from : (so : List ℕ) (ds : List Decl) → ends ≡ fold with_decl_ends so ds → NumbersIn g elaborates ends around (length so) (are_steps ds)
     unfolding are_steps
     numbers_from so [] q = tt
     numbers_from so (d ∷ ds) q =
-        let p = decls_formed g judges forms ends d in
+        let p = decls_formed g elaborates forms ends d in
         let ks : List ℕ = inside (within_decl d) in
-        let l : length (with_decl_ends so d) ≡ length so + count_of g judges ends around p =
+        let l : length (with_decl_ends so d) ≡ length so + count_of g elaborates ends around p =
         ap (λ (es : List ℕ). length es) (decl_ends so d) ∙ length-append so (ends_from (length so) ks) ∙ ap (λ (n : ℕ). length so + n) (ends_length (length so) ks ∙ sym (step_count p)) in (
           step_numbers p (length so) (first_numbers so d ds q),
-          subst (λ (n : ℕ). NumbersIn g judges ends around n (are_steps ds)) l (numbers_from (with_decl_ends so d) ds q),
+          subst (λ (n : ℕ). NumbersIn g elaborates ends around n (are_steps ds)) l (numbers_from (with_decl_ends so d) ds q),
         )
 
-    pub numbers_in : (ds : List Decl) → ends ≡ nesting.procedure_ends ds → NumbersIn g judges ends around 0 (are_steps ds)
+    pub numbers_in : (ds : List Decl) → ends ≡ nesting.procedure_ends ds → NumbersIn g elaborates ends around 0 (are_steps ds)
     numbers_in ds q = numbers_from [] ds q

@@ -6,7 +6,7 @@ use Rattle.m2_tree.specs.declared.decl.Contents.TheVariants as contents
 use Rattle.m2_tree.specs.declared.decl.Module.{Module}
 use Rattle.m2_typed.specs.declared.table.Table.{Table}
 use Rattle.m2_typed.specs.Names.{same_name}
-use Rattle.m2_judged.specs.Judged.{Gathers}
+use Rattle.m2_scopes.specs.Elaborated.{Gathers}
 use Rattle.m2_modules.specs.Own.{exported_headings}
 use Rattle.m2_check.specs.Checks.{checked}
 use Rattle.m2_valid.specs.WellFormed.{IsWellFormed}

@@ -6,7 +6,7 @@
 //!   and `proofs/Modules` whole modules.
 #![tactic(auto)]
 
-ghost use Rattle.m2_judged.specs.Judged.{least, every};
+ghost use Rattle.m2_scopes.specs.Elaborated.{least, every};
 ghost use Rattle.m2_formed_modules.specs.FormedModules.{ModulesAreFormed};
 
 /// The modules of bodies are well formed.

@@ -13,11 +13,11 @@ use Rattle.m2_typed.specs.declared.meaning.LocalVariable.{LocalVariable}
 use Rattle.m2_typed.specs.declared.shape.Formal.{Formal}
 use Rattle.m2_typed.specs.declared.types.TypeNo.{TypeNo}
 use Rattle.m2_typed.specs.Names.{found, entered}
-use Rattle.m2_judged.specs.Judged.{Gathers}
-use Rattle.m2_judged.specs.declared.known.Known.{Known}
-use Rattle.m2_judged.specs.declared.known.Known.TheVariants.{Later, Ahead, Begun, Headed, Declared}
-use Rattle.m2_judged.specs.declared.known.Origin.TheVariants.{Here}
-use Rattle.m2_judged.specs.declared.scope.Scope.{Scope}
+use Rattle.m2_scopes.specs.Elaborated.{Gathers}
+use Rattle.m2_scopes.specs.declared.known.Known.{Known}
+use Rattle.m2_scopes.specs.declared.known.Known.TheVariants.{Later, Ahead, Begun, Headed, Declared}
+use Rattle.m2_scopes.specs.declared.known.Origin.TheVariants.{Here}
+use Rattle.m2_scopes.specs.declared.scope.Scope.{Scope}
 use Rattle.m2_made.specs.Headings.{formal_of}
 use Rattle.m2_blocks.specs.Inner.{formal_kind, formal_meaning, unless_found, Formals, with_formal, with_section, formals_in, inwards, entered_procedure}
 use Rattle.m2_formed.specs.Formed.{fine, broken}
@@ -121,15 +121,15 @@ module _ (level home : ℕ) (procedures : List TypeNo) where
   names_begun f (x ∷ xs) fs so h = names_begun f xs (with_one fs f) (with_formal level f so x) (one_begun f x fs so h)
 
 module _ (g : Gathers) where
-  sections_begun : (s : Scope g.Told) (xs : List Section) (fs : List Formal) (so : Formals g.Told) → SoFar s.level s.types.home s.procedures fs so
+  sections_begun : (s : Scope g.Reported) (xs : List Section) (fs : List Formal) (so : Formals g.Reported) → SoFar s.level s.types.home s.procedures fs so
       → SoFar s.level s.types.home s.procedures (fold (with_formals_of g s) fs xs) (fold (with_section g s) so xs)
   sections_begun s [] fs so h = h
   sections_begun s (x ∷ xs) fs so h =
       sections_begun s xs (with_formals_of g s fs x) (with_section g s so x) (names_begun s.level s.types.home s.procedures (formal_of g s x.is_var x.of) x.names fs so h)
 
-  pub procedure_entered : (s : Scope g.Told) (seen : ℕ) (h : Heading) → IsNumbered (all_formals g (inwards s seen) h.formals) (entered_procedure g s seen h).0
+  pub procedure_entered : (s : Scope g.Reported) (seen : ℕ) (h : Heading) → IsNumbered (all_formals g (inwards s seen) h.formals) (entered_procedure g s seen h).0
   procedure_entered s seen h =
-      let inner : Scope g.Told = inwards s seen in
+      let inner : Scope g.Reported = inwards s seen in
       let b = sections_begun inner h.formals [] ([], []) (record { same = refl; names = tt }) in
       let fs : List Formal = all_formals g inner h.formals in
       record {

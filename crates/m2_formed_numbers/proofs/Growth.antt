@@ -9,12 +9,12 @@ use Rattle.m2_typed.specs.declared.shape.Formal.{Formal}
 use Rattle.m2_typed.specs.declared.shape.Made.{Made}
 use Rattle.m2_typed.specs.declared.types.TypeNo.{TypeNo}
 use Rattle.m2_typed.specs.Names.{same_name, found, entered}
-use Rattle.m2_judged.specs.Judged.{Gathers, told}
-use Rattle.m2_judged.specs.Scopes.{State, is_free, with_known, unless_declared, begun, is_begun, finished, unless_marked, marked}
-use Rattle.m2_judged.specs.declared.known.Known.{Known}
-use Rattle.m2_judged.specs.declared.known.Known.TheVariants.{Later, Ahead, Begun, Headed, Declared}
-use Rattle.m2_judged.specs.declared.known.Origin.TheVariants.{Here}
-use Rattle.m2_judged.specs.declared.scope.Scope.{Scope}
+use Rattle.m2_scopes.specs.Elaborated.{Gathers, reported}
+use Rattle.m2_scopes.specs.Scopes.{State, is_free, with_known, unless_declared, begun, is_begun, finished, unless_marked, marked}
+use Rattle.m2_scopes.specs.declared.known.Known.{Known}
+use Rattle.m2_scopes.specs.declared.known.Known.TheVariants.{Later, Ahead, Begun, Headed, Declared}
+use Rattle.m2_scopes.specs.declared.known.Origin.TheVariants.{Here}
+use Rattle.m2_scopes.specs.declared.scope.Scope.{Scope}
 use Rattle.m2_made.specs.Made.{with_shape, with_made}
 use Rattle.m2_formed.specs.Formed.{Holds}
 use Rattle.m2_formed.proofs.Basics.{holds_weaker}
@@ -94,12 +94,12 @@ module _ (fs : List Formal) where
     numbered = λ h. record { names = names_entered (lists_of s) name k s.own (p h) h.names; few = h.few };
   }
 
-  module _ (g : Gathers) (s : Scope g.Told) (name : Ident) where
-    unless_by : (b : Bool) (k : Known g.Told) → (IsNumbered fs s → KnownNumbered fs (lists_of s) k) → Grows fs s (cond {A = State (Unit {0}) g.Told} b (with_known name.name k s, Ok tt) (s, told g name.pos 31)).0
+  module _ (g : Gathers) (s : Scope g.Reported) (name : Ident) where
+    unless_by : (b : Bool) (k : Known g.Reported) → (IsNumbered fs s → KnownNumbered fs (lists_of s) k) → Grows fs s (cond {A = State (Unit {0}) g.Reported} b (with_known name.name k s, Ok tt) (s, reported g name.pos 31)).0
     unless_by true k p = known_grows s name.name k p
     unless_by false k p = grows_refl s
 
-    pub unless_grows : (k : Known g.Told) → (IsNumbered fs s → KnownNumbered fs (lists_of s) k) → Grows fs s (unless_declared g s name k).0
+    pub unless_grows : (k : Known g.Reported) → (IsNumbered fs s → KnownNumbered fs (lists_of s) k) → Grows fs s (unless_declared g s name k).0
     unless_grows k p = unless_by (is_free (found name.name s.own)) k p
 
     pub begun_grows : Grows fs s (begun g s name).0

@@ -10,10 +10,10 @@ use Rattle.m2_tree.specs.declared.decl.TypeExpr.TheOpen as layer
 use Rattle.m2_tree.specs.declared.decl.Field.{Field, Field-F, out-Field, roll-Field, out-roll-Field, map-Field, fold_out-Field}
 use Rattle.m2_typed.specs.declared.shape.Formal.{Formal}
 use Rattle.m2_typed.specs.declared.types.TypeNo.{TypeNo}
-use Rattle.m2_judged.specs.Judged.{Gathers}
-use Rattle.m2_judged.specs.declared.known.Known.TheVariants.{Later, Declared}
-use Rattle.m2_judged.specs.declared.known.Origin.TheVariants.{Here}
-use Rattle.m2_judged.specs.declared.scope.Scope.{Scope}
+use Rattle.m2_scopes.specs.Elaborated.{Gathers}
+use Rattle.m2_scopes.specs.declared.known.Known.TheVariants.{Later, Declared}
+use Rattle.m2_scopes.specs.declared.known.Origin.TheVariants.{Here}
+use Rattle.m2_scopes.specs.declared.scope.Scope.{Scope}
 use Rattle.m2_made.specs.declared.field.Fields.{Fields}
 use Rattle.m2_made.specs.Fields.{no_fields}
 use Rattle.m2_made.specs.Made.{next_type, with_shape, enumeration_constant, enumeration_scalar, too_many, listed, simple_type, index_type, Makes, MakesFields, then_fields, type_layer, field_layer, type_of, field_list}
@@ -93,21 +93,21 @@ module _ (own : List Formal) where
   -- ---- types that are made
 
   module _ (g : Gathers) where
-    listed_all : (t : TypeNo) (names : List Ident) (l : Scope g.Told × ℕ × Result (Unit {0}) g.Told) → Grows own l.0 (fold (listed g t) l names).0
+    listed_all : (t : TypeNo) (names : List Ident) (l : Scope g.Reported × ℕ × Result (Unit {0}) g.Reported) → Grows own l.0 (fold (listed g t) l names).0
     listed_all t [] l = grows_refl own l.0
     listed_all t (x ∷ xs) l = grows_then own (unless_grows own g l.0 x (Declared Here (Ok (enumeration_constant t (pos l.1)))) (λ h. fine (enumeration_constant t (pos l.1)) tt)) (listed_all t xs (listed g t l x))
 
-    simple_grows : (s : Scope g.Told) (t : Simple) → Grows own s (simple_type g s t).0
+    simple_grows : (s : Scope g.Reported) (t : Simple) → Grows own s (simple_type g s t).0
     simple_grows s (simple.Named q) = grows_refl own s
     simple_grows s (simple.Enumeration at names) =
         grows_then own (shape_grows own s (enumeration_scalar (next_type s) names)) (listed_all (next_type s) names (with_shape s (enumeration_scalar (next_type s) names), 0, too_many g names))
     simple_grows s (simple.Subrange o at low high) = made_grows own s _
 
     abbrev GrownMakes : Makes g → Type 0
-    GrownMakes f = (s : Scope g.Told) → Grows own s (f s).0
+    GrownMakes f = (s : Scope g.Reported) → Grows own s (f s).0
 
     abbrev GrownFields : MakesFields g → Type 0
-    GrownFields f = (st : Scope g.Told × Fields × Result (Unit {0}) g.Told) → Grows own st.0 (f st).0
+    GrownFields f = (st : Scope g.Reported × Fields × Result (Unit {0}) g.Reported) → Grows own st.0 (f st).0
 
     abbrev PT : TypeExpr → Type 0
     PT t = GrownMakes (type_of g t)
@@ -141,7 +141,7 @@ module _ (own : List Formal) where
     abbrev bare_field : Field-F ST SF → Field-F TypeExpr Field
     bare_field x = map-Field ST SF TypeExpr Field (λ t. t.0) (λ f. f.0) x
 
-    fields_grow : (fs : List SF) (st : Scope g.Told × Fields × Result (Unit {0}) g.Told) → Grows own st.0 (fold (then_fields g) st (map (field_list g) (map (λ (f : SF). f.0) fs))).0
+    fields_grow : (fs : List SF) (st : Scope g.Reported × Fields × Result (Unit {0}) g.Reported) → Grows own st.0 (fold (then_fields g) st (map (field_list g) (map (λ (f : SF). f.0) fs))).0
     fields_grow [] st = grows_refl own st.0
     fields_grow (f ∷ fs) st = grows_then own (f.1 st) (fields_grow fs (field_list g f.0 st))
 

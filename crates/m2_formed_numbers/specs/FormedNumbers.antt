@@ -11,10 +11,10 @@ use Rattle.m2_typed.specs.declared.meaning.Meaning.{Meaning}
 use Rattle.m2_typed.specs.declared.meaning.Meaning.TheVariants as meaning
 use Rattle.m2_typed.specs.declared.shape.Formal.{Formal}
 use Rattle.m2_typed.specs.declared.types.TypeNo.{TypeNo}
-use Rattle.m2_judged.specs.Judged.{Gathers}
-use Rattle.m2_judged.specs.declared.known.Known.{Known}
-use Rattle.m2_judged.specs.declared.known.Known.TheVariants.{Later, Ahead, Begun, Headed, Declared}
-use Rattle.m2_judged.specs.declared.scope.Scope.{Scope}
+use Rattle.m2_scopes.specs.Elaborated.{Gathers}
+use Rattle.m2_scopes.specs.declared.known.Known.{Known}
+use Rattle.m2_scopes.specs.declared.known.Known.TheVariants.{Later, Ahead, Begun, Headed, Declared}
+use Rattle.m2_scopes.specs.declared.scope.Scope.{Scope}
 use Rattle.m2_made.specs.Headings.{formal_of}
 use Rattle.m2_blocks.specs.Declarations.{Course, with_decl}
 use Rattle.m2_blocks.specs.Inner.{formal_kind, inwards, entered_procedure}
@@ -99,7 +99,7 @@ pub record Grows {T : Type 0} (fs : List Formal) (s s' : Scope T) : Type 0 where
 
 -- a declaration of a block leads from numbered names to numbered names
 abbrev pub DeclarationsNumber : Gathers → Type 0
-DeclarationsNumber g = (fs : List Formal) (ends : List ℕ) (c : Course g.Told) (d : Decl) → Grows fs c.0 (with_decl g ends c d).0
+DeclarationsNumber g = (fs : List Formal) (ends : List ℕ) (c : Course g.Reported) (d : Decl) → Grows fs c.0 (with_decl g ends c d).0
 
 -- the formals that a heading's sections give, without those that break a rule
 abbrev pub with_one : {T : Type 0} → List Formal → Result Formal T → List Formal
@@ -109,12 +109,12 @@ with_one fs (Err e) = fs
 abbrev pub with_names : {T : Type 0} → Result Formal T → List Formal → List Ident → List Formal
 with_names f fs names = fold (λ so x. with_one so f) fs names
 
-abbrev pub with_formals_of : (g : Gathers) → Scope g.Told → List Formal → Section → List Formal
+abbrev pub with_formals_of : (g : Gathers) → Scope g.Reported → List Formal → Section → List Formal
 with_formals_of g s fs x = with_names (formal_of g s x.is_var x.of) fs x.names
 
-abbrev pub all_formals : (g : Gathers) → Scope g.Told → List Section → List Formal
+abbrev pub all_formals : (g : Gathers) → Scope g.Reported → List Section → List Formal
 all_formals g s xs = fold (with_formals_of g s) [] xs
 
 -- the block of a procedure begins with its formals, under their numbers
 abbrev pub EnteredNumbers : Gathers → Type 0
-EnteredNumbers g = (s : Scope g.Told) (seen : ℕ) (h : Heading) → IsNumbered (all_formals g (inwards s seen) h.formals) (entered_procedure g s seen h).0
+EnteredNumbers g = (s : Scope g.Reported) (seen : ℕ) (h : Heading) → IsNumbered (all_formals g (inwards s seen) h.formals) (entered_procedure g s seen h).0

@@ -5,7 +5,7 @@
 //!   `proofs/Declarations` all declarations of a block. `proofs/Entered` has where the block of a procedure begins.
 #![tactic(auto)]
 
-ghost use Rattle.m2_judged.specs.Judged.{least, every};
+ghost use Rattle.m2_scopes.specs.Elaborated.{least, every};
 ghost use Rattle.m2_formed_numbers.specs.FormedNumbers.{DeclarationsNumber, EnteredNumbers};
 
 /// Names are numbered, where the least broken rule is kept and where all of them are.

@@ -28,19 +28,19 @@ use Rattle.m2_typed.specs.declared.table.Table.{Table}
 use Rattle.m2_typed.specs.declared.known_types.Types.{Types}
 use Rattle.m2_formed_types.specs.Ordered.{is_known}
 use Rattle.m2_typed.specs.Names.{found, entered, place_of}
-use Rattle.m2_judged.specs.Judged.{Gathers, told}
-use Rattle.m2_judged.specs.Scopes.{State, is_free, with_known, is_again, imported}
-use Rattle.m2_judged.specs.declared.known.Known.{Known}
-use Rattle.m2_judged.specs.declared.known.Known.TheVariants.{Later, Ahead, Declared}
-use Rattle.m2_judged.specs.declared.known.Origin.{Origin}
-use Rattle.m2_judged.specs.declared.known.Origin.TheVariants.{Here, Export}
-use Rattle.m2_judged.specs.declared.known.Origin.TheVariants as origin
-use Rattle.m2_judged.specs.declared.scope.Block.{Block}
-use Rattle.m2_judged.specs.declared.scope.Scope.{Scope}
+use Rattle.m2_scopes.specs.Elaborated.{Gathers, reported}
+use Rattle.m2_scopes.specs.Scopes.{State, is_free, with_known, is_again, imported}
+use Rattle.m2_scopes.specs.declared.known.Known.{Known}
+use Rattle.m2_scopes.specs.declared.known.Known.TheVariants.{Later, Ahead, Declared}
+use Rattle.m2_scopes.specs.declared.known.Origin.{Origin}
+use Rattle.m2_scopes.specs.declared.known.Origin.TheVariants.{Here, Export}
+use Rattle.m2_scopes.specs.declared.known.Origin.TheVariants as origin
+use Rattle.m2_scopes.specs.declared.scope.Block.{Block}
+use Rattle.m2_scopes.specs.declared.scope.Scope.{Scope}
 use Rattle.m2_made.specs.Headings.{formal_of}
 use Rattle.m2_types.specs.Marking.{Marks, marked_later, marked_simple, then_marks, marked_in, marked_field, marked_constant, marked_type, marked_variables, marked_def}
 use Rattle.m2_types.specs.Marking as marking
-use Rattle.m2_types.specs.Importing.{module_named, with_module_as, with_module_name, with_entry, brings_in, told_of_taken, unless_taken, from_place, with_from, exports_of, from_module, with_imports, with_import}
+use Rattle.m2_types.specs.Importing.{module_named, with_module_as, with_module_name, with_entry, brings_in, reported_of_taken, unless_taken, from_place, with_from, exports_of, from_module, with_imports, with_import}
 use Rattle.m2_types.specs.Declare.{with_def}
 use Rattle.m2_types.specs.Compiled.{declared_in}
 use Rattle.m2_blocks.specs.Naming.{marked_layer, marked_decl, with_marks, all_marked}
@@ -173,89 +173,89 @@ module _ (base : Types) where
 
   module _ (g : Gathers) where
     -- a scope with these types
-    abbrev Within : Types → Scope g.Told → Type 0
+    abbrev Within : Types → Scope g.Reported → Type 0
     Within types s = ScopeOrdered base s × (s.types ≡ types)
 
-    free_within : (types : Types) (s : Scope g.Told) (at : Pos) (name : List ℕ) (o : Origin) (m : Meaning) (b : Bool) → Within types s → MeaningOrdered types m
-        → Within types (cond {A = State (Unit {0}) g.Told} b (with_known name (Declared o (Ok m)) s, Ok tt) (s, told g at 31)).0
+    free_within : (types : Types) (s : Scope g.Reported) (at : Pos) (name : List ℕ) (o : Origin) (m : Meaning) (b : Bool) → Within types s → MeaningOrdered types m
+        → Within types (cond {A = State (Unit {0}) g.Reported} b (with_known name (Declared o (Ok m)) s, Ok tt) (s, reported g at 31)).0
     free_within types s at name o m true h p = (known_ordered base s name (Declared o (Ok m)) h.0 (fine m (subst (λ (t : Types). MeaningOrdered t m) (sym h.1) p)), h.1)
     free_within types s at name o m false h p = h
 
-    again_within : (types : Types) (s : Scope g.Told) (x : State (Unit {0}) g.Told) (b : Bool) → Within types s → Within types x.0 → Within types (cond {A = State (Unit {0}) g.Told} b (s, Ok tt) x).0
+    again_within : (types : Types) (s : Scope g.Reported) (x : State (Unit {0}) g.Reported) (b : Bool) → Within types s → Within types x.0 → Within types (cond {A = State (Unit {0}) g.Reported} b (s, Ok tt) x).0
     again_within types s x true h p = h
     again_within types s x false h p = p
 
-    imported_within : (types : Types) (s : Scope g.Told) (at : Pos) (name : List ℕ) (o : Origin) (m : Meaning) → Within types s → MeaningOrdered types m → Within types (imported g s at name o (Ok m)).0
+    imported_within : (types : Types) (s : Scope g.Reported) (at : Pos) (name : List ℕ) (o : Origin) (m : Meaning) → Within types s → MeaningOrdered types m → Within types (imported g s at name o (Ok m)).0
     imported_within types s at name o m h p = again_within types s _ (is_again (found name s.own) o) h (free_within types s at name o m (is_free (found name s.own)) h p)
 
-    module_as_ordered : (s : Scope g.Told) (name : Ident) (r : Result ℕ g.Told) → ScopeOrdered base s → ScopeOrdered base (with_module_as g s name r).0
+    module_as_ordered : (s : Scope g.Reported) (name : Ident) (r : Result ℕ g.Reported) → ScopeOrdered base s → ScopeOrdered base (with_module_as g s name r).0
     module_as_ordered s name (Ok k) h = (imported_within s.types s name.pos name.name (origin.Module k) (meaning.Module k) (h, refl) tt).0
     module_as_ordered s name (Err e) h = h
 
-    modules_ordered : (modules : List (List ℕ × ℕ)) (names : List Ident) (st : State (Unit {0}) g.Told) → StateOrdered base st → StateOrdered base (fold (with_module_name g modules) st names)
+    modules_ordered : (modules : List (List ℕ × ℕ)) (names : List Ident) (st : State (Unit {0}) g.Reported) → StateOrdered base st → StateOrdered base (fold (with_module_name g modules) st names)
     modules_ordered modules [] st p = p
     modules_ordered modules (x ∷ xs) st p =
         modules_ordered modules xs (with_module_name g modules st x) (beside_then g (with_module_as g st.0 x (module_named g modules x)).1 p (λ h. const_holds (module_as_ordered st.0 x (module_named g modules x) h) _))
 
-    entries_within : (types : Types) (at : Pos) (k : ℕ) (es : List (List ℕ × Meaning)) (st : State (Unit {0}) g.Told) → ExportsOrdered types es → Holds (λ x. Within types st.0) st.1
+    entries_within : (types : Types) (at : Pos) (k : ℕ) (es : List (List ℕ × Meaning)) (st : State (Unit {0}) g.Reported) → ExportsOrdered types es → Holds (λ x. Within types st.0) st.1
         → Holds (λ x. Within types (fold (with_entry g at k) st es).0) (fold (with_entry g at k) st es).1
     entries_within types at k [] st q p = p
     entries_within types at k (e ∷ es) st q p =
         entries_within types at k es (with_entry g at k st e) q.1 (beside_then g (imported g st.0 at e.0 (Export k) (Ok e.1)).1 p (λ h. const_holds (imported_within types st.0 at e.0 (Export k) e.1 h q.0) _))
 
-    taken_within : (types : Types) (s : Scope g.Told) (at : Pos) (k : ℕ) (es : List (List ℕ × Meaning)) (i : ℕ) (o : Option (Result (Unit {0}) g.Told)) → ExportsOrdered types es → Within types s
+    taken_within : (types : Types) (s : Scope g.Reported) (at : Pos) (k : ℕ) (es : List (List ℕ × Meaning)) (i : ℕ) (o : Option (Result (Unit {0}) g.Reported)) → ExportsOrdered types es → Within types s
         → Holds (λ x. Within types (unless_taken g s at k es i o).0) (unless_taken g s at k es i o).1
     taken_within types s at k es i (Some j) q h = const_holds h j
     taken_within types s at k es i None q h =
         entries_within types at k (take (brings_in (slice_get es i)) (drop i es)) (s, Ok tt) (take_ordered types (brings_in (slice_get es i)) (drop i es) (drop_ordered types i es q)) (fine tt h)
 
-    place_within : (types : Types) (s : Scope g.Told) (name : Ident) (k : ℕ) (es : List (List ℕ × Meaning)) (o : Option ℕ) → ExportsOrdered types es → Within types s
+    place_within : (types : Types) (s : Scope g.Reported) (name : Ident) (k : ℕ) (es : List (List ℕ × Meaning)) (o : Option ℕ) → ExportsOrdered types es → Within types s
         → Holds (λ x. Within types (from_place g s name k es o).0) (from_place g s name k es o).1
     place_within types s name k es None q h = const_holds h _
-    place_within types s name k es (Some i) q h = taken_within types s name.pos k es i (told_of_taken g name.pos k (found name.name s.own)) q h
+    place_within types s name k es (Some i) q h = taken_within types s name.pos k es i (reported_of_taken g name.pos k (found name.name s.own)) q h
 
-    abbrev WithExports : Types → List (List ℕ × Meaning) → Scope g.Told → Type 0
+    abbrev WithExports : Types → List (List ℕ × Meaning) → Scope g.Reported → Type 0
     WithExports types es s = Within types s × ExportsOrdered types es
 
-    from_within : (types : Types) (k : ℕ) (es : List (List ℕ × Meaning)) (names : List Ident) (st : State (Unit {0}) g.Told) → Holds (λ x. WithExports types es st.0) st.1
+    from_within : (types : Types) (k : ℕ) (es : List (List ℕ × Meaning)) (names : List Ident) (st : State (Unit {0}) g.Reported) → Holds (λ x. WithExports types es st.0) st.1
         → Holds (λ x. WithExports types es (fold (with_from g k es) st names).0) (fold (with_from g k es) st names).1
     from_within types k es [] st p = p
     from_within types k es (x ∷ xs) st p =
         from_within types k es xs (with_from g k es st x) (beside_then g (from_place g st.0 x k es (place_of x.name es)).1 p (λ h. holds_weaker (λ u w. (w, h.1)) (place_within types st.0 x k es (place_of x.name es) h.1 h.0)))
 
-    from_module_ordered : (r : Result ℕ g.Told) (st : State (Unit {0}) g.Told) (names : List Ident) → StateOrdered base st → StateOrdered base (from_module g r st names)
+    from_module_ordered : (r : Result ℕ g.Reported) (st : State (Unit {0}) g.Reported) (names : List Ident) → StateOrdered base st → StateOrdered base (from_module g r st names)
     from_module_ordered (Ok k) st names p =
         holds_weaker (λ x w. w.0.0) (from_within st.0.types k (exports_of (slice_get st.0.tables k)) names st (holds_weaker (λ x h. ((h, refl), exports_ordered st.0.types st.0.tables k h.tables)) p))
     from_module_ordered (Err e) st names p = beside_then g (Err e) p (λ h. broken e)
 
-    with_imports_ordered : (modules : List (List ℕ × ℕ)) (st : State (Unit {0}) g.Told) (o : Option Ident) (names : List Ident) → StateOrdered base st → StateOrdered base (with_imports g modules st o names)
+    with_imports_ordered : (modules : List (List ℕ × ℕ)) (st : State (Unit {0}) g.Reported) (o : Option Ident) (names : List Ident) → StateOrdered base st → StateOrdered base (with_imports g modules st o names)
     with_imports_ordered modules st None names p = modules_ordered modules names st p
     with_imports_ordered modules st (Some m) names p = from_module_ordered (module_named g modules m) st names p
 
-    imports_ordered : (modules : List (List ℕ × ℕ)) (is : List Import) (st : State (Unit {0}) g.Told) → StateOrdered base st → StateOrdered base (fold (with_import g modules) st is)
+    imports_ordered : (modules : List (List ℕ × ℕ)) (is : List Import) (st : State (Unit {0}) g.Reported) → StateOrdered base st → StateOrdered base (fold (with_import g modules) st is)
     imports_ordered modules [] st p = p
     imports_ordered modules (i ∷ is) st p = imports_ordered modules is (with_import g modules st i) (with_imports_ordered modules st i.from i.names p)
 
     -- ---- blocks
 
-    decls_ordered : (ends : List ℕ) (ds : List Decl) (c : Course g.Told) → StateOrdered base (c.0, c.1) → StateOrdered base (let n = fold (with_decl g ends) c ds in (n.0, n.1))
+    decls_ordered : (ends : List ℕ) (ds : List Decl) (c : Course g.Reported) → StateOrdered base (c.0, c.1) → StateOrdered base (let n = fold (with_decl g ends) c ds in (n.0, n.1))
     decls_ordered ends [] c p = p
     decls_ordered ends (d ∷ ds) c p = decls_ordered ends ds (with_decl g ends c d) (decl_ordered base g ends c p (out-Decl d))
 
-    pub block_ordered : (ends : List ℕ) (st : State (Unit {0}) g.Told) (first : ℕ) (ds : List Decl) → StateOrdered base st → StateOrdered base (let d = declared_block g ends st first ds in (d.0, d.1))
-    block_ordered ends st first ds p = decls_ordered ends ds ((all_marked marked_decl st.0 ds).0, st.1, first) (holds_weaker (λ x h. decls_marks g.Told ds (st.0, []) h) p)
+    pub block_ordered : (ends : List ℕ) (st : State (Unit {0}) g.Reported) (first : ℕ) (ds : List Decl) → StateOrdered base st → StateOrdered base (let d = declared_block g ends st first ds in (d.0, d.1))
+    block_ordered ends st first ds p = decls_ordered ends ds ((all_marked marked_decl st.0 ds).0, st.1, first) (holds_weaker (λ x h. decls_marks g.Reported ds (st.0, []) h) p)
 
-    pub module_ordered : (modules : List (List ℕ × ℕ)) (ends : List ℕ) (s : Scope g.Told) (m : Module) (ds : List Decl) → ScopeOrdered base s
+    pub module_ordered : (modules : List (List ℕ × ℕ)) (ends : List ℕ) (s : Scope g.Reported) (m : Module) (ds : List Decl) → ScopeOrdered base s
         → StateOrdered base (let d = declared_module g modules ends s m ds in (d.0, d.1))
     module_ordered modules ends s m ds h =
         beside_then g _ (block_ordered ends (fold (with_import g modules) (s, Ok tt) m.imports) 0 ds (imports_ordered modules m.imports (s, Ok tt) (fine tt h))) (λ k. const_holds k _)
 
-    defs_ordered : (ds : List Def) (st : State (Unit {0}) g.Told) → StateOrdered base st → StateOrdered base (fold (with_def g) st ds)
+    defs_ordered : (ds : List Def) (st : State (Unit {0}) g.Reported) → StateOrdered base st → StateOrdered base (fold (with_def g) st ds)
     defs_ordered [] st p = p
     defs_ordered (d ∷ ds) st p = defs_ordered ds (with_def g st d) (def_ordered base g st p d)
 
-    pub definition_ordered : (m : Module) (modules : List (List ℕ × ℕ)) (s : Scope g.Told) (ds : List Def) → ScopeOrdered base s → StateOrdered base (declared_in g m modules s ds)
-    definition_ordered m modules s ds h = defs_ordered ds (fold (with_import g modules) (fold marked_def s ds, Ok tt) m.imports) (imports_ordered modules m.imports (fold marked_def s ds, Ok tt) (fine tt (defs_marks g.Told ds s h)))
+    pub definition_ordered : (m : Module) (modules : List (List ℕ × ℕ)) (s : Scope g.Reported) (ds : List Def) → ScopeOrdered base s → StateOrdered base (declared_in g m modules s ds)
+    definition_ordered m modules s ds h = defs_ordered ds (fold (with_import g modules) (fold marked_def s ds, Ok tt) m.imports) (imports_ordered modules m.imports (fold marked_def s ds, Ok tt) (fine tt (defs_marks g.Reported ds s h)))
 
   -- ---- into a procedure, and back
 
@@ -296,11 +296,11 @@ module _ (base : Types) where
   left_ordered o s h = let k = left_by s.types s.outer h.outer in record { started = h.started; types = h.types; once = h.once; names = k.1; outer = k.0; tables = h.tables }
 
   module _ (g : Gathers) where
-    sections_formals : (s : Scope g.Told) → ScopeOrdered base s → (xs : List Section) (fs : Formals g.Told) → NamesOrdered s.types fs.0 → NamesOrdered s.types (fold (with_section g s) fs xs).0
+    sections_formals : (s : Scope g.Reported) → ScopeOrdered base s → (xs : List Section) (fs : Formals g.Reported) → NamesOrdered s.types fs.0 → NamesOrdered s.types (fold (with_section g s) fs xs).0
     sections_formals s p [] fs h = h
     sections_formals s p (x ∷ xs) fs h = sections_formals s p xs (with_section g s fs x) (names_formals s.types s.level (formal_of g s x.is_var x.of) (formal_ordered g base s p x.is_var x.of) x.names fs h)
 
-    pub entered_ordered : (s : Scope g.Told) (seen : ℕ) (h : Heading) → ScopeOrdered base s → ScopeOrdered base (entered_procedure g s seen h).0
+    pub entered_ordered : (s : Scope g.Reported) (seen : ℕ) (h : Heading) → ScopeOrdered base s → ScopeOrdered base (entered_procedure g s seen h).0
     entered_ordered s seen h p =
         let k : ScopeOrdered base (inwards s seen) = inwards_ordered s seen p in
         record { started = k.started; types = k.types; once = k.once; names = sections_formals (inwards s seen) k h.formals ([], []) tt; outer = k.outer; tables = k.tables }

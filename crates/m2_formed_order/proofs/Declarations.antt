@@ -17,20 +17,20 @@ use Rattle.m2_typed.specs.declared.meaning.Meaning.{Meaning}
 use Rattle.m2_typed.specs.declared.meaning.Meaning.TheVariants as meaning
 use Rattle.m2_typed.specs.declared.meaning.Value.{Value}
 use Rattle.m2_typed.specs.Names.{found}
-use Rattle.m2_judged.specs.Judged.{Gathers, beside}
-use Rattle.m2_judged.specs.Scopes.{State, begun, finished}
-use Rattle.m2_judged.specs.declared.known.Known.{Known}
-use Rattle.m2_judged.specs.declared.known.Known.TheVariants.{Later, Ahead, Begun, Headed, Declared}
-use Rattle.m2_judged.specs.declared.known.Origin.{Origin}
-use Rattle.m2_judged.specs.declared.known.Origin.TheVariants.{Here, Module, Export}
-use Rattle.m2_judged.specs.declared.scope.Scope.{Scope}
+use Rattle.m2_scopes.specs.Elaborated.{Gathers, beside}
+use Rattle.m2_scopes.specs.Scopes.{State, begun, finished}
+use Rattle.m2_scopes.specs.declared.known.Known.{Known}
+use Rattle.m2_scopes.specs.declared.known.Known.TheVariants.{Later, Ahead, Begun, Headed, Declared}
+use Rattle.m2_scopes.specs.declared.known.Origin.{Origin}
+use Rattle.m2_scopes.specs.declared.known.Origin.TheVariants.{Here, Module, Export}
+use Rattle.m2_scopes.specs.declared.scope.Scope.{Scope}
 use Rattle.m2_constants.specs.Parts.{part, constant}
 use Rattle.m2_made.specs.Headings.{heading_of}
 use Rattle.m2_made.specs.Made.{nothing_of, type_of, with_made}
-use Rattle.m2_types.specs.Declare.{nothing_told, constant_meaning, with_constant, brings_with, type_meaning, with_type, begun_name, variable_meaning, with_variable_type, finished_variable, with_variables, procedure_meaning, with_procedure_type, declared_procedure, with_procedure, with_def}
+use Rattle.m2_types.specs.Declare.{nothing_reported, constant_meaning, with_constant, brings_with, type_meaning, with_type, begun_name, variable_meaning, with_variable_type, finished_variable, with_variables, procedure_meaning, with_procedure_type, declared_procedure, with_procedure, with_def}
 use Rattle.m2_blocks.specs.declared.heading.Standing.{Standing}
 use Rattle.m2_blocks.specs.declared.heading.Standing.TheVariants.{Free, Awaited, Taken}
-use Rattle.m2_blocks.specs.Headings.{standing_of, standing_judged, standing_from, name_standing, nested_meaning, module_procedure, headed, headed_as, with_heading}
+use Rattle.m2_blocks.specs.Headings.{standing_of, standing_elaborated, standing_from, name_standing, nested_meaning, module_procedure, headed, headed_as, with_heading}
 use Rattle.m2_blocks.specs.Declarations.{Course, local_meaning, finished_local, with_locals, decl_layer}
 use Rattle.m2_formed.specs.Formed.{Holds, fine, broken}
 use Rattle.m2_formed.proofs.Basics.{then_holds, holds_weaker, any_holds}
@@ -54,12 +54,12 @@ awaited_as types meaning.Ahead p h e = absurd cc
 awaited_as types (meaning.Standard f) p h e = absurd cc
 awaited_as types (meaning.Module k) p h e = absurd cc
 
-awaited_judged : {T : Type 0} (types : Types) (r : Result Meaning T) (p : Procedure) → Holds (MeaningOrdered types) r → standing_judged r ≡ Awaited p → is_known types p.heading ≡ true
-awaited_judged types _ p (fine m h) e = awaited_as types m p h e
-awaited_judged types _ p (broken x) e = absurd cc
+awaited_elaborated : {T : Type 0} (types : Types) (r : Result Meaning T) (p : Procedure) → Holds (MeaningOrdered types) r → standing_elaborated r ≡ Awaited p → is_known types p.heading ≡ true
+awaited_elaborated types _ p (fine m h) e = awaited_as types m p h e
+awaited_elaborated types _ p (broken x) e = absurd cc
 
 awaited_from : {T : Type 0} (types : Types) (o : Origin) (r : Result Meaning T) (p : Procedure) → Holds (MeaningOrdered types) r → standing_from o r ≡ Awaited p → is_known types p.heading ≡ true
-awaited_from types Here r p h e = awaited_judged types r p h e
+awaited_from types Here r p h e = awaited_elaborated types r p h e
 awaited_from types (Module k) r p h e = absurd cc
 awaited_from types (Export k) r p h e = absurd cc
 
@@ -109,106 +109,106 @@ module _ (base : Types) where
   type_in st p = holds_weaker (λ x q. (q.0, holds_weaker (λ u k. k.1) p)) p
 
   module _ (g : Gathers) where
-    begun_ordered : (s : Scope g.Told) (name : Ident) → ScopeOrdered base s → StateOrdered base (begun g s name)
+    begun_ordered : (s : Scope g.Reported) (name : Ident) → ScopeOrdered base s → StateOrdered base (begun g s name)
     begun_ordered s name h = const_holds (unless_ordered g base s name Begun h tt) (begun g s name).1
 
-    begun_all : (names : List Ident) (st : State (Unit {0}) g.Told) → StateOrdered base st → StateOrdered base (fold (begun_name g) st names)
+    begun_all : (names : List Ident) (st : State (Unit {0}) g.Reported) → StateOrdered base st → StateOrdered base (fold (begun_name g) st names)
     begun_all [] st p = p
     begun_all (x ∷ xs) st p = begun_all xs (begun_name g st x) (beside_then g (begun g st.0 x).1 p (λ h. begun_ordered st.0 x h))
 
     -- ---- headings
 
-    nothing_holds : {P : Type 0} {t : Result TypeNo g.Told} → Holds (λ x. P) t → Holds (λ x. P) (nothing_of t)
+    nothing_holds : {P : Type 0} {t : Result TypeNo g.Reported} → Holds (λ x. P) t → Holds (λ x. P) (nothing_of t)
     nothing_holds p = then_holds p (λ x k. fine tt k)
 
-    heading_in : (s : Scope g.Told) (h : Heading) → ScopeOrdered base s → Holds (λ x. TypeIn (with_made s (heading_of g s h)).1 (with_made s (heading_of g s h)).0) (with_made s (heading_of g s h)).1
+    heading_in : (s : Scope g.Reported) (h : Heading) → ScopeOrdered base s → Holds (λ x. TypeIn (with_made s (heading_of g s h)).1 (with_made s (heading_of g s h)).0) (with_made s (heading_of g s h)).1
     heading_in s h k = type_in (with_made s (heading_of g s h)) (made_ordered base s (heading_ordered g base s k h))
 
-    procedure_ordered : (st : State (Unit {0}) g.Told) (h : Heading) → StateOrdered base st → StateOrdered base (with_procedure g st h)
+    procedure_ordered : (st : State (Unit {0}) g.Reported) (h : Heading) → StateOrdered base st → StateOrdered base (with_procedure g st h)
     procedure_ordered st h p =
-        let t : State TypeNo g.Told = with_made st.0 (heading_of g st.0 h) in
-        let d : State (Unit {0}) g.Told = declared_procedure g t.0 h.name t.1 in
+        let t : State TypeNo g.Reported = with_made st.0 (heading_of g st.0 h) in
+        let d : State (Unit {0}) g.Reported = declared_procedure g t.0 h.name t.1 in
         beside_then g (beside g (nothing_of t.1) d.1) p (λ k.
         beside_then g d.1 (nothing_holds (heading_in st.0 h k)) (λ q.
         let r : TypeIn t.1 (with_procedure_type t.0 t.1) = procedure_type_in t.0 t.1 q in
         const_holds (unless_ordered g base (with_procedure_type t.0 t.1) h.name (Declared Here (procedure_meaning t.0.types.home (length t.0.procedures) t.1)) r.0 (then_holds r.1 (λ u z. fine _ z))) d.1))
 
-    new_by : (b : Bool) (s : Scope g.Told) (name : List ℕ) (n : ℕ) (t : Result TypeNo g.Told) → TypeIn t s → ScopeOrdered base (cond b (module_procedure s name t) (headed name (nested_meaning s.level n t) s))
+    new_by : (b : Bool) (s : Scope g.Reported) (name : List ℕ) (n : ℕ) (t : Result TypeNo g.Reported) → TypeIn t s → ScopeOrdered base (cond b (module_procedure s name t) (headed name (nested_meaning s.level n t) s))
     new_by true s name n t h =
         let r : TypeIn t (with_procedure_type s t) = procedure_type_in s t h in
         known_ordered base (with_procedure_type s t) name (Headed (procedure_meaning s.types.home (length s.procedures) t)) r.0 (then_holds r.1 (λ u z. fine _ z))
     new_by false s name n t h = known_ordered base s name (Headed (nested_meaning s.level n t)) h.0 (then_holds h.1 (λ u z. fine _ z))
 
-    heading_by : (s : Scope g.Told) (h : Heading) (n : ℕ) (o : Standing) → name_standing (found h.name.name s.own) ≡ o → ScopeOrdered base s → StateOrdered base (headed_as g s h n (heading_of g s h) o)
+    heading_by : (s : Scope g.Reported) (h : Heading) (n : ℕ) (o : Standing) → name_standing (found h.name.name s.own) ≡ o → ScopeOrdered base s → StateOrdered base (headed_as g s h n (heading_of g s h) o)
     heading_by s h n Free e k =
-        let t : State TypeNo g.Told = with_made s (heading_of g s h) in
+        let t : State TypeNo g.Reported = with_made s (heading_of g s h) in
         then_holds (heading_in s h k) (λ x q. fine tt (new_by (t.0.level == 0) t.0 h.name.name n t.1 q))
     heading_by s h n (Awaited p) e k =
         const_holds (known_ordered base s h.name.name (Headed (Ok (meaning.Procedure p))) k (fine (meaning.Procedure p) (awaited_known s.types (found h.name.name s.own) p (name_found s.types h.name.name s.own k.names) e))) _
     heading_by s h n Taken e k = const_holds k _
 
-    with_heading_ordered : (s : Scope g.Told) (h : Heading) (n : ℕ) → ScopeOrdered base s → StateOrdered base (with_heading g s n h)
+    with_heading_ordered : (s : Scope g.Reported) (h : Heading) (n : ℕ) → ScopeOrdered base s → StateOrdered base (with_heading g s n h)
     with_heading_ordered s h n k = heading_by s h n (name_standing (found h.name.name s.own)) refl k
 
     -- ---- constants, types and variables
 
-    constant_ordered : (st : State (Unit {0}) g.Told) (c : Constant) → StateOrdered base st → StateOrdered base (with_constant g st c)
+    constant_ordered : (st : State (Unit {0}) g.Reported) (c : Constant) → StateOrdered base st → StateOrdered base (with_constant g st c)
     constant_ordered st c p =
-        let b : State (Unit {0}) g.Told = begun g st.0 c.name in
-        let v : Result Value g.Told = constant g b.0 (part g c.value) in
-        beside_then g (beside g b.1 (nothing_told v)) p (λ h.
-        beside_then g (nothing_told v) (begun_ordered st.0 c.name h) (λ k.
-        const_holds (finished_ordered base b.0 c.name (constant_meaning v) k (then_holds (any_holds v) (λ x q. fine (meaning.Constant x) tt))) (nothing_told v)))
+        let b : State (Unit {0}) g.Reported = begun g st.0 c.name in
+        let v : Result Value g.Reported = constant g b.0 (part g c.value) in
+        beside_then g (beside g b.1 (nothing_reported v)) p (λ h.
+        beside_then g (nothing_reported v) (begun_ordered st.0 c.name h) (λ k.
+        const_holds (finished_ordered base b.0 c.name (constant_meaning v) k (then_holds (any_holds v) (λ x q. fine (meaning.Constant x) tt))) (nothing_reported v)))
 
-    constants_ordered : (cs : List Constant) (st : State (Unit {0}) g.Told) → StateOrdered base st → StateOrdered base (fold (with_constant g) st cs)
+    constants_ordered : (cs : List Constant) (st : State (Unit {0}) g.Reported) → StateOrdered base st → StateOrdered base (fold (with_constant g) st cs)
     constants_ordered [] st p = p
     constants_ordered (c ∷ cs) st p = constants_ordered cs (with_constant g st c) (constant_ordered st c p)
 
-    type_ordered : (st : State (Unit {0}) g.Told) (d : TypeDecl) → StateOrdered base st → StateOrdered base (with_type g st d)
+    type_ordered : (st : State (Unit {0}) g.Reported) (d : TypeDecl) → StateOrdered base st → StateOrdered base (with_type g st d)
     type_ordered st d p =
-        let b : State (Unit {0}) g.Told = begun g st.0 d.name in
-        let t : State TypeNo g.Told = type_of g d.of b.0 in
+        let b : State (Unit {0}) g.Reported = begun g st.0 d.name in
+        let t : State TypeNo g.Reported = type_of g d.of b.0 in
         beside_then g (beside g b.1 (nothing_of t.1)) p (λ h.
         beside_then g (nothing_of t.1) (begun_ordered st.0 d.name h) (λ k.
         then_holds (type_in t (type_of_ordered g d.of base b.0 k)) (λ x q. fine tt (finished_ordered base t.0 d.name (type_meaning t.1 (brings_with d.of)) q.0 (then_holds q.1 (λ u z. fine _ z))))))
 
-    types_ordered : (ts : List TypeDecl) (st : State (Unit {0}) g.Told) → StateOrdered base st → StateOrdered base (fold (with_type g) st ts)
+    types_ordered : (ts : List TypeDecl) (st : State (Unit {0}) g.Reported) → StateOrdered base st → StateOrdered base (fold (with_type g) st ts)
     types_ordered [] st p = p
     types_ordered (t ∷ ts) st p = types_ordered ts (with_type g st t) (type_ordered st t p)
 
-    variable_list : (st : State (Unit {0}) g.Told) (v : Variables) → StateOrdered base st → StateOrdered base (with_variables g st v)
+    variable_list : (st : State (Unit {0}) g.Reported) (v : Variables) → StateOrdered base st → StateOrdered base (with_variables g st v)
     variable_list st v p =
-        let b : State (Unit {0}) g.Told = fold (begun_name g) st v.names in
-        let t : State TypeNo g.Told = type_of g v.of b.0 in
+        let b : State (Unit {0}) g.Reported = fold (begun_name g) st v.names in
+        let t : State TypeNo g.Reported = type_of g v.of b.0 in
         beside_then g (nothing_of t.1) (begun_all v.names st p) (λ k. then_holds (type_in t (type_of_ordered g v.of base b.0 k)) (λ x q. fine tt (variables_ordered t.1 v.names t.0 q).0))
 
-    variable_lists : (vs : List Variables) (st : State (Unit {0}) g.Told) → StateOrdered base st → StateOrdered base (fold (with_variables g) st vs)
+    variable_lists : (vs : List Variables) (st : State (Unit {0}) g.Reported) → StateOrdered base st → StateOrdered base (fold (with_variables g) st vs)
     variable_lists [] st p = p
     variable_lists (v ∷ vs) st p = variable_lists vs (with_variables g st v) (variable_list st v p)
 
-    local_list : (st : State (Unit {0}) g.Told) (v : Variables) → StateOrdered base st → StateOrdered base (with_locals g st v)
+    local_list : (st : State (Unit {0}) g.Reported) (v : Variables) → StateOrdered base st → StateOrdered base (with_locals g st v)
     local_list st v p =
-        let b : State (Unit {0}) g.Told = fold (begun_name g) st v.names in
-        let t : State TypeNo g.Told = type_of g v.of b.0 in
+        let b : State (Unit {0}) g.Reported = fold (begun_name g) st v.names in
+        let t : State TypeNo g.Reported = type_of g v.of b.0 in
         beside_then g (nothing_of t.1) (begun_all v.names st p) (λ k. then_holds (type_in t (type_of_ordered g v.of base b.0 k)) (λ x q. fine tt (locals_ordered t.1 v.names t.0 q).0))
 
-    local_lists : (vs : List Variables) (st : State (Unit {0}) g.Told) → StateOrdered base st → StateOrdered base (fold (with_locals g) st vs)
+    local_lists : (vs : List Variables) (st : State (Unit {0}) g.Reported) → StateOrdered base st → StateOrdered base (fold (with_locals g) st vs)
     local_lists [] st p = p
     local_lists (v ∷ vs) st p = local_lists vs (with_locals g st v) (local_list st v p)
 
-    variables_by : (b : Bool) (st : State (Unit {0}) g.Told) (vs : List Variables) → StateOrdered base st → StateOrdered base (cond {A = State (Unit {0}) g.Told} b (fold (with_variables g) st vs) (fold (with_locals g) st vs))
+    variables_by : (b : Bool) (st : State (Unit {0}) g.Reported) (vs : List Variables) → StateOrdered base st → StateOrdered base (cond {A = State (Unit {0}) g.Reported} b (fold (with_variables g) st vs) (fold (with_locals g) st vs))
     variables_by true st vs p = variable_lists vs st p
     variables_by false st vs p = local_lists vs st p
 
     -- ---- a declaration of a definition, and one of a block
 
-    pub def_ordered : (st : State (Unit {0}) g.Told) → StateOrdered base st → (d : Def) → StateOrdered base (with_def g st d)
+    pub def_ordered : (st : State (Unit {0}) g.Reported) → StateOrdered base st → (d : Def) → StateOrdered base (with_def g st d)
     def_ordered st p (def.Constants cs) = constants_ordered cs st p
     def_ordered st p (def.Types ts) = types_ordered ts st p
     def_ordered st p (def.Variables vs) = variable_lists vs st p
     def_ordered st p (def.Procedure h) = procedure_ordered st h p
 
-    pub decl_ordered : {A B : Type 0} (ends : List ℕ) (c : Course g.Told) → StateOrdered base (c.0, c.1) → (y : Decl-F A B) → StateOrdered base (let n = decl_layer g ends c y in (n.0, n.1))
+    pub decl_ordered : {A B : Type 0} (ends : List ℕ) (c : Course g.Reported) → StateOrdered base (c.0, c.1) → (y : Decl-F A B) → StateOrdered base (let n = decl_layer g ends c y in (n.0, n.1))
     decl_ordered ends c p (layer.Constants cs) = constants_ordered cs (c.0, c.1) p
     decl_ordered ends c p (layer.Types ts) = types_ordered ts (c.0, c.1) p
     decl_ordered ends c p (layer.Variables vs) = variables_by (c.0.level == 0) (c.0, c.1) vs p

@@ -21,12 +21,12 @@ use Rattle.m2_typed.specs.declared.shape.Made.{Made}
 use Rattle.m2_typed.specs.declared.known_types.Types.{Types}
 use Rattle.m2_typed.specs.Known.{cells_at}
 use Rattle.m2_typed.specs.Names.{found, entered, same_name}
-use Rattle.m2_judged.specs.declared.known.Known.{Known}
-use Rattle.m2_judged.specs.declared.known.Known.TheVariants.{Declared}
-use Rattle.m2_judged.specs.declared.known.Origin.TheVariants.{Here}
-use Rattle.m2_judged.specs.declared.scope.Scope.{Scope}
-use Rattle.m2_judged.specs.Scopes.{State, declared}
-use Rattle.m2_judged.specs.Judged.{Gathers, told, both, beside}
+use Rattle.m2_scopes.specs.declared.known.Known.{Known}
+use Rattle.m2_scopes.specs.declared.known.Known.TheVariants.{Declared}
+use Rattle.m2_scopes.specs.declared.known.Origin.TheVariants.{Here}
+use Rattle.m2_scopes.specs.declared.scope.Scope.{Scope}
+use Rattle.m2_scopes.specs.Scopes.{State, declared}
+use Rattle.m2_scopes.specs.Elaborated.{Gathers, reported, both, beside}
 use Rattle.m2_constants.specs.Parts.{part}
 use Rattle.m2_made.specs.declared.field.Fields.{Fields}
 use Rattle.m2_made.specs.Cells.{array_cells, count_at}
@@ -46,12 +46,12 @@ use Rattle.m2_formed_order.proofs.Named.{named_ordered, known_ordered, unless_as
 -- ---- results in order
 
 module _ (g : Gathers) where
-  both_one : {A B : Type 0} (P : A → Type 0) {Q : B → Type 0} (x : A) {b : Result B g.Told} → P x → Holds Q b → Holds (λ (z : A × B). P z.0 × Q z.1) (both g (Ok x) b)
+  both_one : {A B : Type 0} (P : A → Type 0) {Q : B → Type 0} (x : A) {b : Result B g.Reported} → P x → Holds Q b → Holds (λ (z : A × B). P z.0 × Q z.1) (both g (Ok x) b)
   both_one P x p (fine y q) = fine (x, y) (p, q)
   both_one P x p (broken e) = broken e
 
   -- where the second holds because the first does
-  pub both_on : {A B : Type 0} {P : A → Type 0} {Q : B → Type 0} {a : Result A g.Told} (b : Result B g.Told) → Holds P a → ((x : A) → P x → Holds Q b) → Holds (λ (z : A × B). P z.0 × Q z.1) (both g a b)
+  pub both_on : {A B : Type 0} {P : A → Type 0} {Q : B → Type 0} {a : Result A g.Reported} (b : Result B g.Reported) → Holds P a → ((x : A) → P x → Holds Q b) → Holds (λ (z : A × B). P z.0 × Q z.1) (both g a b)
   both_on b (fine x p) k = both_one _ x p (k x p)
   both_on (Ok y) (broken e) k = broken e
   both_on (Err f) (broken e) k = broken (g.join e f)
@@ -102,27 +102,27 @@ made_ordered base s (broken e) = broken e
 module _ (g : Gathers) (base : Types) where
   -- ---- enumerations
 
-  abbrev Listing : TypeNo → Scope g.Told → Type 0
+  abbrev Listing : TypeNo → Scope g.Reported → Type 0
   Listing t s = ScopeOrdered base s × (is_known s.types t ≡ true)
 
-  listed_one : (t : TypeNo) (l : Scope g.Told × ℕ × Result (Unit {0}) g.Told) (x : Ident) → Holds (λ u. Listing t l.0) l.2 → Holds (λ u. Listing t (listed g t l x).0) (listed g t l x).2
+  listed_one : (t : TypeNo) (l : Scope g.Reported × ℕ × Result (Unit {0}) g.Reported) (x : Ident) → Holds (λ u. Listing t l.0) l.2 → Holds (λ u. Listing t (listed g t l x).0) (listed g t l x).2
   listed_one t l x p =
-      let m : Known g.Told = Declared Here (Ok (enumeration_constant t (pos l.1))) in
+      let m : Known g.Reported = Declared Here (Ok (enumeration_constant t (pos l.1))) in
       beside_then g (declared g l.0 x (Ok (enumeration_constant t (pos l.1)))).1 p (λ q.
       const_holds (unless_as g (Listing t) l.0 x m q (known_ordered base l.0 x.name m q.0 (fine _ tt), q.1)) (declared g l.0 x (Ok (enumeration_constant t (pos l.1)))).1)
 
-  listed_all : (t : TypeNo) (names : List Ident) (l : Scope g.Told × ℕ × Result (Unit {0}) g.Told) → Holds (λ u. Listing t l.0) l.2 → Holds (λ u. Listing t (fold (listed g t) l names).0) (fold (listed g t) l names).2
+  listed_all : (t : TypeNo) (names : List Ident) (l : Scope g.Reported × ℕ × Result (Unit {0}) g.Reported) → Holds (λ u. Listing t l.0) l.2 → Holds (λ u. Listing t (fold (listed g t) l names).0) (fold (listed g t) l names).2
   listed_all t [] l p = p
   listed_all t (x ∷ xs) l p = listed_all t xs (listed g t l x) (listed_one t l x p)
 
-  enumeration_ordered : (s : Scope g.Told) (names : List Ident) → ScopeOrdered base s → MadeOrdered base (enumeration g s names)
+  enumeration_ordered : (s : Scope g.Reported) (names : List Ident) → ScopeOrdered base s → MadeOrdered base (enumeration g s names)
   enumeration_ordered s names h =
       let x : Made = enumeration_scalar (next_type s) names in
       then_holds (listed_all (next_type s) names (with_shape s x, 0, too_many g names) (const_holds (scope_more base s x h (tt, tt), next_known s x) (too_many g names))) (λ u k. fine (next_type s) k)
 
   -- ---- procedure types
 
-  module _ (s : Scope g.Told) (h : ScopeOrdered base s) where
+  module _ (s : Scope g.Reported) (h : ScopeOrdered base s) where
     pub formal_ordered : (is_var : Bool) (f : FormalType) → Holds (λ x. is_known s.types x.of ≡ true) (formal_of g s is_var f)
     formal_ordered is_var f = then_holds (named_ordered g base s h f.of) (λ t p. fine _ p)
 
@@ -130,17 +130,17 @@ module _ (g : Gathers) (base : Types) where
     result_ordered None = fine None tt
     result_ordered (Some q) = then_holds (named_ordered g base s h q) (λ t p. where_holds g _ (first_of q) 33 (fine (Some t) (p, tt)))
 
-    abbrev FormalsOrdered : Result (List Formal) g.Told → Type 0
+    abbrev FormalsOrdered : Result (List Formal) g.Reported → Type 0
     FormalsOrdered r = Holds (λ fs. AreKnown s.types (of_formals fs)) r
 
-    procedure_ordered : (formals : Result (List Formal) g.Told) (of : Option Qualified) → FormalsOrdered formals → Holds (λ m. ScopeOrdered base s × ShapeOrdered s m) (procedure_made g formals (result_of g s of))
+    procedure_ordered : (formals : Result (List Formal) g.Reported) (of : Option Qualified) → FormalsOrdered formals → Holds (λ m. ScopeOrdered base s × ShapeOrdered s m) (procedure_made g formals (result_of g s of))
     procedure_ordered formals of p =
         then_holds (both_holds g p (result_ordered of)) (λ x k. fine _ (h, (each_append (λ t. is_known s.types t ≡ true) (of_formals x.0) (result_named x.1) k.0 k.1, tt)))
 
-    joined_ordered : (so : Result (List Formal) g.Told) (f : Result Formal g.Told) → FormalsOrdered so → Holds (λ x. is_known s.types x.of ≡ true) f → FormalsOrdered (joined_formal g so f)
+    joined_ordered : (so : Result (List Formal) g.Reported) (f : Result Formal g.Reported) → FormalsOrdered so → Holds (λ x. is_known s.types x.of ≡ true) f → FormalsOrdered (joined_formal g so f)
     joined_ordered so f p q = then_holds (both_holds g p q) (λ x k. fine _ (formals_more s.types x.0 (x.1 ∷ []) k.0 (k.1, tt)))
 
-    parameters_ordered : (ps : List Parameter) (so : Result (List Formal) g.Told) → FormalsOrdered so → FormalsOrdered (fold (with_parameter g s) so ps)
+    parameters_ordered : (ps : List Parameter) (so : Result (List Formal) g.Reported) → FormalsOrdered so → FormalsOrdered (fold (with_parameter g s) so ps)
     parameters_ordered [] so p = p
     parameters_ordered (x ∷ ps) so p = parameters_ordered ps (with_parameter g s so x) (joined_ordered so (formal_of g s x.is_var x.of) p (formal_ordered x.is_var x.of))
 
@@ -149,10 +149,10 @@ module _ (g : Gathers) (base : Types) where
 
     -- ---- headings
 
-    repeated_ordered : (so : Result (List Formal) g.Told) (f : Result Formal g.Told) (names : List Ident) → FormalsOrdered so → Holds (λ x. is_known s.types x.of ≡ true) f → FormalsOrdered (joined_formals g so f names)
+    repeated_ordered : (so : Result (List Formal) g.Reported) (f : Result Formal g.Reported) (names : List Ident) → FormalsOrdered so → Holds (λ x. is_known s.types x.of ≡ true) f → FormalsOrdered (joined_formals g so f names)
     repeated_ordered so f names p q = then_holds (both_holds g p q) (λ x k. fine _ (formals_more s.types x.0 (repeated x.1 names) k.0 (formals_repeated s.types x.1 names k.1)))
 
-    sections_ordered : (xs : List Section) (st : Fields × Result (Unit {0}) g.Told × Result (List Formal) g.Told) → FormalsOrdered st.2 → FormalsOrdered (fold (with_section g s) st xs).2
+    sections_ordered : (xs : List Section) (st : Fields × Result (Unit {0}) g.Reported × Result (List Formal) g.Reported) → FormalsOrdered st.2 → FormalsOrdered (fold (with_section g s) st xs).2
     sections_ordered [] st p = p
     sections_ordered (x ∷ xs) st p = sections_ordered xs (with_section g s st x) (repeated_ordered st.2 (formal_of g s x.is_var x.of) x.names p (formal_ordered x.is_var x.of))
 
@@ -162,20 +162,20 @@ module _ (g : Gathers) (base : Types) where
 
   -- ---- simple types
 
-  simple_ordered : (s : Scope g.Told) → ScopeOrdered base s → (t : Simple) → MadeOrdered base (simple_type g s t)
+  simple_ordered : (s : Scope g.Reported) → ScopeOrdered base s → (t : Simple) → MadeOrdered base (simple_type g s t)
   simple_ordered s h (simple.Named q) = holds_weaker (λ t p. (h, p)) (named_ordered g base s h q)
   simple_ordered s h (simple.Enumeration at names) = enumeration_ordered s names h
   simple_ordered s h (simple.Subrange of at low high) = made_ordered base s (then_holds (any_holds (subrange g s of (part g low) (part g high))) (λ r k. fine _ (h, (tt, tt))))
 
-  index_ordered : (s : Scope g.Told) → ScopeOrdered base s → (t : Simple) → MadeOrdered base (index_type g s t)
+  index_ordered : (s : Scope g.Reported) → ScopeOrdered base s → (t : Simple) → MadeOrdered base (index_type g s t)
   index_ordered s h t = then_holds (simple_ordered s h t) (λ x k. where_holds g _ (simple_place t) 36 (fine x k))
 
   -- ---- arrays
 
-  array_plain : (s : Scope g.Told) (at : Pos) (i e : TypeNo) → ScopeOrdered base s → is_known s.types i ≡ true → is_known s.types e ≡ true → Holds (λ m. ScopeOrdered base s × ShapeOrdered s m) (array_in g s.types at i e)
+  array_plain : (s : Scope g.Reported) (at : Pos) (i e : TypeNo) → ScopeOrdered base s → is_known s.types i ≡ true → is_known s.types e ≡ true → Holds (λ m. ScopeOrdered base s × ShapeOrdered s m) (array_in g s.types at i e)
   array_plain s at i e h p q = then_holds (any_holds (array_cells g at (count_at s.types i) (cells_at s.types e))) (λ n k. fine _ (h, ((p, (q, tt)), tt)))
 
-  array_ordered : (at : Pos) (i : State TypeNo g.Told) (f : Makes g) → MadeOrdered base i → (ScopeOrdered i.0.types i.0 → MadeOrdered i.0.types (f i.0)) → MadeOrdered base (array_type g at i f)
+  array_ordered : (at : Pos) (i : State TypeNo g.Reported) (f : Makes g) → MadeOrdered base i → (ScopeOrdered i.0.types i.0 → MadeOrdered i.0.types (f i.0)) → MadeOrdered base (array_type g at i f)
   array_ordered at i f p k =
       made_ordered base (f i.0).0 (then_holds (both_on g (f i.0).1 p (λ x h. k (based_here base i.0 h.0))) (λ x h.
       array_plain (f i.0).0 at x.0 x.1 (based_on base i.0.types (f i.0).0 h.0.0.started h.1.0) (known_kept i.0.types (f i.0).0.types h.1.0.started x.0 h.0.1) h.1.1))
@@ -186,30 +186,30 @@ module _ (g : Gathers) (base : Types) where
   FieldsKnown types fs = AreKnown types (map (λ f. f.1) fs.names) × StandOnce fs.names
 
   -- the fields so far
-  abbrev FieldsOrdered : Scope g.Told × Fields × Result (Unit {0}) g.Told → Type 0
+  abbrev FieldsOrdered : Scope g.Reported × Fields × Result (Unit {0}) g.Reported → Type 0
   FieldsOrdered st = Holds (λ x. ScopeOrdered base st.0 × FieldsKnown st.0.types st.1) st.2
 
-  record_ordered : (at : Pos) (st : Scope g.Told × Fields × Result (Unit {0}) g.Told) → FieldsOrdered st → MadeOrdered base (record_type g at st)
+  record_ordered : (at : Pos) (st : Scope g.Reported × Fields × Result (Unit {0}) g.Reported) → FieldsOrdered st → MadeOrdered base (record_type g at st)
   record_ordered at st p = made_ordered base st.0 (then_holds p (λ x h. where_holds g (nat_lt 131072 st.1.cells) at 38 (fine _ h)))
 
-  field_by : (types : Types) (b : Bool) (fs more : Fields) (name : Ident) → FieldsKnown types fs → FieldsKnown types more → FieldsKnown types (cond {A = Fields × Result (Unit {0}) g.Told} b (fs, told g name.pos 31) (more, Ok tt)).0
+  field_by : (types : Types) (b : Bool) (fs more : Fields) (name : Ident) → FieldsKnown types fs → FieldsKnown types more → FieldsKnown types (cond {A = Fields × Result (Unit {0}) g.Reported} b (fs, reported g name.pos 31) (more, Ok tt)).0
   field_by types true fs more name p q = p
   field_by types false fs more name p q = q
 
   field_ordered : (types : Types) (t : TypeNo) (cells : ℕ) (fs : Fields) (name : Ident) → is_known types t ≡ true → FieldsKnown types fs → FieldsKnown types (with_field g t cells fs name).0
   field_ordered types t cells fs name e p = field_by types (is_some (found name.name fs.names)) fs _ name p (entered_known types name.name t fs.names e p.0, once_entered name.name t fs.names p.1)
 
-  names_ordered : (P : Type 0) (types : Types) (t : TypeNo) (cells : ℕ) (names : List Ident) (st : Fields × Result (Unit {0}) g.Told) → Holds (λ x. (P × (is_known types t ≡ true)) × FieldsKnown types st.0) st.1
+  names_ordered : (P : Type 0) (types : Types) (t : TypeNo) (cells : ℕ) (names : List Ident) (st : Fields × Result (Unit {0}) g.Reported) → Holds (λ x. (P × (is_known types t ≡ true)) × FieldsKnown types st.0) st.1
       → Holds (λ x. (P × (is_known types t ≡ true)) × FieldsKnown types (fold (with_name g t cells) st names).0) (fold (with_name g t cells) st names).1
   names_ordered P types t cells [] st p = p
   names_ordered P types t cells (x ∷ xs) st p =
       names_ordered P types t cells xs (with_name g t cells st x) (beside_then g (with_field g t cells st.0 x).1 p (λ q. const_holds (q.0, field_ordered types t cells st.0 x q.0.1 q.1) (with_field g t cells st.0 x).1))
 
-  type_given : {P : TypeNo → Type 0} {t : Result TypeNo g.Told} → Holds P t → Holds (λ x. P (field_type t)) (nothing_of t)
+  type_given : {P : TypeNo → Type 0} {t : Result TypeNo g.Reported} → Holds P t → Holds (λ x. P (field_type t)) (nothing_of t)
   type_given (fine x p) = fine tt p
   type_given (broken e) = broken e
 
-  list_ordered : (s : Scope g.Told) (m : State TypeNo g.Told) (names : List Ident) (fs : Fields) (before : Result (Unit {0}) g.Told) → FieldsOrdered (s, fs, before) → (ScopeOrdered s.types s → MadeOrdered s.types m) → FieldsOrdered (fields_named g m names fs before)
+  list_ordered : (s : Scope g.Reported) (m : State TypeNo g.Reported) (names : List Ident) (fs : Fields) (before : Result (Unit {0}) g.Reported) → FieldsOrdered (s, fs, before) → (ScopeOrdered s.types s → MadeOrdered s.types m) → FieldsOrdered (fields_named g m names fs before)
   list_ordered s m names fs before p k =
       let of : TypeNo = field_type m.1 in
       holds_weaker (λ x q. (q.0.0, q.1)) (names_ordered (ScopeOrdered base m.0) m.0.types of (cells_at m.0.types of) names (fs, beside g before (nothing_of m.1)) (beside_then g (nothing_of m.1) p (λ q.
@@ -219,10 +219,10 @@ module _ (g : Gathers) (base : Types) where
 
 module _ (g : Gathers) where
   abbrev OrderedMakes : Makes g → Type 0
-  OrderedMakes f = (base : Types) (s : Scope g.Told) → ScopeOrdered base s → MadeOrdered base (f s)
+  OrderedMakes f = (base : Types) (s : Scope g.Reported) → ScopeOrdered base s → MadeOrdered base (f s)
 
   abbrev OrderedFields : MakesFields g → Type 0
-  OrderedFields f = (base : Types) (st : Scope g.Told × Fields × Result (Unit {0}) g.Told) → FieldsOrdered g base st → FieldsOrdered g base (f st)
+  OrderedFields f = (base : Types) (st : Scope g.Reported × Fields × Result (Unit {0}) g.Reported) → FieldsOrdered g base st → FieldsOrdered g base (f st)
 
   abbrev PT : TypeExpr → Type 0
   PT t = OrderedMakes (type_of g t)
@@ -256,7 +256,7 @@ module _ (g : Gathers) where
   abbrev bare_field : Field-F ST SF → Field-F TypeExpr Field
   bare_field x = map-Field ST SF TypeExpr Field (λ t. t.0) (λ f. f.0) x
 
-  fields_all : (base : Types) (fs : List SF) (st : Scope g.Told × Fields × Result (Unit {0}) g.Told) → FieldsOrdered g base st → FieldsOrdered g base (fold (then_fields g) st (map (field_list g) (map (λ (f : SF). f.0) fs)))
+  fields_all : (base : Types) (fs : List SF) (st : Scope g.Reported × Fields × Result (Unit {0}) g.Reported) → FieldsOrdered g base st → FieldsOrdered g base (fold (then_fields g) st (map (field_list g) (map (λ (f : SF). f.0) fs)))
   fields_all base [] st p = p
   fields_all base (f ∷ fs) st p = fields_all base fs (field_list g f.0 st) (f.1 base st p)
 

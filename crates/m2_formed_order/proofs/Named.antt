@@ -12,17 +12,17 @@ use Rattle.m2_typed.specs.declared.meaning.Meaning.TheVariants as meaning
 use Rattle.m2_typed.specs.declared.table.Table.{Table}
 use Rattle.m2_typed.specs.declared.known_types.Types.{Types}
 use Rattle.m2_typed.specs.Names.{found, place_of, entered, same_name}
-use Rattle.m2_judged.specs.declared.known.Known.{Known}
-use Rattle.m2_judged.specs.declared.known.Known.TheVariants.{Later, Ahead, Begun, Headed, Declared}
-use Rattle.m2_judged.specs.declared.known.Origin.TheVariants.{Here}
-use Rattle.m2_judged.specs.declared.scope.Block.{Block}
-use Rattle.m2_judged.specs.declared.scope.Scope.{Scope}
-use Rattle.m2_judged.specs.Scopes.{State, Sight, or_outside, seen_at, in_block, nearer, known_outside, or_around, known, means_seen, means_as, opened, means_or, looked_up, is_free, with_known, unless_declared, is_begun, finished, unless_marked, marked}
-use Rattle.m2_judged.specs.Judged.{Gathers, told}
+use Rattle.m2_scopes.specs.declared.known.Known.{Known}
+use Rattle.m2_scopes.specs.declared.known.Known.TheVariants.{Later, Ahead, Begun, Headed, Declared}
+use Rattle.m2_scopes.specs.declared.known.Origin.TheVariants.{Here}
+use Rattle.m2_scopes.specs.declared.scope.Block.{Block}
+use Rattle.m2_scopes.specs.declared.scope.Scope.{Scope}
+use Rattle.m2_scopes.specs.Scopes.{State, Sight, or_outside, seen_at, in_block, nearer, known_outside, or_around, known, means_seen, means_as, opened, means_or, looked_up, is_free, with_known, unless_declared, is_begun, finished, unless_marked, marked}
+use Rattle.m2_scopes.specs.Elaborated.{Gathers, reported}
 use Rattle.m2_constants.specs.Denote.{exported_by, exported, member}
 use Rattle.m2_made.specs.Named.{type_meant, in_module, of_module, named_type}
 use Rattle.m2_formed.specs.Formed.{Holds, fine}
-use Rattle.m2_formed.proofs.Basics.{then_holds, told_holds}
+use Rattle.m2_formed.proofs.Basics.{then_holds, reported_holds}
 use Rattle.m2_formed_types.specs.Ordered.{is_known}
 use Rattle.m2_formed_order.specs.FormedOrder.{MeaningOrdered, KnownOrdered, NamesOrdered, BlocksOrdered, ExportsOrdered, TablesOrdered, ScopeOrdered}
 
@@ -85,32 +85,32 @@ module _ (types : Types) where
 
 module _ (g : Gathers) where
   exported_ordered : (types : Types) (at : Pos) (o : Option Meaning) → OptionOrdered types o → Holds (MeaningOrdered types) (exported g at o)
-  exported_ordered types at None p = told_holds g at 32
+  exported_ordered types at None p = reported_holds g at 32
   exported_ordered types at (Some m) p = fine m p
 
   pub member_ordered : (types : Types) (ts : List Table) (k : ℕ) (name : Ident) → TablesOrdered types ts → Holds (MeaningOrdered types) (member g ts k name)
   member_ordered types ts k name h = exported_ordered types name.pos (exported_by name.name (slice_get ts k)) (table_found types name.name ts k h)
 
-  means_by : (types : Types) (at : Pos) (b : Bool) (r : Result Meaning g.Told) → Holds (MeaningOrdered types) r → Holds (MeaningOrdered types) (cond b r (told g at 30))
+  means_by : (types : Types) (at : Pos) (b : Bool) (r : Result Meaning g.Reported) → Holds (MeaningOrdered types) r → Holds (MeaningOrdered types) (cond b r (reported g at 30))
   means_by types at true r p = p
-  means_by types at false r p = told_holds g at 30
+  means_by types at false r p = reported_holds g at 30
 
-  means_ordered : (types : Types) (at : Pos) (k : Known g.Told) (b : Bool) → KnownOrdered types k → Holds (MeaningOrdered types) (means_seen g at k b)
-  means_ordered types at Later b p = told_holds g at 30
+  means_ordered : (types : Types) (at : Pos) (k : Known g.Reported) (b : Bool) → KnownOrdered types k → Holds (MeaningOrdered types) (means_seen g at k b)
+  means_ordered types at Later b p = reported_holds g at 30
   means_ordered types at Ahead b p = fine meaning.Ahead tt
-  means_ordered types at Begun b p = told_holds g at 30
+  means_ordered types at Begun b p = reported_holds g at 30
   means_ordered types at (Headed r) b p = p
   means_ordered types at (Declared o r) b p = means_by types at b r p
 
-  sight_means : (types : Types) (at : Pos) (o : Sight g.Told) → SightOrdered types o → Holds (MeaningOrdered types) (means_as g at o)
-  sight_means types at None p = told_holds g at 30
+  sight_means : (types : Types) (at : Pos) (o : Sight g.Reported) → SightOrdered types o → Holds (MeaningOrdered types) (means_as g at o)
+  sight_means types at None p = reported_holds g at 30
   sight_means types at (Some k) p = means_ordered types at k.0 k.1 p
 
-  or_field : (types : Types) (o : Option OpenedField) (r : Result Meaning g.Told) → Holds (MeaningOrdered types) r → Holds (MeaningOrdered types) (means_or o r)
+  or_field : (types : Types) (o : Option OpenedField) (r : Result Meaning g.Reported) → Holds (MeaningOrdered types) r → Holds (MeaningOrdered types) (means_or o r)
   or_field types (Some f) r p = fine (meaning.Field f) tt
   or_field types None r p = p
 
-  pub looked_ordered : (base : Types) (s : Scope g.Told) → ScopeOrdered base s → (name : Ident) → Holds (MeaningOrdered s.types) (looked_up g s name)
+  pub looked_ordered : (base : Types) (s : Scope g.Reported) → ScopeOrdered base s → (name : Ident) → Holds (MeaningOrdered s.types) (looked_up g s name)
   looked_ordered base s h name =
       or_field s.types (opened s.types name.name s.withs) (means_as g name.pos (known name.name s))
       (sight_means s.types name.pos (known name.name s)
@@ -120,33 +120,33 @@ module _ (g : Gathers) where
 
   type_ordered : (types : Types) (at : Pos) (m : Meaning) → MeaningOrdered types m → Holds (λ t. is_known types t ≡ true) (type_meant g at m)
   type_ordered types at (meaning.Type t n) p = fine t p
-  type_ordered types at (meaning.Constant v) p = told_holds g at 33
-  type_ordered types at (meaning.Variable v) p = told_holds g at 33
-  type_ordered types at (meaning.Local v) p = told_holds g at 33
-  type_ordered types at (meaning.Field f) p = told_holds g at 33
-  type_ordered types at (meaning.Procedure q) p = told_holds g at 33
-  type_ordered types at (meaning.LocalProcedure q) p = told_holds g at 33
-  type_ordered types at meaning.Ahead p = told_holds g at 33
-  type_ordered types at (meaning.Standard f) p = told_holds g at 33
-  type_ordered types at (meaning.Module k) p = told_holds g at 33
+  type_ordered types at (meaning.Constant v) p = reported_holds g at 33
+  type_ordered types at (meaning.Variable v) p = reported_holds g at 33
+  type_ordered types at (meaning.Local v) p = reported_holds g at 33
+  type_ordered types at (meaning.Field f) p = reported_holds g at 33
+  type_ordered types at (meaning.Procedure q) p = reported_holds g at 33
+  type_ordered types at (meaning.LocalProcedure q) p = reported_holds g at 33
+  type_ordered types at meaning.Ahead p = reported_holds g at 33
+  type_ordered types at (meaning.Standard f) p = reported_holds g at 33
+  type_ordered types at (meaning.Module k) p = reported_holds g at 33
 
-  in_module_ordered : (s : Scope g.Told) (at : Pos) (name : Ident) (m : Meaning) → TablesOrdered s.types s.tables → Holds (λ t. is_known s.types t ≡ true) (in_module g s at name m)
+  in_module_ordered : (s : Scope g.Reported) (at : Pos) (name : Ident) (m : Meaning) → TablesOrdered s.types s.tables → Holds (λ t. is_known s.types t ≡ true) (in_module g s at name m)
   in_module_ordered s at name (meaning.Module k) h = then_holds (member_ordered s.types s.tables k name h) (λ m p. type_ordered s.types at m p)
-  in_module_ordered s at name (meaning.Type t n) h = told_holds g at 33
-  in_module_ordered s at name (meaning.Constant v) h = told_holds g at 33
-  in_module_ordered s at name (meaning.Variable v) h = told_holds g at 33
-  in_module_ordered s at name (meaning.Local v) h = told_holds g at 33
-  in_module_ordered s at name (meaning.Field f) h = told_holds g at 33
-  in_module_ordered s at name (meaning.Procedure q) h = told_holds g at 33
-  in_module_ordered s at name (meaning.LocalProcedure q) h = told_holds g at 33
-  in_module_ordered s at name meaning.Ahead h = told_holds g at 33
-  in_module_ordered s at name (meaning.Standard f) h = told_holds g at 33
+  in_module_ordered s at name (meaning.Type t n) h = reported_holds g at 33
+  in_module_ordered s at name (meaning.Constant v) h = reported_holds g at 33
+  in_module_ordered s at name (meaning.Variable v) h = reported_holds g at 33
+  in_module_ordered s at name (meaning.Local v) h = reported_holds g at 33
+  in_module_ordered s at name (meaning.Field f) h = reported_holds g at 33
+  in_module_ordered s at name (meaning.Procedure q) h = reported_holds g at 33
+  in_module_ordered s at name (meaning.LocalProcedure q) h = reported_holds g at 33
+  in_module_ordered s at name meaning.Ahead h = reported_holds g at 33
+  in_module_ordered s at name (meaning.Standard f) h = reported_holds g at 33
 
-  of_module_ordered : (base : Types) (s : Scope g.Told) → ScopeOrdered base s → (o : Option Ident) (name : Ident) → Holds (λ t. is_known s.types t ≡ true) (of_module g s o name)
+  of_module_ordered : (base : Types) (s : Scope g.Reported) → ScopeOrdered base s → (o : Option Ident) (name : Ident) → Holds (λ t. is_known s.types t ≡ true) (of_module g s o name)
   of_module_ordered base s h None name = then_holds (looked_ordered base s h name) (λ m p. type_ordered s.types name.pos m p)
   of_module_ordered base s h (Some home) name = then_holds (looked_ordered base s h home) (λ m p. in_module_ordered s home.pos name m h.tables)
 
-  pub named_ordered : (base : Types) (s : Scope g.Told) → ScopeOrdered base s → (q : Qualified) → Holds (λ t. is_known s.types t ≡ true) (named_type g s q)
+  pub named_ordered : (base : Types) (s : Scope g.Reported) → ScopeOrdered base s → (q : Qualified) → Holds (λ t. is_known s.types t ≡ true) (named_type g s q)
   named_ordered base s h q = of_module_ordered base s h q.module q.name
 
 -- ---- one name more
@@ -164,14 +164,14 @@ known_ordered base s name k h p = record { started = h.started; types = h.types;
 
 module _ (g : Gathers) where
   -- what is asked of a scope holds of it with one name more
-  unless_by : (P : Scope g.Told → Type 0) (s : Scope g.Told) (name : Ident) (b : Bool) (k : Known g.Told) → P s → P (with_known name.name k s) → P (cond {A = State (Unit {0}) g.Told} b (with_known name.name k s, Ok tt) (s, told g name.pos 31)).0
+  unless_by : (P : Scope g.Reported → Type 0) (s : Scope g.Reported) (name : Ident) (b : Bool) (k : Known g.Reported) → P s → P (with_known name.name k s) → P (cond {A = State (Unit {0}) g.Reported} b (with_known name.name k s, Ok tt) (s, reported g name.pos 31)).0
   unless_by P s name true k h p = p
   unless_by P s name false k h p = h
 
-  pub unless_as : (P : Scope g.Told → Type 0) (s : Scope g.Told) (name : Ident) (k : Known g.Told) → P s → P (with_known name.name k s) → P (unless_declared g s name k).0
+  pub unless_as : (P : Scope g.Reported → Type 0) (s : Scope g.Reported) (name : Ident) (k : Known g.Reported) → P s → P (with_known name.name k s) → P (unless_declared g s name k).0
   unless_as P s name k h p = unless_by P s name (is_free (found name.name s.own)) k h p
 
-  pub unless_ordered : (base : Types) (s : Scope g.Told) (name : Ident) (k : Known g.Told) → ScopeOrdered base s → KnownOrdered s.types k → ScopeOrdered base (unless_declared g s name k).0
+  pub unless_ordered : (base : Types) (s : Scope g.Reported) (name : Ident) (k : Known g.Reported) → ScopeOrdered base s → KnownOrdered s.types k → ScopeOrdered base (unless_declared g s name k).0
   unless_ordered base s name k h p = unless_as (λ x. ScopeOrdered base x) s name k h (known_ordered base s name.name k h p)
 
 as_by : {T : Type 0} (P : Scope T → Type 0) (s now : Scope T) (b : Bool) → P s → P now → P (cond b now s)

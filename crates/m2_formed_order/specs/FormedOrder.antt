@@ -16,12 +16,12 @@ use Rattle.m2_typed.specs.declared.meaning.Meaning.TheVariants as meaning
 use Rattle.m2_typed.specs.declared.table.Table.{Table}
 use Rattle.m2_typed.specs.declared.known_types.Types.{Types}
 use Rattle.m2_typed.specs.Names.{same_name}
-use Rattle.m2_judged.specs.declared.known.Known.{Known}
-use Rattle.m2_judged.specs.declared.known.Known.TheVariants.{Later, Ahead, Begun, Headed, Declared}
-use Rattle.m2_judged.specs.declared.scope.Block.{Block}
-use Rattle.m2_judged.specs.declared.scope.Scope.{Scope}
-use Rattle.m2_judged.specs.Judged.{Gathers}
-use Rattle.m2_judged.specs.Scopes.{State}
+use Rattle.m2_scopes.specs.declared.known.Known.{Known}
+use Rattle.m2_scopes.specs.declared.known.Known.TheVariants.{Later, Ahead, Begun, Headed, Declared}
+use Rattle.m2_scopes.specs.declared.scope.Block.{Block}
+use Rattle.m2_scopes.specs.declared.scope.Scope.{Scope}
+use Rattle.m2_scopes.specs.Elaborated.{Gathers}
+use Rattle.m2_scopes.specs.Scopes.{State}
 use Rattle.m2_made.specs.Made.{type_of}
 use Rattle.m2_types.specs.Declare.{with_def}
 use Rattle.m2_types.specs.Compiled.{declared_in}
@@ -121,39 +121,39 @@ MadeOrdered base st = Holds (λ t. ScopeOrdered base st.0 × (is_known st.0.type
 
 -- a type expression leads from such a scope to such a scope
 abbrev pub TypesAreOrdered : Gathers → Type 0
-TypesAreOrdered g = (base : Types) (s : Scope g.Told) → ScopeOrdered base s → (t : TypeExpr) → MadeOrdered base (type_of g t s)
+TypesAreOrdered g = (base : Types) (s : Scope g.Reported) → ScopeOrdered base s → (t : TypeExpr) → MadeOrdered base (type_of g t s)
 
 -- and so does a declaration of a definition,
 abbrev pub DefsAreOrdered : Gathers → Type 0
-DefsAreOrdered g = (base : Types) (st : State (Unit {0}) g.Told) → StateOrdered base st → (d : Def) → StateOrdered base (with_def g st d)
+DefsAreOrdered g = (base : Types) (st : State (Unit {0}) g.Reported) → StateOrdered base st → (d : Def) → StateOrdered base (with_def g st d)
 
 -- and one of a block
 abbrev pub DeclsAreOrdered : Gathers → Type 0
-DeclsAreOrdered g = (base : Types) (ends : List ℕ) (c : Course g.Told) → StateOrdered base (c.0, c.1) → (d : Decl)
+DeclsAreOrdered g = (base : Types) (ends : List ℕ) (c : Course g.Reported) → StateOrdered base (c.0, c.1) → (d : Decl)
     → StateOrdered base (let n = with_decl g ends c d in (n.0, n.1))
 
 -- the imports and the declarations of a definition,
 abbrev pub DefinitionsAreOrdered : Gathers → Type 0
-DefinitionsAreOrdered g = (base : Types) (m : Module) (modules : List (List ℕ × ℕ)) (s : Scope g.Told) → ScopeOrdered base s → (ds : List Def)
+DefinitionsAreOrdered g = (base : Types) (m : Module) (modules : List (List ℕ × ℕ)) (s : Scope g.Reported) → ScopeOrdered base s → (ds : List Def)
     → StateOrdered base (declared_in g m modules s ds)
 
 -- the declarations of a block,
 abbrev pub BlocksAreOrdered : Gathers → Type 0
-BlocksAreOrdered g = (base : Types) (ends : List ℕ) (st : State (Unit {0}) g.Told) (first : ℕ) → StateOrdered base st → (ds : List Decl)
+BlocksAreOrdered g = (base : Types) (ends : List ℕ) (st : State (Unit {0}) g.Reported) (first : ℕ) → StateOrdered base st → (ds : List Decl)
     → StateOrdered base (let d = declared_block g ends st first ds in (d.0, d.1))
 
 -- and those of a module, behind its imports
 abbrev pub ModulesAreOrdered : Gathers → Type 0
-ModulesAreOrdered g = (base : Types) (modules : List (List ℕ × ℕ)) (ends : List ℕ) (s : Scope g.Told) (m : Module) → ScopeOrdered base s → (ds : List Decl)
+ModulesAreOrdered g = (base : Types) (modules : List (List ℕ × ℕ)) (ends : List ℕ) (s : Scope g.Reported) (m : Module) → ScopeOrdered base s → (ds : List Decl)
     → StateOrdered base (let d = declared_module g modules ends s m ds in (d.0, d.1))
 
 -- the way into a procedure,
 abbrev pub EnteredAreOrdered : Gathers → Type 0
-EnteredAreOrdered g = (base : Types) (s : Scope g.Told) (seen : ℕ) (h : Heading) → ScopeOrdered base s → ScopeOrdered base (entered_procedure g s seen h).0
+EnteredAreOrdered g = (base : Types) (s : Scope g.Reported) (seen : ℕ) (h : Heading) → ScopeOrdered base s → ScopeOrdered base (entered_procedure g s seen h).0
 
 -- and the way back
 abbrev pub LeftAreOrdered : Gathers → Type 0
-LeftAreOrdered g = (base : Types) (o : Outside) (s : Scope g.Told) → ScopeOrdered base s → ScopeOrdered base (left_procedure o s)
+LeftAreOrdered g = (base : Types) (o : Outside) (s : Scope g.Reported) → ScopeOrdered base s → ScopeOrdered base (left_procedure o s)
 
 -- ---- where a module begins, and what it exports
 
@@ -163,8 +163,8 @@ first_types home tables = record { home = home; own = []; others = others_of tab
 -- a module begins in such a scope, if the types that its tables reach stand in order, and their names mean such types
 abbrev pub FirstAreOrdered : Gathers → Type 0
 FirstAreOrdered g = (home : ℕ) (tables : List Table) → OthersOrdered [] (others_of tables) → BeginsWith [] (lookup (nat_eq home) (others_of tables)) → TablesOrdered (first_types home tables) tables
-    → ScopeOrdered (first_types home tables) (first_scope {T = g.Told} home tables)
+    → ScopeOrdered (first_types home tables) (first_scope {T = g.Reported} home tables)
 
 -- the types that it exports are known
 abbrev pub ExportsAreOrdered : Gathers → Type 0
-ExportsAreOrdered g = (base : Types) (s : Scope g.Told) → ScopeOrdered base s → ExportsOrdered s.types (exports s.own)
+ExportsAreOrdered g = (base : Types) (s : Scope g.Reported) → ScopeOrdered base s → ExportsOrdered s.types (exports s.own)

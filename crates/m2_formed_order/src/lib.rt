@@ -7,7 +7,7 @@
 //!   begins, and what it exports.
 #![tactic(auto)]
 
-ghost use Rattle.m2_judged.specs.Judged.{least, every};
+ghost use Rattle.m2_scopes.specs.Elaborated.{least, every};
 ghost use Rattle.m2_formed_order.specs.FormedOrder.{
   BlocksAreOrdered,
   DeclsAreOrdered,

@@ -22,8 +22,8 @@ use Rattle.m2_graph_laws.proofs.Fine.{fine_file, tree_at}
 use Rattle.m2_typed.specs.declared.table.Table.{Table}
 use Rattle.m2_typed.specs.declared.typed_module.TypedModule.{TypedModule}
 use Rattle.m2_typed.specs.Names.{same_name}
-use Rattle.m2_judged.specs.declared.fault.Fault.{Fault}
-use Rattle.m2_judged.specs.Judged.{least}
+use Rattle.m2_scopes.specs.declared.fault.Fault.{Fault}
+use Rattle.m2_scopes.specs.Elaborated.{least}
 use Rattle.m2_layout.specs.Layouts.{too_large}
 use Rattle.m2_types.specs.Compiled as types
 use Rattle.m2_modules.specs.Own.{exported_headings}
@@ -46,7 +46,7 @@ use Rattle.m2_compile.specs.declared.outcome.Compiled.TheVariants.{Defined, Buil
 use Rattle.m2_compile.specs.Own.{own_table, tables_behind}
 use Rattle.m2_compile.specs.Compiling.{is_sound, table_in, tables_of, of_definition, of_fit, of_checked, of_contents, typed_body, compiled}
 use Rattle.m2_jobs.specs.Jobs.{compiled_in, compiled_at}
-use Rattle.m2_jobs.specs.Spelled.{needed_of}
+use Rattle.m2_jobs.specs.Encoded.{needed_of}
 use Rattle.m2_formed_programs.specs.FormedPrograms.{trees_of}
 
 -- ---- lists

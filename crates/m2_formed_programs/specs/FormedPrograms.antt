@@ -10,7 +10,7 @@ use Rattle.m2_scheme.specs.Modules.{typed_module, typed_link}
 use Rattle.m2_valid.specs.WellFormed.{IsWellFormed}
 use Rattle.m2_formed.specs.Formed.{Holds}
 use Rattle.m2_compile.specs.Compiling.{tables_of, typed_body}
-use Rattle.m2_jobs.specs.Spelled.{needed_of}
+use Rattle.m2_jobs.specs.Encoded.{needed_of}
 
 -- the modules of files
 abbrev pub trees_of : List (List ℕ × Module) → List Module
@@ -29,7 +29,7 @@ ProgramsAreFormed = JobsMake IsWellFormed
 abbrev pub ProgramsAreValid : Type 0
 ProgramsAreValid = JobsMake (λ t. IsValid (typed_module t))
 
--- and so is link, where it has a spelling and no two modules of the program have one name
+-- and so is link, where it has an encoding and no two modules of the program have one name
 abbrev pub LinksAreValid : Type 0
 LinksAreValid = (ms : List TypedModule) (pages : ℕ) → pages ≤ 65536
     → module_fits (typed_link ms pages) ≡ true → AreDistinct (map (λ m. m.name) ms)

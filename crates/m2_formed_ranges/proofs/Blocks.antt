@@ -27,19 +27,19 @@ use Rattle.m2_typed.specs.declared.meaning.Meaning.TheVariants as meaning
 use Rattle.m2_typed.specs.declared.table.Table.{Table}
 use Rattle.m2_typed.specs.declared.known_types.Types.{Types}
 use Rattle.m2_typed.specs.Names.{found, entered, place_of}
-use Rattle.m2_judged.specs.Judged.{Gathers, told}
-use Rattle.m2_judged.specs.Scopes.{State, is_free, with_known, is_again, imported}
-use Rattle.m2_judged.specs.declared.known.Known.{Known}
-use Rattle.m2_judged.specs.declared.known.Known.TheVariants.{Later, Ahead, Declared}
-use Rattle.m2_judged.specs.declared.known.Origin.{Origin}
-use Rattle.m2_judged.specs.declared.known.Origin.TheVariants.{Here, Export}
-use Rattle.m2_judged.specs.declared.known.Origin.TheVariants as origin
-use Rattle.m2_judged.specs.declared.scope.Block.{Block}
-use Rattle.m2_judged.specs.declared.scope.Scope.{Scope}
+use Rattle.m2_scopes.specs.Elaborated.{Gathers, reported}
+use Rattle.m2_scopes.specs.Scopes.{State, is_free, with_known, is_again, imported}
+use Rattle.m2_scopes.specs.declared.known.Known.{Known}
+use Rattle.m2_scopes.specs.declared.known.Known.TheVariants.{Later, Ahead, Declared}
+use Rattle.m2_scopes.specs.declared.known.Origin.{Origin}
+use Rattle.m2_scopes.specs.declared.known.Origin.TheVariants.{Here, Export}
+use Rattle.m2_scopes.specs.declared.known.Origin.TheVariants as origin
+use Rattle.m2_scopes.specs.declared.scope.Block.{Block}
+use Rattle.m2_scopes.specs.declared.scope.Scope.{Scope}
 use Rattle.m2_made.specs.Headings.{formal_of}
 use Rattle.m2_types.specs.Marking.{Marks, marked_later, marked_simple, then_marks, marked_in, marked_field, marked_constant, marked_type, marked_variables, marked_def}
 use Rattle.m2_types.specs.Marking as marking
-use Rattle.m2_types.specs.Importing.{module_named, with_module_as, with_module_name, with_entry, brings_in, told_of_taken, unless_taken, from_place, with_from, exports_of, from_module, with_imports, with_import}
+use Rattle.m2_types.specs.Importing.{module_named, with_module_as, with_module_name, with_entry, brings_in, reported_of_taken, unless_taken, from_place, with_from, exports_of, from_module, with_imports, with_import}
 use Rattle.m2_types.specs.Declare.{with_def}
 use Rattle.m2_types.specs.Compiled.{declared_in}
 use Rattle.m2_blocks.specs.Naming.{marked_layer, marked_decl, with_marks, all_marked}
@@ -171,89 +171,89 @@ exports_ranged types (t ∷ ts) (suc k) p = exports_ranged types ts k p.1
 
 module _ (g : Gathers) where
   -- a scope with these types
-  abbrev Within : Types → Scope g.Told → Type 0
+  abbrev Within : Types → Scope g.Reported → Type 0
   Within types s = ScopeRanged s × (s.types ≡ types)
 
-  free_within : (types : Types) (s : Scope g.Told) (at : Pos) (name : List ℕ) (o : Origin) (m : Meaning) (b : Bool) → Within types s → MeaningRanged types m
-      → Within types (cond {A = State (Unit {0}) g.Told} b (with_known name (Declared o (Ok m)) s, Ok tt) (s, told g at 31)).0
+  free_within : (types : Types) (s : Scope g.Reported) (at : Pos) (name : List ℕ) (o : Origin) (m : Meaning) (b : Bool) → Within types s → MeaningRanged types m
+      → Within types (cond {A = State (Unit {0}) g.Reported} b (with_known name (Declared o (Ok m)) s, Ok tt) (s, reported g at 31)).0
   free_within types s at name o m true h p = (known_ranged s name (Declared o (Ok m)) h.0 (fine m (subst (λ (t : Types). MeaningRanged t m) (sym h.1) p)), h.1)
   free_within types s at name o m false h p = h
 
-  again_within : (types : Types) (s : Scope g.Told) (x : State (Unit {0}) g.Told) (b : Bool) → Within types s → Within types x.0 → Within types (cond {A = State (Unit {0}) g.Told} b (s, Ok tt) x).0
+  again_within : (types : Types) (s : Scope g.Reported) (x : State (Unit {0}) g.Reported) (b : Bool) → Within types s → Within types x.0 → Within types (cond {A = State (Unit {0}) g.Reported} b (s, Ok tt) x).0
   again_within types s x true h p = h
   again_within types s x false h p = p
 
-  imported_within : (types : Types) (s : Scope g.Told) (at : Pos) (name : List ℕ) (o : Origin) (m : Meaning) → Within types s → MeaningRanged types m → Within types (imported g s at name o (Ok m)).0
+  imported_within : (types : Types) (s : Scope g.Reported) (at : Pos) (name : List ℕ) (o : Origin) (m : Meaning) → Within types s → MeaningRanged types m → Within types (imported g s at name o (Ok m)).0
   imported_within types s at name o m h p = again_within types s _ (is_again (found name s.own) o) h (free_within types s at name o m (is_free (found name s.own)) h p)
 
-  module_as_ranged : (s : Scope g.Told) (name : Ident) (r : Result ℕ g.Told) → ScopeRanged s → ScopeRanged (with_module_as g s name r).0
+  module_as_ranged : (s : Scope g.Reported) (name : Ident) (r : Result ℕ g.Reported) → ScopeRanged s → ScopeRanged (with_module_as g s name r).0
   module_as_ranged s name (Ok k) h = (imported_within s.types s name.pos name.name (origin.Module k) (meaning.Module k) (h, refl) tt).0
   module_as_ranged s name (Err e) h = h
 
-  modules_ranged : (modules : List (List ℕ × ℕ)) (names : List Ident) (st : State (Unit {0}) g.Told) → StateRanged st → StateRanged (fold (with_module_name g modules) st names)
+  modules_ranged : (modules : List (List ℕ × ℕ)) (names : List Ident) (st : State (Unit {0}) g.Reported) → StateRanged st → StateRanged (fold (with_module_name g modules) st names)
   modules_ranged modules [] st p = p
   modules_ranged modules (x ∷ xs) st p =
       modules_ranged modules xs (with_module_name g modules st x) (beside_then g (with_module_as g st.0 x (module_named g modules x)).1 p (λ h. const_holds (module_as_ranged st.0 x (module_named g modules x) h) _))
 
-  entries_within : (types : Types) (at : Pos) (k : ℕ) (es : List (List ℕ × Meaning)) (st : State (Unit {0}) g.Told) → ExportsRanged types es → Holds (λ x. Within types st.0) st.1
+  entries_within : (types : Types) (at : Pos) (k : ℕ) (es : List (List ℕ × Meaning)) (st : State (Unit {0}) g.Reported) → ExportsRanged types es → Holds (λ x. Within types st.0) st.1
       → Holds (λ x. Within types (fold (with_entry g at k) st es).0) (fold (with_entry g at k) st es).1
   entries_within types at k [] st q p = p
   entries_within types at k (e ∷ es) st q p =
       entries_within types at k es (with_entry g at k st e) q.1 (beside_then g (imported g st.0 at e.0 (Export k) (Ok e.1)).1 p (λ h. const_holds (imported_within types st.0 at e.0 (Export k) e.1 h q.0) _))
 
-  taken_within : (types : Types) (s : Scope g.Told) (at : Pos) (k : ℕ) (es : List (List ℕ × Meaning)) (i : ℕ) (o : Option (Result (Unit {0}) g.Told)) → ExportsRanged types es → Within types s
+  taken_within : (types : Types) (s : Scope g.Reported) (at : Pos) (k : ℕ) (es : List (List ℕ × Meaning)) (i : ℕ) (o : Option (Result (Unit {0}) g.Reported)) → ExportsRanged types es → Within types s
       → Holds (λ x. Within types (unless_taken g s at k es i o).0) (unless_taken g s at k es i o).1
   taken_within types s at k es i (Some j) q h = const_holds h j
   taken_within types s at k es i None q h =
       entries_within types at k (take (brings_in (slice_get es i)) (drop i es)) (s, Ok tt) (take_ranged types (brings_in (slice_get es i)) (drop i es) (drop_ranged types i es q)) (fine tt h)
 
-  place_within : (types : Types) (s : Scope g.Told) (name : Ident) (k : ℕ) (es : List (List ℕ × Meaning)) (o : Option ℕ) → ExportsRanged types es → Within types s
+  place_within : (types : Types) (s : Scope g.Reported) (name : Ident) (k : ℕ) (es : List (List ℕ × Meaning)) (o : Option ℕ) → ExportsRanged types es → Within types s
       → Holds (λ x. Within types (from_place g s name k es o).0) (from_place g s name k es o).1
   place_within types s name k es None q h = const_holds h _
-  place_within types s name k es (Some i) q h = taken_within types s name.pos k es i (told_of_taken g name.pos k (found name.name s.own)) q h
+  place_within types s name k es (Some i) q h = taken_within types s name.pos k es i (reported_of_taken g name.pos k (found name.name s.own)) q h
 
-  abbrev WithExports : Types → List (List ℕ × Meaning) → Scope g.Told → Type 0
+  abbrev WithExports : Types → List (List ℕ × Meaning) → Scope g.Reported → Type 0
   WithExports types es s = Within types s × ExportsRanged types es
 
-  from_within : (types : Types) (k : ℕ) (es : List (List ℕ × Meaning)) (names : List Ident) (st : State (Unit {0}) g.Told) → Holds (λ x. WithExports types es st.0) st.1
+  from_within : (types : Types) (k : ℕ) (es : List (List ℕ × Meaning)) (names : List Ident) (st : State (Unit {0}) g.Reported) → Holds (λ x. WithExports types es st.0) st.1
       → Holds (λ x. WithExports types es (fold (with_from g k es) st names).0) (fold (with_from g k es) st names).1
   from_within types k es [] st p = p
   from_within types k es (x ∷ xs) st p =
       from_within types k es xs (with_from g k es st x) (beside_then g (from_place g st.0 x k es (place_of x.name es)).1 p (λ h. holds_weaker (λ u w. (w, h.1)) (place_within types st.0 x k es (place_of x.name es) h.1 h.0)))
 
-  from_module_ranged : (r : Result ℕ g.Told) (st : State (Unit {0}) g.Told) (names : List Ident) → StateRanged st → StateRanged (from_module g r st names)
+  from_module_ranged : (r : Result ℕ g.Reported) (st : State (Unit {0}) g.Reported) (names : List Ident) → StateRanged st → StateRanged (from_module g r st names)
   from_module_ranged (Ok k) st names p =
       holds_weaker (λ x w. w.0.0) (from_within st.0.types k (exports_of (slice_get st.0.tables k)) names st (holds_weaker (λ x h. ((h, refl), exports_ranged st.0.types st.0.tables k h.tables)) p))
   from_module_ranged (Err e) st names p = beside_then g (Err e) p (λ h. broken e)
 
-  with_imports_ranged : (modules : List (List ℕ × ℕ)) (st : State (Unit {0}) g.Told) (o : Option Ident) (names : List Ident) → StateRanged st → StateRanged (with_imports g modules st o names)
+  with_imports_ranged : (modules : List (List ℕ × ℕ)) (st : State (Unit {0}) g.Reported) (o : Option Ident) (names : List Ident) → StateRanged st → StateRanged (with_imports g modules st o names)
   with_imports_ranged modules st None names p = modules_ranged modules names st p
   with_imports_ranged modules st (Some m) names p = from_module_ranged (module_named g modules m) st names p
 
-  imports_ranged : (modules : List (List ℕ × ℕ)) (is : List Import) (st : State (Unit {0}) g.Told) → StateRanged st → StateRanged (fold (with_import g modules) st is)
+  imports_ranged : (modules : List (List ℕ × ℕ)) (is : List Import) (st : State (Unit {0}) g.Reported) → StateRanged st → StateRanged (fold (with_import g modules) st is)
   imports_ranged modules [] st p = p
   imports_ranged modules (i ∷ is) st p = imports_ranged modules is (with_import g modules st i) (with_imports_ranged modules st i.from i.names p)
 
   -- ---- blocks
 
-  decls_ranged : (ends : List ℕ) (ds : List Decl) (c : Course g.Told) → list_all fits_decl ds ≡ true → StateRanged (c.0, c.1) → StateRanged (let n = fold (with_decl g ends) c ds in (n.0, n.1))
+  decls_ranged : (ends : List ℕ) (ds : List Decl) (c : Course g.Reported) → list_all fits_decl ds ≡ true → StateRanged (c.0, c.1) → StateRanged (let n = fold (with_decl g ends) c ds in (n.0, n.1))
   decls_ranged ends [] c e p = p
   decls_ranged ends (d ∷ ds) c e p = decls_ranged ends ds (with_decl g ends c d) (both_right (fits_decl d) (list_all fits_decl ds) e) (decl_ranged g (constants_ranged g) ends c p (out-Decl d) (both_left (fits_decl d) (list_all fits_decl ds) e))
 
-  pub block_ranged : (ends : List ℕ) (st : State (Unit {0}) g.Told) (first : ℕ) (ds : List Decl) → list_all fits_decl ds ≡ true → StateRanged st → StateRanged (let d = declared_block g ends st first ds in (d.0, d.1))
-  block_ranged ends st first ds e p = decls_ranged ends ds ((all_marked marked_decl st.0 ds).0, st.1, first) e (holds_weaker (λ x h. decls_marks g.Told ds (st.0, []) h) p)
+  pub block_ranged : (ends : List ℕ) (st : State (Unit {0}) g.Reported) (first : ℕ) (ds : List Decl) → list_all fits_decl ds ≡ true → StateRanged st → StateRanged (let d = declared_block g ends st first ds in (d.0, d.1))
+  block_ranged ends st first ds e p = decls_ranged ends ds ((all_marked marked_decl st.0 ds).0, st.1, first) e (holds_weaker (λ x h. decls_marks g.Reported ds (st.0, []) h) p)
 
-  pub module_ranged : (modules : List (List ℕ × ℕ)) (ends : List ℕ) (s : Scope g.Told) (m : Module) (ds : List Decl) → list_all fits_decl ds ≡ true → ScopeRanged s
+  pub module_ranged : (modules : List (List ℕ × ℕ)) (ends : List ℕ) (s : Scope g.Reported) (m : Module) (ds : List Decl) → list_all fits_decl ds ≡ true → ScopeRanged s
       → StateRanged (let d = declared_module g modules ends s m ds in (d.0, d.1))
   module_ranged modules ends s m ds e h =
       beside_then g _ (block_ranged ends (fold (with_import g modules) (s, Ok tt) m.imports) 0 ds e (imports_ranged modules m.imports (s, Ok tt) (fine tt h))) (λ k. const_holds k _)
 
-  defs_ranged : (ds : List Def) (st : State (Unit {0}) g.Told) → list_all fits_def ds ≡ true → StateRanged st → StateRanged (fold (with_def g) st ds)
+  defs_ranged : (ds : List Def) (st : State (Unit {0}) g.Reported) → list_all fits_def ds ≡ true → StateRanged st → StateRanged (fold (with_def g) st ds)
   defs_ranged [] st e p = p
   defs_ranged (d ∷ ds) st e p = defs_ranged ds (with_def g st d) (both_right (fits_def d) (list_all fits_def ds) e) (def_ranged g (constants_ranged g) st p d (both_left (fits_def d) (list_all fits_def ds) e))
 
-  pub definition_ranged : (m : Module) (modules : List (List ℕ × ℕ)) (s : Scope g.Told) (ds : List Def) → list_all fits_def ds ≡ true → ScopeRanged s → StateRanged (declared_in g m modules s ds)
-  definition_ranged m modules s ds e h = defs_ranged ds (fold (with_import g modules) (fold marked_def s ds, Ok tt) m.imports) e (imports_ranged modules m.imports (fold marked_def s ds, Ok tt) (fine tt (defs_marks g.Told ds s h)))
+  pub definition_ranged : (m : Module) (modules : List (List ℕ × ℕ)) (s : Scope g.Reported) (ds : List Def) → list_all fits_def ds ≡ true → ScopeRanged s → StateRanged (declared_in g m modules s ds)
+  definition_ranged m modules s ds e h = defs_ranged ds (fold (with_import g modules) (fold marked_def s ds, Ok tt) m.imports) e (imports_ranged modules m.imports (fold marked_def s ds, Ok tt) (fine tt (defs_marks g.Reported ds s h)))
 
 -- ---- into a procedure, and back
 
@@ -294,11 +294,11 @@ pub left_ranged : {T : Type 0} (o : Outside) (s : Scope T) → ScopeRanged s →
 left_ranged o s h = let k = left_by s.types s.outer h.outer in record { types = h.types; own = h.own; others = h.others; names = k.1; outer = k.0; tables = h.tables }
 
 module _ (g : Gathers) where
-  sections_formals : (s : Scope g.Told) (types : Types) (xs : List Section) (fs : Formals g.Told) → NamesRanged types fs.0 → NamesRanged types (fold (with_section g s) fs xs).0
+  sections_formals : (s : Scope g.Reported) (types : Types) (xs : List Section) (fs : Formals g.Reported) → NamesRanged types fs.0 → NamesRanged types (fold (with_section g s) fs xs).0
   sections_formals s types [] fs h = h
   sections_formals s types (x ∷ xs) fs h = sections_formals s types xs (with_section g s fs x) (names_formals types s.level (formal_of g s x.is_var x.of) x.names fs h)
 
-  pub entered_ranged : (s : Scope g.Told) (seen : ℕ) (h : Heading) → ScopeRanged s → ScopeRanged (entered_procedure g s seen h).0
+  pub entered_ranged : (s : Scope g.Reported) (seen : ℕ) (h : Heading) → ScopeRanged s → ScopeRanged (entered_procedure g s seen h).0
   entered_ranged s seen h p =
       let k : ScopeRanged (inwards s seen) = inwards_ranged s seen p in
       record { types = k.types; own = k.own; others = k.others; names = sections_formals (inwards s seen) s.types h.formals ([], []) tt; outer = k.outer; tables = k.tables }

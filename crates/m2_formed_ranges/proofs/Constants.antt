@@ -28,12 +28,12 @@ use Rattle.m2_typed.specs.declared.known_types.Types.{Types}
 use Rattle.m2_typed.specs.Types.{char}
 use Rattle.m2_typed.specs.Known.{scalar_at}
 use Rattle.m2_typed.specs.Names.{same_name, found, place_of}
-use Rattle.m2_judged.specs.declared.known.Known.{Known}
-use Rattle.m2_judged.specs.declared.known.Known.TheVariants.{Later, Ahead, Begun, Headed, Declared}
-use Rattle.m2_judged.specs.declared.scope.Block.{Block}
-use Rattle.m2_judged.specs.declared.scope.Scope.{Scope}
-use Rattle.m2_judged.specs.Judged.{Gathers, told, both}
-use Rattle.m2_judged.specs.Scopes.{or_outside, Sight, seen_at, in_block, nearer, known_outside, or_around, known, means_seen, means_as, opened, means_or, looked_up}
+use Rattle.m2_scopes.specs.declared.known.Known.{Known}
+use Rattle.m2_scopes.specs.declared.known.Known.TheVariants.{Later, Ahead, Begun, Headed, Declared}
+use Rattle.m2_scopes.specs.declared.scope.Block.{Block}
+use Rattle.m2_scopes.specs.declared.scope.Scope.{Scope}
+use Rattle.m2_scopes.specs.Elaborated.{Gathers, reported, both}
+use Rattle.m2_scopes.specs.Scopes.{or_outside, Sight, seen_at, in_block, nearer, known_outside, or_around, known, means_seen, means_as, opened, means_or, looked_up}
 use Rattle.m2_values.specs.Operators.{mul_op, add_op}
 use Rattle.m2_values.specs.declared.operator.BinaryOp.TheVariants as op
 use Rattle.m2_values.specs.Operands.{letter, valued}
@@ -45,7 +45,7 @@ use Rattle.m2_constants.specs.Denote.{denoted_by, as_constant, of_value, compone
 use Rattle.m2_constants.specs.Calls.{sort_of, scalar_type, type_part, type_argument}
 use Rattle.m2_constants.specs.Parts.{Part, Pick, Adds, sign_place, signed_first, named, field_of, constant, one, type_only, conversion, by_sort, called_as, called, factor, term, expr_layer, selector_layer, designator_layer, item_layer, part, pick, head, item}
 use Rattle.m2_formed.specs.Formed.{Holds, fine}
-use Rattle.m2_formed.proofs.Basics.{then_holds, told_holds, any_holds}
+use Rattle.m2_formed.proofs.Basics.{then_holds, reported_holds, any_holds}
 use Rattle.m2_formed_ranges.specs.FormedRanges.{itself, fits_letter, fits_layer, fits_selector, fits_designator, fits_item, fits, LetterRanged, ValueRanged, MeaningRanged, KnownRanged, NamesRanged, BlocksRanged, ExportsRanged, TablesRanged, ScopeRanged}
 use Rattle.m2_formed_ranges.proofs.Types.{both_left, both_right}
 use Rattle.m2_formed_ranges.proofs.Subranges.{from_le}
@@ -92,25 +92,25 @@ module _ (types : Types) {T : Type 0} where
   around_ranged (Some k) far p q = p
 
 module _ (g : Gathers) (types : Types) where
-  abbrev Means_ : Result Meaning g.Told → Type 0
+  abbrev Means_ : Result Meaning g.Reported → Type 0
   Means_ r = Holds (MeaningRanged types) r
 
-  declared_means : (at : Pos) (seen : Bool) (r : Result Meaning g.Told) → Means_ r → Means_ (cond seen r (told g at 30))
+  declared_means : (at : Pos) (seen : Bool) (r : Result Meaning g.Reported) → Means_ r → Means_ (cond seen r (reported g at 30))
   declared_means at true r p = p
-  declared_means at false r p = told_holds g at 30
+  declared_means at false r p = reported_holds g at 30
 
-  seen_means : (at : Pos) (k : Known g.Told) (seen : Bool) → KnownRanged types k → Means_ (means_seen g at k seen)
-  seen_means at Later seen p = told_holds g at 30
+  seen_means : (at : Pos) (k : Known g.Reported) (seen : Bool) → KnownRanged types k → Means_ (means_seen g at k seen)
+  seen_means at Later seen p = reported_holds g at 30
   seen_means at Ahead seen p = fine meaning.Ahead tt
-  seen_means at Begun seen p = told_holds g at 30
+  seen_means at Begun seen p = reported_holds g at 30
   seen_means at (Headed r) seen p = p
   seen_means at (Declared o r) seen p = declared_means at seen r p
 
-  means_ranged : (at : Pos) (o : Sight g.Told) → RangedSight types o → Means_ (means_as g at o)
-  means_ranged at None p = told_holds g at 30
+  means_ranged : (at : Pos) (o : Sight g.Reported) → RangedSight types o → Means_ (means_as g at o)
+  means_ranged at None p = reported_holds g at 30
   means_ranged at (Some k) p = seen_means at k.0 k.1 p
 
-  field_or : (o : Option OpenedField) (r : Result Meaning g.Told) → Means_ r → Means_ (means_or o r)
+  field_or : (o : Option OpenedField) (r : Result Meaning g.Reported) → Means_ r → Means_ (means_or o r)
   field_or (Some f) r p = fine (meaning.Field f) tt
   field_or None r p = p
 
@@ -134,10 +134,10 @@ module _ (g : Gathers) (types : Types) where
   export_at name (t ∷ ts) (suc k) all = export_at name ts k all.1
 
   exported_means : (at : Pos) (o : Option Meaning) → ExportIf o → Means_ (exported g at o)
-  exported_means at None p = told_holds g at 32
+  exported_means at None p = reported_holds g at 32
   exported_means at (Some m) p = fine m p
 
-module _ (g : Gathers) (s : Scope g.Told) (h : ScopeRanged s) where
+module _ (g : Gathers) (s : Scope g.Reported) (h : ScopeRanged s) where
   name_means : (name : Ident) → Means_ g s.types (looked_up g s name)
   name_means name =
       field_or g s.types (opened s.types name.name s.withs) (means_as g name.pos (known name.name s))
@@ -156,23 +156,23 @@ module _ (g : Gathers) (s : Scope g.Told) (h : ScopeRanged s) where
   DenotedRanged (denoted.Standard f) = Unit {0}
   DenotedRanged (denoted.Module k) = Unit {0}
 
-  abbrev D_ : Result Denoted g.Told → Type 0
+  abbrev D_ : Result Denoted g.Reported → Type 0
   D_ r = Holds DenotedRanged r
 
-  abbrev V_ : Result Value g.Told → Type 0
+  abbrev V_ : Result Value g.Reported → Type 0
   V_ r = Holds (ValueRanged s.types) r
 
-  abbrev FM : Part g.Told → Type 0
+  abbrev FM : Part g.Reported → Type 0
   FM x = D_ (x.denotes s)
 
-  abbrev FP : Pick g.Told → Type 0
-  FP p = (d : Result Denoted g.Told) → D_ d → D_ (p s d)
+  abbrev FP : Pick g.Reported → Type 0
+  FP p = (d : Result Denoted g.Reported) → D_ d → D_ (p s d)
 
-  abbrev AllM : List (Part g.Told) → Type 0
+  abbrev AllM : List (Part g.Reported) → Type 0
   AllM [] = Unit {0}
   AllM (x ∷ xs) = FM x × AllM xs
 
-  abbrev AllP : List (Pick g.Told) → Type 0
+  abbrev AllP : List (Pick g.Reported) → Type 0
   AllP [] = Unit {0}
   AllP (x ∷ xs) = FP x × AllP xs
 
@@ -193,11 +193,11 @@ module _ (g : Gathers) (s : Scope g.Told) (h : ScopeRanged s) where
 
   component_ranged : (at : Pos) (d : Denoted) → D_ (component g at d)
   component_ranged at denoted.Variable = fine denoted.Variable tt
-  component_ranged at (denoted.Value v) = told_holds g at 40
-  component_ranged at (denoted.Type t) = told_holds g at 40
-  component_ranged at denoted.Procedure = told_holds g at 40
-  component_ranged at (denoted.Standard f) = told_holds g at 40
-  component_ranged at (denoted.Module k) = told_holds g at 40
+  component_ranged at (denoted.Value v) = reported_holds g at 40
+  component_ranged at (denoted.Type t) = reported_holds g at 40
+  component_ranged at denoted.Procedure = reported_holds g at 40
+  component_ranged at (denoted.Standard f) = reported_holds g at 40
+  component_ranged at (denoted.Module k) = reported_holds g at 40
 
   field_ranged : (at : Pos) (name : Ident) (d : Denoted) → D_ (field_of g s at name d)
   field_ranged at name (denoted.Module k) = then_holds (member_means k name) (λ m p. fine (denoted_by m) (by_meaning m p))
@@ -209,83 +209,83 @@ module _ (g : Gathers) (s : Scope g.Told) (h : ScopeRanged s) where
 
   as_constant_ranged : (at : Pos) (d : Denoted) → DenotedRanged d → V_ (as_constant g at d)
   as_constant_ranged at (denoted.Value v) p = fine v p
-  as_constant_ranged at (denoted.Type t) p = told_holds g at 34
-  as_constant_ranged at denoted.Variable p = told_holds g at 34
-  as_constant_ranged at denoted.Procedure p = told_holds g at 34
-  as_constant_ranged at (denoted.Standard f) p = told_holds g at 34
-  as_constant_ranged at (denoted.Module k) p = told_holds g at 34
+  as_constant_ranged at (denoted.Type t) p = reported_holds g at 34
+  as_constant_ranged at denoted.Variable p = reported_holds g at 34
+  as_constant_ranged at denoted.Procedure p = reported_holds g at 34
+  as_constant_ranged at (denoted.Standard f) p = reported_holds g at 34
+  as_constant_ranged at (denoted.Module k) p = reported_holds g at 34
 
-  pub constant_ranged : (x : Part g.Told) → FM x → V_ (constant g s x)
+  pub constant_ranged : (x : Part g.Reported) → FM x → V_ (constant g s x)
   constant_ranged x p = then_holds p (λ d k. as_constant_ranged x.at d k)
 
-  value_ranged : {r : Result Value g.Told} → V_ r → D_ (of_value r)
+  value_ranged : {r : Result Value g.Reported} → V_ r → D_ (of_value r)
   value_ranged p = then_holds p (λ v k. fine (denoted.Value v) k)
 
   -- ---- calls
 
-  one_ranged : (at : Pos) (args : List (Part g.Told)) → AllM args → Holds (λ (p : Pos × Value). ValueRanged s.types p.1) (one g s at args)
-  one_ranged at [] all = told_holds g at 42
+  one_ranged : (at : Pos) (args : List (Part g.Reported)) → AllM args → Holds (λ (p : Pos × Value). ValueRanged s.types p.1) (one g s at args)
+  one_ranged at [] all = reported_holds g at 42
   one_ranged at (x ∷ []) all = then_holds (constant_ranged x all.0) (λ v k. fine (x.at, v) k)
-  one_ranged at (x ∷ y ∷ xs) all = told_holds g at 42
+  one_ranged at (x ∷ y ∷ xs) all = reported_holds g at 42
 
   scalar_is : (at : Pos) (t : TypeNo) (o : Option Range) → scalar_at s.types t ≡ o → Holds (TypeIs g s h) (scalar_type g at t o)
-  scalar_is at t None e = told_holds g at 33
+  scalar_is at t None e = reported_holds g at 33
   scalar_is at t (Some r) e = fine (t, r) e
 
   type_is : (at : Pos) (d : Denoted) → Holds (TypeIs g s h) (type_part g s.types at d)
   type_is at (denoted.Type t) = scalar_is at t (scalar_at s.types t) refl
-  type_is at (denoted.Value v) = told_holds g at 33
-  type_is at denoted.Variable = told_holds g at 33
-  type_is at denoted.Procedure = told_holds g at 33
-  type_is at (denoted.Standard f) = told_holds g at 33
-  type_is at (denoted.Module k) = told_holds g at 33
+  type_is at (denoted.Value v) = reported_holds g at 33
+  type_is at denoted.Variable = reported_holds g at 33
+  type_is at denoted.Procedure = reported_holds g at 33
+  type_is at (denoted.Standard f) = reported_holds g at 33
+  type_is at (denoted.Module k) = reported_holds g at 33
 
-  argument_is : (at : Pos) (d : Result Denoted g.Told) → Holds (TypeIs g s h) (type_argument g s.types at d)
+  argument_is : (at : Pos) (d : Result Denoted g.Reported) → Holds (TypeIs g s h) (type_argument g s.types at d)
   argument_is at d = then_holds (any_holds d) (λ x k. type_is at x)
 
-  only_is : (at : Pos) (args : List (Part g.Told)) → Holds (TypeIs g s h) (type_only g s at args)
-  only_is at [] = told_holds g at 42
+  only_is : (at : Pos) (args : List (Part g.Reported)) → Holds (TypeIs g s h) (type_only g s at args)
+  only_is at [] = reported_holds g at 42
   only_is at (x ∷ []) = argument_is x.at (x.denotes s)
-  only_is at (x ∷ y ∷ xs) = told_holds g at 42
+  only_is at (x ∷ y ∷ xs) = reported_holds g at 42
 
-  conversion_ranged : (at : Pos) (args : List (Part g.Told)) → V_ (conversion g s at args)
-  conversion_ranged at [] = told_holds g at 42
-  conversion_ranged at (t ∷ []) = told_holds g at 42
+  conversion_ranged : (at : Pos) (args : List (Part g.Reported)) → V_ (conversion g s at args)
+  conversion_ranged at [] = reported_holds g at 42
+  conversion_ranged at (t ∷ []) = reported_holds g at 42
   conversion_ranged at (t ∷ x ∷ []) = converted_ranged g s h x.at (constant g s x) (argument_is t.at (t.denotes s))
-  conversion_ranged at (t ∷ x ∷ y ∷ xs) = told_holds g at 42
+  conversion_ranged at (t ∷ x ∷ y ∷ xs) = reported_holds g at 42
 
-  sort_ranged : (at : Pos) (f : Standard) (args : List (Part g.Told)) (o : Sort) → AllM args → V_ (by_sort g s at f args o)
+  sort_ranged : (at : Pos) (f : Standard) (args : List (Part g.Reported)) (o : Sort) → AllM args → V_ (by_sort g s at f args o)
   sort_ranged at f args Unary all = unary_ranged g s.types f (one_ranged at args all)
   sort_ranged at f args Bound all = bound_ranged g s h f (only_is at args)
   sort_ranged at f args Conversion all = conversion_ranged at args
-  sort_ranged at f args Never all = told_holds g at 34
+  sort_ranged at f args Never all = reported_holds g at 34
 
-  called_as_ranged : (at : Pos) (d : Denoted) (args : List (Part g.Told)) → AllM args → V_ (called_as g s at d args)
+  called_as_ranged : (at : Pos) (d : Denoted) (args : List (Part g.Reported)) → AllM args → V_ (called_as g s at d args)
   called_as_ranged at (denoted.Standard f) args all = sort_ranged at f args (sort_of f) all
-  called_as_ranged at (denoted.Value v) args all = told_holds g at 34
-  called_as_ranged at (denoted.Type t) args all = told_holds g at 34
-  called_as_ranged at denoted.Variable args all = told_holds g at 34
-  called_as_ranged at denoted.Procedure args all = told_holds g at 34
-  called_as_ranged at (denoted.Module k) args all = told_holds g at 34
+  called_as_ranged at (denoted.Value v) args all = reported_holds g at 34
+  called_as_ranged at (denoted.Type t) args all = reported_holds g at 34
+  called_as_ranged at denoted.Variable args all = reported_holds g at 34
+  called_as_ranged at denoted.Procedure args all = reported_holds g at 34
+  called_as_ranged at (denoted.Module k) args all = reported_holds g at 34
 
-  called_ranged : (at : Pos) (d : Result Denoted g.Told) (args : List (Part g.Told)) → AllM args → V_ (called g s at d args)
+  called_ranged : (at : Pos) (d : Result Denoted g.Reported) (args : List (Part g.Reported)) → AllM args → V_ (called g s at d args)
   called_ranged at d args all = then_holds (any_holds d) (λ x k. called_as_ranged at x args all)
 
   -- ---- operators
 
-  factors_ranged : (at : Pos) (rest : List (Operator MulOp × Part g.Told)) (v : Result Value g.Told) → V_ v → V_ (fold (factor g s at) v rest)
+  factors_ranged : (at : Pos) (rest : List (Operator MulOp × Part g.Reported)) (v : Result Value g.Reported) → V_ v → V_ (fold (factor g s at) v rest)
   factors_ranged at [] v p = p
   factors_ranged at (x ∷ xs) v p = factors_ranged at xs (factor g s at v x) (combined_ranged g s.types (mul_op x.0.op) x.0.pos at v x.1.at (constant g s x.1))
 
-  terms_ranged : (at : Pos) (rest : List (Operator AddOp × Part g.Told)) (v : Result Value g.Told) → V_ v → V_ (fold (term g s at) v rest)
+  terms_ranged : (at : Pos) (rest : List (Operator AddOp × Part g.Reported)) (v : Result Value g.Reported) → V_ v → V_ (fold (term g s at) v rest)
   terms_ranged at [] v p = p
   terms_ranged at (x ∷ xs) v p = terms_ranged at xs (term g s at v x) (combined_ranged g s.types (add_op x.0.op) x.0.pos at v x.1.at (constant g s x.1))
 
-  first_ranged : (o : Option (Operator Sign)) {x : Result Value g.Told} → V_ x → V_ (signed_first g o x)
+  first_ranged : (o : Option (Operator Sign)) {x : Result Value g.Reported} → V_ x → V_ (signed_first g o x)
   first_ranged None p = p
   first_ranged (Some o) p = signed_ranged g s.types o.op o.pos p
 
-  picks_ranged : (ps : List (Pick g.Told)) (d : Result Denoted g.Told) → D_ d → AllP ps → D_ (fold (λ x p. p s x) d ps)
+  picks_ranged : (ps : List (Pick g.Reported)) (d : Result Denoted g.Reported) → D_ d → AllP ps → D_ (fold (λ x p. p s x) d ps)
   picks_ranged [] d p all = p
   picks_ranged (x ∷ ps) d p all = picks_ranged ps (x s d) (all.0 d p) all.1
 
@@ -315,26 +315,26 @@ module _ (g : Gathers) (s : Scope g.Told) (h : ScopeRanged s) where
   abbrev SI : Type 0
   SI = (e : Item) × PI e
 
-  abbrev parts : Expr-F Expr Selector Designator Item → Expr-F (Part g.Told) (Pick g.Told) (Part g.Told) (Adds g.Told)
-  parts x = map-Expr Expr Selector Designator Item (Part g.Told) (Pick g.Told) (Part g.Told) (Adds g.Told) (part g) (pick g) (head g) (item g) x
+  abbrev parts : Expr-F Expr Selector Designator Item → Expr-F (Part g.Reported) (Pick g.Reported) (Part g.Reported) (Adds g.Reported)
+  parts x = map-Expr Expr Selector Designator Item (Part g.Reported) (Pick g.Reported) (Part g.Reported) (Adds g.Reported) (part g) (pick g) (head g) (item g) x
 
-  abbrev parts_selector : Selector-F Expr Selector Designator Item → Selector-F (Part g.Told) (Pick g.Told) (Part g.Told) (Adds g.Told)
-  parts_selector x = map-Selector Expr Selector Designator Item (Part g.Told) (Pick g.Told) (Part g.Told) (Adds g.Told) (part g) (pick g) (head g) (item g) x
+  abbrev parts_selector : Selector-F Expr Selector Designator Item → Selector-F (Part g.Reported) (Pick g.Reported) (Part g.Reported) (Adds g.Reported)
+  parts_selector x = map-Selector Expr Selector Designator Item (Part g.Reported) (Pick g.Reported) (Part g.Reported) (Adds g.Reported) (part g) (pick g) (head g) (item g) x
 
-  abbrev parts_designator : Designator-F Expr Selector Designator Item → Designator-F (Part g.Told) (Pick g.Told) (Part g.Told) (Adds g.Told)
-  parts_designator x = map-Designator Expr Selector Designator Item (Part g.Told) (Pick g.Told) (Part g.Told) (Adds g.Told) (part g) (pick g) (head g) (item g) x
+  abbrev parts_designator : Designator-F Expr Selector Designator Item → Designator-F (Part g.Reported) (Pick g.Reported) (Part g.Reported) (Adds g.Reported)
+  parts_designator x = map-Designator Expr Selector Designator Item (Part g.Reported) (Pick g.Reported) (Part g.Reported) (Adds g.Reported) (part g) (pick g) (head g) (item g) x
 
   at_expr : (e : Expr) (x : Expr-F Expr Selector Designator Item) → out-Expr e ≡ x → part g e ≡ expr_layer g (parts x)
   unfolding part pick head item
-  at_expr e x q = fold_out-Expr (Part g.Told) (Pick g.Told) (Part g.Told) (Adds g.Told) (expr_layer g) (selector_layer g) (designator_layer g) (item_layer g) e ∙ ap (λ (y : Expr-F Expr Selector Designator Item). expr_layer g (parts y)) q
+  at_expr e x q = fold_out-Expr (Part g.Reported) (Pick g.Reported) (Part g.Reported) (Adds g.Reported) (expr_layer g) (selector_layer g) (designator_layer g) (item_layer g) e ∙ ap (λ (y : Expr-F Expr Selector Designator Item). expr_layer g (parts y)) q
 
   at_selector : (e : Selector) (x : Selector-F Expr Selector Designator Item) → out-Selector e ≡ x → pick g e ≡ selector_layer g (parts_selector x)
   unfolding part pick head item
-  at_selector e x q = fold_out-Selector (Part g.Told) (Pick g.Told) (Part g.Told) (Adds g.Told) (expr_layer g) (selector_layer g) (designator_layer g) (item_layer g) e ∙ ap (λ (y : Selector-F Expr Selector Designator Item). selector_layer g (parts_selector y)) q
+  at_selector e x q = fold_out-Selector (Part g.Reported) (Pick g.Reported) (Part g.Reported) (Adds g.Reported) (expr_layer g) (selector_layer g) (designator_layer g) (item_layer g) e ∙ ap (λ (y : Selector-F Expr Selector Designator Item). selector_layer g (parts_selector y)) q
 
   at_designator : (e : Designator) (x : Designator-F Expr Selector Designator Item) → out-Designator e ≡ x → head g e ≡ designator_layer g (parts_designator x)
   unfolding part pick head item
-  at_designator e x q = fold_out-Designator (Part g.Told) (Pick g.Told) (Part g.Told) (Adds g.Told) (expr_layer g) (selector_layer g) (designator_layer g) (item_layer g) e ∙ ap (λ (y : Designator-F Expr Selector Designator Item). designator_layer g (parts_designator y)) q
+  at_designator e x q = fold_out-Designator (Part g.Reported) (Pick g.Reported) (Part g.Reported) (Adds g.Reported) (expr_layer g) (selector_layer g) (designator_layer g) (item_layer g) e ∙ ap (λ (y : Designator-F Expr Selector Designator Item). designator_layer g (parts_designator y)) q
 
   abbrev fits_s : Selector → Bool
   fits_s e = fold-Selector Bool Bool Bool Bool fits_layer fits_selector fits_designator fits_item e
@@ -345,12 +345,12 @@ module _ (g : Gathers) (s : Scope g.Told) (h : ScopeRanged s) where
   abbrev fits_i : Item → Bool
   fits_i e = fold-Item Bool Bool Bool Bool fits_layer fits_selector fits_designator fits_item e
 
-  abbrev judged : Expr-F Expr Selector Designator Item → Expr-F Bool Bool Bool Bool
-  judged x = map-Expr Expr Selector Designator Item Bool Bool Bool Bool fits fits_s fits_d fits_i x
+  abbrev elaborated : Expr-F Expr Selector Designator Item → Expr-F Bool Bool Bool Bool
+  elaborated x = map-Expr Expr Selector Designator Item Bool Bool Bool Bool fits fits_s fits_d fits_i x
 
-  fits_at : (e : Expr) (x : Expr-F Expr Selector Designator Item) → out-Expr e ≡ x → fits e ≡ fits_layer (judged x)
+  fits_at : (e : Expr) (x : Expr-F Expr Selector Designator Item) → out-Expr e ≡ x → fits e ≡ fits_layer (elaborated x)
   unfolding fits
-  fits_at e x q = fold_out-Expr Bool Bool Bool Bool fits_layer fits_selector fits_designator fits_item e ∙ ap (λ (y : Expr-F Expr Selector Designator Item). fits_layer (judged y)) q
+  fits_at e x q = fold_out-Expr Bool Bool Bool Bool fits_layer fits_selector fits_designator fits_item e ∙ ap (λ (y : Expr-F Expr Selector Designator Item). fits_layer (elaborated y)) q
 
   abbrev bare : Expr-F SE SS SD SI → Expr-F Expr Selector Designator Item
   bare x = map-Expr SE SS SD SI Expr Selector Designator Item (λ e. e.0) (λ e. e.0) (λ e. e.0) (λ e. e.0) x
@@ -376,7 +376,7 @@ module _ (g : Gathers) (s : Scope g.Told) (h : ScopeRanged s) where
   first_of : (x : SE) (rest : Bool) → (fits x.0 && rest) ≡ true → V_ (constant g s (part g x.0))
   first_of x rest e = constant_ranged (part g x.0) (x.1 (both_left (fits x.0) rest e))
 
-  expr_ranged : (y : Expr-F SE SS SD SI) → fits_layer (judged (bare y)) ≡ true → FM (expr_layer g (parts (bare y)))
+  expr_ranged : (y : Expr-F SE SS SD SI) → fits_layer (elaborated (bare y)) ≡ true → FM (expr_layer g (parts (bare y)))
   expr_ranged (layer.Number p n) e = fine (denoted.Value (value.Number (pos n))) (omega (arith, ints), from_le (pos n) (pos 4294967295) e)
   expr_ranged (layer.Char p c) e = fine (denoted.Value (valued (Some char) (pos c))) (char_ranged g s.types (pos c) (omega (arith, ints)) (from_le (pos c) (pos 255) e))
   expr_ranged (layer.Text p t) e = fine (denoted.Value (value.Text t)) (letter_ranged (letter t) e)
@@ -415,5 +415,5 @@ module _ (g : Gathers) (s : Scope g.Told) (h : ScopeRanged s) where
   part_ranged : (e : Expr) → PE e
   part_ranged = ind-Expr PE PS PD PI step_expr step_selector step_designator (λ x y q. tt)
 
-pub constants_ranged : (g : Gathers) (s : Scope g.Told) → ScopeRanged s → (e : Expr) → fits e ≡ true → Holds (ValueRanged s.types) (constant g s (part g e))
+pub constants_ranged : (g : Gathers) (s : Scope g.Reported) → ScopeRanged s → (e : Expr) → fits e ≡ true → Holds (ValueRanged s.types) (constant g s (part g e))
 constants_ranged g s h e f = constant_ranged g s h (part g e) (part_ranged g s h e f)

@@ -18,8 +18,8 @@ use Rattle.m2_typed.specs.declared.meaning.Value.TheVariants as value
 use Rattle.m2_typed.specs.declared.known_types.Types.{Types}
 use Rattle.m2_typed.specs.Types.{are_same, is_one_home, is_integer, is_numeric, integer, cardinal, boolean, char}
 use Rattle.m2_typed.specs.Known.{scalar_at, scalar_from, scalar_made, scalar_shape, in_list, predeclared_scalar, range}
-use Rattle.m2_judged.specs.declared.scope.Scope.{Scope}
-use Rattle.m2_judged.specs.Judged.{Gathers, told_where, beside}
+use Rattle.m2_scopes.specs.declared.scope.Scope.{Scope}
+use Rattle.m2_scopes.specs.Elaborated.{Gathers, reported_where, beside}
 use Rattle.m2_values.specs.declared.operand.Ordinal.{Ordinal}
 use Rattle.m2_values.specs.declared.operand.Operand.{Operand}
 use Rattle.m2_values.specs.declared.operand.Operand.TheVariants as operands
@@ -31,7 +31,7 @@ use Rattle.m2_made.specs.Named.{first_of, named_type}
 use Rattle.m2_made.specs.Subranges.{ordinal_in, number_base, fits_at, based, between, unnamed, is_of_base, are_bounds, ordered_if, limited, under}
 use Rattle.m2_made.specs.Made.{scalar_or, scalar_named, bound_at, subrange}
 use Rattle.m2_formed.specs.Formed.{Holds, fine, broken}
-use Rattle.m2_formed.proofs.Basics.{then_holds, holds_weaker, told_holds, both_holds, any_holds}
+use Rattle.m2_formed.proofs.Basics.{then_holds, holds_weaker, reported_holds, both_holds, any_holds}
 use Rattle.m2_formed_scopes.proofs.Declarations.{same_home}
 use Rattle.m2_ranges.proofs.Known.{none_there}
 use Rattle.m2_formed_ranges.specs.FormedRanges.{fits, IsNumber, LetterRanged, ValueRanged, IsBased, ShapeBased, AllBased, OthersBased, ScopeRanged, ConstantsAreRanged}
@@ -76,11 +76,11 @@ type_itself t = by (is_one_home t.home t.home) (t.number == t.number) (home_itse
 -- ---- results
 
 module _ (g : Gathers) where
-  pub test_holds : (q : Bool) (at : Pos) (n : ℕ) → Holds (λ x. q ≡ false) (told_where g {A = Unit {0}} q at n (Ok tt))
+  pub test_holds : (q : Bool) (at : Pos) (n : ℕ) → Holds (λ x. q ≡ false) (reported_where g {A = Unit {0}} q at n (Ok tt))
   test_holds true at n = broken _
   test_holds false at n = fine tt refl
 
-  pub beside_holds : {P Q : Type 0} {a b : Result (Unit {0}) g.Told} → Holds (λ x. P) a → Holds (λ x. Q) b → Holds (λ x. P × Q) (beside g a b)
+  pub beside_holds : {P Q : Type 0} {a b : Result (Unit {0}) g.Reported} → Holds (λ x. P) a → Holds (λ x. Q) b → Holds (λ x. P × Q) (beside g a b)
   beside_holds p q = then_holds (both_holds g p q) (λ x k. fine tt k)
 
 -- ---- types that are known
@@ -197,8 +197,8 @@ module _ (types : Types) where
 
   module _ (g : Gathers) where
     pub ordinal_ranged : (at : Pos) (o : Option Operand) → OperandRanged o → Holds (λ (a : Ordinal). SortRanged a.sort a.number) (ordinal_in g at o)
-    ordinal_ranged at None p = told_holds g at 40
-    ordinal_ranged at (Some (operands.Set bits)) p = told_holds g at 40
+    ordinal_ranged at None p = reported_holds g at 40
+    ordinal_ranged at (Some (operands.Set bits)) p = reported_holds g at 40
     ordinal_ranged at (Some (operands.Scalar a)) p = fine a p
 
     based_ranged : (at at' : Pos) (a b : Ordinal) (base : TypeNo) → Holds (λ x. IsNumber types base base a.number) (fits_at g at base a.sort a.number) → Holds (λ x. IsNumber types base base b.number) (fits_at g at' base b.sort b.number)
@@ -220,22 +220,22 @@ module _ (types : Types) where
     between_ranged at at' None (Some t) na nb p q = by (is_numeric t) refl where
       by : (c : Bool) → is_numeric t ≡ c → Holds SubRanged (between g at (record { sort = None; number = na }) at' (record { sort = Some t; number = nb }) (if c then Some (Some t) else None))
       by true e = based_ranged at at' (record { sort = None; number = na }) (record { sort = Some t; number = nb }) t (fits_none at t na e) (fine tt q)
-      by false e = told_holds g at' 40
+      by false e = reported_holds g at' 40
     between_ranged at at' (Some t) None na nb p q = by (is_numeric t) refl where
       by : (c : Bool) → is_numeric t ≡ c → Holds SubRanged (between g at (record { sort = Some t; number = na }) at' (record { sort = None; number = nb }) (if c then Some (Some t) else None))
       by true e = based_ranged at at' (record { sort = Some t; number = na }) (record { sort = None; number = nb }) t (fine tt p) (fits_none at' t nb e)
-      by false e = told_holds g at' 40
+      by false e = reported_holds g at' 40
     between_ranged at at' (Some t) (Some u) na nb p q = by (are_same t u) refl where
       by : (c : Bool) → are_same t u ≡ c → Holds SubRanged (between g at (record { sort = Some t; number = na }) at' (record { sort = Some u; number = nb }) (if c then Some (Some t) else None))
       by true e = based_ranged at at' (record { sort = Some t; number = na }) (record { sort = Some u; number = nb }) t (fine tt p) (fine tt (subst (λ (k : TypeNo). IsNumber types k k nb) (sym (same_types t u e)) q))
-      by false e = told_holds g at' 40
+      by false e = reported_holds g at' 40
 
-    pub unnamed_ranged : (at at' : Pos) {low high : Result Ordinal g.Told} → Holds (λ (a : Ordinal). SortRanged a.sort a.number) low → Holds (λ (a : Ordinal). SortRanged a.sort a.number) high → Holds SubRanged (unnamed g at low at' high)
+    pub unnamed_ranged : (at at' : Pos) {low high : Result Ordinal g.Reported} → Holds (λ (a : Ordinal). SortRanged a.sort a.number) low → Holds (λ (a : Ordinal). SortRanged a.sort a.number) high → Holds SubRanged (unnamed g at low at' high)
     unnamed_ranged at at' p q = then_holds (both_holds g p q) (λ x k. between_ranged at at' x.0.sort x.1.sort x.0.number x.1.number k.0 k.1)
 
     -- ---- subranges under a named type
 
-    is_of_holds : (at : Pos) (x y : Bool) → Holds (λ u. (x ≡ true) × (y ≡ true)) (told_where g {A = Unit {0}} (not x) at 40 (told_where g (not y) at 52 (Ok tt)))
+    is_of_holds : (at : Pos) (x y : Bool) → Holds (λ u. (x ≡ true) × (y ≡ true)) (reported_where g {A = Unit {0}} (not x) at 40 (reported_where g (not y) at 52 (Ok tt)))
     is_of_holds at false y = broken _
     is_of_holds at true false = broken _
     is_of_holds at true true = fine tt (refl, refl)
@@ -271,11 +271,11 @@ module _ (types : Types) where
       by true e = holds_weaker (λ x k p q. not_less nb na k) (test_holds g (int_lt nb na) at 35)
       by false e = fine tt (λ p q. absurd (clash e p q))
 
-    limited_fine : (r : Range) (a b : Ordinal) {t : Result (Unit {0}) g.Told} → Holds (λ x. SubRanged (record { base = r.base; low = a.number; high = b.number })) t → Holds SubRanged (limited g (Ok (r, (a, b))) t)
+    limited_fine : (r : Range) (a b : Ordinal) {t : Result (Unit {0}) g.Reported} → Holds (λ x. SubRanged (record { base = r.base; low = a.number; high = b.number })) t → Holds SubRanged (limited g (Ok (r, (a, b))) t)
     limited_fine r a b (fine x k) = fine _ k
     limited_fine r a b (broken e) = broken e
 
-    limited_broken : (e : g.Told) (t : Result (Unit {0}) g.Told) → Holds SubRanged (limited g (Err e) t)
+    limited_broken : (e : g.Reported) (t : Result (Unit {0}) g.Reported) → Holds SubRanged (limited g (Err e) t)
     limited_broken e (Ok x) = broken e
     limited_broken e (Err f) = broken (g.join e f)
 
@@ -291,7 +291,7 @@ module _ (types : Types) where
         })
         (beside_holds g (beside_holds g (is_of_holds at (is_of_base r.base a.sort) (is_between r.low a.number r.high)) (is_of_holds at' (is_of_base r.base b.sort) (is_between r.low b.number r.high))) (alike at r.base a.sort b.sort a.number b.number))
 
-    pub under_ranged : (at at' : Pos) (of : Result Range g.Told) (low high : Result Ordinal g.Told) → Holds (IsBased types) of → Holds SubRanged (under g of at low at' high)
+    pub under_ranged : (at at' : Pos) (of : Result Range g.Reported) (low high : Result Ordinal g.Reported) → Holds (IsBased types) of → Holds SubRanged (under g of at low at' high)
     under_ranged at at' (Ok r) (Ok a) (Ok b) (fine x h) = limited_fine r a b (bounds_ranged at at' r a b h)
     under_ranged at at' (Ok r) (Ok a) (Err e) h = limited_broken e (are_bounds g (Ok r) at (Ok a) at' (Err e))
     under_ranged at at' (Ok r) (Err e) (Ok b) h = limited_broken e (are_bounds g (Ok r) at (Err e) at' (Ok b))
@@ -303,12 +303,12 @@ module _ (types : Types) where
 
 -- ---- subranges
 
-module _ (g : Gathers) (known : ConstantsAreRanged g) (s : Scope g.Told) (h : ScopeRanged s) where
+module _ (g : Gathers) (known : ConstantsAreRanged g) (s : Scope g.Reported) (h : ScopeRanged s) where
   bound_ranged : (e : Expr) → fits e ≡ true → Holds (λ (a : Ordinal). SortRanged s.types a.sort a.number) (bound_at g s (part g e))
   bound_ranged e f = then_holds (known s h e f) (λ v k. ordinal_ranged s.types g (part g e).at (operand_of v) (operand_ranged s.types v k))
 
   scalar_or_based : (at : Pos) (t : TypeNo) (o : Option Range) → scalar_at s.types t ≡ o → Holds (IsBased s.types) (scalar_or g at o)
-  scalar_or_based at t None e = told_holds g at 33
+  scalar_or_based at t None e = reported_holds g at 33
   scalar_or_based at t (Some r) e = fine r (based_at s.types h.own h.others t r e)
 
   scalar_named_based : (q : Qualified) → Holds (IsBased s.types) (scalar_named g s q)

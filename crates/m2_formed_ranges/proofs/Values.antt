@@ -15,8 +15,8 @@ use Rattle.m2_typed.specs.declared.meaning.Value.{Value}
 use Rattle.m2_typed.specs.declared.known_types.Types.{Types}
 use Rattle.m2_typed.specs.Types.{are_same, is_integer, cardinal, boolean, char}
 use Rattle.m2_typed.specs.Known.{scalar_at, range}
-use Rattle.m2_judged.specs.declared.scope.Scope.{Scope}
-use Rattle.m2_judged.specs.Judged.{Gathers, told_where, both}
+use Rattle.m2_scopes.specs.declared.scope.Scope.{Scope}
+use Rattle.m2_scopes.specs.Elaborated.{Gathers, reported_where, both}
 use Rattle.m2_values.specs.declared.operand.Ordinal.{Ordinal}
 use Rattle.m2_values.specs.declared.operand.Operand.{Operand}
 use Rattle.m2_values.specs.declared.operand.Operand.TheVariants as operands
@@ -30,7 +30,7 @@ use Rattle.m2_values.specs.Operate.{takes, compared, applied, operated, on_scala
 use Rattle.m2_values.specs.Standards.{scalar_part, if_number, whole_number, absolute_part, upper, is_char, capital_part, character_part, odd_part, ordinal_part, bound_of, converted_part}
 use Rattle.m2_constants.specs.Calls.{unary_of, unary, bound_by, bound, converted_by}
 use Rattle.m2_formed.specs.Formed.{Holds, fine, broken}
-use Rattle.m2_formed.proofs.Basics.{then_holds, told_holds, where_holds, both_holds, any_holds}
+use Rattle.m2_formed.proofs.Basics.{then_holds, reported_holds, where_holds, both_holds, any_holds}
 use Rattle.m2_ranges.specs.Ranges.{IsRange}
 use Rattle.m2_ranges.proofs.Known.{range_at}
 use Rattle.m2_formed_ranges.specs.FormedRanges.{IsNumber, ValueRanged, IsBased, ScopeRanged}
@@ -51,16 +51,16 @@ upper_by true n e l h = let k = between_in (pos 97) n (pos 122) e in lower n k.0
 upper_by false n e l h = (l, h)
 
 module _ (g : Gathers) {T : Type 0} (P : T → Type 0) where
-  where_not : (b : Bool) (at : Pos) (n : ℕ) {r : Result T g.Told} → (b ≡ true → Holds P r) → Holds P (told_where g (not b) at n r)
+  where_not : (b : Bool) (at : Pos) (n : ℕ) {r : Result T g.Reported} → (b ≡ true → Holds P r) → Holds P (reported_where g (not b) at n r)
   where_not true at n k = k refl
   where_not false at n k = broken _
 
-  either : (b : Bool) {x y : Result T g.Told} → Holds P x → Holds P y → Holds P (cond b x y)
+  either : (b : Bool) {x y : Result T g.Reported} → Holds P x → Holds P y → Holds P (cond b x y)
   either true p q = p
   either false p q = q
 
 module _ (g : Gathers) (types : Types) where
-  abbrev pub V_ : Result Value g.Told → Type 0
+  abbrev pub V_ : Result Value g.Reported → Type 0
   V_ r = Holds (ValueRanged types) r
 
   -- ---- numbers
@@ -92,7 +92,7 @@ module _ (g : Gathers) (types : Types) where
   applied_ranged Plus spot sort x y e = number_ranged spot sort (evaluated Plus x y) e
   applied_ranged Minus spot sort x y e = number_ranged spot sort (evaluated Minus x y) e
   applied_ranged Times spot sort x y e = number_ranged spot sort (evaluated Times x y) e
-  applied_ranged Over spot sort x y e = told_holds g spot 40
+  applied_ranged Over spot sort x y e = reported_holds g spot 40
   applied_ranged Div spot sort x y e = number_ranged spot sort (quotient x y) e
   applied_ranged Mod spot sort x y e = number_ranged spot sort (remainder x y) e
   applied_ranged And spot sort x y e = truth_ranged (int_lt (pos 0) x && int_lt (pos 0) y)
@@ -103,56 +103,56 @@ module _ (g : Gathers) (types : Types) where
   operated_ranged op spot sort at a at' b = where_not g (ValueRanged types) (takes op sort) spot 40 (λ e. then_holds (any_holds _) (λ x k. applied_ranged op spot sort a.number b.number e))
 
   scalars_ranged : (op : BinaryOp) (spot at : Pos) (a : Ordinal) (at' : Pos) (b : Ordinal) (o : Option (Option TypeNo)) → V_ (on_scalars g op spot at a at' b o)
-  scalars_ranged op spot at a at' b None = told_holds g spot 40
+  scalars_ranged op spot at a at' b None = reported_holds g spot 40
   scalars_ranged op spot at a at' b (Some sort) = operated_ranged op spot sort at a at' b
 
   member_ranged : (op : BinaryOp) (spot at : Pos) (a : Ordinal) (bits : ℕ) → V_ (member g op spot at a bits)
-  member_ranged Plus spot at a bits = told_holds g spot 40
-  member_ranged Minus spot at a bits = told_holds g spot 40
-  member_ranged Times spot at a bits = told_holds g spot 40
-  member_ranged Over spot at a bits = told_holds g spot 40
-  member_ranged Div spot at a bits = told_holds g spot 40
-  member_ranged Mod spot at a bits = told_holds g spot 40
-  member_ranged And spot at a bits = told_holds g spot 40
-  member_ranged Or spot at a bits = told_holds g spot 40
-  member_ranged (Relation rel.Equal) spot at a bits = told_holds g spot 40
-  member_ranged (Relation rel.Unequal) spot at a bits = told_holds g spot 40
-  member_ranged (Relation rel.Less) spot at a bits = told_holds g spot 40
-  member_ranged (Relation rel.AtMost) spot at a bits = told_holds g spot 40
-  member_ranged (Relation rel.Greater) spot at a bits = told_holds g spot 40
-  member_ranged (Relation rel.AtLeast) spot at a bits = told_holds g spot 40
+  member_ranged Plus spot at a bits = reported_holds g spot 40
+  member_ranged Minus spot at a bits = reported_holds g spot 40
+  member_ranged Times spot at a bits = reported_holds g spot 40
+  member_ranged Over spot at a bits = reported_holds g spot 40
+  member_ranged Div spot at a bits = reported_holds g spot 40
+  member_ranged Mod spot at a bits = reported_holds g spot 40
+  member_ranged And spot at a bits = reported_holds g spot 40
+  member_ranged Or spot at a bits = reported_holds g spot 40
+  member_ranged (Relation rel.Equal) spot at a bits = reported_holds g spot 40
+  member_ranged (Relation rel.Unequal) spot at a bits = reported_holds g spot 40
+  member_ranged (Relation rel.Less) spot at a bits = reported_holds g spot 40
+  member_ranged (Relation rel.AtMost) spot at a bits = reported_holds g spot 40
+  member_ranged (Relation rel.Greater) spot at a bits = reported_holds g spot 40
+  member_ranged (Relation rel.AtLeast) spot at a bits = reported_holds g spot 40
   member_ranged (Relation rel.In) spot at a bits = where_holds g _ spot 40 (where_holds g _ at 52 (truth_ranged _))
 
   related_ranged : (spot : Pos) (r : RelOp) (a b : ℕ) → V_ (set_related g spot r a b)
   related_ranged spot rel.Equal a b = truth_ranged _
   related_ranged spot rel.Unequal a b = truth_ranged _
-  related_ranged spot rel.Less a b = told_holds g spot 40
+  related_ranged spot rel.Less a b = reported_holds g spot 40
   related_ranged spot rel.AtMost a b = truth_ranged _
-  related_ranged spot rel.Greater a b = told_holds g spot 40
+  related_ranged spot rel.Greater a b = reported_holds g spot 40
   related_ranged spot rel.AtLeast a b = truth_ranged _
-  related_ranged spot rel.In a b = told_holds g spot 40
+  related_ranged spot rel.In a b = reported_holds g spot 40
 
   sets_ranged : (op : BinaryOp) (spot : Pos) (a b : ℕ) → V_ (on_sets g op spot a b)
   sets_ranged Plus spot a b = fine _ tt
   sets_ranged Minus spot a b = fine _ tt
   sets_ranged Times spot a b = fine _ tt
   sets_ranged Over spot a b = fine _ tt
-  sets_ranged Div spot a b = told_holds g spot 40
-  sets_ranged Mod spot a b = told_holds g spot 40
-  sets_ranged And spot a b = told_holds g spot 40
-  sets_ranged Or spot a b = told_holds g spot 40
+  sets_ranged Div spot a b = reported_holds g spot 40
+  sets_ranged Mod spot a b = reported_holds g spot 40
+  sets_ranged And spot a b = reported_holds g spot 40
+  sets_ranged Or spot a b = reported_holds g spot 40
   sets_ranged (Relation r) spot a b = related_ranged spot r a b
 
   binary_ranged : (op : BinaryOp) (spot at : Pos) (x : Option Operand) (at' : Pos) (y : Option Operand) → V_ (binary g op spot at x at' y)
   binary_ranged op spot at (Some (operands.Scalar a)) at' (Some (operands.Scalar b)) = scalars_ranged op spot at a at' b (common a.sort b.sort)
   binary_ranged op spot at (Some (operands.Scalar a)) at' (Some (operands.Set b)) = member_ranged op spot at a b
-  binary_ranged op spot at (Some (operands.Scalar a)) at' None = told_holds g spot 40
-  binary_ranged op spot at (Some (operands.Set a)) at' (Some (operands.Scalar b)) = told_holds g spot 40
+  binary_ranged op spot at (Some (operands.Scalar a)) at' None = reported_holds g spot 40
+  binary_ranged op spot at (Some (operands.Set a)) at' (Some (operands.Scalar b)) = reported_holds g spot 40
   binary_ranged op spot at (Some (operands.Set a)) at' (Some (operands.Set b)) = sets_ranged op spot a b
-  binary_ranged op spot at (Some (operands.Set a)) at' None = told_holds g spot 40
-  binary_ranged op spot at None at' y = told_holds g spot 40
+  binary_ranged op spot at (Some (operands.Set a)) at' None = reported_holds g spot 40
+  binary_ranged op spot at None at' y = reported_holds g spot 40
 
-  pub combined_ranged : (op : BinaryOp) (spot at : Pos) (x : Result Value g.Told) (at' : Pos) (y : Result Value g.Told) → V_ (combined g op spot at x at' y)
+  pub combined_ranged : (op : BinaryOp) (spot at : Pos) (x : Result Value g.Reported) (at' : Pos) (y : Result Value g.Reported) → V_ (combined g op spot at x at' y)
   combined_ranged op spot at x at' y = then_holds (any_holds (both g x y)) (λ v k. binary_ranged op spot at (operand_of v.0) at' (operand_of v.1))
 
   signed_number : (sort : Option TypeNo) → is_signed sort ≡ true → is_number sort ≡ true
@@ -164,19 +164,19 @@ module _ (g : Gathers) (types : Types) where
   signed_scalar_ranged sign.Minus spot a p = where_not g (ValueRanged types) (is_signed a.sort) spot 40 (λ e. number_ranged spot a.sort (evaluated Minus (pos 0) a.number) (signed_number a.sort e))
 
   signed_value_ranged : (o : Sign) (spot : Pos) (x : Option Operand) → OperandRanged types x → V_ (signed_value g o spot x)
-  signed_value_ranged o spot None p = told_holds g spot 40
-  signed_value_ranged o spot (Some (operands.Set bits)) p = told_holds g spot 40
+  signed_value_ranged o spot None p = reported_holds g spot 40
+  signed_value_ranged o spot (Some (operands.Set bits)) p = reported_holds g spot 40
   signed_value_ranged o spot (Some (operands.Scalar a)) p = signed_scalar_ranged o spot a p
 
-  pub signed_ranged : (o : Sign) (spot : Pos) {x : Result Value g.Told} → V_ x → V_ (signed g o spot x)
+  pub signed_ranged : (o : Sign) (spot : Pos) {x : Result Value g.Reported} → V_ x → V_ (signed g o spot x)
   signed_ranged o spot p = then_holds p (λ v k. signed_value_ranged o spot (operand_of v) (operand_ranged types v k))
 
   negated_value_ranged : (spot : Pos) (x : Option Operand) → V_ (negated_value g spot x)
-  negated_value_ranged spot None = told_holds g spot 40
-  negated_value_ranged spot (Some (operands.Set bits)) = told_holds g spot 40
+  negated_value_ranged spot None = reported_holds g spot 40
+  negated_value_ranged spot (Some (operands.Set bits)) = reported_holds g spot 40
   negated_value_ranged spot (Some (operands.Scalar a)) = where_holds g _ spot 40 (truth_ranged _)
 
-  pub negated_ranged : (spot : Pos) (x : Result Value g.Told) → V_ (negated g spot x)
+  pub negated_ranged : (spot : Pos) (x : Result Value g.Reported) → V_ (negated g spot x)
   negated_ranged spot x = then_holds (any_holds x) (λ v k. negated_value_ranged spot (operand_of v))
 
   -- ---- standard functions of one argument
@@ -193,22 +193,22 @@ module _ (g : Gathers) (types : Types) where
   absolute_by : (at : Pos) (a : Ordinal) (b : Bool) → is_number a.sort ≡ b → V_ (absolute_part g at (cond b (Some a) None))
   absolute_by at a true e =
       either g (ValueRanged types) (int_lt a.number (pos 0)) {x = evaluated_at g at a.sort Minus (pos 0) a.number} {y = number_at g at a.sort a.number} (number_ranged at a.sort (evaluated Minus (pos 0) a.number) e) (number_ranged at a.sort a.number e)
-  absolute_by at a false e = told_holds g at 43
+  absolute_by at a false e = reported_holds g at 43
 
   absolute_if : (at : Pos) (o : Option Ordinal) → V_ (absolute_part g at (if_number o))
-  absolute_if at None = told_holds g at 43
+  absolute_if at None = reported_holds g at 43
   absolute_if at (Some a) = absolute_by at a (is_number a.sort) refl
 
   character_of : (at : Pos) (o : Option Ordinal) → V_ (character_part g at o)
-  character_of at None = told_holds g at 43
+  character_of at None = reported_holds g at 43
   character_of at (Some a) = where_not g (ValueRanged types) (is_between (pos 0) a.number (pos 255)) at 52 (λ e. let k = between_in (pos 0) a.number (pos 255) e in fine (valued (Some char) a.number) (char_ranged a.number k.0 k.1))
 
   odd_of : (at : Pos) (o : Option Ordinal) → V_ (odd_part g at o)
-  odd_of at None = told_holds g at 43
+  odd_of at None = reported_holds g at 43
   odd_of at (Some a) = truth_ranged _
 
   ordinal_of_ranged : (at : Pos) (o : Option Ordinal) → V_ (ordinal_part g at o)
-  ordinal_of_ranged at None = told_holds g at 43
+  ordinal_of_ranged at None = reported_holds g at 43
   ordinal_of_ranged at (Some a) = number_ranged at (Some cardinal) a.number refl
 
   char_bounds : (t : TypeNo) (n : ℤ) → t ≡ char → IsNumber types t t n → (pos 0 ≤ℤ n) × (n ≤ℤ pos 255)
@@ -224,32 +224,32 @@ module _ (g : Gathers) (types : Types) where
   capital_number (Some t) n e p = char_bounds t n (same_types t char e) p
 
   capital_of : (at : Pos) (o : Option Ordinal) → PartRanged o → V_ (capital_part g at o)
-  capital_of at None p = told_holds g at 43
+  capital_of at None p = reported_holds g at 43
   capital_of at (Some a) p = where_not g (ValueRanged types) (is_char a.sort) at 43 (λ e. fine (valued (Some char) (upper a.number)) (upper_ranged a.number (capital_number a.sort a.number e p)))
 
   unary_value : (f : Standard) (at : Pos) (v : Value) → ValueRanged types v → V_ (unary_of g f at v)
   unary_value Abs at v p = absolute_if at (scalar_part (operand_of v))
   unary_value Cap at v p = capital_of at (scalar_part (operand_of v)) (part_ranged (operand_of v) (operand_ranged types v p))
   unary_value Chr at v p = character_of at (whole_number v)
-  unary_value High at v p = told_holds g at 34
-  unary_value Max at v p = told_holds g at 34
-  unary_value Min at v p = told_holds g at 34
+  unary_value High at v p = reported_holds g at 34
+  unary_value Max at v p = reported_holds g at 34
+  unary_value Min at v p = reported_holds g at 34
   unary_value Odd at v p = odd_of at (whole_number v)
   unary_value Ord at v p = ordinal_of_ranged at (scalar_part (operand_of v))
-  unary_value Val at v p = told_holds g at 34
-  unary_value Inc at v p = told_holds g at 34
-  unary_value Dec at v p = told_holds g at 34
-  unary_value Incl at v p = told_holds g at 34
-  unary_value Excl at v p = told_holds g at 34
-  unary_value Halt at v p = told_holds g at 34
-  unary_value Put at v p = told_holds g at 34
+  unary_value Val at v p = reported_holds g at 34
+  unary_value Inc at v p = reported_holds g at 34
+  unary_value Dec at v p = reported_holds g at 34
+  unary_value Incl at v p = reported_holds g at 34
+  unary_value Excl at v p = reported_holds g at 34
+  unary_value Halt at v p = reported_holds g at 34
+  unary_value Put at v p = reported_holds g at 34
 
-  pub unary_ranged : (f : Standard) {x : Result (Pos × Value) g.Told} → Holds (λ (p : Pos × Value). ValueRanged types p.1) x → V_ (unary g f x)
+  pub unary_ranged : (f : Standard) {x : Result (Pos × Value) g.Reported} → Holds (λ (p : Pos × Value). ValueRanged types p.1) x → V_ (unary g f x)
   unary_ranged f p = then_holds p (λ x k. unary_value f x.0 x.1 k)
 
 -- ---- standard functions of a type
 
-module _ (g : Gathers) (s : Scope g.Told) (h : ScopeRanged s) where
+module _ (g : Gathers) (s : Scope g.Reported) (h : ScopeRanged s) where
   -- a type that is a scalar
   abbrev pub TypeIs : TypeNo × Range → Type 0
   TypeIs p = scalar_at s.types p.0 ≡ Some p.1
@@ -282,13 +282,13 @@ module _ (g : Gathers) (s : Scope g.Told) (h : ScopeRanged s) where
   bound_by_ranged Halt t r e = greatest_value t r e
   bound_by_ranged Put t r e = greatest_value t r e
 
-  pub bound_ranged : (f : Standard) {x : Result (TypeNo × Range) g.Told} → Holds TypeIs x → Holds (ValueRanged s.types) (bound f x)
+  pub bound_ranged : (f : Standard) {x : Result (TypeNo × Range) g.Reported} → Holds TypeIs x → Holds (ValueRanged s.types) (bound f x)
   bound_ranged f p = then_holds p (λ x k. fine (bound_by f x.0 x.1) (bound_by_ranged f x.0 x.1 k))
 
   converted_of : (t : TypeNo) (r : Range) (at : Pos) (o : Option Ordinal) → scalar_at s.types t ≡ Some r → Holds (ValueRanged s.types) (converted_part g t r at o)
-  converted_of t r at None e = told_holds g at 43
+  converted_of t r at None e = reported_holds g at 43
   converted_of t r at (Some a) e =
       where_not g (ValueRanged s.types) (is_between r.low a.number r.high) at 52 (λ f. let k = between_in r.low a.number r.high f in fine (bound_of t r a.number) (bound_value t r a.number e k.0 k.1))
 
-  pub converted_ranged : {to : Result (TypeNo × Range) g.Told} (at : Pos) (v : Result Value g.Told) → Holds TypeIs to → Holds (ValueRanged s.types) (converted_by g to at v)
+  pub converted_ranged : {to : Result (TypeNo × Range) g.Reported} (at : Pos) (v : Result Value g.Reported) → Holds TypeIs to → Holds (ValueRanged s.types) (converted_by g to at v)
   converted_ranged at v p = then_holds (both_holds g p (any_holds v)) (λ x k. converted_of x.0.0 x.0.1 at (whole_number x.1) k.0)

@@ -34,11 +34,11 @@ use Rattle.m2_typed.specs.declared.table.ModuleTypes.{ModuleTypes}
 use Rattle.m2_typed.specs.declared.table.Table.{Table}
 use Rattle.m2_typed.specs.declared.known_types.Types.{Types}
 use Rattle.m2_typed.specs.Known.{scalar_at}
-use Rattle.m2_judged.specs.declared.known.Known.{Known}
-use Rattle.m2_judged.specs.declared.known.Known.TheVariants.{Later, Ahead, Begun, Headed, Declared}
-use Rattle.m2_judged.specs.declared.scope.Block.{Block}
-use Rattle.m2_judged.specs.declared.scope.Scope.{Scope}
-use Rattle.m2_judged.specs.Judged.{Gathers}
+use Rattle.m2_scopes.specs.declared.known.Known.{Known}
+use Rattle.m2_scopes.specs.declared.known.Known.TheVariants.{Later, Ahead, Begun, Headed, Declared}
+use Rattle.m2_scopes.specs.declared.scope.Block.{Block}
+use Rattle.m2_scopes.specs.declared.scope.Scope.{Scope}
+use Rattle.m2_scopes.specs.Elaborated.{Gathers}
 use Rattle.m2_values.specs.Operands.{letter}
 use Rattle.m2_constants.specs.Parts.{part, constant}
 use Rattle.m2_made.specs.Made.{type_of}
@@ -46,7 +46,7 @@ use Rattle.m2_types.specs.Declare.{with_def}
 use Rattle.m2_types.specs.Compiled.{declared_in}
 use Rattle.m2_types.specs.Export.{exports, reached_of}
 use Rattle.m2_types.specs.Predeclared.{others_of, first_scope}
-use Rattle.m2_judged.specs.Scopes.{State}
+use Rattle.m2_scopes.specs.Scopes.{State}
 use Rattle.m2_blocks.specs.Declarations.{Course, with_decl, declared_block, declared_module}
 use Rattle.m2_blocks.specs.declared.inner.Outside.{Outside}
 use Rattle.m2_blocks.specs.Inner.{entered_procedure, left_procedure}
@@ -235,45 +235,45 @@ StateRanged st = Holds (λ x. ScopeRanged st.0) st.1
 
 -- a constant expression means a number of its type
 abbrev pub ConstantsAreRanged : Gathers → Type 0
-ConstantsAreRanged g = (s : Scope g.Told) → ScopeRanged s → (e : Expr) → fits e ≡ true → Holds (ValueRanged s.types) (constant g s (part g e))
+ConstantsAreRanged g = (s : Scope g.Reported) → ScopeRanged s → (e : Expr) → fits e ≡ true → Holds (ValueRanged s.types) (constant g s (part g e))
 
 -- a type expression leads from such a scope to such a scope
 abbrev pub TypesAreRanged : Gathers → Type 0
-TypesAreRanged g = (s : Scope g.Told) → ScopeRanged s → (t : TypeExpr) → fits_type t ≡ true → StateRanged (type_of g t s)
+TypesAreRanged g = (s : Scope g.Reported) → ScopeRanged s → (t : TypeExpr) → fits_type t ≡ true → StateRanged (type_of g t s)
 
 -- and so does a declaration of a definition,
 abbrev pub DefsAreRanged : Gathers → Type 0
-DefsAreRanged g = (st : State (Unit {0}) g.Told) → StateRanged st → (d : Def) → fits_def d ≡ true → StateRanged (with_def g st d)
+DefsAreRanged g = (st : State (Unit {0}) g.Reported) → StateRanged st → (d : Def) → fits_def d ≡ true → StateRanged (with_def g st d)
 
 -- and one of a block
 abbrev pub DeclsAreRanged : Gathers → Type 0
-DeclsAreRanged g = (ends : List ℕ) (c : Course g.Told) → StateRanged (c.0, c.1) → (d : Decl) → fits_decl d ≡ true
+DeclsAreRanged g = (ends : List ℕ) (c : Course g.Reported) → StateRanged (c.0, c.1) → (d : Decl) → fits_decl d ≡ true
     → StateRanged (let n = with_decl g ends c d in (n.0, n.1))
 
 -- ---- whole blocks
 
 -- the imports and the declarations of a definition
 abbrev pub DefinitionsAreRanged : Gathers → Type 0
-DefinitionsAreRanged g = (m : Module) (modules : List (List ℕ × ℕ)) (s : Scope g.Told) → ScopeRanged s → (ds : List Def) → list_all fits_def ds ≡ true
+DefinitionsAreRanged g = (m : Module) (modules : List (List ℕ × ℕ)) (s : Scope g.Reported) → ScopeRanged s → (ds : List Def) → list_all fits_def ds ≡ true
     → StateRanged (declared_in g m modules s ds)
 
 -- the declarations of a block,
 abbrev pub BlocksAreRanged : Gathers → Type 0
-BlocksAreRanged g = (ends : List ℕ) (st : State (Unit {0}) g.Told) (first : ℕ) → StateRanged st → (ds : List Decl) → list_all fits_decl ds ≡ true
+BlocksAreRanged g = (ends : List ℕ) (st : State (Unit {0}) g.Reported) (first : ℕ) → StateRanged st → (ds : List Decl) → list_all fits_decl ds ≡ true
     → StateRanged (let d = declared_block g ends st first ds in (d.0, d.1))
 
 -- and those of a module, behind its imports
 abbrev pub ModulesAreRanged : Gathers → Type 0
-ModulesAreRanged g = (modules : List (List ℕ × ℕ)) (ends : List ℕ) (s : Scope g.Told) (m : Module) → ScopeRanged s → (ds : List Decl) → list_all fits_decl ds ≡ true
+ModulesAreRanged g = (modules : List (List ℕ × ℕ)) (ends : List ℕ) (s : Scope g.Reported) (m : Module) → ScopeRanged s → (ds : List Decl) → list_all fits_decl ds ≡ true
     → StateRanged (let d = declared_module g modules ends s m ds in (d.0, d.1))
 
 -- the way into a procedure,
 abbrev pub EnteredAreRanged : Gathers → Type 0
-EnteredAreRanged g = (s : Scope g.Told) (seen : ℕ) (h : Heading) → ScopeRanged s → ScopeRanged (entered_procedure g s seen h).0
+EnteredAreRanged g = (s : Scope g.Reported) (seen : ℕ) (h : Heading) → ScopeRanged s → ScopeRanged (entered_procedure g s seen h).0
 
 -- and the way back
 abbrev pub LeftAreRanged : Gathers → Type 0
-LeftAreRanged g = (o : Outside) (s : Scope g.Told) → ScopeRanged s → ScopeRanged (left_procedure o s)
+LeftAreRanged g = (o : Outside) (s : Scope g.Reported) → ScopeRanged s → ScopeRanged (left_procedure o s)
 
 -- ---- where a module begins, and what it exports
 
@@ -283,11 +283,11 @@ first_types home tables = record { home = home; own = []; others = others_of tab
 -- a module begins in such a scope, if the types that its tables reach have such ranges, and their constants are such numbers
 abbrev pub FirstAreRanged : Gathers → Type 0
 FirstAreRanged g = (home : ℕ) (tables : List Table) → OthersRanged (others_of tables) → OthersBased (first_types home tables) (others_of tables) → TablesRanged (first_types home tables) tables
-    → ScopeRanged (first_scope {T = g.Told} home tables)
+    → ScopeRanged (first_scope {T = g.Reported} home tables)
 
 -- the constants that it exports are such numbers
 abbrev pub ExportsAreRanged : Gathers → Type 0
-ExportsAreRanged g = (s : Scope g.Told) → ScopeRanged s → ExportsRanged s.types (exports s.own)
+ExportsAreRanged g = (s : Scope g.Reported) → ScopeRanged s → ExportsRanged s.types (exports s.own)
 
 abbrev pub ReachedRanged : List ModuleTypes → Type 0
 ReachedRanged [] = Unit {0}

@@ -15,12 +15,12 @@ use Rattle.m2_typed.specs.declared.shape.Made.{Made}
 use Rattle.m2_typed.specs.declared.table.ModuleTypes.{ModuleTypes}
 use Rattle.m2_typed.specs.declared.table.Table.{Table}
 use Rattle.m2_typed.specs.declared.typed_module.TypedModule.{TypedModule}
-use Rattle.m2_judged.specs.declared.fault.Fault.{Fault}
-use Rattle.m2_judged.specs.Judged.{least}
+use Rattle.m2_scopes.specs.declared.fault.Fault.{Fault}
+use Rattle.m2_scopes.specs.Elaborated.{least}
 use Rattle.m2_layout.specs.Layouts.{too_large}
 use Rattle.m2_types.specs.Compiled as types
 use Rattle.m2_modules.specs.Own.{types_made_in}
-use Rattle.m2_check.specs.Checks.{judged}
+use Rattle.m2_check.specs.Checks.{elaborated}
 use Rattle.m2_formed.specs.Formed.{Holds, fine, broken}
 use Rattle.m2_ranges.specs.Ranges.{AreRanged}
 use Rattle.m2_formed_types.specs.Ordered.{AreOrdered}
@@ -33,7 +33,7 @@ use Rattle.m2_compile.specs.declared.outcome.Compiled.TheVariants.{Defined, Buil
 use Rattle.m2_compile.specs.Own.{own_table, tables_behind}
 use Rattle.m2_compile.specs.Compiling.{is_sound, table_in, tables_of, of_definition, of_fit, of_checked, of_contents, typed_body, compiled}
 use Rattle.m2_jobs.specs.Jobs.{compiled_in, compiled_at}
-use Rattle.m2_jobs.specs.Spelled.{needed_of}
+use Rattle.m2_jobs.specs.Encoded.{needed_of}
 use Rattle.m2_formed_reach.specs.FormedReach.{result_of, made_by, types_of}
 
 -- ---- lists
@@ -193,7 +193,7 @@ module _ (trees : List Module) (files : List ℕ) (jobs : List (List ℕ)) (fit 
     body_formed m f =
         let ts : List Table = tables_of (picked (below n) (prerequisites_of jobs n)) in
         let h : AllByRecursion IsNeeded ts = all_needed (prerequisites_of jobs n) in
-        checked_formed least (judged least) its_types n m (own_table m ts) (tables_behind (own_table m ts) ts) f (own_formed m ts h) (behind_formed (own_table m ts) ts h)
+        checked_formed least (elaborated least) its_types n m (own_table m ts) (tables_behind (own_table m ts) ts) f (own_formed m ts h) (behind_formed (own_table m ts) ts h)
 
   -- ---- all jobs
 

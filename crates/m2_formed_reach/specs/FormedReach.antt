@@ -13,7 +13,7 @@ use Rattle.m2_compile.specs.declared.outcome.Compiled.{Compiled}
 use Rattle.m2_compile.specs.declared.outcome.Compiled.TheVariants.{Defined, Built, Refused, Blocked}
 use Rattle.m2_compile.specs.Compiling.{tables_of, typed_body}
 use Rattle.m2_jobs.specs.Jobs.{compiled_at}
-use Rattle.m2_jobs.specs.Spelled.{needed_of}
+use Rattle.m2_jobs.specs.Encoded.{needed_of}
 
 module _ (trees : List Module) (files : List ℕ) (jobs : List (List ℕ)) where
   -- what becomes of a job

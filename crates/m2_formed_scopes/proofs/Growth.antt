@@ -11,12 +11,12 @@ use Rattle.m2_typed.specs.declared.types.Home.TheVariants as home
 use Rattle.m2_typed.specs.declared.types.TypeNo.{TypeNo}
 use Rattle.m2_typed.specs.Known.{made_from, made_at}
 use Rattle.m2_typed.specs.Names.{same_name, found, entered}
-use Rattle.m2_judged.specs.declared.known.Origin.TheVariants.{Here}
-use Rattle.m2_judged.specs.declared.known.Known.{Known}
-use Rattle.m2_judged.specs.declared.known.Known.TheVariants.{Later, Ahead, Begun, Headed, Declared}
-use Rattle.m2_judged.specs.declared.scope.Scope.{Scope}
-use Rattle.m2_judged.specs.Judged.{Gathers, told}
-use Rattle.m2_judged.specs.Scopes.{State, is_free, with_known, unless_declared, begun, is_begun, finished, unless_marked, marked}
+use Rattle.m2_scopes.specs.declared.known.Origin.TheVariants.{Here}
+use Rattle.m2_scopes.specs.declared.known.Known.{Known}
+use Rattle.m2_scopes.specs.declared.known.Known.TheVariants.{Later, Ahead, Begun, Headed, Declared}
+use Rattle.m2_scopes.specs.declared.scope.Scope.{Scope}
+use Rattle.m2_scopes.specs.Elaborated.{Gathers, reported}
+use Rattle.m2_scopes.specs.Scopes.{State, is_free, with_known, unless_declared, begun, is_begun, finished, unless_marked, marked}
 use Rattle.m2_made.specs.Made.{with_shape, with_made}
 use Rattle.m2_formed.specs.Formed.{Holds}
 use Rattle.m2_formed_scopes.specs.FormedScopes.{picked, is_awaiting, FormedOwn, FormedKnown, AreFormedNames, Leads}
@@ -115,12 +115,12 @@ module _ (m : TypedModule) (opens : ℕ → Bool) where
     formed = λ h q. names_more name k s.own (p h) q;
   }
 
-  module _ (g : Gathers) (s : Scope g.Told) (name : Ident) where
-    unless_by : (b : Bool) (k : Known g.Told) → (b ≡ true → Leads m opens s (with_known name.name k s)) → Leads m opens s (cond {A = State (Unit {0}) g.Told} b (with_known name.name k s, Ok tt) (s, told g name.pos 31)).0
+  module _ (g : Gathers) (s : Scope g.Reported) (name : Ident) where
+    unless_by : (b : Bool) (k : Known g.Reported) → (b ≡ true → Leads m opens s (with_known name.name k s)) → Leads m opens s (cond {A = State (Unit {0}) g.Reported} b (with_known name.name k s, Ok tt) (s, reported g name.pos 31)).0
     unless_by true k p = p refl
     unless_by false k p = leads_refl s
 
-    pub unless_leads : (k : Known g.Told) → is_awaiting k ≡ false → (s.types.home ≡ m.types.home → FormedKnown m opens k) → Leads m opens s (unless_declared g s name k).0
+    pub unless_leads : (k : Known g.Reported) → is_awaiting k ≡ false → (s.types.home ≡ m.types.home → FormedKnown m opens k) → Leads m opens s (unless_declared g s name k).0
     unless_leads k a p = unless_by (is_free (found name.name s.own)) k (λ e. known_leads s name.name k (free_unheaded (found name.name s.own) e) a p)
 
     pub begun_leads : Leads m opens s (begun g s name).0

@@ -10,10 +10,10 @@ use Rattle.m2_tree.specs.declared.decl.TypeExpr.TheOpen as layer
 use Rattle.m2_tree.specs.declared.decl.Field.{Field, Field-F, out-Field, roll-Field, out-roll-Field, map-Field, fold_out-Field}
 use Rattle.m2_typed.specs.declared.typed_module.TypedModule.{TypedModule}
 use Rattle.m2_typed.specs.declared.types.TypeNo.{TypeNo}
-use Rattle.m2_judged.specs.Judged.{Gathers}
-use Rattle.m2_judged.specs.declared.known.Known.TheVariants.{Later, Declared}
-use Rattle.m2_judged.specs.declared.known.Origin.TheVariants.{Here}
-use Rattle.m2_judged.specs.declared.scope.Scope.{Scope}
+use Rattle.m2_scopes.specs.Elaborated.{Gathers}
+use Rattle.m2_scopes.specs.declared.known.Known.TheVariants.{Later, Declared}
+use Rattle.m2_scopes.specs.declared.known.Origin.TheVariants.{Here}
+use Rattle.m2_scopes.specs.declared.scope.Scope.{Scope}
 use Rattle.m2_made.specs.declared.field.Fields.{Fields}
 use Rattle.m2_made.specs.Fields.{no_fields}
 use Rattle.m2_made.specs.Made.{next_type, with_shape, enumeration_constant, enumeration_scalar, too_many, listed, simple_type, index_type, Makes, MakesFields, then_fields, type_layer, field_layer, type_of, field_list}
@@ -93,21 +93,21 @@ module _ (m : TypedModule) (opens : ℕ → Bool) where
   -- ---- types that are made
 
   module _ (g : Gathers) where
-    listed_all : (t : TypeNo) (names : List Ident) (l : Scope g.Told × ℕ × Result (Unit {0}) g.Told) → Leads m opens l.0 (fold (listed g t) l names).0
+    listed_all : (t : TypeNo) (names : List Ident) (l : Scope g.Reported × ℕ × Result (Unit {0}) g.Reported) → Leads m opens l.0 (fold (listed g t) l names).0
     listed_all t [] l = leads_refl m opens l.0
     listed_all t (x ∷ xs) l = leads_then m opens (unless_leads m opens g l.0 x (Declared Here (Ok (enumeration_constant t (pos l.1)))) refl (λ h. fine (enumeration_constant t (pos l.1)) (tt, tt))) (listed_all t xs (listed g t l x))
 
-    simple_leads : (s : Scope g.Told) (t : Simple) → Leads m opens s (simple_type g s t).0
+    simple_leads : (s : Scope g.Reported) (t : Simple) → Leads m opens s (simple_type g s t).0
     simple_leads s (simple.Named q) = leads_refl m opens s
     simple_leads s (simple.Enumeration at names) =
         leads_then m opens (shape_leads m opens s (enumeration_scalar (next_type s) names)) (listed_all (next_type s) names (with_shape s (enumeration_scalar (next_type s) names), 0, too_many g names))
     simple_leads s (simple.Subrange o at low high) = made_leads m opens s _
 
     abbrev FormedMakes : Makes g → Type 0
-    FormedMakes f = (s : Scope g.Told) → Leads m opens s (f s).0
+    FormedMakes f = (s : Scope g.Reported) → Leads m opens s (f s).0
 
     abbrev FormedFields : MakesFields g → Type 0
-    FormedFields f = (st : Scope g.Told × Fields × Result (Unit {0}) g.Told) → Leads m opens st.0 (f st).0
+    FormedFields f = (st : Scope g.Reported × Fields × Result (Unit {0}) g.Reported) → Leads m opens st.0 (f st).0
 
     abbrev PT : TypeExpr → Type 0
     PT t = FormedMakes (type_of g t)
@@ -141,7 +141,7 @@ module _ (m : TypedModule) (opens : ℕ → Bool) where
     abbrev bare_field : Field-F ST SF → Field-F TypeExpr Field
     bare_field x = map-Field ST SF TypeExpr Field (λ t. t.0) (λ f. f.0) x
 
-    fields_all : (fs : List SF) (st : Scope g.Told × Fields × Result (Unit {0}) g.Told) → Leads m opens st.0 (fold (then_fields g) st (map (field_list g) (map (λ (f : SF). f.0) fs))).0
+    fields_all : (fs : List SF) (st : Scope g.Reported × Fields × Result (Unit {0}) g.Reported) → Leads m opens st.0 (fold (then_fields g) st (map (field_list g) (map (λ (f : SF). f.0) fs))).0
     fields_all [] st = leads_refl m opens st.0
     fields_all (f ∷ fs) st = leads_then m opens (f.1 st) (fields_all fs (field_list g f.0 st))
 

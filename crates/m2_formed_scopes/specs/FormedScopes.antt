@@ -10,13 +10,13 @@ use Rattle.m2_typed.specs.declared.typed_module.TypedModule.{TypedModule}
 use Rattle.m2_typed.specs.declared.types.TypeNo.{TypeNo}
 use Rattle.m2_typed.specs.Known.{made_at}
 use Rattle.m2_typed.specs.Names.{found}
-use Rattle.m2_judged.specs.Judged.{Gathers}
-use Rattle.m2_judged.specs.declared.known.Origin.{Origin}
-use Rattle.m2_judged.specs.declared.known.Origin.TheVariants.{Here, Module, Export}
-use Rattle.m2_judged.specs.declared.known.Known.{Known}
-use Rattle.m2_judged.specs.declared.known.Known.TheVariants.{Later, Ahead, Begun, Headed, Declared}
-use Rattle.m2_judged.specs.declared.scope.Block.{Block}
-use Rattle.m2_judged.specs.declared.scope.Scope.{Scope}
+use Rattle.m2_scopes.specs.Elaborated.{Gathers}
+use Rattle.m2_scopes.specs.declared.known.Origin.{Origin}
+use Rattle.m2_scopes.specs.declared.known.Origin.TheVariants.{Here, Module, Export}
+use Rattle.m2_scopes.specs.declared.known.Known.{Known}
+use Rattle.m2_scopes.specs.declared.known.Known.TheVariants.{Later, Ahead, Begun, Headed, Declared}
+use Rattle.m2_scopes.specs.declared.scope.Block.{Block}
+use Rattle.m2_scopes.specs.declared.scope.Scope.{Scope}
 use Rattle.m2_blocks.specs.Headings.{standing_known, with_heading}
 use Rattle.m2_blocks.specs.Declarations.{Course, with_decl, is_awaited}
 use Rattle.m2_formed.specs.Formed.{Holds, FormedMeaning}
@@ -113,7 +113,7 @@ module _ (m : TypedModule) (opens : ℕ → Bool) where
 
   module _ (g : Gathers) {A B : Type 0} where
     -- so it is, if the declaration is a procedure
-    abbrev pub HeadsAre : Course g.Told → Decl-F A B → Type 0
+    abbrev pub HeadsAre : Course g.Reported → Decl-F A B → Type 0
     HeadsAre c (layer.Constants cs) = Unit {0}
     HeadsAre c (layer.Types ts) = Unit {0}
     HeadsAre c (layer.Variables vs) = Unit {0}
@@ -121,5 +121,5 @@ module _ (m : TypedModule) (opens : ℕ → Bool) where
 
 -- a declaration of a block leads from its scope to the one behind it
 abbrev pub DeclarationsLead : Gathers → Type 0
-DeclarationsLead g = (m : TypedModule) (opens : ℕ → Bool) (ends : List ℕ) (c : Course g.Told) (d : Decl)
+DeclarationsLead g = (m : TypedModule) (opens : ℕ → Bool) (ends : List ℕ) (c : Course g.Reported) (d : Decl)
     → HeadsAre m opens g c (out-Decl d) → Leads m opens c.0 (with_decl g ends c d).0

@@ -6,7 +6,7 @@
 //!   made, and `proofs/Declarations` all declarations of a block.
 #![tactic(auto)]
 
-ghost use Rattle.m2_judged.specs.Judged.{least, every};
+ghost use Rattle.m2_scopes.specs.Elaborated.{least, every};
 ghost use Rattle.m2_formed_scopes.specs.FormedScopes.{DeclarationsLead};
 
 /// Declarations lead from formed names to formed names.

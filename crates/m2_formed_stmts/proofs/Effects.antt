@@ -21,8 +21,8 @@ use Rattle.m2_typed.specs.declared.statement.TypedStmt.TheVariants as step
 use Rattle.m2_typed.specs.declared.typed_module.TypedModule.{TypedModule}
 use Rattle.m2_typed.specs.declared.types.TypeNo.{TypeNo}
 use Rattle.m2_typed.specs.Types.{cardinal, char}
-use Rattle.m2_judged.specs.Judged.{Gathers, told_where, ◌▷◌}
-use Rattle.m2_judged.specs.declared.scope.Scope.{Scope}
+use Rattle.m2_scopes.specs.Elaborated.{Gathers, reported_where, ◌▷◌}
+use Rattle.m2_scopes.specs.declared.scope.Scope.{Scope}
 use Rattle.m2_values.specs.declared.operand.Ordinal.{Ordinal}
 use Rattle.m2_values.specs.Standards.{whole_number}
 use Rattle.m2_computed.specs.Classes.{class_at, signature_at}
@@ -47,19 +47,19 @@ use Rattle.m2_exprs.specs.Effects.{call_done, routine_done, changed_by, member_b
 use Rattle.m2_scheme.specs.Exprs.{is_there}
 use Rattle.m2_valid.specs.WellFormed.{IsScalar, IsExpr, Constant, IsPlace, AreArguments, IsStmt, Assign, Copy, CopyText, ProcedureCall, Put as PutOf, Changed, Member, Halt as HaltOf}
 use Rattle.m2_formed.specs.Formed.{Holds, fine, FormedValue, FormedDesignated, IsFormed}
-use Rattle.m2_formed.proofs.Basics.{then_holds, told_holds, where_holds, both_holds, is_whole, scalar_kept, heading_kept}
+use Rattle.m2_formed.proofs.Basics.{then_holds, reported_holds, where_holds, both_holds, is_whole, scalar_kept, heading_kept}
 use Rattle.m2_formed.proofs.Operators.{suited_formed}
 use Rattle.m2_formed.proofs.Calls.{FormedCallee, FormedCalled, callee_formed, call_formed}
 use Rattle.m2_formed.proofs.Meanings.{FM, AllM, value_formed, actuals_formed}
 
-module _ (g : Gathers) (m : TypedModule) (opens : ℕ → Bool) (w : ℕ) (s : Scope g.Told) (h : IsFormed g m opens w s) (gives looped : Bool) where
-  abbrev Stmt_ : Result TypedStmt g.Told → Type 0
+module _ (g : Gathers) (m : TypedModule) (opens : ℕ → Bool) (w : ℕ) (s : Scope g.Reported) (h : IsFormed g m opens w s) (gives looped : Bool) where
+  abbrev Stmt_ : Result TypedStmt g.Reported → Type 0
   Stmt_ r = Holds (IsStmt m gives w looped) r
 
-  abbrev Expr_ : Result TypedExpr g.Told → Type 0
+  abbrev Expr_ : Result TypedExpr g.Reported → Type 0
   Expr_ r = Holds (IsExpr m w) r
 
-  abbrev Known_ : Meant g.Told → Type 0
+  abbrev Known_ : Meant g.Reported → Type 0
   Known_ x = FM g m opens w s h x
 
   -- ---- assignments
@@ -71,12 +71,12 @@ module _ (g : Gathers) (m : TypedModule) (opens : ℕ → Bool) (w : ℕ) (s : S
   target_of_formed : (at : Pos) (d : Designated) → FormedDesignated m opens w d → Holds FormedTarget (target_of g at d)
   target_of_formed at (designated.Variable t d) p = fine (target.Variable t d) p
   target_of_formed at (designated.Open t slot) p = fine target.Open tt
-  target_of_formed at (designated.Value x) p = told_holds g at 40
-  target_of_formed at (designated.Type t) p = told_holds g at 40
-  target_of_formed at (designated.Procedure f) p = told_holds g at 40
-  target_of_formed at (designated.Nested f) p = told_holds g at 40
-  target_of_formed at (designated.Standard f) p = told_holds g at 40
-  target_of_formed at (designated.Module k) p = told_holds g at 40
+  target_of_formed at (designated.Value x) p = reported_holds g at 40
+  target_of_formed at (designated.Type t) p = reported_holds g at 40
+  target_of_formed at (designated.Procedure f) p = reported_holds g at 40
+  target_of_formed at (designated.Nested f) p = reported_holds g at 40
+  target_of_formed at (designated.Standard f) p = reported_holds g at 40
+  target_of_formed at (designated.Module k) p = reported_holds g at 40
 
   abbrev FormedAccepted : TypeNo → Accepted → Type 0
   FormedAccepted t (accepted.Value e) = IsScalar m.types t × IsExpr m w e
@@ -84,19 +84,19 @@ module _ (g : Gathers) (m : TypedModule) (opens : ℕ → Bool) (w : ℕ) (s : S
   FormedAccepted t (accepted.Text text) = Unit {0}
 
   text_accepted : (number : ℕ) (t : TypeNo) (at : Pos) (v : Value) → Holds (FormedAccepted t) (text_suited g number s.types t at v)
-  text_accepted number t at (constant.Number n) = told_holds g at number
-  text_accepted number t at (constant.Scalar n) = told_holds g at number
-  text_accepted number t at (constant.Set bits) = told_holds g at number
+  text_accepted number t at (constant.Number n) = reported_holds g at number
+  text_accepted number t at (constant.Scalar n) = reported_holds g at number
+  text_accepted number t at (constant.Set bits) = reported_holds g at number
   text_accepted number t at (constant.Text text) = where_holds g _ at number (fine (accepted.Text text) tt)
 
   whole_accepted : (number : ℕ) (t : TypeNo) (at : Pos) (x : Computed) → FormedValue m w x → Holds (FormedAccepted t) (whole_suited g number s.types t at x)
   whole_accepted number t at (value.Constant v) p = text_accepted number t at v
   whole_accepted number t at (value.Whole u d) p = where_holds g _ at number (fine (accepted.Whole d) p)
-  whole_accepted number t at (value.Scalar u b e) p = told_holds g at number
-  whole_accepted number t at (value.Set e) p = told_holds g at number
-  whole_accepted number t at (value.Routine u e) p = told_holds g at number
-  whole_accepted number t at (value.Procedure f) p = told_holds g at number
-  whole_accepted number t at value.Untaken p = told_holds g at number
+  whole_accepted number t at (value.Scalar u b e) p = reported_holds g at number
+  whole_accepted number t at (value.Set e) p = reported_holds g at number
+  whole_accepted number t at (value.Routine u e) p = reported_holds g at number
+  whole_accepted number t at (value.Procedure f) p = reported_holds g at number
+  whole_accepted number t at value.Untaken p = reported_holds g at number
 
   value_accepted : (number : ℕ) (t : TypeNo) (at : Pos) (x : Computed) → FormedValue m w x → IsScalar m.types t → Holds (FormedAccepted t) (of_expr (value_suited g number s.types t at x))
   value_accepted number t at x p k = then_holds (suited_formed m w g number s.types t at x p) (λ e q. fine (accepted.Value e) (k, q))
@@ -116,10 +116,10 @@ module _ (g : Gathers) (m : TypedModule) (opens : ℕ → Bool) (w : ℕ) (s : S
   stored_formed t d (accepted.Text text) p q = CopyText w looped d t text p
 
   assigned_to_formed : (a : Target) (at : Pos) (x : Computed) → FormedTarget a → FormedValue m w x → Stmt_ (assigned_to g s.types a at x)
-  assigned_to_formed target.Open at x p q = told_holds g at 41
+  assigned_to_formed target.Open at x p q = reported_holds g at 41
   assigned_to_formed (target.Variable t d) at x p q = then_holds (accepted_formed 41 t at x q) (λ a k. fine (stored t d a) (stored_formed t d a p k))
 
-  pub assignment_formed : (d : Meant g.Told) (at : Pos) (x : Meant g.Told) → Known_ d → Known_ x → Stmt_ (assigned g s.types (target_at g d.fixed.at (d.means s)) at (value_of g s x))
+  pub assignment_formed : (d : Meant g.Reported) (at : Pos) (x : Meant g.Reported) → Known_ d → Known_ x → Stmt_ (assigned g s.types (target_at g d.fixed.at (d.means s)) at (value_of g s x))
   assignment_formed d at x p q =
       then_holds (both_holds g (then_holds p (λ e k. target_of_formed d.fixed.at e k)) (value_formed g m opens w s h x q)) (λ v k. assigned_to_formed v.0 at v.1 k.0 k.1)
 
@@ -130,103 +130,103 @@ module _ (g : Gathers) (m : TypedModule) (opens : ℕ → Bool) (w : ℕ) (s : S
 
   changed_as_formed : (at : Pos) (t : TypeNo) (d : Place) (c : Class) → (is_whole c ≡ false → IsScalar m.types t) → IsPlace m w d → Holds FormedVariable (changed_as g at t d c)
   changed_as_formed at t d (class.Scalar r) k p = fine (t, d) (k refl, p)
-  changed_as_formed at t d class.Set k p = told_holds g at 44
-  changed_as_formed at t d class.Procedure k p = told_holds g at 44
-  changed_as_formed at t d class.Whole k p = told_holds g at 44
+  changed_as_formed at t d class.Set k p = reported_holds g at 44
+  changed_as_formed at t d class.Procedure k p = reported_holds g at 44
+  changed_as_formed at t d class.Whole k p = reported_holds g at 44
 
   changed_formed : (at : Pos) (d : Designated) → FormedDesignated m opens w d → Holds FormedVariable (changed g s.types at d)
   changed_formed at (designated.Variable t d) p = changed_as_formed at t d (class_at s.types t) (scalar_kept s.types m.types h.types t) p
-  changed_formed at (designated.Value x) p = told_holds g at 44
-  changed_formed at (designated.Open t slot) p = told_holds g at 44
-  changed_formed at (designated.Type t) p = told_holds g at 44
-  changed_formed at (designated.Procedure f) p = told_holds g at 44
-  changed_formed at (designated.Nested f) p = told_holds g at 44
-  changed_formed at (designated.Standard f) p = told_holds g at 44
-  changed_formed at (designated.Module k) p = told_holds g at 44
+  changed_formed at (designated.Value x) p = reported_holds g at 44
+  changed_formed at (designated.Open t slot) p = reported_holds g at 44
+  changed_formed at (designated.Type t) p = reported_holds g at 44
+  changed_formed at (designated.Procedure f) p = reported_holds g at 44
+  changed_formed at (designated.Nested f) p = reported_holds g at 44
+  changed_formed at (designated.Standard f) p = reported_holds g at 44
+  changed_formed at (designated.Module k) p = reported_holds g at 44
 
   known_amount_formed : (at : Pos) (o : Option Ordinal) → Expr_ (known_amount g at o)
-  known_amount_formed at None = told_holds g at 43
+  known_amount_formed at None = reported_holds g at 43
   known_amount_formed at (Some a) = fine (expr.Constant (untyped a.number a.sort) a.number) (Constant (untyped a.number a.sort) a.number)
 
   amount_formed : (at : Pos) (x : Computed) → FormedValue m w x → Expr_ (amount g at x)
   amount_formed at (value.Constant v) p = known_amount_formed at (whole_number v)
   amount_formed at (value.Scalar t b e) p = where_holds g _ at 43 (fine e p)
-  amount_formed at (value.Set e) p = told_holds g at 43
-  amount_formed at (value.Routine t e) p = told_holds g at 43
-  amount_formed at (value.Procedure f) p = told_holds g at 43
-  amount_formed at (value.Whole t d) p = told_holds g at 43
-  amount_formed at value.Untaken p = told_holds g at 43
+  amount_formed at (value.Set e) p = reported_holds g at 43
+  amount_formed at (value.Routine t e) p = reported_holds g at 43
+  amount_formed at (value.Procedure f) p = reported_holds g at 43
+  amount_formed at (value.Whole t d) p = reported_holds g at 43
+  amount_formed at value.Untaken p = reported_holds g at 43
 
-  change_by_formed : (o : Change) {v : Result (TypeNo × Place) g.Told} {e : Result TypedExpr g.Told} → Holds FormedVariable v → Expr_ e → Stmt_ (change_by g o v e)
+  change_by_formed : (o : Change) {v : Result (TypeNo × Place) g.Reported} {e : Result TypedExpr g.Reported} → Holds FormedVariable v → Expr_ e → Stmt_ (change_by g o v e)
   change_by_formed o p q = then_holds (both_holds g p q) (λ v k. fine (step.Change o v.0.1 v.0.0 v.1) (Changed w looped o v.0.1 v.0.0 v.1 k.0.0 k.0.1 k.1))
 
-  changed_by_formed : (at : Pos) (o : Change) (args : List (Meant g.Told)) → AllM g m opens w s h args → Stmt_ (changed_by g s at o args)
-  changed_by_formed at o [] all = told_holds g at 42
+  changed_by_formed : (at : Pos) (o : Change) (args : List (Meant g.Reported)) → AllM g m opens w s h args → Stmt_ (changed_by g s at o args)
+  changed_by_formed at o [] all = reported_holds g at 42
   changed_by_formed at o (v ∷ []) all = change_by_formed o (then_holds all.0 (λ d k. changed_formed v.fixed.at d k)) (fine (expr.Constant cardinal (pos 1)) (Constant cardinal (pos 1)))
   changed_by_formed at o (v ∷ n ∷ []) all = change_by_formed o (then_holds all.0 (λ d k. changed_formed v.fixed.at d k)) (then_holds (value_formed g m opens w s h n all.1.0) (λ x k. amount_formed n.fixed.at x k))
-  changed_by_formed at o (v ∷ n ∷ x ∷ xs) all = told_holds g at 42
+  changed_by_formed at o (v ∷ n ∷ x ∷ xs) all = reported_holds g at 42
 
   -- ---- INCL and EXCL
 
   set_as_formed : (at : Pos) (d : Place) (c : Class) → IsPlace m w d → Holds (IsPlace m w) (set_as g at d c)
   set_as_formed at d class.Set p = fine d p
-  set_as_formed at d (class.Scalar r) p = told_holds g at 44
-  set_as_formed at d class.Procedure p = told_holds g at 44
-  set_as_formed at d class.Whole p = told_holds g at 44
+  set_as_formed at d (class.Scalar r) p = reported_holds g at 44
+  set_as_formed at d class.Procedure p = reported_holds g at 44
+  set_as_formed at d class.Whole p = reported_holds g at 44
 
   set_variable_formed : (at : Pos) (d : Designated) → FormedDesignated m opens w d → Holds (IsPlace m w) (set_variable g s.types at d)
   set_variable_formed at (designated.Variable t d) p = set_as_formed at d (class_at s.types t) p
-  set_variable_formed at (designated.Value x) p = told_holds g at 44
-  set_variable_formed at (designated.Open t slot) p = told_holds g at 44
-  set_variable_formed at (designated.Type t) p = told_holds g at 44
-  set_variable_formed at (designated.Procedure f) p = told_holds g at 44
-  set_variable_formed at (designated.Nested f) p = told_holds g at 44
-  set_variable_formed at (designated.Standard f) p = told_holds g at 44
-  set_variable_formed at (designated.Module k) p = told_holds g at 44
+  set_variable_formed at (designated.Value x) p = reported_holds g at 44
+  set_variable_formed at (designated.Open t slot) p = reported_holds g at 44
+  set_variable_formed at (designated.Type t) p = reported_holds g at 44
+  set_variable_formed at (designated.Procedure f) p = reported_holds g at 44
+  set_variable_formed at (designated.Nested f) p = reported_holds g at 44
+  set_variable_formed at (designated.Standard f) p = reported_holds g at 44
+  set_variable_formed at (designated.Module k) p = reported_holds g at 44
 
   element_known_formed : (at : Pos) (o : Option Ordinal) → Expr_ (element_known g at o)
-  element_known_formed at None = told_holds g at 43
+  element_known_formed at None = reported_holds g at 43
   element_known_formed at (Some a) = where_holds g _ at 52 (fine (expr.Constant (untyped a.number a.sort) a.number) (Constant (untyped a.number a.sort) a.number))
 
   element_formed : (at : Pos) (x : Computed) → FormedValue m w x → Expr_ (element g at x)
   element_formed at (value.Constant v) p = element_known_formed at (whole_number v)
   element_formed at (value.Scalar t b e) p = where_holds g _ at 43 (fine e p)
-  element_formed at (value.Set e) p = told_holds g at 43
-  element_formed at (value.Routine t e) p = told_holds g at 43
-  element_formed at (value.Procedure f) p = told_holds g at 43
-  element_formed at (value.Whole t d) p = told_holds g at 43
-  element_formed at value.Untaken p = told_holds g at 43
+  element_formed at (value.Set e) p = reported_holds g at 43
+  element_formed at (value.Routine t e) p = reported_holds g at 43
+  element_formed at (value.Procedure f) p = reported_holds g at 43
+  element_formed at (value.Whole t d) p = reported_holds g at 43
+  element_formed at value.Untaken p = reported_holds g at 43
 
-  membership_formed : (o : Membership) {d : Result Place g.Told} {e : Result TypedExpr g.Told} → Holds (IsPlace m w) d → Expr_ e → Stmt_ (membership_of g o d e)
+  membership_formed : (o : Membership) {d : Result Place g.Reported} {e : Result TypedExpr g.Reported} → Holds (IsPlace m w) d → Expr_ e → Stmt_ (membership_of g o d e)
   membership_formed o p q = then_holds (both_holds g p q) (λ v k. fine (step.Membership o v.0 v.1) (Member w looped o v.0 v.1 k.0 k.1))
 
-  member_by_formed : (at : Pos) (o : Membership) (args : List (Meant g.Told)) → AllM g m opens w s h args → Stmt_ (member_by g s at o args)
-  member_by_formed at o [] all = told_holds g at 42
-  member_by_formed at o (v ∷ []) all = told_holds g at 42
+  member_by_formed : (at : Pos) (o : Membership) (args : List (Meant g.Reported)) → AllM g m opens w s h args → Stmt_ (member_by g s at o args)
+  member_by_formed at o [] all = reported_holds g at 42
+  member_by_formed at o (v ∷ []) all = reported_holds g at 42
   member_by_formed at o (v ∷ n ∷ []) all = membership_formed o (then_holds all.0 (λ d k. set_variable_formed v.fixed.at d k)) (then_holds (value_formed g m opens w s h n all.1.0) (λ x k. element_formed n.fixed.at x k))
-  member_by_formed at o (v ∷ n ∷ x ∷ xs) all = told_holds g at 42
+  member_by_formed at o (v ∷ n ∷ x ∷ xs) all = reported_holds g at 42
 
   -- ---- HALT and Put
 
-  halted_formed : (at : Pos) (args : List (Meant g.Told)) → Stmt_ (halted g at args)
+  halted_formed : (at : Pos) (args : List (Meant g.Reported)) → Stmt_ (halted g at args)
   halted_formed at [] = fine step.Halt (HaltOf w looped)
-  halted_formed at (x ∷ xs) = told_holds g at 42
+  halted_formed at (x ∷ xs) = reported_holds g at 42
 
-  put_by_formed : (at : Pos) (args : List (Meant g.Told)) → AllM g m opens w s h args → Stmt_ (put_by g s at args)
-  put_by_formed at [] all = told_holds g at 42
+  put_by_formed : (at : Pos) (args : List (Meant g.Reported)) → AllM g m opens w s h args → Stmt_ (put_by g s at args)
+  put_by_formed at [] all = reported_holds g at 42
   put_by_formed at (x ∷ []) all = then_holds (value_formed g m opens w s h x all.0) (λ v k. then_holds (suited_formed m w g 43 s.types char x.fixed.at v k) (λ e q. fine (step.Put e) (PutOf w looped e q)))
-  put_by_formed at (x ∷ y ∷ xs) all = told_holds g at 42
+  put_by_formed at (x ∷ y ∷ xs) all = reported_holds g at 42
 
-  standard_formed : (at : Pos) (args : List (Meant g.Told)) (f : Standard) → AllM g m opens w s h args → Stmt_ (standard_done g s at args f)
-  standard_formed at args Abs all = told_holds g at 40
-  standard_formed at args Cap all = told_holds g at 40
-  standard_formed at args Chr all = told_holds g at 40
-  standard_formed at args High all = told_holds g at 40
-  standard_formed at args Max all = told_holds g at 40
-  standard_formed at args Min all = told_holds g at 40
-  standard_formed at args Odd all = told_holds g at 40
-  standard_formed at args Ord all = told_holds g at 40
-  standard_formed at args Val all = told_holds g at 40
+  standard_formed : (at : Pos) (args : List (Meant g.Reported)) (f : Standard) → AllM g m opens w s h args → Stmt_ (standard_done g s at args f)
+  standard_formed at args Abs all = reported_holds g at 40
+  standard_formed at args Cap all = reported_holds g at 40
+  standard_formed at args Chr all = reported_holds g at 40
+  standard_formed at args High all = reported_holds g at 40
+  standard_formed at args Max all = reported_holds g at 40
+  standard_formed at args Min all = reported_holds g at 40
+  standard_formed at args Odd all = reported_holds g at 40
+  standard_formed at args Ord all = reported_holds g at 40
+  standard_formed at args Val all = reported_holds g at 40
   standard_formed at args Inc all = changed_by_formed at Increase args all
   standard_formed at args Dec all = changed_by_formed at Decrease args all
   standard_formed at args Incl all = member_by_formed at Include args all
@@ -236,7 +236,7 @@ module _ (g : Gathers) (m : TypedModule) (opens : ℕ → Bool) (w : ℕ) (s : S
 
   -- ---- calls
 
-  module _ (at : Pos) (t : TypeNo) (c : Callee) (args : List (Meant g.Told)) (there : FormedCallee g m w opens s.types h.types t c) (all : AllM g m opens w s h args) where
+  module _ (at : Pos) (t : TypeNo) (c : Callee) (args : List (Meant g.Reported)) (there : FormedCallee g m w opens s.types h.types t c) (all : AllM g m opens w s h args) where
     proper_call : (k : Signature) → signature_at s.types t ≡ Some k → k.result ≡ None → length k.formals ≡ length args → Stmt_ (call_done c (actuals g s k.formals args))
     proper_call k e q count =
         let heading = heading_kept s.types m.types h.types t k e in
@@ -244,25 +244,25 @@ module _ (g : Gathers) (m : TypedModule) (opens : ℕ → Bool) (w : ℕ) (s : S
         fine (step.Call (call_by xs c)) (ProcedureCall w looped (call_by xs c) (call_formed g m w opens s.types h.types c t xs false there (heading.result ∙ ap (λ (o : Option TypeNo). is_there o) q) (subst (λ (fs : List Formal). AreArguments m w xs fs) (sym heading.formals) p))))
 
     by_count : (k : Signature) (q : Bool) → (length k.formals == length args) ≡ q → signature_at s.types t ≡ Some k → k.result ≡ None
-        → Stmt_ (told_where g {A = Unit {0}} (not q) at 42 (Ok (tt {0})) ▷ λ fine. call_done c (actuals g s k.formals args))
+        → Stmt_ (reported_where g {A = Unit {0}} (not q) at 42 (Ok (tt {0})) ▷ λ fine. call_done c (actuals g s k.formals args))
     by_count k true count e q = proper_call k e q (eqb-true (length k.formals) (length args) count)
-    by_count k false count e q = told_holds g at 42
+    by_count k false count e q = reported_holds g at 42
 
     by_result : (k : Signature) (o : Option TypeNo) → k.result ≡ o → signature_at s.types t ≡ Some k
         → Stmt_ (proper_with g at (length k.formals) (length args) o ▷ λ fine. call_done c (actuals g s k.formals args))
     by_result k None q e = by_count k (length k.formals == length args) refl e q
-    by_result k (Some r) q e = told_holds g at 40
+    by_result k (Some r) q e = reported_holds g at 40
 
     by_signature : (o : Option Signature) → signature_at s.types t ≡ o → Stmt_ (proper_of g at o (length args) ▷ λ fine. call_done c (actuals g s (formals_of o) args))
-    by_signature None e = told_holds g at 40
+    by_signature None e = reported_holds g at 40
     by_signature (Some k) e = by_result k k.result refl e
 
     routine_formed : Stmt_ (routine_done g s at t c args)
     routine_formed = by_signature (signature_at s.types t) refl
 
-  done_as_formed : (at : Pos) (args : List (Meant g.Told)) (x : Called) → FormedCalled g m w opens s.types h.types x → AllM g m opens w s h args → Stmt_ (done_as g s at args x)
+  done_as_formed : (at : Pos) (args : List (Meant g.Reported)) (x : Called) → FormedCalled g m w opens s.types h.types x → AllM g m opens w s h args → Stmt_ (done_as g s at args x)
   done_as_formed at args (called.Routine t c) p all = routine_formed at t c args p all
   done_as_formed at args (called.Standard f) p all = standard_formed at args f all
 
-  pub done_formed : (d : Meant g.Told) (args : List (Meant g.Told)) → Known_ d → AllM g m opens w s h args → Stmt_ (done_by g s d args)
+  pub done_formed : (d : Meant g.Reported) (args : List (Meant g.Reported)) → Known_ d → AllM g m opens w s h args → Stmt_ (done_by g s d args)
   done_formed d args p all = then_holds (then_holds p (λ e k. callee_formed g m w opens s.types h.types d.fixed.at e k)) (λ x k. done_as_formed d.fixed.at args x k all)

@@ -2,8 +2,8 @@
 use Rattle.std.specs.Prelude.{ℕ, Bool, List, length}
 use Rattle.m2_tree.specs.declared.stmt.Stmt.{Stmt}
 use Rattle.m2_typed.specs.declared.typed_module.TypedModule.{TypedModule}
-use Rattle.m2_judged.specs.Judged.{Gathers}
-use Rattle.m2_judged.specs.declared.scope.Scope.{Scope}
+use Rattle.m2_scopes.specs.Elaborated.{Gathers}
+use Rattle.m2_scopes.specs.declared.scope.Scope.{Scope}
 use Rattle.m2_scheme.specs.Exprs.{is_there}
 use Rattle.m2_valid.specs.WellFormed.{AreStmts}
 use Rattle.m2_formed.specs.Formed.{Holds, IsFormed}
@@ -12,6 +12,6 @@ use Rattle.m2_stmts.specs.Statements.{statements}
 
 -- statements of a function or not, in a LOOP or not
 abbrev pub StatementsAreFormed : Gathers → Type 0
-StatementsAreFormed g = (m : TypedModule) (opens : ℕ → Bool) (s : Scope g.Told)
-    → IsFormed g m opens (length s.withs) s → (w : Around g.Told) (xs : List Stmt)
+StatementsAreFormed g = (m : TypedModule) (opens : ℕ → Bool) (s : Scope g.Reported)
+    → IsFormed g m opens (length s.withs) s → (w : Around g.Reported) (xs : List Stmt)
     → Holds (AreStmts m (is_there w.gives) (length s.withs) w.in_loop) (statements g s w xs)

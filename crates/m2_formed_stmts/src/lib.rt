@@ -5,7 +5,7 @@
 //!   `proofs/Statements` the induction over statements.
 #![tactic(auto)]
 
-ghost use Rattle.m2_judged.specs.Judged.{least, every};
+ghost use Rattle.m2_scopes.specs.Elaborated.{least, every};
 ghost use Rattle.m2_formed_stmts.specs.FormedStmts.{StatementsAreFormed};
 
 /// What the checker makes of statements is well formed.

@@ -8,13 +8,13 @@ use Rattle.m2_tree.specs.declared.decl.Def.{Def}
 use Rattle.m2_tree.specs.declared.decl.Module.{Module}
 use Rattle.m2_typed.specs.declared.meaning.Meaning.{Meaning}
 use Rattle.m2_typed.specs.declared.table.Table.{Table}
-use Rattle.m2_judged.specs.Judged.{Gathers}
-use Rattle.m2_judged.specs.Scopes.{State}
-use Rattle.m2_judged.specs.declared.known.Origin.{Origin}
-use Rattle.m2_judged.specs.declared.known.Origin.TheVariants as origin
-use Rattle.m2_judged.specs.declared.known.Known.{Known}
-use Rattle.m2_judged.specs.declared.known.Known.TheVariants.{Later, Ahead, Begun, Headed, Declared}
-use Rattle.m2_judged.specs.declared.scope.Scope.{Scope}
+use Rattle.m2_scopes.specs.Elaborated.{Gathers}
+use Rattle.m2_scopes.specs.Scopes.{State}
+use Rattle.m2_scopes.specs.declared.known.Origin.{Origin}
+use Rattle.m2_scopes.specs.declared.known.Origin.TheVariants as origin
+use Rattle.m2_scopes.specs.declared.known.Known.{Known}
+use Rattle.m2_scopes.specs.declared.known.Known.TheVariants.{Later, Ahead, Begun, Headed, Declared}
+use Rattle.m2_scopes.specs.declared.scope.Scope.{Scope}
 use Rattle.m2_types.specs.Compiled.{table_or, declared_in, of_definition, of_contents, compiled}
 use Rattle.m2_types.specs.Declare.{with_def}
 use Rattle.m2_types.specs.Export.{with_meaning, with_declared, with_known, with_export, exports}
@@ -50,20 +50,20 @@ module _ {T : Type 0} (home : ℕ) where
   own_exported own p = from_exports own [] p tt
 
 module _ (g : Gathers) (home : ℕ) (m : Module) where
-  exported_or : (modules : List (List ℕ × ℕ)) (s : Scope g.Told) (r : Result (Unit {0}) g.Told) → AreOwn home s.own → IfOk (table_or m modules s r) (λ t. AreExports home t.exported)
+  exported_or : (modules : List (List ℕ × ℕ)) (s : Scope g.Reported) (r : Result (Unit {0}) g.Reported) → AreOwn home s.own → IfOk (table_or m modules s r) (λ t. AreExports home t.exported)
   exported_or modules s (Ok x) p = own_exported home s.own p
   exported_or modules s (Err f) p = tt
 
-  declared_leads : (modules : List (List ℕ × ℕ)) (s : Scope g.Told) (defs : List Def) → Leads s (declared_in g m modules s defs).0
+  declared_leads : (modules : List (List ℕ × ℕ)) (s : Scope g.Reported) (defs : List Def) → Leads s (declared_in g m modules s defs).0
   declared_leads modules s defs =
       let t = fold marked_def s defs in
-      fold_leads (λ (st : State (Unit {0}) g.Told). st.0) (with_def g) (def_leads g) defs (fold (with_import g modules) (t, Ok tt) m.imports)
-      ⨾ (import_leads g modules m.imports (t, Ok tt) ⨾ fold_leads (λ (s : Scope g.Told). s) marked_def (def_marks g.Told) defs s)
+      fold_leads (λ (st : State (Unit {0}) g.Reported). st.0) (with_def g) (def_leads g) defs (fold (with_import g modules) (t, Ok tt) m.imports)
+      ⨾ (import_leads g modules m.imports (t, Ok tt) ⨾ fold_leads (λ (s : Scope g.Reported). s) marked_def (def_marks g.Reported) defs s)
 
   definition_exports : (tables : List Table) (defs : List Def) → IfOk (of_definition g home m tables defs) (λ t. AreExports home t.exported)
   definition_exports tables defs =
       let modules = (numbered_modules tables).0 in
-      let s : Scope g.Told = first_scope home tables in
+      let s : Scope g.Reported = first_scope home tables in
       let st = declared_in g m modules s defs in
       exported_or modules st.0 st.1 ((declared_leads modules s defs).own tt)
 

@@ -21,14 +21,14 @@ use Rattle.m2_typed.specs.declared.meaning.Value.{Value}
 use Rattle.m2_typed.specs.declared.shape.Made.{Made}
 use Rattle.m2_typed.specs.declared.types.TypeNo.{TypeNo}
 use Rattle.m2_typed.specs.Names.{found, place_of}
-use Rattle.m2_judged.specs.Judged.{Gathers, told}
-use Rattle.m2_judged.specs.Scopes.{State, is_free, with_known, unless_declared, begun, is_begun, finished, is_again, imported, unless_marked, marked}
-use Rattle.m2_judged.specs.declared.known.Origin.{Origin}
-use Rattle.m2_judged.specs.declared.known.Origin.TheVariants.{Module, Export}
-use Rattle.m2_judged.specs.declared.known.Known.{Known}
-use Rattle.m2_judged.specs.declared.known.Known.TheVariants.{Later, Ahead, Begun, Headed, Declared}
-use Rattle.m2_judged.specs.declared.known.Origin.TheVariants.{Here}
-use Rattle.m2_judged.specs.declared.scope.Scope.{Scope}
+use Rattle.m2_scopes.specs.Elaborated.{Gathers, reported}
+use Rattle.m2_scopes.specs.Scopes.{State, is_free, with_known, unless_declared, begun, is_begun, finished, is_again, imported, unless_marked, marked}
+use Rattle.m2_scopes.specs.declared.known.Origin.{Origin}
+use Rattle.m2_scopes.specs.declared.known.Origin.TheVariants.{Module, Export}
+use Rattle.m2_scopes.specs.declared.known.Known.{Known}
+use Rattle.m2_scopes.specs.declared.known.Known.TheVariants.{Later, Ahead, Begun, Headed, Declared}
+use Rattle.m2_scopes.specs.declared.known.Origin.TheVariants.{Here}
+use Rattle.m2_scopes.specs.declared.scope.Scope.{Scope}
 use Rattle.m2_constants.specs.Parts.{part, constant}
 use Rattle.m2_made.specs.declared.field.Fields.{Fields}
 use Rattle.m2_made.specs.Fields.{no_fields}
@@ -37,7 +37,7 @@ use Rattle.m2_made.specs.Made.{next_type, with_shape, with_made, enumeration_sca
 use Rattle.m2_types.specs.Marking.{Marks, marked_later, marked_simple, then_marks, marked_in, marked_field, marked_constant, marked_type, marked_variables, marked_def}
 use Rattle.m2_types.specs.Marking as marking
 use Rattle.m2_types.specs.Declare.{constant_meaning, with_constant, type_meaning, brings_with, with_type, begun_name, variable_meaning, with_variable_type, finished_variable, with_variables, procedure_meaning, with_procedure_type, with_procedure, with_def}
-use Rattle.m2_types.specs.Importing.{module_named, with_module_as, with_module_name, with_entry, brings_in, told_of_taken, unless_taken, from_place, with_from, exports_of, from_module, with_imports, with_import}
+use Rattle.m2_types.specs.Importing.{module_named, with_module_as, with_module_name, with_entry, brings_in, reported_of_taken, unless_taken, from_place, with_from, exports_of, from_module, with_imports, with_import}
 use Rattle.m2_formed_imports.proofs.Lists.{each_entered}
 use Rattle.m2_formed_tables.specs.FormedTables.{IsExport}
 
@@ -219,25 +219,25 @@ module _ {T : Type 0} where
   variable_leads t s name = finished_leads (with_variable_type s t) name (variable_meaning s.types.home (length s.variables) t) (variable_own s (length s.variables) t) ⨾ variable_type_leads s t
 
 module _ (g : Gathers) where
-  unless_leads : (s : Scope g.Told) (name : Ident) (k : Known g.Told) → OwnKnown s.types.home k → Leads s (unless_declared g s name k).0
-  unless_leads s name k p = either s (is_free (found name.name s.own)) (with_known name.name k s, Ok tt) (s, told g name.pos 31) (known_leads name.name k s p) (same_leads s)
+  unless_leads : (s : Scope g.Reported) (name : Ident) (k : Known g.Reported) → OwnKnown s.types.home k → Leads s (unless_declared g s name k).0
+  unless_leads s name k p = either s (is_free (found name.name s.own)) (with_known name.name k s, Ok tt) (s, reported g name.pos 31) (known_leads name.name k s p) (same_leads s)
 
-  begun_leads : (s : Scope g.Told) (name : Ident) → Leads s (begun g s name).0
+  begun_leads : (s : Scope g.Reported) (name : Ident) → Leads s (begun g s name).0
   begun_leads s name = unless_leads s name Begun tt
 
-  listed_leads : (t : TypeNo) (l : Scope g.Told × ℕ × Result (Unit {0}) g.Told) (x : Ident) → Leads l.0 (listed g t l x).0
+  listed_leads : (t : TypeNo) (l : Scope g.Reported × ℕ × Result (Unit {0}) g.Reported) (x : Ident) → Leads l.0 (listed g t l x).0
   listed_leads t l x = unless_leads l.0 x _ tt
 
-  simple_leads : (s : Scope g.Told) (t : Simple) → Leads s (simple_type g s t).0
+  simple_leads : (s : Scope g.Reported) (t : Simple) → Leads s (simple_type g s t).0
   simple_leads s (simple.Named q) = same_leads s
-  simple_leads s (simple.Enumeration at names) = fold_leads (λ (l : Scope g.Told × ℕ × Result (Unit {0}) g.Told). l.0) (listed g (next_type s)) (listed_leads (next_type s)) names (with_shape s (enumeration_scalar (next_type s) names), 0, too_many g names) ⨾ (record { home = refl; own = λ p. p })
+  simple_leads s (simple.Enumeration at names) = fold_leads (λ (l : Scope g.Reported × ℕ × Result (Unit {0}) g.Reported). l.0) (listed g (next_type s)) (listed_leads (next_type s)) names (with_shape s (enumeration_scalar (next_type s) names), 0, too_many g names) ⨾ (record { home = refl; own = λ p. p })
   simple_leads s (simple.Subrange o at low high) = made_leads s _
 
   abbrev LeadingMakes : Makes g → Type 0
-  LeadingMakes f = (s : Scope g.Told) → Leads s (f s).0
+  LeadingMakes f = (s : Scope g.Reported) → Leads s (f s).0
 
   abbrev LeadingFields : MakesFields g → Type 0
-  LeadingFields f = (st : Scope g.Told × Fields × Result (Unit {0}) g.Told) → Leads st.0 (f st).0
+  LeadingFields f = (st : Scope g.Reported × Fields × Result (Unit {0}) g.Reported) → Leads st.0 (f st).0
 
   abbrev PT : TypeExpr → Type 0
   PT t = LeadingMakes (type_of g t)
@@ -271,7 +271,7 @@ module _ (g : Gathers) where
   abbrev bare_field : Field-F ST SF → Field-F TypeExpr Field
   bare_field x = map-Field ST SF TypeExpr Field (λ t. t.0) (λ f. f.0) x
 
-  fields_lead : (fs : List SF) (st : Scope g.Told × Fields × Result (Unit {0}) g.Told) → Leads st.0 (fold (then_fields g) st (map (field_list g) (map (λ (f : SF). f.0) fs))).0
+  fields_lead : (fs : List SF) (st : Scope g.Reported × Fields × Result (Unit {0}) g.Reported) → Leads st.0 (fold (then_fields g) st (map (field_list g) (map (λ (f : SF). f.0) fs))).0
   fields_lead [] st = same_leads st.0
   fields_lead (f ∷ fs) st = fields_lead fs (field_list g f.0 st) ⨾ f.1 st
 
@@ -292,32 +292,32 @@ module _ (g : Gathers) where
 
   -- ---- declarations
 
-  pub constant_leads : (st : State (Unit {0}) g.Told) (c : Constant) → Leads st.0 (with_constant g st c).0
+  pub constant_leads : (st : State (Unit {0}) g.Reported) (c : Constant) → Leads st.0 (with_constant g st c).0
   constant_leads st c =
       let b = begun g st.0 c.name in
       finished_leads b.0 c.name (constant_meaning (constant g b.0 (part g c.value))) (constant_own b.0.types.home (constant g b.0 (part g c.value))) ⨾ begun_leads st.0 c.name
 
-  pub type_decl_leads : (st : State (Unit {0}) g.Told) (d : TypeDecl) → Leads st.0 (with_type g st d).0
+  pub type_decl_leads : (st : State (Unit {0}) g.Reported) (d : TypeDecl) → Leads st.0 (with_type g st d).0
   type_decl_leads st d =
       let b = begun g st.0 d.name in
       let t = type_of g d.of b.0 in
       finished_leads t.0 d.name (type_meaning t.1 (brings_with d.of)) (type_own t.0.types.home t.1 (brings_with d.of)) ⨾ (type_of_leads d.of b.0 ⨾ begun_leads st.0 d.name)
 
-  pub begun_all_leads : (names : List Ident) (st : State (Unit {0}) g.Told) → Leads st.0 (fold (begun_name g) st names).0
+  pub begun_all_leads : (names : List Ident) (st : State (Unit {0}) g.Reported) → Leads st.0 (fold (begun_name g) st names).0
   begun_all_leads names st = fold_leads state (begun_name g) (λ st x. begun_leads st.0 x) names st
 
-  pub variables_lead : (st : State (Unit {0}) g.Told) (v : Variables) → Leads st.0 (with_variables g st v).0
+  pub variables_lead : (st : State (Unit {0}) g.Reported) (v : Variables) → Leads st.0 (with_variables g st v).0
   variables_lead st v =
       let b = fold (begun_name g) st v.names in
       let t = type_of g v.of b.0 in
       fold_leads same (finished_variable t.1) (variable_leads t.1) v.names t.0 ⨾ (type_of_leads v.of b.0 ⨾ begun_all_leads v.names st)
 
-  procedure_leads : (st : State (Unit {0}) g.Told) (h : Heading) → Leads st.0 (with_procedure g st h).0
+  procedure_leads : (st : State (Unit {0}) g.Reported) (h : Heading) → Leads st.0 (with_procedure g st h).0
   procedure_leads st h =
       let t = with_made st.0 (heading_of g st.0 h) in
       unless_leads (with_procedure_type t.0 t.1) h.name (Declared Here (procedure_meaning t.0.types.home (length t.0.procedures) t.1)) (procedure_own t.0 (length t.0.procedures) t.1) ⨾ (procedure_type_leads t.0 t.1 ⨾ made_leads st.0 (heading_of g st.0 h))
 
-  pub def_leads : (st : State (Unit {0}) g.Told) (d : Def) → Leads st.0 (with_def g st d).0
+  pub def_leads : (st : State (Unit {0}) g.Reported) (d : Def) → Leads st.0 (with_def g st d).0
   def_leads st (def.Constants cs) = fold_leads state (with_constant g) constant_leads cs st
   def_leads st (def.Types ts) = fold_leads state (with_type g) type_decl_leads ts st
   def_leads st (def.Variables vs) = fold_leads state (with_variables g) variables_lead vs st
@@ -325,39 +325,39 @@ module _ (g : Gathers) where
 
   -- ---- imports
 
-  imported_leads : (s : Scope g.Told) (at : Pos) (name : List ℕ) (o : Origin) (m : Result Meaning g.Told) → OwnFrom s.types.home o m → Leads s (imported g s at name o m).0
+  imported_leads : (s : Scope g.Reported) (at : Pos) (name : List ℕ) (o : Origin) (m : Result Meaning g.Reported) → OwnFrom s.types.home o m → Leads s (imported g s at name o m).0
   imported_leads s at name o m p =
-      either s (is_again (found name s.own) o) (s, Ok tt) (cond (is_free (found name s.own)) (with_known name (Declared o m) s, Ok tt) (s, told g at 31)) (same_leads s)
-      (either s (is_free (found name s.own)) (with_known name (Declared o m) s, Ok tt) (s, told g at 31) (known_leads name (Declared o m) s p) (same_leads s))
+      either s (is_again (found name s.own) o) (s, Ok tt) (cond (is_free (found name s.own)) (with_known name (Declared o m) s, Ok tt) (s, reported g at 31)) (same_leads s)
+      (either s (is_free (found name s.own)) (with_known name (Declared o m) s, Ok tt) (s, reported g at 31) (known_leads name (Declared o m) s p) (same_leads s))
 
-  module_as_leads : (s : Scope g.Told) (name : Ident) (r : Result ℕ g.Told) → Leads s (with_module_as g s name r).0
+  module_as_leads : (s : Scope g.Reported) (name : Ident) (r : Result ℕ g.Reported) → Leads s (with_module_as g s name r).0
   module_as_leads s name (Ok k) = imported_leads s name.pos name.name (Module k) _ tt
   module_as_leads s name (Err e) = same_leads s
 
-  module_name_leads : (modules : List (List ℕ × ℕ)) (st : State (Unit {0}) g.Told) (name : Ident) → Leads st.0 (with_module_name g modules st name).0
+  module_name_leads : (modules : List (List ℕ × ℕ)) (st : State (Unit {0}) g.Reported) (name : Ident) → Leads st.0 (with_module_name g modules st name).0
   module_name_leads modules st name = module_as_leads st.0 name (module_named g modules name)
 
-  entry_leads : (at : Pos) (k : ℕ) (st : State (Unit {0}) g.Told) (e : List ℕ × Meaning) → Leads st.0 (with_entry g at k st e).0
+  entry_leads : (at : Pos) (k : ℕ) (st : State (Unit {0}) g.Reported) (e : List ℕ × Meaning) → Leads st.0 (with_entry g at k st e).0
   entry_leads at k st e = imported_leads st.0 at e.0 (Export k) (Ok e.1) tt
 
-  taken_leads : (s : Scope g.Told) (at : Pos) (k : ℕ) (es : List (List ℕ × Meaning)) (i : ℕ) (o : Option (Result (Unit {0}) g.Told)) → Leads s (unless_taken g s at k es i o).0
+  taken_leads : (s : Scope g.Reported) (at : Pos) (k : ℕ) (es : List (List ℕ × Meaning)) (i : ℕ) (o : Option (Result (Unit {0}) g.Reported)) → Leads s (unless_taken g s at k es i o).0
   taken_leads s at k es i (Some j) = same_leads s
   taken_leads s at k es i None = fold_leads state (with_entry g at k) (entry_leads at k) (take (brings_in (slice_get es i)) (drop i es)) (s, Ok tt)
 
-  place_leads : (s : Scope g.Told) (name : Ident) (k : ℕ) (es : List (List ℕ × Meaning)) (o : Option ℕ) → Leads s (from_place g s name k es o).0
+  place_leads : (s : Scope g.Reported) (name : Ident) (k : ℕ) (es : List (List ℕ × Meaning)) (o : Option ℕ) → Leads s (from_place g s name k es o).0
   place_leads s name k es None = same_leads s
-  place_leads s name k es (Some i) = taken_leads s name.pos k es i (told_of_taken g name.pos k (found name.name s.own))
+  place_leads s name k es (Some i) = taken_leads s name.pos k es i (reported_of_taken g name.pos k (found name.name s.own))
 
-  from_leads : (k : ℕ) (es : List (List ℕ × Meaning)) (st : State (Unit {0}) g.Told) (name : Ident) → Leads st.0 (with_from g k es st name).0
+  from_leads : (k : ℕ) (es : List (List ℕ × Meaning)) (st : State (Unit {0}) g.Reported) (name : Ident) → Leads st.0 (with_from g k es st name).0
   from_leads k es st name = place_leads st.0 name k es (place_of name.name es)
 
-  from_module_leads : (r : Result ℕ g.Told) (st : State (Unit {0}) g.Told) (names : List Ident) → Leads st.0 (from_module g r st names).0
+  from_module_leads : (r : Result ℕ g.Reported) (st : State (Unit {0}) g.Reported) (names : List Ident) → Leads st.0 (from_module g r st names).0
   from_module_leads (Ok k) st names = fold_leads state (with_from g k (exports_of (slice_get st.0.tables k))) (from_leads k (exports_of (slice_get st.0.tables k))) names st
   from_module_leads (Err e) st names = same_leads st.0
 
-  imports_lead : (modules : List (List ℕ × ℕ)) (st : State (Unit {0}) g.Told) (from : Option Ident) (names : List Ident) → Leads st.0 (with_imports g modules st from names).0
+  imports_lead : (modules : List (List ℕ × ℕ)) (st : State (Unit {0}) g.Reported) (from : Option Ident) (names : List Ident) → Leads st.0 (with_imports g modules st from names).0
   imports_lead modules st None names = fold_leads state (with_module_name g modules) (module_name_leads modules) names st
   imports_lead modules st (Some m) names = from_module_leads (module_named g modules m) st names
 
-  pub import_leads : (modules : List (List ℕ × ℕ)) (is : List Import) (st : State (Unit {0}) g.Told) → Leads st.0 (fold (with_import g modules) st is).0
+  pub import_leads : (modules : List (List ℕ × ℕ)) (is : List Import) (st : State (Unit {0}) g.Reported) → Leads st.0 (fold (with_import g modules) st is).0
   import_leads modules is st = fold_leads state (with_import g modules) (λ st i. imports_lead modules st i.from i.names) is st

@@ -20,11 +20,11 @@ use Rattle.m2_typed.specs.declared.shape.Made.{Made}
 use Rattle.m2_typed.specs.declared.types.TypeNo.{TypeNo}
 use Rattle.m2_typed.specs.Names.{same_name, found}
 use Rattle.m2_typed.specs.Known.{cells_at}
-use Rattle.m2_judged.specs.Judged.{Gathers, told, both, beside, ◌▷◌}
-use Rattle.m2_judged.specs.Scopes.{State, is_free, with_known, unless_declared, begun, unless_marked, marked}
-use Rattle.m2_judged.specs.declared.known.Known.{Known}
-use Rattle.m2_judged.specs.declared.known.Known.TheVariants.{Later, Ahead, Begun}
-use Rattle.m2_judged.specs.declared.scope.Scope.{Scope}
+use Rattle.m2_scopes.specs.Elaborated.{Gathers, reported, both, beside, ◌▷◌}
+use Rattle.m2_scopes.specs.Scopes.{State, is_free, with_known, unless_declared, begun, unless_marked, marked}
+use Rattle.m2_scopes.specs.declared.known.Known.{Known}
+use Rattle.m2_scopes.specs.declared.known.Known.TheVariants.{Later, Ahead, Begun}
+use Rattle.m2_scopes.specs.declared.scope.Scope.{Scope}
 use Rattle.m2_made.specs.declared.field.Fields.{Fields}
 use Rattle.m2_made.specs.Fields.{no_fields, with_name}
 use Rattle.m2_made.specs.Made.{next_type, with_shape, with_made, enumeration_scalar, too_many, listed, simple_type, index_type, array_of, field_type, nothing_of, record_of, Makes, MakesFields, then_fields, type_layer, field_layer, fields_named, type_of, field_list}
@@ -35,25 +35,25 @@ use Rattle.m2_formed_imports.proofs.Lists.{same_is}
 use Rattle.m2_formed_tables.proofs.Order.{has, mark_key, keys, keys_entered, Distinct, distinct_entered, TakenIn, now_taken, is_taken, number_of, NoneDone, none_entered, AllTaken}
 use Rattle.m2_formed_tables.proofs.Steps.{mark_more, Goes, same_goes, ◌⨾◌, fold_goes, made_goes, listed_goes, opened, opened_field, type_at, field_at, type_of_goes, field_list_goes, constant_ends, type_finished, type_ends, constant_goes, type_decl_goes, begun_all_go, variables_end, variables_go}
 
--- ---- what is told
+-- ---- what is reported
 
 module _ (g : Gathers) where
-  pub beside_left : (a b : Result (Unit {0}) g.Told) → beside g a b ≡ Ok tt → a ≡ Ok tt
+  pub beside_left : (a b : Result (Unit {0}) g.Reported) → beside g a b ≡ Ok tt → a ≡ Ok tt
   beside_left (Ok x) b e = refl
   beside_left (Err x) (Ok y) e = absurd cc
   beside_left (Err x) (Err y) e = absurd cc
 
-  pub beside_right : (a b : Result (Unit {0}) g.Told) → beside g a b ≡ Ok tt → b ≡ Ok tt
+  pub beside_right : (a b : Result (Unit {0}) g.Reported) → beside g a b ≡ Ok tt → b ≡ Ok tt
   beside_right a (Ok x) e = refl
   beside_right (Ok y) (Err x) e = absurd cc
   beside_right (Err y) (Err x) e = absurd cc
 
-  both_left : {A B C : Type 0} (a : Result A g.Told) (b : Result B g.Told) (f : A × B → Result C g.Told) (z : C) → (both g a b ▷ f) ≡ Ok z → (x : A) × (a ≡ Ok x)
+  both_left : {A B C : Type 0} (a : Result A g.Reported) (b : Result B g.Reported) (f : A × B → Result C g.Reported) (z : C) → (both g a b ▷ f) ≡ Ok z → (x : A) × (a ≡ Ok x)
   both_left (Ok x) b f z e = (x, refl)
   both_left (Err x) (Ok y) f z e = absurd cc
   both_left (Err x) (Err y) f z e = absurd cc
 
-  both_right : {A B C : Type 0} (a : Result A g.Told) (b : Result B g.Told) (f : A × B → Result C g.Told) (z : C) → (both g a b ▷ f) ≡ Ok z → (y : B) × (b ≡ Ok y)
+  both_right : {A B C : Type 0} (a : Result A g.Reported) (b : Result B g.Reported) (f : A × B → Result C g.Reported) (z : C) → (both g a b ▷ f) ≡ Ok z → (y : B) × (b ≡ Ok y)
   both_right a (Ok y) f z e = (y, refl)
   both_right (Ok x) (Err y) f z e = absurd cc
   both_right (Err x) (Err y) f z e = absurd cc
@@ -221,31 +221,31 @@ module _ (T : Type 0) where
 
 module _ (g : Gathers) where
   abbrev pub Own : Type 0
-  Own = List (List ℕ × Known g.Told)
+  Own = List (List ℕ × Known g.Reported)
 
   -- what is taken in one list is taken in the other
   abbrev pub Within : Own → Own → Type 0
   Within own fin = (y : List ℕ) → TakenIn own y → TakenIn fin y
 
-  unless_by : (b : Bool) (s : Scope g.Told) (name : Ident) (k : Known g.Told) → is_taken k ≡ true → (cond {A = State (Unit {0}) g.Told} b (with_known name.name k s, Ok tt) (s, told g name.pos 31)).1 ≡ Ok tt
-      → TakenIn (cond {A = State (Unit {0}) g.Told} b (with_known name.name k s, Ok tt) (s, told g name.pos 31)).0.own name.name
+  unless_by : (b : Bool) (s : Scope g.Reported) (name : Ident) (k : Known g.Reported) → is_taken k ≡ true → (cond {A = State (Unit {0}) g.Reported} b (with_known name.name k s, Ok tt) (s, reported g name.pos 31)).1 ≡ Ok tt
+      → TakenIn (cond {A = State (Unit {0}) g.Reported} b (with_known name.name k s, Ok tt) (s, reported g name.pos 31)).0.own name.name
   unless_by true s name k t e = now_taken name.name k s.own t
   unless_by false s name k t e = absurd cc
 
-  pub unless_takes : (s : Scope g.Told) (name : Ident) (k : Known g.Told) → is_taken k ≡ true → (unless_declared g s name k).1 ≡ Ok tt → TakenIn (unless_declared g s name k).0.own name.name
+  pub unless_takes : (s : Scope g.Reported) (name : Ident) (k : Known g.Reported) → is_taken k ≡ true → (unless_declared g s name k).1 ≡ Ok tt → TakenIn (unless_declared g s name k).0.own name.name
   unless_takes s name k t e = unless_by (is_free (found name.name s.own)) s name k t e
 
-  begun_takes : (s : Scope g.Told) (name : Ident) → (begun g s name).1 ≡ Ok tt → TakenIn (begun g s name).0.own name.name
+  begun_takes : (s : Scope g.Reported) (name : Ident) → (begun g s name).1 ≡ Ok tt → TakenIn (begun g s name).0.own name.name
   begun_takes s name e = unless_takes s name Begun refl e
 
   -- ---- enumerations
 
   abbrev Listed : Type 0
-  Listed = Scope g.Told × ℕ × Result (Unit {0}) g.Told
+  Listed = Scope g.Reported × ℕ × Result (Unit {0}) g.Reported
 
-  listed_told : (t : TypeNo) (names : List Ident) (l : Listed) → (fold (listed g t) l names).2 ≡ Ok tt → l.2 ≡ Ok tt
-  listed_told t [] l e = e
-  listed_told t (x ∷ xs) l e = beside_left g l.2 _ (listed_told t xs (listed g t l x) e)
+  listed_reported : (t : TypeNo) (names : List Ident) (l : Listed) → (fold (listed g t) l names).2 ≡ Ok tt → l.2 ≡ Ok tt
+  listed_reported t [] l e = e
+  listed_reported t (x ∷ xs) l e = beside_left g l.2 _ (listed_reported t xs (listed g t l x) e)
 
   listed_all : (t : TypeNo) (names : List Ident) (l : Listed) → Goes l.0 (fold (listed g t) l names).0
   listed_all t names l = fold_goes (λ (l : Listed). l.0) (listed g t) (listed_goes g t) names l
@@ -254,11 +254,11 @@ module _ (g : Gathers) where
   listed_take t [] l e fin w s all = all
   listed_take t (x ∷ xs) l e fin w s all =
       let next : Listed = listed g t l x in
-      let ok : next.2 ≡ Ok tt = listed_told t xs next e in
+      let ok : next.2 ≡ Ok tt = listed_reported t xs next e in
       let here : TakenIn next.0.own x.name = unless_takes l.0 x _ refl (beside_right g l.2 _ ok) in
       listed_take t xs next e fin w (marked_later s x) (name_covers fin x Later (w x.name ((listed_all t xs next).taken x.name here)) s all)
 
-  simple_takes : (s : Scope g.Told) (t : Simple) (x : TypeNo) → (simple_type g s t).1 ≡ Ok x → (fin : Own) → Within (simple_type g s t).0.own fin → Covers fin (λ s. marked_simple t s)
+  simple_takes : (s : Scope g.Reported) (t : Simple) (x : TypeNo) → (simple_type g s t).1 ≡ Ok x → (fin : Own) → Within (simple_type g s t).0.own fin → Covers fin (λ s. marked_simple t s)
   simple_takes s (simple.Named q) x e fin w z all = all
   simple_takes s (simple.Enumeration at names) x e fin w z all =
       let l : Listed = (with_shape s (enumeration_scalar (next_type s) names), 0, too_many g names) in
@@ -268,13 +268,13 @@ module _ (g : Gathers) where
 
   -- ---- types
 
-  abbrev Takes : Makes g → Marks g.Told → Type 0
-  Takes f marks = (s : Scope g.Told) (x : TypeNo) → (f s).1 ≡ Ok x → (fin : Own) → Within (f s).0.own fin → Covers fin marks
+  abbrev Takes : Makes g → Marks g.Reported → Type 0
+  Takes f marks = (s : Scope g.Reported) (x : TypeNo) → (f s).1 ≡ Ok x → (fin : Own) → Within (f s).0.own fin → Covers fin marks
 
   abbrev Fielded : Type 0
-  Fielded = Scope g.Told × Fields × Result (Unit {0}) g.Told
+  Fielded = Scope g.Reported × Fields × Result (Unit {0}) g.Reported
 
-  abbrev TakesFields : MakesFields g → Marks g.Told → Type 0
+  abbrev TakesFields : MakesFields g → Marks g.Reported → Type 0
   TakesFields f marks = (st : Fielded) → (f st).2 ≡ Ok tt → (fin : Own) → Within (f st).0.own fin → Covers fin marks
 
   abbrev PT : TypeExpr → Type 0
@@ -295,26 +295,26 @@ module _ (g : Gathers) where
   abbrev bare_field : Field-F ST SF → Field-F TypeExpr Field
   bare_field x = map-Field ST SF TypeExpr Field (λ t. t.0) (λ f. f.0) x
 
-  names_told : (t : TypeNo) (cells : ℕ) (names : List Ident) (st : Fields × Result (Unit {0}) g.Told) → (fold (with_name g t cells) st names).1 ≡ Ok tt → st.1 ≡ Ok tt
-  names_told t cells [] st e = e
-  names_told t cells (x ∷ xs) st e = beside_left g st.1 _ (names_told t cells xs (with_name g t cells st x) e)
+  names_reported : (t : TypeNo) (cells : ℕ) (names : List Ident) (st : Fields × Result (Unit {0}) g.Reported) → (fold (with_name g t cells) st names).1 ≡ Ok tt → st.1 ≡ Ok tt
+  names_reported t cells [] st e = e
+  names_reported t cells (x ∷ xs) st e = beside_left g st.1 _ (names_reported t cells xs (with_name g t cells st x) e)
 
-  -- of the fields of one list: what was told before, and of their type
-  fields_told : (m : State TypeNo g.Told) (names : List Ident) (fs : Fields) (before : Result (Unit {0}) g.Told) → (fields_named g m names fs before).2 ≡ Ok tt → beside g before (nothing_of m.1) ≡ Ok tt
-  fields_told m names fs before e = let of : TypeNo = field_type m.1 in names_told of (cells_at m.0.types of) names (fs, beside g before (nothing_of m.1)) e
+  -- of the fields of one list: what was reported before, and of their type
+  fields_reported : (m : State TypeNo g.Reported) (names : List Ident) (fs : Fields) (before : Result (Unit {0}) g.Reported) → (fields_named g m names fs before).2 ≡ Ok tt → beside g before (nothing_of m.1) ≡ Ok tt
+  fields_reported m names fs before e = let of : TypeNo = field_type m.1 in names_reported of (cells_at m.0.types of) names (fs, beside g before (nothing_of m.1)) e
 
-  field_told : (f : Field) (st : Fielded) → (field_list g f st).2 ≡ Ok tt → st.2 ≡ Ok tt
-  field_told f st e =
-      let of : State TypeNo g.Told = type_of g (out-Field f).of st.0 in
+  field_reported : (f : Field) (st : Fielded) → (field_list g f st).2 ≡ Ok tt → st.2 ≡ Ok tt
+  field_reported f st e =
+      let of : State TypeNo g.Reported = type_of g (out-Field f).of st.0 in
       beside_left g st.2 (nothing_of of.1)
-      (fields_told of (out-Field f).names st.1 st.2 (subst (λ (y : MakesFields g). (y st).2 ≡ Ok tt) (field_at g f (out-Field f) refl) e))
+      (fields_reported of (out-Field f).names st.1 st.2 (subst (λ (y : MakesFields g). (y st).2 ≡ Ok tt) (field_at g f (out-Field f) refl) e))
 
   abbrev all_fields : List SF → Fielded → Fielded
   all_fields fs st = fold (then_fields g) st (map (field_list g) (map (λ (f : SF). f.0) fs))
 
-  all_told : (fs : List SF) (st : Fielded) → (all_fields fs st).2 ≡ Ok tt → st.2 ≡ Ok tt
-  all_told [] st e = e
-  all_told (f ∷ fs) st e = field_told f.0 st (all_told fs (field_list g f.0 st) e)
+  all_reported : (fs : List SF) (st : Fielded) → (all_fields fs st).2 ≡ Ok tt → st.2 ≡ Ok tt
+  all_reported [] st e = e
+  all_reported (f ∷ fs) st e = field_reported f.0 st (all_reported fs (field_list g f.0 st) e)
 
   all_go : (fs : List SF) (st : Fielded) → Goes st.0 (all_fields fs st).0
   all_go [] st = same_goes st.0
@@ -324,12 +324,12 @@ module _ (g : Gathers) where
   all_take [] st e fin w s all = all
   all_take (f ∷ fs) st e fin w s all =
       let next : Fielded = field_list g f.0 st in
-      all_take fs next e fin w (marked_field f.0 s) (f.1 st (all_told fs next e) fin (λ y h. w y ((all_go fs next).taken y h)) s all)
+      all_take fs next e fin w (marked_field f.0 s) (f.1 st (all_reported fs next e) fin (λ y h. w y ((all_go fs next).taken y h)) s all)
 
   array_takes : (at : Pos) (index : Simple) (t : ST) → Takes (type_layer g (layer.Array at index (type_of g t.0))) (λ s. marked_in t.0 (marked_simple index s))
   array_takes at index t s x e fin w z all =
-      let i : State TypeNo g.Told = index_type g s index in
-      let of : State TypeNo g.Told = type_of g t.0 i.0 in
+      let i : State TypeNo g.Reported = index_type g s index in
+      let of : State TypeNo g.Reported = type_of g t.0 i.0 in
       let made = made_ok of.0 (array_of g of.0.types at i.1 of.1) x e in
       let a = both_left g i.1 of.1 _ made.0 made.1 in
       let b = both_right g i.1 of.1 _ made.0 made.1 in
@@ -345,74 +345,74 @@ module _ (g : Gathers) where
       let k = then_ok st.2 _ made.0 made.1 in
       all_take fields (s, no_fields, Ok tt) k.1 fin (λ y h. w y ((made_goes st.0 (record_of g at st.1 st.2)).taken y h)) z all
 
-  type_takes : (y : TypeExpr-F ST SF) → Takes (type_layer g (opened g (bare y))) (marking.type_layer (marks_opened g.Told (bare y)))
+  type_takes : (y : TypeExpr-F ST SF) → Takes (type_layer g (opened g (bare y))) (marking.type_layer (marks_opened g.Reported (bare y)))
   type_takes (layer.Simple t) = λ s x e fin w z all. simple_takes s t x e fin w z all
   type_takes (layer.Array at index t) = array_takes at index t
   type_takes (layer.Record at fields) = record_takes at fields
   type_takes (layer.Procedure at formals t) = λ s x e fin w z all. all
 
-  field_takes : (y : Field-F ST SF) → TakesFields (field_layer g (opened_field g (bare_field y))) (marking.field_layer (marks_opened_field g.Told (bare_field y)))
+  field_takes : (y : Field-F ST SF) → TakesFields (field_layer g (opened_field g (bare_field y))) (marking.field_layer (marks_opened_field g.Reported (bare_field y)))
   field_takes y st e fin w z all =
-      let of : State TypeNo g.Told = type_of g y.of.0 st.0 in
-      let k = then_ok of.1 (λ x. Ok tt) tt (beside_right g st.2 (nothing_of of.1) (fields_told of y.names st.1 st.2 e)) in
+      let of : State TypeNo g.Reported = type_of g y.of.0 st.0 in
+      let k = then_ok of.1 (λ x. Ok tt) tt (beside_right g st.2 (nothing_of of.1) (fields_reported of y.names st.1 st.2 e)) in
       y.of.1 st.0 k.0 k.1 fin w z all
 
   along : {A B : Type 0} (R : A → B → Type 0) {a a' : A} {b b' : B} → a ≡ a' → b ≡ b' → R a' b' → R a b
   along R {a' = a'} {b = b} e f r = subst (λ x. R x b) (sym e) (subst (λ y. R a' y) (sym f) r)
 
   step_type : (x : TypeExpr-F TypeExpr Field) (y : TypeExpr-F ST SF) → bare y ≡ x → PT (roll-TypeExpr x)
-  step_type x y q = along Takes (type_at g (roll-TypeExpr x) (bare y) (out-roll-TypeExpr x ∙ sym q)) (marks_at g.Told (roll-TypeExpr x) (bare y) (out-roll-TypeExpr x ∙ sym q)) (type_takes y)
+  step_type x y q = along Takes (type_at g (roll-TypeExpr x) (bare y) (out-roll-TypeExpr x ∙ sym q)) (marks_at g.Reported (roll-TypeExpr x) (bare y) (out-roll-TypeExpr x ∙ sym q)) (type_takes y)
 
   step_field : (x : Field-F TypeExpr Field) (y : Field-F ST SF) → bare_field y ≡ x → PF (roll-Field x)
-  step_field x y q = along TakesFields (field_at g (roll-Field x) (bare_field y) (out-roll-Field x ∙ sym q)) (marks_at_field g.Told (roll-Field x) (bare_field y) (out-roll-Field x ∙ sym q)) (field_takes y)
+  step_field x y q = along TakesFields (field_at g (roll-Field x) (bare_field y) (out-roll-Field x ∙ sym q)) (marks_at_field g.Reported (roll-Field x) (bare_field y) (out-roll-Field x ∙ sym q)) (field_takes y)
 
   type_of_takes : (t : TypeExpr) → PT t
   type_of_takes = ind-TypeExpr PT PF step_type step_field
 
   -- ---- constants, types and variables
 
-  constants_told : (cs : List Constant) (st : State (Unit {0}) g.Told) → (fold (with_constant g) st cs).1 ≡ Ok tt → st.1 ≡ Ok tt
-  constants_told [] st e = e
-  constants_told (c ∷ cs) st e = beside_left g st.1 _ (constants_told cs (with_constant g st c) e)
+  constants_reported : (cs : List Constant) (st : State (Unit {0}) g.Reported) → (fold (with_constant g) st cs).1 ≡ Ok tt → st.1 ≡ Ok tt
+  constants_reported [] st e = e
+  constants_reported (c ∷ cs) st e = beside_left g st.1 _ (constants_reported cs (with_constant g st c) e)
 
-  types_told : (ts : List TypeDecl) (st : State (Unit {0}) g.Told) → (fold (with_type g) st ts).1 ≡ Ok tt → st.1 ≡ Ok tt
-  types_told [] st e = e
-  types_told (t ∷ ts) st e = beside_left g st.1 _ (types_told ts (with_type g st t) e)
+  types_reported : (ts : List TypeDecl) (st : State (Unit {0}) g.Reported) → (fold (with_type g) st ts).1 ≡ Ok tt → st.1 ≡ Ok tt
+  types_reported [] st e = e
+  types_reported (t ∷ ts) st e = beside_left g st.1 _ (types_reported ts (with_type g st t) e)
 
-  begun_told : (names : List Ident) (st : State (Unit {0}) g.Told) → (fold (begun_name g) st names).1 ≡ Ok tt → st.1 ≡ Ok tt
-  begun_told [] st e = e
-  begun_told (x ∷ xs) st e = beside_left g st.1 _ (begun_told xs (begun_name g st x) e)
+  begun_reported : (names : List Ident) (st : State (Unit {0}) g.Reported) → (fold (begun_name g) st names).1 ≡ Ok tt → st.1 ≡ Ok tt
+  begun_reported [] st e = e
+  begun_reported (x ∷ xs) st e = beside_left g st.1 _ (begun_reported xs (begun_name g st x) e)
 
-  variables_told : (vs : List Variables) (st : State (Unit {0}) g.Told) → (fold (with_variables g) st vs).1 ≡ Ok tt → st.1 ≡ Ok tt
-  variables_told [] st e = e
-  variables_told (v ∷ vs) st e = begun_told v.names st (beside_left g (fold (begun_name g) st v.names).1 _ (variables_told vs (with_variables g st v) e))
+  variables_reported : (vs : List Variables) (st : State (Unit {0}) g.Reported) → (fold (with_variables g) st vs).1 ≡ Ok tt → st.1 ≡ Ok tt
+  variables_reported [] st e = e
+  variables_reported (v ∷ vs) st e = begun_reported v.names st (beside_left g (fold (begun_name g) st v.names).1 _ (variables_reported vs (with_variables g st v) e))
 
-  constant_takes : (st : State (Unit {0}) g.Told) (c : Constant) → (with_constant g st c).1 ≡ Ok tt → (fin : Own) → Within (with_constant g st c).0.own fin → Covers fin (λ s. marked_constant s c)
+  constant_takes : (st : State (Unit {0}) g.Reported) (c : Constant) → (with_constant g st c).1 ≡ Ok tt → (fin : Own) → Within (with_constant g st c).0.own fin → Covers fin (λ s. marked_constant s c)
   constant_takes st c e fin w =
-      let b : State (Unit {0}) g.Told = begun g st.0 c.name in
+      let b : State (Unit {0}) g.Reported = begun g st.0 c.name in
       let ok : b.1 ≡ Ok tt = beside_left g b.1 _ (beside_right g st.1 _ e) in
       name_covers fin c.name Later (w c.name.name ((constant_ends g b.0 c).taken c.name.name (begun_takes st.0 c.name ok)))
 
-  type_decl_takes : (st : State (Unit {0}) g.Told) (d : TypeDecl) → (with_type g st d).1 ≡ Ok tt → (fin : Own) → Within (with_type g st d).0.own fin → Covers fin (λ s. marked_type s d)
+  type_decl_takes : (st : State (Unit {0}) g.Reported) (d : TypeDecl) → (with_type g st d).1 ≡ Ok tt → (fin : Own) → Within (with_type g st d).0.own fin → Covers fin (λ s. marked_type s d)
   type_decl_takes st d e fin w s all =
-      let b : State (Unit {0}) g.Told = begun g st.0 d.name in
-      let t : State TypeNo g.Told = type_of g d.of b.0 in
+      let b : State (Unit {0}) g.Reported = begun g st.0 d.name in
+      let t : State TypeNo g.Reported = type_of g d.of b.0 in
       let both : beside g b.1 (nothing_of t.1) ≡ Ok tt = beside_right g st.1 _ e in
       let k = then_ok t.1 (λ x. Ok tt) tt (beside_right g b.1 (nothing_of t.1) both) in
       type_of_takes d.of b.0 k.0 k.1 fin (λ y h. w y ((type_finished g b.0 d).taken y h)) (marked d.name Later s)
       (name_covers fin d.name Later (w d.name.name ((type_ends g b.0 d).taken d.name.name (begun_takes st.0 d.name (beside_left g b.1 (nothing_of t.1) both)))) s all)
 
-  begun_take : (names : List Ident) (st : State (Unit {0}) g.Told) → (fold (begun_name g) st names).1 ≡ Ok tt → (fin : Own) → Within (fold (begun_name g) st names).0.own fin → Covers fin (λ s. fold marked_later s names)
+  begun_take : (names : List Ident) (st : State (Unit {0}) g.Reported) → (fold (begun_name g) st names).1 ≡ Ok tt → (fin : Own) → Within (fold (begun_name g) st names).0.own fin → Covers fin (λ s. fold marked_later s names)
   begun_take [] st e fin w s all = all
   begun_take (x ∷ xs) st e fin w s all =
-      let next : State (Unit {0}) g.Told = begun_name g st x in
-      let ok : (begun g st.0 x).1 ≡ Ok tt = beside_right g st.1 _ (begun_told xs next e) in
+      let next : State (Unit {0}) g.Reported = begun_name g st x in
+      let ok : (begun g st.0 x).1 ≡ Ok tt = beside_right g st.1 _ (begun_reported xs next e) in
       begun_take xs next e fin w (marked_later s x) (name_covers fin x Later (w x.name ((begun_all_go g xs next).taken x.name (begun_takes st.0 x ok))) s all)
 
-  variables_take : (st : State (Unit {0}) g.Told) (v : Variables) → (with_variables g st v).1 ≡ Ok tt → (fin : Own) → Within (with_variables g st v).0.own fin → Covers fin (λ s. marked_variables s v)
+  variables_take : (st : State (Unit {0}) g.Reported) (v : Variables) → (with_variables g st v).1 ≡ Ok tt → (fin : Own) → Within (with_variables g st v).0.own fin → Covers fin (λ s. marked_variables s v)
   variables_take st v e fin w s all =
-      let b : State (Unit {0}) g.Told = fold (begun_name g) st v.names in
-      let t : State TypeNo g.Told = type_of g v.of b.0 in
+      let b : State (Unit {0}) g.Reported = fold (begun_name g) st v.names in
+      let t : State TypeNo g.Reported = type_of g v.of b.0 in
       let k = then_ok t.1 (λ x. Ok tt) tt (beside_right g b.1 (nothing_of t.1) e) in
       let last = variables_end g b.0 v in
       type_of_takes v.of b.0 k.0 k.1 fin (λ y h. w y (last.taken y h)) (fold marked_later s v.names)
@@ -420,29 +420,29 @@ module _ (g : Gathers) where
 
   -- ---- lists of them
 
-  module _ {X : Type 0} (f : State (Unit {0}) g.Told → X → State (Unit {0}) g.Told) (marks : Scope g.Told → X → Scope g.Told) (goes : (st : State (Unit {0}) g.Told) (x : X) → Goes st.0 (f st x).0)
-      (says : (xs : List X) (st : State (Unit {0}) g.Told) → (fold f st xs).1 ≡ Ok tt → st.1 ≡ Ok tt) (takes : (st : State (Unit {0}) g.Told) (x : X) → (f st x).1 ≡ Ok tt → (fin : Own) → Within (f st x).0.own fin → Covers fin (λ s. marks s x)) where
-    fold_takes : (xs : List X) (st : State (Unit {0}) g.Told) → (fold f st xs).1 ≡ Ok tt → (fin : Own) → Within (fold f st xs).0.own fin → Covers fin (λ s. fold marks s xs)
+  module _ {X : Type 0} (f : State (Unit {0}) g.Reported → X → State (Unit {0}) g.Reported) (marks : Scope g.Reported → X → Scope g.Reported) (goes : (st : State (Unit {0}) g.Reported) (x : X) → Goes st.0 (f st x).0)
+      (says : (xs : List X) (st : State (Unit {0}) g.Reported) → (fold f st xs).1 ≡ Ok tt → st.1 ≡ Ok tt) (takes : (st : State (Unit {0}) g.Reported) (x : X) → (f st x).1 ≡ Ok tt → (fin : Own) → Within (f st x).0.own fin → Covers fin (λ s. marks s x)) where
+    fold_takes : (xs : List X) (st : State (Unit {0}) g.Reported) → (fold f st xs).1 ≡ Ok tt → (fin : Own) → Within (fold f st xs).0.own fin → Covers fin (λ s. fold marks s xs)
     fold_takes [] st e fin w s all = all
     fold_takes (x ∷ xs) st e fin w s all =
         fold_takes xs (f st x) e fin w (marks s x)
-        (takes st x (says xs (f st x) e) fin (λ y h. w y ((fold_goes (λ (st : State (Unit {0}) g.Told). st.0) f goes xs (f st x)).taken y h)) s all)
+        (takes st x (says xs (f st x) e) fin (λ y h. w y ((fold_goes (λ (st : State (Unit {0}) g.Reported). st.0) f goes xs (f st x)).taken y h)) s all)
 
-  pub constants_all : (cs : List Constant) (st : State (Unit {0}) g.Told) → (fold (with_constant g) st cs).1 ≡ Ok tt → (fin : Own) → Within (fold (with_constant g) st cs).0.own fin → Covers fin (λ s. fold marked_constant s cs)
-  constants_all = fold_takes (with_constant g) marked_constant (constant_goes g) constants_told constant_takes
+  pub constants_all : (cs : List Constant) (st : State (Unit {0}) g.Reported) → (fold (with_constant g) st cs).1 ≡ Ok tt → (fin : Own) → Within (fold (with_constant g) st cs).0.own fin → Covers fin (λ s. fold marked_constant s cs)
+  constants_all = fold_takes (with_constant g) marked_constant (constant_goes g) constants_reported constant_takes
 
-  pub types_all : (ts : List TypeDecl) (st : State (Unit {0}) g.Told) → (fold (with_type g) st ts).1 ≡ Ok tt → (fin : Own) → Within (fold (with_type g) st ts).0.own fin → Covers fin (λ s. fold marked_type s ts)
-  types_all = fold_takes (with_type g) marked_type (type_decl_goes g) types_told type_decl_takes
+  pub types_all : (ts : List TypeDecl) (st : State (Unit {0}) g.Reported) → (fold (with_type g) st ts).1 ≡ Ok tt → (fin : Own) → Within (fold (with_type g) st ts).0.own fin → Covers fin (λ s. fold marked_type s ts)
+  types_all = fold_takes (with_type g) marked_type (type_decl_goes g) types_reported type_decl_takes
 
-  pub variables_all : (vs : List Variables) (st : State (Unit {0}) g.Told) → (fold (with_variables g) st vs).1 ≡ Ok tt → (fin : Own) → Within (fold (with_variables g) st vs).0.own fin → Covers fin (λ s. fold marked_variables s vs)
-  variables_all = fold_takes (with_variables g) marked_variables (variables_go g) variables_told variables_take
+  pub variables_all : (vs : List Variables) (st : State (Unit {0}) g.Reported) → (fold (with_variables g) st vs).1 ≡ Ok tt → (fin : Own) → Within (fold (with_variables g) st vs).0.own fin → Covers fin (λ s. fold marked_variables s vs)
+  variables_all = fold_takes (with_variables g) marked_variables (variables_go g) variables_reported variables_take
 
-  pub def_told : (st : State (Unit {0}) g.Told) (d : Def) → (with_def g st d).1 ≡ Ok tt → st.1 ≡ Ok tt
-  def_told st (def.Constants cs) e = constants_told cs st e
-  def_told st (def.Types ts) e = types_told ts st e
-  def_told st (def.Variables vs) e = variables_told vs st e
-  def_told st (def.Procedure h) e = beside_left g st.1 _ e
+  pub def_reported : (st : State (Unit {0}) g.Reported) (d : Def) → (with_def g st d).1 ≡ Ok tt → st.1 ≡ Ok tt
+  def_reported st (def.Constants cs) e = constants_reported cs st e
+  def_reported st (def.Types ts) e = types_reported ts st e
+  def_reported st (def.Variables vs) e = variables_reported vs st e
+  def_reported st (def.Procedure h) e = beside_left g st.1 _ e
 
-  pub defs_told : (ds : List Def) (st : State (Unit {0}) g.Told) → (fold (with_def g) st ds).1 ≡ Ok tt → st.1 ≡ Ok tt
-  defs_told [] st e = e
-  defs_told (d ∷ ds) st e = def_told st d (defs_told ds (with_def g st d) e)
+  pub defs_reported : (ds : List Def) (st : State (Unit {0}) g.Reported) → (fold (with_def g) st ds).1 ≡ Ok tt → st.1 ≡ Ok tt
+  defs_reported [] st e = e
+  defs_reported (d ∷ ds) st e = def_reported st d (defs_reported ds (with_def g st d) e)

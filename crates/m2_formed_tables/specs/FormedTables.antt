@@ -6,7 +6,7 @@ use Rattle.m2_typed.specs.declared.meaning.Meaning.{Meaning}
 use Rattle.m2_typed.specs.declared.meaning.Meaning.TheVariants as meaning
 use Rattle.m2_typed.specs.declared.table.Table.{Table}
 use Rattle.m2_typed.specs.declared.types.TypeNo.{TypeNo}
-use Rattle.m2_judged.specs.Judged.{Gathers}
+use Rattle.m2_scopes.specs.Elaborated.{Gathers}
 use Rattle.m2_types.specs.Compiled.{compiled}
 use Rattle.m2_modules.specs.Own.{exported_headings}
 

@@ -8,7 +8,7 @@
 //!   procedure stands behind those before it (`proofs/Definitions`).
 #![tactic(auto)]
 
-ghost use Rattle.m2_judged.specs.Judged.{least, every};
+ghost use Rattle.m2_scopes.specs.Elaborated.{least, every};
 ghost use Rattle.m2_formed_tables.specs.FormedTables.{TablesExportOwn, TablesNumberProcedures};
 
 /// What the table of a definition exports is the module's own, and the procedures among it are numbered in their order.

@@ -9,7 +9,7 @@ use Rattle.m2_grammar.specs.declared.refusal.Fault.TheVariants.{Unfit, Misnamed,
 use Rattle.m2_grammar.specs.Rule.{module_rule}
 use Rattle.m2_grammar.specs.Grammar.{rule}
 use Rattle.m2_grammar.specs.declared.refusal.ParseRefusal.{ParseRefusal}
-use Rattle.m2_grammar.specs.Refusal.{IsModule, IsOpen, IsUnfit, IsRefused, BreaksRule, IsTree, IsLeast, IsTold, max_nesting, number_of, place_of}
+use Rattle.m2_grammar.specs.Refusal.{IsModule, IsOpen, IsUnfit, IsRefused, BreaksRule, IsTree, IsLeast, IsReported, max_nesting, number_of, place_of}
 use Rattle.m2_grammar.specs.Reading.{Outcome, read_rule}
 use Rattle.m2_grammar.proofs.Sound.{Takes, Leads, Right, read_right}
 use Rattle.m2_grammar.proofs.Complete.{IsRule, Trips, Meets, complete}
@@ -164,14 +164,14 @@ answers_by ts m (Err d) e a (inr t) = absurd (a d.0 d.1 (broken ts d.0 d.1 t.0 (
 pub answers : (ts : List Token) (m : Module) → IsTree ts m → outcome_of ts ≡ Ok (m, [])
 answers ts m p = answers_by ts m (outcome_of ts) refl p.1 (meets ts m p.0)
 
--- ---- what the parser tells
+-- ---- what the parser reports
 
-pub told : (ts at : List Token) (f : Fault) (r : ParseRefusal) → outcome_of ts ≡ Err (at, f) → r.pos ≡ place_of at → r.number ≡ number_of f at → IsTold ts r
-told ts at f r e p n = record { at = at; fault = f; refused = refused ts at f e; least = least ts at f e; pos = p; number = n }
+pub reported : (ts at : List Token) (f : Fault) (r : ParseRefusal) → outcome_of ts ≡ Err (at, f) → r.pos ≡ place_of at → r.number ≡ number_of f at → IsReported ts r
+reported ts at f r e p n = record { at = at; fault = f; refused = refused ts at f e; least = least ts at f e; pos = p; number = n }
 
-pub told_rest : (ts rest : List Token) (m : Module) (r : ParseRefusal) → outcome_of ts ≡ Ok (m, rest) → (rest ≡ [] → ⊥) → r.pos ≡ place_of rest → r.number ≡ number_of Unfit rest → IsTold ts r
-told_rest ts [] m r e ne p n = absurd (ne refl)
-told_rest ts (t ∷ us) m r e ne p n = record { at = t ∷ us; fault = Unfit; refused = rest_refused ts m t us e; least = rest_least ts m t us e; pos = p; number = n }
+pub reported_rest : (ts rest : List Token) (m : Module) (r : ParseRefusal) → outcome_of ts ≡ Ok (m, rest) → (rest ≡ [] → ⊥) → r.pos ≡ place_of rest → r.number ≡ number_of Unfit rest → IsReported ts r
+reported_rest ts [] m r e ne p n = absurd (ne refl)
+reported_rest ts (t ∷ us) m r e ne p n = record { at = t ∷ us; fault = Unfit; refused = rest_refused ts m t us e; least = rest_least ts m t us e; pos = p; number = n }
 
 err_clash : (o : Outcome Module) (d : List Token × Fault) (m : Module) → o ≡ Err d → o ≡ Ok (m, []) → ⊥
 err_clash o d m e f = cc
@@ -201,8 +201,8 @@ no_refusal ts at Unfit m p r = not_unfit ts r.0 at m r.1 p.0 r.3
 no_refusal ts at Misnamed m p r = p.1 at Misnamed r
 no_refusal ts at TooDeep m p r = p.1 at TooDeep r
 
-pub never_both : (ts : List Token) (m : Module) (r : ParseRefusal) → IsTree ts m → IsTold ts r → ⊥
-never_both ts m r p told = no_refusal ts told.at told.fault m p told.refused
+pub never_both : (ts : List Token) (m : Module) (r : ParseRefusal) → IsTree ts m → IsReported ts r → ⊥
+never_both ts m r p reported = no_refusal ts reported.at reported.fault m p reported.refused
 
 -- ---- one refusal
 
@@ -254,13 +254,13 @@ same_place ts at bt f g r l s m =
     let q = placed ts bt g s in
     same_rest p.0 at q.0 bt (sym p.1 ∙ q.1) (m at f r) (l bt g s)
 
-told_once : (ts : List Token) (r q : ParseRefusal) (x : IsTold ts r) (y : IsTold ts q) → x.at ≡ y.at → x.fault ≡ y.fault → r ≡ q
-told_once ts r q x y e f =
+reported_once : (ts : List Token) (r q : ParseRefusal) (x : IsReported ts r) (y : IsReported ts q) → x.at ≡ y.at → x.fault ≡ y.fault → r ≡ q
+reported_once ts r q x y e f =
     let pos : r.pos ≡ q.pos = x.pos ∙ ap place_of e ∙ sym y.pos in
     let number : r.number ≡ q.number = x.number ∙ ap₂ number_of f e ∙ sym y.number in
     ap₂ (λ p n. record { pos = p; number = n }) pos number
 
-pub refused_once : (ts : List Token) (r q : ParseRefusal) → IsTold ts r → IsTold ts q → r ≡ q
+pub refused_once : (ts : List Token) (r q : ParseRefusal) → IsReported ts r → IsReported ts q → r ≡ q
 refused_once ts r q x y =
     let e = same_place ts x.at y.at x.fault y.fault x.refused x.least y.refused y.least in
-    told_once ts r q x y e (one_fault ts x.at x.fault y.fault x.least x.refused (subst (λ (us : List Token). IsRefused ts us y.fault) (sym e) y.refused))
+    reported_once ts r q x y e (one_fault ts x.at x.fault y.fault x.least x.refused (subst (λ (us : List Token). IsRefused ts us y.fault) (sym e) y.refused))

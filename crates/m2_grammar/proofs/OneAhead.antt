@@ -84,7 +84,7 @@ within (k ∷ ks) js = is_among k js && within ks js
 abbrev pub is_repeatable : {a : Ty} → Gr a → Bool
 is_repeatable g = not (nullable g) && not (is_among the.End (first g))
 
--- whether one token ahead tells what to read
+-- whether one token ahead says what to read
 abbrev pub one_ahead : {a : Ty} → Gr a → Bool
 one_ahead (tok k ks) = true
 one_ahead (rule r) = true

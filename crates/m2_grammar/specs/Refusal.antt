@@ -68,7 +68,7 @@ abbrev pub place_of : List Token → Pos
 place_of [] = record { line = 1; col = 1 }
 place_of (t ∷ ts) = t.pos
 
-pub record IsTold (ts : List Token) (r : ParseRefusal) : Type 0 where
+pub record IsReported (ts : List Token) (r : ParseRefusal) : Type 0 where
   pub at : List Token
   pub fault : Fault
   pub refused : IsRefused ts at fault
@@ -79,7 +79,7 @@ pub record IsTold (ts : List Token) (r : ParseRefusal) : Type 0 where
 abbrev pub Parses : List Token → Result Module ParseError → Type 0
 Parses ts (Ok m) = IsTree ts m
 Parses ts (Err NoMemory) = Unit {0}
-Parses ts (Err (Refused r)) = IsTold ts r
+Parses ts (Err (Refused r)) = IsReported ts r
 
 -- the answer, unless memory fails
 abbrev pub Answers : Result Module ParseError → Module → Type 0

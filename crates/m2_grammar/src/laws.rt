@@ -6,7 +6,7 @@ ghost use Rattle.m2_tree.specs.declared.decl.Module.{Module};
 ghost use Rattle.m2_tree.specs.declared.expr.Expr.{Expr};
 ghost use Rattle.m2_grammar.specs.declared.refusal.ParseRefusal.{ParseRefusal};
 ghost use Rattle.m2_grammar.specs.Factored.{IsFactor, IsPlainFactor};
-ghost use Rattle.m2_grammar.specs.Refusal.{IsTold, IsTree};
+ghost use Rattle.m2_grammar.specs.Refusal.{IsReported, IsTree};
 
 /// A list of tokens has at most one tree.
 pub fn one_tree()
@@ -15,12 +15,12 @@ pub fn one_tree()
 
 /// A list that is refused has no tree.
 pub fn tree_or_refusal()
-    ensures { (ts : List Token) (m : Module) (r : ParseRefusal) → IsTree ts m → IsTold ts r → ⊥ }
+    ensures { (ts : List Token) (m : Module) (r : ParseRefusal) → IsTree ts m → IsReported ts r → ⊥ }
 {}
 
-/// A list has at most one refusal: one place is the least, and one number is told of it.
+/// A list has at most one refusal: one place is the least, and one number is reported of it.
 pub fn one_refusal()
-    ensures { (ts : List Token) (r q : ParseRefusal) → IsTold ts r → IsTold ts q → r ≡ q }
+    ensures { (ts : List Token) (r q : ParseRefusal) → IsReported ts r → IsReported ts q → r ≡ q }
 {}
 
 /// That a set and a designator have their first name in common in the grammar changes no factor and no tree.

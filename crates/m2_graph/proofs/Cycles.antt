@@ -9,7 +9,7 @@ use Rattle.m2_tree.specs.declared.decl.Module.{Module}
 use Rattle.m2_tree.specs.declared.name.Ident.{Ident}
 use Rattle.graph_walk.specs.Links.{has, targets, Leads}
 use Rattle.m2_graph.specs.Imports.{first_that, definition_of, imported, links_of, links}
-use Rattle.m2_graph.specs.Told.{LeadsBack}
+use Rattle.m2_graph.specs.Reported.{LeadsBack}
 use Rattle.graph_walk.proofs.Chains.{or_true, first_step}
 
 -- ---- a number that a list of answers has

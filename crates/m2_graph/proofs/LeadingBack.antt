@@ -13,7 +13,7 @@ use Rattle.m2_tree.specs.declared.pos.Pos.{Pos}
 use Rattle.std.specs.Prelude.{MatchOption}
 use Rattle.graph_walk.specs.Links.{Leads, AreNodes, has, flag}
 use Rattle.m2_graph.specs.Imports.{definition_of, defines, imported, links, named_by}
-use Rattle.m2_graph.specs.Told.{LeadsBack, AreLeading, IsBack, IsFirstBack, IsToldCycle}
+use Rattle.m2_graph.specs.Reported.{LeadsBack, AreLeading, IsBack, IsFirstBack, IsReportedCycle}
 use Rattle.m2_graph.proofs.Importing.{first_within, links_are_nodes, module_at}
 use Rattle.graph_walk.specs.Turned.{IsTurned}
 use Rattle.graph_walk.proofs.Chains.{or_true, first_step}
@@ -118,8 +118,8 @@ trees_in xs = map (λ (m : Bor Module). m.now) xs
 pub within : (xs : List (Bor Module)) (node : ℕ) → node < length xs → node < length (trees_in xs)
 within xs node l = rw length-map l
 
-pub cycle_told : (xs : List (Bor Module)) (pairs : List (List ℕ)) (node : ℕ) (b : Bor Module) (place : Option Pos) (pos : Pos) → pairs ≡ links (trees_in xs) → node < length xs → b ≡ get_or xs node b → Leads pairs node node → ((other : ℕ) → other < node → Leads pairs other other → ⊥) → IsFirstBack (trees_in xs) node (imported b.now) place → place ≡ Some pos → IsToldCycle (trees_in xs) node pos
-cycle_told xs pairs node b place pos e l is on first found so = record {
+pub cycle_reported : (xs : List (Bor Module)) (pairs : List (List ℕ)) (node : ℕ) (b : Bor Module) (place : Option Pos) (pos : Pos) → pairs ≡ links (trees_in xs) → node < length xs → b ≡ get_or xs node b → Leads pairs node node → ((other : ℕ) → other < node → Leads pairs other other → ⊥) → IsFirstBack (trees_in xs) node (imported b.now) place → place ≡ Some pos → IsReportedCycle (trees_in xs) node pos
+cycle_reported xs pairs node b place pos e l is on first found so = record {
   on_cycle = subst (λ (ps : List (List ℕ)). Leads ps node node) e on;
   first = λ other m h. first other m (subst (λ (ps : List (List ℕ)). Leads ps other other) (sym e) h);
   tree = b.now;

@@ -6,7 +6,7 @@ pub mod Ordered
 pub mod Cycles
 pub mod Smaller
 pub mod Places
-pub mod Telling
+pub mod Reporting
 pub mod LeadingBack
-pub mod Judging
+pub mod Deciding
 pub mod Whole

@@ -1,4 +1,4 @@
--- The jobs of files of which nothing is told compile each of them once.
+-- The jobs of files of which nothing is reported compile each of them once.
 use Rattle.std.proofs.Common.{◌≡◌, ◌<◌, ◌≤◌, ℕ, zero, suc, ◌+◌, Bool, true, false, not, cond, ◌&&◌, ◌==◌, nat_lt, List, [], ◌∷◌, ◌++◌, length, get_or, map, refl, sym, ap, subst, ◌∙◌, inl, inr, arith, append_assoc, Option, Some, None, eq-eqb}
 use Rattle.std.specs.List.Sorted.{IsPermutation}
 use Rattle.std.proofs.lemmas.Bool.{cases_eq, cases_lt, false≢true, eqb-true, ne_eqb, lt-ltb, le-ltb}
@@ -18,23 +18,23 @@ use Rattle.m2_graph.specs.Graph.{IsJobs, CompileEach}
 use Rattle.m2_graph.specs.Order.{body_numbers}
 use Rattle.m2_graph.specs.Refused.{fault, fault_where, faults_of, least_of}
 use Rattle.m2_tree.specs.declared.refusal.Refusal.{Refusal}
-use Rattle.m2_graph.specs.Told.{Told, told, told_at, cycle_faults, AreCycles, refused_from, refused_of, IsTold}
+use Rattle.m2_graph.specs.Reported.{Reported, reported, reported_at, cycle_faults, AreCycles, refused_from, refused_of, IsReported}
 use Rattle.m2_graph.proofs.Importing.{links_are_nodes}
-use Rattle.m2_graph.proofs.Judging.{never_none, nothing_told}
+use Rattle.m2_graph.proofs.Deciding.{never_none, nothing_reported}
 use Rattle.m2_graph.proofs.Smaller.{linked, at_least, numbered_definition}
 use Rattle.m2_graph.proofs.Tables.{lt_suc}
 
--- ---- where nothing is told there is no cycle
+-- ---- where nothing is reported there is no cycle
 
-rest_none : (xs ys : List Told) → xs ++ ys ≡ [] → ys ≡ []
+rest_none : (xs ys : List Reported) → xs ++ ys ≡ [] → ys ≡ []
 rest_none [] ys e = e
 rest_none (x ∷ xs) ys e = cc
 
 refused_somewhere : (ms : List Module) (t : ℕ × Pos) (before : List Module) (fs : List File) → refused_from ms (Some t) before fs ≡ [] → length before ≤ t.0 → t.0 < length before + length fs → ⊥
 refused_somewhere ms t before [] e low high = omega arith
 refused_somewhere ms t before (f ∷ fs) e low high = elim (cases_eq t.0 (length before)) [
-  | inl s ↦ never_none (faults_of ms before f.given f.tree) (fault t.1 22) [] (ap (λ b. least_of (faults_of ms before f.given f.tree ++ fault_where b t.1 22)) (sym (eq-eqb t.0 (length before) s)) ∙ nothing_told f.name (least_of (faults_of ms before f.given f.tree ++ cycle_faults (Some t) (length before))) (refused_from ms (Some t) (before ++ f.tree ∷ []) fs) e)
-  | inr ne ↦ (let more = length_push before f.tree in refused_somewhere ms t (before ++ f.tree ∷ []) fs (rest_none (told_at f.name (least_of (faults_of ms before f.given f.tree ++ cycle_faults (Some t) (length before)))) (refused_from ms (Some t) (before ++ f.tree ∷ []) fs) e) (beyond ne more) (omega (arith, more)))
+  | inl s ↦ never_none (faults_of ms before f.given f.tree) (fault t.1 22) [] (ap (λ b. least_of (faults_of ms before f.given f.tree ++ fault_where b t.1 22)) (sym (eq-eqb t.0 (length before) s)) ∙ nothing_reported f.name (least_of (faults_of ms before f.given f.tree ++ cycle_faults (Some t) (length before))) (refused_from ms (Some t) (before ++ f.tree ∷ []) fs) e)
+  | inr ne ↦ (let more = length_push before f.tree in refused_somewhere ms t (before ++ f.tree ∷ []) fs (rest_none (reported_at f.name (least_of (faults_of ms before f.given f.tree ++ cycle_faults (Some t) (length before)))) (refused_from ms (Some t) (before ++ f.tree ∷ []) fs) e) (beyond ne more) (omega (arith, more)))
 ]
   where
     beyond : (t.0 ≡ length before → ⊥) → length (before ++ f.tree ∷ []) ≡ length before + 1 → length (before ++ f.tree ∷ []) ≤ t.0
@@ -47,7 +47,7 @@ cycle_refused : (fs : List File) (t : ℕ × Pos) → t.0 < length fs → refuse
 cycle_refused [] t l e = omega arith
 cycle_refused (f ∷ fs) t l e = refused_somewhere (trees (f ∷ fs)) t [] (f ∷ fs) e (omega arith) (omega arith)
 
-no_cycles : (fs : List File) → IsTold fs [] → (k : ℕ) → Leads (links (trees fs)) k k → ⊥
+no_cycles : (fs : List File) → IsReported fs [] → (k : ℕ) → Leads (links (trees fs)) k k → ⊥
 no_cycles fs h k l = step h.0 h.1 h.2
   where
     step : (c : Option (ℕ × Pos)) → AreCycles (trees fs) c → [] ≡ refused_of fs c → ⊥
@@ -168,7 +168,7 @@ all_indexed before (x ∷ xs) n e =
     here (y ∷ ys) zero q = absurd (omega arith)
     here (y ∷ ys) (suc m) q = here ys m (omega arith)
 
-pub compiles_each : (fs : List File) (compiled : List ℕ) (jobs : List (List ℕ)) → IsTold fs [] → HasCycleOrder (links (trees fs)) → IsJobs fs compiled jobs → CompileEach fs compiled
+pub compiles_each : (fs : List File) (compiled : List ℕ) (jobs : List (List ℕ)) → IsReported fs [] → HasCycleOrder (links (trees fs)) → IsJobs fs compiled jobs → CompileEach fs compiled
 compiles_each fs compiled jobs fine o j =
     let ms = trees fs in
     let givens = map (λ (f : File). f.given) fs in
@@ -181,8 +181,8 @@ compiles_each fs compiled jobs fine o j =
 pub compiles_given : (given ordered borrowed : List File) (compiled : List ℕ) → AreInOrder given ordered → borrowed ≡ ordered → CompileEach borrowed compiled → CompileEach given compiled
 compiles_given given ordered borrowed compiled o e h = IsPermutation-trans (map (λ (f : File). f.given) given) (map (λ (f : File). f.given) ordered) compiled (IsPermutation-map (λ (f : File). f.given) given ordered o.same) (subst (λ (fs : List File). CompileEach fs compiled) e h)
 
-pub compiles_told : (ms : List Module) (fs : List File) (refusals : List Refusal) (compiled : List ℕ) (jobs : List (List ℕ)) → ms ≡ trees fs → IsTold fs (map told refusals) → refusals ≡ [] → HasCycleOrder (links ms) → IsJobs fs compiled jobs → CompileEach fs compiled
-compiles_told ms fs refusals compiled jobs e told_so none o j = compiles_each fs compiled jobs (subst (λ (rs : List Refusal). IsTold fs (map told rs)) none told_so) (subst (λ (xs : List Module). HasCycleOrder (links xs)) e o) j
+pub compiles_reported : (ms : List Module) (fs : List File) (refusals : List Refusal) (compiled : List ℕ) (jobs : List (List ℕ)) → ms ≡ trees fs → IsReported fs (map reported refusals) → refusals ≡ [] → HasCycleOrder (links ms) → IsJobs fs compiled jobs → CompileEach fs compiled
+compiles_reported ms fs refusals compiled jobs e reported_so none o j = compiles_each fs compiled jobs (subst (λ (rs : List Refusal). IsReported fs (map reported rs)) none reported_so) (subst (λ (xs : List Module). HasCycleOrder (links xs)) e o) j
 
 pub no_items : {X : Type 0} (xs : List X) (n : ℕ) → length xs ≡ n → true ≡ (n == 0) → xs ≡ []
 no_items [] n e z = refl

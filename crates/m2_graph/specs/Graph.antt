@@ -9,7 +9,7 @@ use Rattle.m2_graph.specs.Imports.{is_definition, is_program, implements, first_
 use Rattle.m2_graph.specs.Order.{IsJobOrder, IsJob}
 use Rattle.graph_walk.specs.Starts.{IsStartOrder}
 use Rattle.m2_graph.specs.Files.{File, AreInOrder, trees, given_of}
-use Rattle.m2_graph.specs.Told.{told, IsTold}
+use Rattle.m2_graph.specs.Reported.{reported, IsReported}
 
 -- the body that starts where a walk comes to a module: for a definition its implementation
 abbrev pub body_of : List Module → ℕ → Option Module → Option ℕ
@@ -40,9 +40,9 @@ pub record IsStarts (ordered : List File) (starts : List ℕ) : Type 0 where
   pub is_walk : IsStartOrder (walks (trees ordered)) program walk
   pub started : starts ≡ map (given_of ordered) (bodies_of (trees ordered) walk)
 
--- Nothing is told of files in order, and these are their jobs and the order in which their bodies start.
+-- Nothing is reported of files in order, and these are their jobs and the order in which their bodies start.
 pub record IsGraphOf (ordered : List File) (files : List ℕ) (jobs : List (List ℕ)) (starts : List ℕ) : Type 0 where
-  pub fine : IsTold ordered []
+  pub fine : IsReported ordered []
   pub is_jobs : IsJobs ordered files jobs
   pub is_starts : IsStarts ordered starts
 
@@ -52,7 +52,7 @@ IsGraph given files jobs starts = (ordered : List File) × AreInOrder given orde
 
 -- what is refused in files in order, if memory did not run out
 abbrev pub IsRefusalOf : List File → GraphError → Type 0
-IsRefusalOf ordered (Refused refusals) = IsTold ordered (map told refusals.items) × ¬ (map told refusals.items ≡ [])
+IsRefusalOf ordered (Refused refusals) = IsReported ordered (map reported refusals.items) × ¬ (map reported refusals.items ≡ [])
 IsRefusalOf ordered NoMemory = Unit {0}
 
 -- the same of files as they are given

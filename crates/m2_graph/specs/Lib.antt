@@ -6,5 +6,5 @@ pub mod Parts
 pub mod Program
 pub mod Files
 pub mod Sources
-pub mod Told
+pub mod Reported
 pub mod Graph

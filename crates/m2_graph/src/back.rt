@@ -6,7 +6,7 @@ ghost use Rattle.graph_walk.specs.Links.{Leads};
 ghost use Rattle.graph_walk.specs.Turned.{IsTurned};
 ghost use Rattle.m2_graph.specs.Imports.{imported, links, named_by};
 ghost use Rattle.m2_graph.specs.Program.{modules_of, IsIndexed};
-ghost use Rattle.m2_graph.specs.Told.{LeadsBack, AreLeading, IsFirstBack, AreCycles};
+ghost use Rattle.m2_graph.specs.Reported.{LeadsBack, AreLeading, IsFirstBack, AreCycles};
 
 use crate::program::{Program, definition_of};
 use graph_walk::{first_on_cycle, is_marked, led_to};
@@ -78,8 +78,8 @@ pub fn back_in(program: &Program<'_>, leading: &[bool], node: usize, tree: &Modu
     None
 }
 
-/// What is told of the first definition on a cycle.
-fn told_cycle(
+/// What is reported of the first definition on a cycle.
+fn reported_cycle(
     alloc: Global,
     program: &Program<'_>,
     pairs: &[Items<usize>],
@@ -102,7 +102,7 @@ fn told_cycle(
     }
 }
 
-/// What is told of cycles. `pairs` has for each module the definitions that it imports, and `back` the same the other way
+/// What is reported of cycles. `pairs` has for each module the definitions that it imports, and `back` the same the other way
 /// round.
 pub fn cycle_of(
     alloc: Global,
@@ -120,7 +120,7 @@ pub fn cycle_of(
     match first {
         None => Ok(None),
         Some(node) => {
-            let cycle = told_cycle(alloc, program, pairs, back, node)?;
+            let cycle = reported_cycle(alloc, program, pairs, back, node)?;
             Ok(cycle)
         }
     }

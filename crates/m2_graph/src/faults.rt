@@ -5,7 +5,7 @@ ghost use Rattle.m2_graph.specs.Imports.{imported, named_by, is_program};
 ghost use Rattle.m2_graph.specs.Refused.{fault, fault_where, is_less, lesser, least_of, is_console, is_built_in, is_bad_import, import_faults, any_that, is_second, is_repeated, is_without_program, is_second_program, is_lone, faults_of};
 ghost use Rattle.m2_graph.specs.Program.{modules_of, IsIndexed};
 ghost use Rattle.m2_graph.specs.Parts.{is_earlier};
-ghost use Rattle.m2_graph.specs.Told.{cycle_faults};
+ghost use Rattle.m2_graph.specs.Reported.{cycle_faults};
 
 use crate::imports::{is_definition, is_implementation, is_program};
 use crate::program::{Program, definition_of, first_file_of, implementation_of};
@@ -206,7 +206,7 @@ fn file_fault(program: &Program<'_>, number: usize, given: usize, tree: &Module)
     with_fault(lonely, given == MAX_FILES, FIRST_PLACE, 25)
 }
 
-/// The least, where what is told of cycles is added.
+/// The least, where what is reported of cycles is added.
 fn with_cycle(least: Option<Fault>, cycle: Option<(usize, Pos)>, number: usize) -> Option<Fault>
     ensures { result ≡ fold lesser least (cycle_faults cycle number) }
 {
@@ -216,7 +216,7 @@ fn with_cycle(least: Option<Fault>, cycle: Option<(usize, Pos)>, number: usize) 
     }
 }
 
-/// The least (place, number) at which the module with this number breaks a rule. `cycle` is what is told of cycles.
+/// The least (place, number) at which the module with this number breaks a rule. `cycle` is what is reported of cycles.
 pub fn fault_of(
     program: &Program<'_>,
     cycle: Option<(usize, Pos)>,

@@ -10,9 +10,9 @@ ghost use Rattle.m2_graph.specs.Program.{modules_of, IsIndexed};
 ghost use Rattle.m2_graph.specs.Sources.{file_of};
 
 use crate::compiled::{Jobs, jobs_of_files};
+use crate::decided::{Decided, decide};
 use crate::error::GraphError;
 use crate::given::starts_of;
-use crate::judged::{Judged, judge};
 use crate::program::{Program, program_with};
 use crate::sources::{Source, in_order, trees};
 use m2_tree::Module;
@@ -71,7 +71,7 @@ fn graph_of(
     ensures each { IfOk result (λ g. CompileEach (map file_of sources.now) g.files.items) }
     ensures refused { IfErr result (IsRefusalOf (map file_of sources.now)) }
 {
-    let Judged { refusals, numbered } = judge(alloc, program, sources)?;
+    let Decided { refusals, numbered } = decide(alloc, program, sources)?;
     if !refusals.is_empty() {
         return Err(GraphError::Refused(refusals));
     }
@@ -92,7 +92,7 @@ impl Graph {
     /// bytes, and as given where these are equal.
     ///
     /// `Refused` where a rule of imports is broken. For each file that breaks one the least place, and there the least
-    /// number, is told, in that order of the files:
+    /// number, is reported, in that order of the files:
     ///
     /// - 20, at the module's name in the import: a module other than Console is imported and has no definition, or a body
     ///   imports its own module;

@@ -4,19 +4,19 @@
 
 mod back;
 mod compiled;
+mod decided;
 mod error;
 mod faults;
 mod given;
 mod graph;
 mod imports;
 mod jobs;
-mod judged;
 mod needs;
 mod numbering;
 mod order;
 mod program;
+mod reported;
 mod sources;
-mod told;
 
 pub use error::GraphError;
 pub use faults::is_console;

@@ -1,4 +1,4 @@
--- What holds of files of which nothing is told.
+-- What holds of files of which nothing is reported.
 use Rattle.std.proofs.Common.{◌≡◌, ℕ, zero, suc, Bool, true, false, cond, not, ◌&&◌, ◌||◌, ◌==◌, List, [], ◌∷◌, ◌++◌, length, take, map, refl, sym, ap, subst, ◌∙◌, inl, inr, append_assoc, Option, Some, None, ◌⊎◌}
 use Rattle.std.specs.Prelude.{slice_get}
 use Rattle.std.specs.List.{filter}
@@ -14,8 +14,8 @@ use Rattle.m2_graph.specs.declared.faults.Fault.{Fault}
 use Rattle.m2_graph.specs.Files.{File, trees}
 use Rattle.m2_graph.specs.Imports.{same_name, imported, is_definition, is_implementation, defines, implements, definition_of, first_that}
 use Rattle.m2_graph.specs.Refused.{fault, fault_where, first_place, least_of, is_console, is_bad_import, import_faults, are_one_part, is_second, is_repeated, is_second_program, is_without_program, is_built_in, is_lone, max_files, faults_of}
-use Rattle.m2_graph.specs.Told.{Told, told_at, cycle_faults, refused_from, refused_of, IsTold}
-use Rattle.m2_graph.proofs.Judging.{never_none, nothing_told}
+use Rattle.m2_graph.specs.Reported.{Reported, reported_at, cycle_faults, refused_from, refused_of, IsReported}
+use Rattle.m2_graph.proofs.Elaborating.{never_none, nothing_reported}
 use Rattle.m2_graph_laws.proofs.Lists.{Among, none_among, among_cases}
 use Rattle.m2_graph_laws.proofs.Passing.{some_that, none_that, among_taken}
 
@@ -26,7 +26,7 @@ pub record Fine (modules before : List Module) (given : ℕ) (m : Module) : Type
   pub whole : is_lone modules m ≡ false
   pub counted : (given == max_files) ≡ false
 
--- ---- nothing told, nothing refused
+-- ---- nothing reported, nothing refused
 
 none_least : (fs : List Fault) → least_of fs ≡ None → fs ≡ []
 none_least [] e = refl
@@ -73,25 +73,25 @@ fine_one modules before given m cycle e =
       counted = where_none (given == max_files) first_place 25 q.1;
     }
 
-rest_none : (xs ys : List Told) → xs ++ ys ≡ [] → ys ≡ []
+rest_none : (xs ys : List Reported) → xs ++ ys ≡ [] → ys ≡ []
 rest_none xs ys e = (parts_none xs ys e).1
 
 fine_from : (modules : List Module) (cycle : Option (ℕ × Pos)) (before : List Module) (fs : List File) → refused_from modules cycle before fs ≡ [] → (k : ℕ) (f : File) → slice_get fs k ≡ Some f → Fine modules (before ++ take k (trees fs)) f.given f.tree
 fine_from modules cycle before [] e k f at = absurd (none-some f at)
 fine_from modules cycle before (g ∷ fs) e zero f at =
     let o = least_of (faults_of modules before g.given g.tree ++ cycle_faults cycle (length before)) in
-    let h : Fine modules before g.given g.tree = fine_one modules before g.given g.tree (cycle_faults cycle (length before)) (nothing_told g.name o (refused_from modules cycle (before ++ g.tree ∷ []) fs) e) in
+    let h : Fine modules before g.given g.tree = fine_one modules before g.given g.tree (cycle_faults cycle (length before)) (nothing_reported g.name o (refused_from modules cycle (before ++ g.tree ∷ []) fs) e) in
     subst (λ (x : File). Fine modules (before ++ []) x.given x.tree) (same_Some g f at) (subst (λ (xs : List Module). Fine modules xs g.given g.tree) (sym (append-nil before)) h)
 fine_from modules cycle before (g ∷ fs) e (suc k) f at =
     let o = least_of (faults_of modules before g.given g.tree ++ cycle_faults cycle (length before)) in
-    let h = fine_from modules cycle (before ++ g.tree ∷ []) fs (rest_none (told_at g.name o) (refused_from modules cycle (before ++ g.tree ∷ []) fs) e) k f at in
+    let h = fine_from modules cycle (before ++ g.tree ∷ []) fs (rest_none (reported_at g.name o) (refused_from modules cycle (before ++ g.tree ∷ []) fs) e) k f at in
     subst (λ (xs : List Module). Fine modules xs f.given f.tree) (append_assoc before (g.tree ∷ []) (take k (trees fs))) h
 
 fine_of : (fs : List File) (cycle : Option (ℕ × Pos)) → refused_of fs cycle ≡ [] → (k : ℕ) (f : File) → slice_get fs k ≡ Some f → Fine (trees fs) (take k (trees fs)) f.given f.tree
 fine_of [] cycle e k f at = absurd (none-some f at)
 fine_of (g ∷ fs) cycle e k f at = fine_from (trees (g ∷ fs)) cycle [] (g ∷ fs) e k f at
 
-pub fine_file : (fs : List File) → IsTold fs [] → (k : ℕ) (f : File) → slice_get fs k ≡ Some f → Fine (trees fs) (take k (trees fs)) f.given f.tree
+pub fine_file : (fs : List File) → IsReported fs [] → (k : ℕ) (f : File) → slice_get fs k ≡ Some f → Fine (trees fs) (take k (trees fs)) f.given f.tree
 fine_file fs h k f at = fine_of fs h.0 (sym h.2) k f at
 
 -- ---- the modules of such files
@@ -107,7 +107,7 @@ tree_at [] k m e = absurd (none-some m e)
 tree_at (f ∷ fs) zero m e = (f, refl, same_Some f.tree m e)
 tree_at (f ∷ fs) (suc k) m e = tree_at fs k m e
 
-fine_at : (fs : List File) → IsTold fs [] → (k : ℕ) (m : Module) → slice_get (trees fs) k ≡ Some m → (given : ℕ) × Fine (trees fs) (take k (trees fs)) given m
+fine_at : (fs : List File) → IsReported fs [] → (k : ℕ) (m : Module) → slice_get (trees fs) k ≡ Some m → (given : ℕ) × Fine (trees fs) (take k (trees fs)) given m
 fine_at fs h k m e = let t = tree_at fs k m e in (t.0.given, subst (λ (x : Module). Fine (trees fs) (take k (trees fs)) t.0.given x) t.2 (fine_file fs h k t.0 t.1))
 
 good_import : (c d : Bool) (o : Option ℕ) → ((not c && is_none o) || d) ≡ false → (c ≡ true) ⊎ ((t : ℕ) × (o ≡ Some t))
@@ -135,7 +135,7 @@ not_lone true true false false e g = sym e
 not_lone false true a false e g = sym e
 not_lone i false a false e g = g
 
-pub are_fine : (fs : List File) → IsTold fs [] → AreFine (trees fs)
+pub are_fine : (fs : List File) → IsReported fs [] → AreFine (trees fs)
 are_fine fs h = record {
   imports = λ m x a i. good_import (is_console x.name) (not (is_definition m) && same_name x.name m.name.name) (definition_of (trees fs) x.name) ((fine_at fs h a.0 m a.1).1.imports x i);
   apart = λ j k m n e g d s. elim (cases_order j k) [

@@ -10,7 +10,7 @@ use Rattle.std.proofs.lemmas.Option.{none-some, same_Some, slice_get-map, slice_
 use Rattle.m2_tree.specs.declared.decl.Module.{Module}
 use Rattle.m2_graph.specs.Files.{File, AreInOrder, numbered, trees, given_of}
 use Rattle.m2_graph.specs.Refused.{max_files}
-use Rattle.m2_graph.specs.Told.{IsTold}
+use Rattle.m2_graph.specs.Reported.{IsReported}
 use Rattle.m2_graph_laws.specs.Started.{at_places}
 use Rattle.m2_graph_laws.proofs.Lists.{Among, some_at, later_among, among-permutation, map_among, all_among}
 use Rattle.m2_graph_laws.proofs.Fine.{fine_file, tree_at}
@@ -59,7 +59,7 @@ module _ (fs : List (List ℕ × Module)) (ordered : List File) (o : AreInOrder 
   as_many = length-map ordered (λ (f : File). f.tree) ∙ length_permutation (numbered 0 fs) ordered o.same ∙ numbered_length 0 fs
 
   -- there are no more files than are let
-  pub few_files : IsTold ordered [] → length (trees ordered) ≤ max_files
+  pub few_files : IsReported ordered [] → length (trees ordered) ≤ max_files
   few_files fine = elim (cases_lt 1024 (length fs)) [
     | inr g ↦ (let m = as_many in omega (arith, g, m))
     | inl l ↦ absurd (many l)

@@ -10,7 +10,7 @@ use Rattle.m2_worker.proofs.Resulting.{results-length, as_many, as_picked, one_o
 use Rattle.m2_tree.specs.declared.decl.Module.{Module}
 use Rattle.m2_compile.specs.declared.outcome.Compiled.{Compiled}
 use Rattle.m2_jobs.specs.Jobs.{compiled_at}
-use Rattle.m2_jobs.specs.Spelled.{spelled_at, needed_of, AreSpelled}
+use Rattle.m2_jobs.specs.Encoded.{encoded_at, needed_of, AreEncoded}
 
 get_front : {X : Type 0} (xs ys : List X) (i : ℕ) → i < length xs → slice_get (xs ++ ys) i ≡ slice_get xs i
 get_front [] ys i l = absurd (omega (arith, l))
@@ -54,13 +54,13 @@ module _ (trees : List Module) (files : List ℕ) (jobs : List (List ℕ)) where
   f = compiled_at trees files
 
   abbrev pub Defines : ℕ → List Compiled → Compiled → Type 0
-  Defines job outs c = (c ≡ compiled_at trees files job outs) × spelled_at trees files job outs
+  Defines job outs c = (c ≡ compiled_at trees files job outs) × encoded_at trees files job outs
 
   pub gives : (job : ℕ) (outs : List Compiled) (x : Compiled) → Defines job outs x → x ≡ f job (map (λ c. c) outs)
   gives job outs x is = is.0 ∙ ap (f job) (sym (map-id outs))
 
-  pub all_spelled : (all : List Compiled) → IsJobGraph jobs → AreResults jobs Defines (all_jobs (length jobs)) all → AreSpelled trees files jobs
-  all_spelled all is_graph are = record {
+  pub all_encoded : (all : List Compiled) → IsJobGraph jobs → AreResults jobs Defines (all_jobs (length jobs)) all → AreEncoded trees files jobs
+  all_encoded all is_graph are = record {
     each = λ job low.
         let many : length all ≡ length jobs = as_many jobs Defines (all_jobs (length jobs)) all are ∙ all_long (length jobs) in
         let x = item all job (omega (arith, low, many)) in
@@ -70,5 +70,5 @@ module _ (trees : List Module) (files : List ℕ) (jobs : List (List ℕ)) where
         ∙ as_picked jobs Defines (λ c. c) f is_graph gives (prerequisites_of jobs job) r.outs (λ j some. let less : j < job = (is_graph job j low).0 some in omega (arith, less, low)) r.are
         ∙ picked_below jobs f is_graph job low
         in
-        subst (spelled_at trees files job) inputs r.defined.1;
+        subst (encoded_at trees files job) inputs r.defined.1;
   }

@@ -1,3 +1,3 @@
 pub mod Borrowed
 pub mod Jobs
-pub mod Spelled
+pub mod Encoded

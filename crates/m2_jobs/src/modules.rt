@@ -3,7 +3,7 @@
 ghost use Rattle.std.specs.Prelude.{◌≡◌, ◌<◌, ◌≤◌, ◌^◌, length, map, slice_get, IfOk, OnOk};
 ghost use Rattle.m2_graph.specs.Refused.{max_files};
 ghost use Rattle.m2_jobs.specs.Jobs.{compiled_in, compiled_at};
-ghost use Rattle.m2_jobs.specs.Spelled.{spelled_in, spelled_at};
+ghost use Rattle.m2_jobs.specs.Encoded.{encoded_in, encoded_at};
 ghost use Rattle.m2_jobs.specs.Borrowed.{modules_borrowed};
 
 use m2_compile::{Compiled, compile};
@@ -24,8 +24,8 @@ fn compiled_in(
     ensures becomes { IfOk result (λ c.
         c ≡ compiled_in (slice_get (modules_borrowed trees.now) file) job
         (map (λ n. n.now) needed.now)) }
-    ensures spelled { OnOk result
-        (spelled_in (slice_get (modules_borrowed trees.now) file) job (map (λ n. n.now) needed.now)) }
+    ensures encoded { OnOk result
+        (encoded_in (slice_get (modules_borrowed trees.now) file) job (map (λ n. n.now) needed.now)) }
 {
     match at(trees, file) {
         None => Ok(Compiled::Blocked),
@@ -55,7 +55,7 @@ impl Work for Modules<'_> {
 
     ghost defines = { λ w job outs c.
         (c ≡ compiled_at (modules_borrowed w.trees.now) w.files.now job outs)
-        × spelled_at (modules_borrowed w.trees.now) w.files.now job outs };
+        × encoded_at (modules_borrowed w.trees.now) w.files.now job outs };
 
     fn run(&self, job: usize, prerequisites: &[&Compiled]) -> Result<Compiled, AllocError> {
         compiled_in(self.alloc, self.trees, self.files[job], job, prerequisites)

@@ -5,7 +5,7 @@ ghost use Rattle.m2_board.specs.Graph.{IsJobGraph};
 ghost use Rattle.m2_board.specs.Seats.{max_workers};
 ghost use Rattle.m2_board.specs.declared.board.Tally.{Tally as Records};
 ghost use Rattle.m2_jobs.specs.Jobs.{all_compiled};
-ghost use Rattle.m2_jobs.specs.Spelled.{AreSpelled};
+ghost use Rattle.m2_jobs.specs.Encoded.{AreEncoded};
 ghost use Rattle.m2_jobs.specs.Borrowed.{borrowed, modules_borrowed};
 ghost use Rattle.m2_graph.specs.Files.{numbered};
 ghost use Rattle.m2_graph.specs.Graph.{IsGraph, CompileEach};
@@ -134,7 +134,7 @@ impl<R: Threads + Sync, G: Gate> Runner<'_, R, G> {
         ensures becomes { IfOk result (λ all.
             all.items ≡ all_compiled (modules_borrowed trees.now) graph.now.files.items
             (map (λ job. job.items) graph.now.jobs.items)) }
-        ensures spelled { OnOk result (AreSpelled (modules_borrowed trees.now)
+        ensures encoded { OnOk result (AreEncoded (modules_borrowed trees.now)
             graph.now.files.items (map (λ job. job.items) graph.now.jobs.items)) }
     {
         let jobs = pooled(self.alloc, graph)?;

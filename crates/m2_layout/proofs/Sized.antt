@@ -87,7 +87,7 @@ checked m x h found ps ls all e f g a =
       too_large = ap (λ (y : Frames). y.too_large) locals ∙ ap (λ (o : Option Pos). fold (with_frame m.types) o m.locals) (ap (λ (y : Frames). y.too_large) procedures ∙ ap (λ (o : Option Pos). fold (with_frame m.types) o m.procedures) e);
     })
 
--- ---- where nothing is told, all fits
+-- ---- where nothing is reported, all fits
 
 size_none : (found : Option Pos) (n : ℕ) (at : Pos) (b : Bool) → nat_lt most n ≡ b → (if b then Some (least_with found at) else found) ≡ None → (found ≡ None) × (n ≤ most)
 size_none found n at true e h = cc h

@@ -3,31 +3,31 @@ use Rattle.std.proofs.Common.{◌≡◌, ℕ, Bool, true, false, cond, List, [],
 use Rattle.std.specs.Prelude.{map}
 use Rattle.std.specs.List.{fold}
 use Rattle.m2_tree.specs.declared.pos.Pos.{Pos}
-use Rattle.m2_judged.specs.declared.fault.Fault.{Fault}
-use Rattle.m2_judged.specs.Judged.{every, least, lesser, told, told_where, both, beside, ◌▷◌}
-use Rattle.m2_least.specs.Least.{Tells, fine, is_refused}
+use Rattle.m2_scopes.specs.declared.fault.Fault.{Fault}
+use Rattle.m2_scopes.specs.Elaborated.{every, least, lesser, reported, reported_where, both, beside, ◌▷◌}
+use Rattle.m2_least.specs.Least.{Reports, fine, is_refused}
 use Rattle.m2_least.specs.Beside.{Pairwise, none, more}
 use Rattle.m2_least.proofs.Order.{least_of_both, least_of_one}
 
-pub told_tells : {A : Type 0} (at : Pos) (n : ℕ) → Tells {A = A} (told least at n) (told every at n)
-told_tells at n = let f : Fault = record { pos = at; number = n } in is_refused f (f ∷ []) (least_of_one f)
+pub reported_reports : {A : Type 0} (at : Pos) (n : ℕ) → Reports {A = A} (reported least at n) (reported every at n)
+reported_reports at n = let f : Fault = record { pos = at; number = n } in is_refused f (f ∷ []) (least_of_one f)
 
-pub where_tells : {A : Type 0} (b : Bool) (at : Pos) (n : ℕ) {x : Result A Fault} {x' : Result A (List Fault)} → Tells x x' → Tells (told_where least b at n x) (told_where every b at n x')
-where_tells true at n h = told_tells at n
-where_tells false at n h = h
+pub where_reports : {A : Type 0} (b : Bool) (at : Pos) (n : ℕ) {x : Result A Fault} {x' : Result A (List Fault)} → Reports x x' → Reports (reported_where least b at n x) (reported_where every b at n x')
+where_reports true at n h = reported_reports at n
+where_reports false at n h = h
 
-pub both_tells : {A B : Type 0} {x : Result A Fault} {x' : Result A (List Fault)} {y : Result B Fault} {y' : Result B (List Fault)} → Tells x x' → Tells y y' → Tells (both least x y) (both every x' y')
-both_tells (fine a) (fine b) = fine (a, b)
-both_tells (fine a) (is_refused g gs q) = is_refused g gs q
-both_tells (is_refused f fs p) (fine b) = is_refused f fs p
-both_tells (is_refused f fs p) (is_refused g gs q) = is_refused (lesser f g) (fs ++ gs) (least_of_both f g fs gs p q)
+pub both_reports : {A B : Type 0} {x : Result A Fault} {x' : Result A (List Fault)} {y : Result B Fault} {y' : Result B (List Fault)} → Reports x x' → Reports y y' → Reports (both least x y) (both every x' y')
+both_reports (fine a) (fine b) = fine (a, b)
+both_reports (fine a) (is_refused g gs q) = is_refused g gs q
+both_reports (is_refused f fs p) (fine b) = is_refused f fs p
+both_reports (is_refused f fs p) (is_refused g gs q) = is_refused (lesser f g) (fs ++ gs) (least_of_both f g fs gs p q)
 
-pub then_tells : {A B : Type 0} {x : Result A Fault} {x' : Result A (List Fault)} {k : A → Result B Fault} {k' : A → Result B (List Fault)} → Tells x x' → ((a : A) → Tells (k a) (k' a)) → Tells (x ▷ k) (x' ▷ k')
-then_tells (fine a) h = h a
-then_tells (is_refused f fs p) h = is_refused f fs p
+pub then_reports : {A B : Type 0} {x : Result A Fault} {x' : Result A (List Fault)} {k : A → Result B Fault} {k' : A → Result B (List Fault)} → Reports x x' → ((a : A) → Reports (k a) (k' a)) → Reports (x ▷ k) (x' ▷ k')
+then_reports (fine a) h = h a
+then_reports (is_refused f fs p) h = is_refused f fs p
 
-pub beside_tells : {x : Result (Unit {0}) Fault} {x' : Result (Unit {0}) (List Fault)} {y : Result (Unit {0}) Fault} {y' : Result (Unit {0}) (List Fault)} → Tells x x' → Tells y y' → Tells (beside least x y) (beside every x' y')
-beside_tells p q = then_tells (both_tells p q) (λ x. fine tt)
+pub beside_reports : {x : Result (Unit {0}) Fault} {x' : Result (Unit {0}) (List Fault)} {y : Result (Unit {0}) Fault} {y' : Result (Unit {0}) (List Fault)} → Reports x x' → Reports y y' → Reports (beside least x y) (beside every x' y')
+beside_reports p q = then_reports (both_reports p q) (λ x. fine tt)
 
 -- ---- tests
 

@@ -9,17 +9,17 @@ use Rattle.m2_typed.specs.declared.meaning.Meaning.{Meaning}
 use Rattle.m2_typed.specs.declared.meaning.Meaning.TheVariants as meaning
 use Rattle.m2_typed.specs.declared.table.Table.{Table}
 use Rattle.m2_typed.specs.Names.{found, place_of}
-use Rattle.m2_judged.specs.declared.fault.Fault.{Fault}
-use Rattle.m2_judged.specs.Scopes.{is_one_origin}
-use Rattle.m2_judged.specs.declared.known.Known.{Known}
-use Rattle.m2_judged.specs.declared.known.Origin.TheVariants.{Here, Module, Export}
-use Rattle.m2_judged.specs.declared.scope.Scope.{Scope}
-use Rattle.m2_judged.specs.Judged.{every, least, beside}
+use Rattle.m2_scopes.specs.declared.fault.Fault.{Fault}
+use Rattle.m2_scopes.specs.Scopes.{is_one_origin}
+use Rattle.m2_scopes.specs.declared.known.Known.{Known}
+use Rattle.m2_scopes.specs.declared.known.Origin.TheVariants.{Here, Module, Export}
+use Rattle.m2_scopes.specs.declared.scope.Scope.{Scope}
+use Rattle.m2_scopes.specs.Elaborated.{every, least, beside}
 use Rattle.m2_types.specs.Predeclared.{predeclared_as, with_types, with_truth, with_functions, with_bounds, with_procedures, predeclared, first_scope}
-use Rattle.m2_types.specs.Importing.{module_found, module_named, with_module_as, with_module_name, with_entry, brings_in, told_of_taken, unless_taken, from_place, with_from, exports_of, from_module, with_imports, with_import}
-use Rattle.m2_least.specs.Least.{Tells, fine, is_refused}
+use Rattle.m2_types.specs.Importing.{module_found, module_named, with_module_as, with_module_name, with_entry, brings_in, reported_of_taken, unless_taken, from_place, with_from, exports_of, from_module, with_imports, with_import}
+use Rattle.m2_least.specs.Least.{Reports, fine, is_refused}
 use Rattle.m2_least.specs.Beside.{block, Pairwise, none, more, Optionwise, nothing, something, KnownBeside, known_later, known_ahead, known_begun, known_headed, known_declared, EntryBeside, ScopeBeside, scopes, StateBeside}
-use Rattle.m2_least.proofs.Forms.{told_tells, where_tells, beside_tells, fold_keeps}
+use Rattle.m2_least.proofs.Forms.{reported_reports, where_reports, beside_reports, fold_keeps}
 use Rattle.m2_least.proofs.Scopes.{goes, own_beside, entered_beside, imported_goes}
 
 -- ---- predeclared names
@@ -55,61 +55,61 @@ first_scope_beside home tables = scopes _ _ _ _ none (more (block _ predeclared_
 
 -- ---- imports
 
-pub join_goes : {r : Result (Unit {0}) Fault} {r' : Result (Unit {0}) (List Fault)} → Tells r r' → {one : Scope Fault × Result (Unit {0}) Fault} {one' : Scope (List Fault) × Result (Unit {0}) (List Fault)} → StateBeside one one'
+pub join_goes : {r : Result (Unit {0}) Fault} {r' : Result (Unit {0}) (List Fault)} → Reports r r' → {one : Scope Fault × Result (Unit {0}) Fault} {one' : Scope (List Fault) × Result (Unit {0}) (List Fault)} → StateBeside one one'
     → StateBeside (one.0, beside least r one.1) (one'.0, beside every r' one'.1)
-join_goes t p = goes p.scope (beside_tells t p.told)
+join_goes t p = goes p.scope (beside_reports t p.reported)
 
-module_found_tells : (at : Pos) (k : Option ℕ) → Tells (module_found least at k) (module_found every at k)
-module_found_tells at None = told_tells at 20
-module_found_tells at (Some k) = fine k
+module_found_reports : (at : Pos) (k : Option ℕ) → Reports (module_found least at k) (module_found every at k)
+module_found_reports at None = reported_reports at 20
+module_found_reports at (Some k) = fine k
 
-module_named_tells : (modules : List (List ℕ × ℕ)) (name : Ident) → Tells (module_named least modules name) (module_named every modules name)
-module_named_tells modules name = module_found_tells name.pos (found name.name modules)
+module_named_reports : (modules : List (List ℕ × ℕ)) (name : Ident) → Reports (module_named least modules name) (module_named every modules name)
+module_named_reports modules name = module_found_reports name.pos (found name.name modules)
 
-pub with_module_as_goes : {s : Scope Fault} {s' : Scope (List Fault)} → ScopeBeside s s' → (name : Ident) {k : Result ℕ Fault} {k' : Result ℕ (List Fault)} → Tells k k' → StateBeside (with_module_as least s name k) (with_module_as every s' name k')
+pub with_module_as_goes : {s : Scope Fault} {s' : Scope (List Fault)} → ScopeBeside s s' → (name : Ident) {k : Result ℕ Fault} {k' : Result ℕ (List Fault)} → Reports k k' → StateBeside (with_module_as least s name k) (with_module_as every s' name k')
 with_module_as_goes b name (fine k) = imported_goes name.pos name.name (Module k) (fine (meaning.Module k)) b
 with_module_as_goes b name (is_refused f fs l) = goes b (is_refused f fs l)
 
 with_module_name_goes : (modules : List (List ℕ × ℕ)) {st : Scope Fault × Result (Unit {0}) Fault} {st' : Scope (List Fault) × Result (Unit {0}) (List Fault)} → StateBeside st st' → (name : Ident)
     → StateBeside (with_module_name least modules st name) (with_module_name every modules st' name)
-with_module_name_goes modules p name = join_goes p.told (with_module_as_goes p.scope name (module_named_tells modules name))
+with_module_name_goes modules p name = join_goes p.reported (with_module_as_goes p.scope name (module_named_reports modules name))
 
 with_entry_goes : (at : Pos) (k : ℕ) {st : Scope Fault × Result (Unit {0}) Fault} {st' : Scope (List Fault) × Result (Unit {0}) (List Fault)} → StateBeside st st' → (e : List ℕ × Meaning)
     → StateBeside (with_entry least at k st e) (with_entry every at k st' e)
-with_entry_goes at k p e = join_goes p.told (imported_goes at e.0 (Export k) (fine e.1) p.scope)
+with_entry_goes at k p e = join_goes p.reported (imported_goes at e.0 (Export k) (fine e.1) p.scope)
 
-told_of_taken_beside : (at : Pos) (k : ℕ) {o : Option (Known Fault)} {o' : Option (Known (List Fault))} → Optionwise KnownBeside o o' → Optionwise Tells (told_of_taken least at k o) (told_of_taken every at k o')
-told_of_taken_beside at k nothing = nothing
-told_of_taken_beside at k (something known_later) = nothing
-told_of_taken_beside at k (something known_ahead) = nothing
-told_of_taken_beside at k (something known_begun) = something (told_tells at 31)
-told_of_taken_beside at k (something (known_headed m)) = something (told_tells at 31)
-told_of_taken_beside at k (something (known_declared o m)) = something (where_tells (not (is_one_origin o (Export k))) at 31 (fine tt))
+reported_of_taken_beside : (at : Pos) (k : ℕ) {o : Option (Known Fault)} {o' : Option (Known (List Fault))} → Optionwise KnownBeside o o' → Optionwise Reports (reported_of_taken least at k o) (reported_of_taken every at k o')
+reported_of_taken_beside at k nothing = nothing
+reported_of_taken_beside at k (something known_later) = nothing
+reported_of_taken_beside at k (something known_ahead) = nothing
+reported_of_taken_beside at k (something known_begun) = something (reported_reports at 31)
+reported_of_taken_beside at k (something (known_headed m)) = something (reported_reports at 31)
+reported_of_taken_beside at k (something (known_declared o m)) = something (where_reports (not (is_one_origin o (Export k))) at 31 (fine tt))
 
-unless_taken_goes : {s : Scope Fault} {s' : Scope (List Fault)} → ScopeBeside s s' → (at : Pos) (k : ℕ) (es : List (List ℕ × Meaning)) (i : ℕ) {o : Option (Result (Unit {0}) Fault)} {o' : Option (Result (Unit {0}) (List Fault))} → Optionwise Tells o o'
+unless_taken_goes : {s : Scope Fault} {s' : Scope (List Fault)} → ScopeBeside s s' → (at : Pos) (k : ℕ) (es : List (List ℕ × Meaning)) (i : ℕ) {o : Option (Result (Unit {0}) Fault)} {o' : Option (Result (Unit {0}) (List Fault))} → Optionwise Reports o o'
     → StateBeside (unless_taken least s at k es i o) (unless_taken every s' at k es i o')
 unless_taken_goes b at k es i (something t) = goes b t
 unless_taken_goes b at k es i nothing = fold_keeps StateBeside (with_entry least at k) (with_entry every at k) (λ st st' e p. with_entry_goes at k p e) (take (brings_in (slice_get es i)) (drop i es)) _ _ (goes b (fine tt))
 
 from_place_goes : {s : Scope Fault} {s' : Scope (List Fault)} → ScopeBeside s s' → (name : Ident) (k : ℕ) (es : List (List ℕ × Meaning)) (i : Option ℕ) → StateBeside (from_place least s name k es i) (from_place every s' name k es i)
-from_place_goes b name k es None = goes b (told_tells name.pos 32)
-from_place_goes b name k es (Some i) = unless_taken_goes b name.pos k es i (told_of_taken_beside name.pos k (own_beside name.name b))
+from_place_goes b name k es None = goes b (reported_reports name.pos 32)
+from_place_goes b name k es (Some i) = unless_taken_goes b name.pos k es i (reported_of_taken_beside name.pos k (own_beside name.name b))
 
 with_from_goes : (k : ℕ) (es : List (List ℕ × Meaning)) {st : Scope Fault × Result (Unit {0}) Fault} {st' : Scope (List Fault) × Result (Unit {0}) (List Fault)} → StateBeside st st' → (name : Ident)
     → StateBeside (with_from least k es st name) (with_from every k es st' name)
-with_from_goes k es p name = join_goes p.told (from_place_goes p.scope name k es (place_of name.name es))
+with_from_goes k es p name = join_goes p.reported (from_place_goes p.scope name k es (place_of name.name es))
 
 -- the tables are the same in both
-from_module_at : {s : Scope Fault} {s' : Scope (List Fault)} → ScopeBeside s s' → {r : Result (Unit {0}) Fault} {r' : Result (Unit {0}) (List Fault)} → Tells r r' → {k : Result ℕ Fault} {k' : Result ℕ (List Fault)} → Tells k k' → (names : List Ident)
+from_module_at : {s : Scope Fault} {s' : Scope (List Fault)} → ScopeBeside s s' → {r : Result (Unit {0}) Fault} {r' : Result (Unit {0}) (List Fault)} → Reports r r' → {k : Result ℕ Fault} {k' : Result ℕ (List Fault)} → Reports k k' → (names : List Ident)
     → StateBeside (from_module least k (s, r) names) (from_module every k' (s', r') names)
 from_module_at (scopes tables ty v h own outer) u (fine k) names =
     fold_keeps StateBeside (with_from least k (exports_of (slice_get tables k))) (with_from every k (exports_of (slice_get tables k))) (λ st st' name p. with_from_goes k (exports_of (slice_get tables k)) p name) names _ _ (goes (scopes tables ty v h own outer) u)
-from_module_at b u (is_refused f fs l) names = goes b (beside_tells u (is_refused f fs l))
+from_module_at b u (is_refused f fs l) names = goes b (beside_reports u (is_refused f fs l))
 
 with_imports_goes : (modules : List (List ℕ × ℕ)) {st : Scope Fault × Result (Unit {0}) Fault} {st' : Scope (List Fault) × Result (Unit {0}) (List Fault)} → StateBeside st st' → (from : Option Ident) (names : List Ident)
     → StateBeside (with_imports least modules st from names) (with_imports every modules st' from names)
 with_imports_goes modules p None names = fold_keeps StateBeside (with_module_name least modules) (with_module_name every modules) (λ st st' name p. with_module_name_goes modules p name) names _ _ p
-with_imports_goes modules p (Some m) names = from_module_at p.scope p.told (module_named_tells modules m) names
+with_imports_goes modules p (Some m) names = from_module_at p.scope p.reported (module_named_reports modules m) names
 
 pub all_imports : (modules : List (List ℕ × ℕ)) (is : List Import) {st : Scope Fault × Result (Unit {0}) Fault} {st' : Scope (List Fault) × Result (Unit {0}) (List Fault)} → StateBeside st st'
     → StateBeside (fold (with_import least modules) st is) (fold (with_import every modules) st' is)

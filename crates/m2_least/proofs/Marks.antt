@@ -10,8 +10,8 @@ use Rattle.m2_tree.specs.declared.decl.Simple.TheVariants as simple
 use Rattle.m2_tree.specs.declared.decl.TypeExpr.{TypeExpr, TypeExpr-F, out-TypeExpr, roll-TypeExpr, out-roll-TypeExpr, map-TypeExpr, fold_out-TypeExpr, ind-TypeExpr}
 use Rattle.m2_tree.specs.declared.decl.TypeExpr.TheOpen as layer
 use Rattle.m2_tree.specs.declared.decl.Field.{Field, Field-F, out-Field, roll-Field, out-roll-Field, map-Field, fold_out-Field}
-use Rattle.m2_judged.specs.declared.fault.Fault.{Fault}
-use Rattle.m2_judged.specs.declared.scope.Scope.{Scope}
+use Rattle.m2_scopes.specs.declared.fault.Fault.{Fault}
+use Rattle.m2_scopes.specs.declared.scope.Scope.{Scope}
 use Rattle.m2_types.specs.Marking.{Marks, marked_later, marked_simple, then_marks, type_layer, field_layer, marked_in, marked_field, marked_constant, marked_type, marked_variables, marked_def}
 use Rattle.m2_least.specs.Beside.{Pairwise, known_later, known_ahead, ScopeBeside}
 use Rattle.m2_least.proofs.Forms.{fold_pairwise, fold_keeps, pairwise_maps, carry}

@@ -7,11 +7,11 @@ use Rattle.m2_tree.specs.declared.expr.Expr.TheOpen as layer
 use Rattle.m2_tree.specs.declared.expr.Selector.{Selector, Selector-F, out-Selector, roll-Selector, out-roll-Selector, map-Selector, fold_out-Selector}
 use Rattle.m2_tree.specs.declared.expr.Designator.{Designator, Designator-F, out-Designator, roll-Designator, out-roll-Designator, map-Designator, fold_out-Designator}
 use Rattle.m2_tree.specs.declared.expr.Item.{Item, Item-F, out-Item, roll-Item, out-roll-Item, map-Item, fold_out-Item}
-use Rattle.m2_judged.specs.Judged.{Gathers, every, least}
+use Rattle.m2_scopes.specs.Elaborated.{Gathers, every, least}
 use Rattle.m2_constants.specs.Parts.{Part, Pick, Adds, expr_layer, selector_layer, designator_layer, item_layer, part, pick, head, item}
 use Rattle.m2_least.specs.Beside.{Pairwise, nothing, something}
-use Rattle.m2_least.proofs.Forms.{then_tells, pairwise_maps, carry}
-use Rattle.m2_least.proofs.Constants.{PartBeside, PickBeside, AddsBeside, OperandBeside, operand, field_of_tells, component_tells, added_tells, of_number, of_char, of_text, of_term, of_sum, of_relation, of_set, of_not, of_bracketed, of_use, of_designator}
+use Rattle.m2_least.proofs.Forms.{then_reports, pairwise_maps, carry}
+use Rattle.m2_least.proofs.Constants.{PartBeside, PickBeside, AddsBeside, OperandBeside, operand, field_of_reports, component_reports, added_reports, of_number, of_char, of_text, of_term, of_sum, of_relation, of_set, of_not, of_bracketed, of_use, of_designator}
 
 abbrev PE : Expr → Type 0
 PE e = PartBeside (part least e) (part every e)
@@ -40,33 +40,33 @@ SI = (e : Item) × PI e
 -- ---- a layer, each part of which has its meaning
 
 module _ (g : Gathers) where
-  abbrev opened : Expr-F Expr Selector Designator Item → Expr-F (Part g.Told) (Pick g.Told) (Part g.Told) (Adds g.Told)
-  opened x = map-Expr Expr Selector Designator Item (Part g.Told) (Pick g.Told) (Part g.Told) (Adds g.Told) (part g) (pick g) (head g) (item g) x
+  abbrev opened : Expr-F Expr Selector Designator Item → Expr-F (Part g.Reported) (Pick g.Reported) (Part g.Reported) (Adds g.Reported)
+  opened x = map-Expr Expr Selector Designator Item (Part g.Reported) (Pick g.Reported) (Part g.Reported) (Adds g.Reported) (part g) (pick g) (head g) (item g) x
 
-  abbrev opened_selector : Selector-F Expr Selector Designator Item → Selector-F (Part g.Told) (Pick g.Told) (Part g.Told) (Adds g.Told)
-  opened_selector x = map-Selector Expr Selector Designator Item (Part g.Told) (Pick g.Told) (Part g.Told) (Adds g.Told) (part g) (pick g) (head g) (item g) x
+  abbrev opened_selector : Selector-F Expr Selector Designator Item → Selector-F (Part g.Reported) (Pick g.Reported) (Part g.Reported) (Adds g.Reported)
+  opened_selector x = map-Selector Expr Selector Designator Item (Part g.Reported) (Pick g.Reported) (Part g.Reported) (Adds g.Reported) (part g) (pick g) (head g) (item g) x
 
-  abbrev opened_designator : Designator-F Expr Selector Designator Item → Designator-F (Part g.Told) (Pick g.Told) (Part g.Told) (Adds g.Told)
-  opened_designator x = map-Designator Expr Selector Designator Item (Part g.Told) (Pick g.Told) (Part g.Told) (Adds g.Told) (part g) (pick g) (head g) (item g) x
+  abbrev opened_designator : Designator-F Expr Selector Designator Item → Designator-F (Part g.Reported) (Pick g.Reported) (Part g.Reported) (Adds g.Reported)
+  opened_designator x = map-Designator Expr Selector Designator Item (Part g.Reported) (Pick g.Reported) (Part g.Reported) (Adds g.Reported) (part g) (pick g) (head g) (item g) x
 
-  abbrev opened_item : Item-F Expr Selector Designator Item → Item-F (Part g.Told) (Pick g.Told) (Part g.Told) (Adds g.Told)
-  opened_item x = map-Item Expr Selector Designator Item (Part g.Told) (Pick g.Told) (Part g.Told) (Adds g.Told) (part g) (pick g) (head g) (item g) x
+  abbrev opened_item : Item-F Expr Selector Designator Item → Item-F (Part g.Reported) (Pick g.Reported) (Part g.Reported) (Adds g.Reported)
+  opened_item x = map-Item Expr Selector Designator Item (Part g.Reported) (Pick g.Reported) (Part g.Reported) (Adds g.Reported) (part g) (pick g) (head g) (item g) x
 
   at : (e : Expr) (x : Expr-F Expr Selector Designator Item) → out-Expr e ≡ x → part g e ≡ expr_layer g (opened x)
   unfolding part pick head item
-  at e x h = fold_out-Expr (Part g.Told) (Pick g.Told) (Part g.Told) (Adds g.Told) (expr_layer g) (selector_layer g) (designator_layer g) (item_layer g) e ∙ ap (λ (y : Expr-F Expr Selector Designator Item). expr_layer g (opened y)) h
+  at e x h = fold_out-Expr (Part g.Reported) (Pick g.Reported) (Part g.Reported) (Adds g.Reported) (expr_layer g) (selector_layer g) (designator_layer g) (item_layer g) e ∙ ap (λ (y : Expr-F Expr Selector Designator Item). expr_layer g (opened y)) h
 
   at_selector : (e : Selector) (x : Selector-F Expr Selector Designator Item) → out-Selector e ≡ x → pick g e ≡ selector_layer g (opened_selector x)
   unfolding part pick head item
-  at_selector e x h = fold_out-Selector (Part g.Told) (Pick g.Told) (Part g.Told) (Adds g.Told) (expr_layer g) (selector_layer g) (designator_layer g) (item_layer g) e ∙ ap (λ (y : Selector-F Expr Selector Designator Item). selector_layer g (opened_selector y)) h
+  at_selector e x h = fold_out-Selector (Part g.Reported) (Pick g.Reported) (Part g.Reported) (Adds g.Reported) (expr_layer g) (selector_layer g) (designator_layer g) (item_layer g) e ∙ ap (λ (y : Selector-F Expr Selector Designator Item). selector_layer g (opened_selector y)) h
 
   at_designator : (e : Designator) (x : Designator-F Expr Selector Designator Item) → out-Designator e ≡ x → head g e ≡ designator_layer g (opened_designator x)
   unfolding part pick head item
-  at_designator e x h = fold_out-Designator (Part g.Told) (Pick g.Told) (Part g.Told) (Adds g.Told) (expr_layer g) (selector_layer g) (designator_layer g) (item_layer g) e ∙ ap (λ (y : Designator-F Expr Selector Designator Item). designator_layer g (opened_designator y)) h
+  at_designator e x h = fold_out-Designator (Part g.Reported) (Pick g.Reported) (Part g.Reported) (Adds g.Reported) (expr_layer g) (selector_layer g) (designator_layer g) (item_layer g) e ∙ ap (λ (y : Designator-F Expr Selector Designator Item). designator_layer g (opened_designator y)) h
 
   at_item : (e : Item) (x : Item-F Expr Selector Designator Item) → out-Item e ≡ x → item g e ≡ item_layer g (opened_item x)
   unfolding part pick head item
-  at_item e x h = fold_out-Item (Part g.Told) (Pick g.Told) (Part g.Told) (Adds g.Told) (expr_layer g) (selector_layer g) (designator_layer g) (item_layer g) e ∙ ap (λ (y : Item-F Expr Selector Designator Item). item_layer g (opened_item y)) h
+  at_item e x h = fold_out-Item (Part g.Reported) (Pick g.Reported) (Part g.Reported) (Adds g.Reported) (expr_layer g) (selector_layer g) (designator_layer g) (item_layer g) e ∙ ap (λ (y : Item-F Expr Selector Designator Item). item_layer g (opened_item y)) h
 
 -- ---- a layer of parts for which it is known
 
@@ -99,15 +99,15 @@ expr_beside (layer.Sum o e xs) = of_sum o e.1 (operands xs)
 expr_beside (layer.Relation e o f) = of_relation e.1 o f.1
 
 selector_beside : (y : Selector-F SE SS SD SI) → PickBeside (selector_layer least (opened_selector least (bare_selector y))) (selector_layer every (opened_selector every (bare_selector y)))
-selector_beside (layer.Field p name) = record { picks = λ s s' b d d' t. then_tells t (λ x. field_of_tells b p name x) }
-selector_beside (layer.Index p e) = record { picks = λ s s' b d d' t. then_tells t (λ x. component_tells p x) }
+selector_beside (layer.Field p name) = record { picks = λ s s' b d d' t. then_reports t (λ x. field_of_reports b p name x) }
+selector_beside (layer.Index p e) = record { picks = λ s s' b d d' t. then_reports t (λ x. component_reports p x) }
 
 designator_beside : (y : Designator-F SE SS SD SI) → PartBeside (designator_layer least (opened_designator least (bare_designator y))) (designator_layer every (opened_designator every (bare_designator y)))
 designator_beside y = of_designator y.name (pairwise_maps {X = SS} {Y = Selector} PickBeside (λ e. e.0) (pick least) (pick every) (λ e. e.1) y.selectors)
 
 item_at : (low : SE) (high : Option SE) → AddsBeside (item_layer least (opened_item least (bare_item (record { low = low; high = high })))) (item_layer every (opened_item every (bare_item (record { low = low; high = high }))))
-item_at low None = record { adds = λ s s' b. added_tells b low.1 nothing }
-item_at low (Some high) = record { adds = λ s s' b. added_tells b low.1 (something high.1) }
+item_at low None = record { adds = λ s s' b. added_reports b low.1 nothing }
+item_at low (Some high) = record { adds = λ s s' b. added_reports b low.1 (something high.1) }
 
 -- ---- the induction
 

@@ -8,20 +8,20 @@ use Rattle.m2_typed.specs.declared.meaning.Meaning.{Meaning}
 use Rattle.m2_typed.specs.declared.meaning.Meaning.TheVariants as meaning
 use Rattle.m2_typed.specs.Names.{same_name, found, place_of, entered}
 use Rattle.m2_typed.specs.declared.meaning.OpenedField.{OpenedField}
-use Rattle.m2_judged.specs.declared.fault.Fault.{Fault}
-use Rattle.m2_judged.specs.declared.known.Origin.{Origin}
-use Rattle.m2_judged.specs.declared.known.Origin.TheVariants.{Here}
-use Rattle.m2_judged.specs.declared.known.Known.{Known}
-use Rattle.m2_judged.specs.declared.scope.Block.{Block}
-use Rattle.m2_judged.specs.declared.scope.Scope.{Scope}
-use Rattle.m2_judged.specs.Judged.{every, least}
-use Rattle.m2_judged.specs.Scopes.{Sight, or_outside, seen_at, in_block, nearer, known_outside, or_around, known, means_seen, means_as, opened, means_or, looked_up, is_free, with_known, unless_declared, declared, begun, is_begun, finished, is_again, imported, unless_marked, marked}
-use Rattle.m2_least.specs.Least.{Tells, fine}
+use Rattle.m2_scopes.specs.declared.fault.Fault.{Fault}
+use Rattle.m2_scopes.specs.declared.known.Origin.{Origin}
+use Rattle.m2_scopes.specs.declared.known.Origin.TheVariants.{Here}
+use Rattle.m2_scopes.specs.declared.known.Known.{Known}
+use Rattle.m2_scopes.specs.declared.scope.Block.{Block}
+use Rattle.m2_scopes.specs.declared.scope.Scope.{Scope}
+use Rattle.m2_scopes.specs.Elaborated.{every, least}
+use Rattle.m2_scopes.specs.Scopes.{Sight, or_outside, seen_at, in_block, nearer, known_outside, or_around, known, means_seen, means_as, opened, means_or, looked_up, is_free, with_known, unless_declared, declared, begun, is_begun, finished, is_again, imported, unless_marked, marked}
+use Rattle.m2_least.specs.Least.{Reports, fine}
 use Rattle.m2_least.specs.Beside.{Pairwise, none, more, Optionwise, nothing, something, KnownBeside, known_later, known_ahead, known_begun, known_headed, known_declared, EntryBeside, entry, BlockBeside, block, SightBeside, sight, ScopeBeside, scopes, StateBeside}
-use Rattle.m2_least.proofs.Forms.{told_tells, cond_keeps, cond_same, fold_pairwise}
+use Rattle.m2_least.proofs.Forms.{reported_reports, cond_keeps, cond_same, fold_pairwise}
 
-pub goes : {A : Type 0} {s : Scope Fault} {s' : Scope (List Fault)} {r : Result A Fault} {r' : Result A (List Fault)} → ScopeBeside s s' → Tells r r' → StateBeside (s, r) (s', r')
-goes p q = record { scope = p; told = q }
+pub goes : {A : Type 0} {s : Scope Fault} {s' : Scope (List Fault)} {r : Result A Fault} {r' : Result A (List Fault)} → ScopeBeside s s' → Reports r r' → StateBeside (s, r) (s', r')
+goes p q = record { scope = p; reported = q }
 
 -- ---- what a name means
 
@@ -82,23 +82,23 @@ or_around_beside (something k) q = something (sight true k)
 pub known_beside : (name : List ℕ) {s : Scope Fault} {s' : Scope (List Fault)} → ScopeBeside s s' → Optionwise SightBeside (known name s) (known name s')
 known_beside name (scopes t ty v p own outer) = or_around_beside (found_beside name own) (outside_beside name outer)
 
-pub means_seen_tells : (at : Pos) (seen : Bool) {k : Known Fault} {k' : Known (List Fault)} → KnownBeside k k' → Tells (means_seen least at k seen) (means_seen every at k' seen)
-means_seen_tells at seen known_later = told_tells at 30
-means_seen_tells at seen known_ahead = fine meaning.Ahead
-means_seen_tells at seen known_begun = told_tells at 30
-means_seen_tells at seen (known_headed m) = m
-means_seen_tells at seen (known_declared o m) = cond_keeps Tells seen m (told_tells at 30)
+pub means_seen_reports : (at : Pos) (seen : Bool) {k : Known Fault} {k' : Known (List Fault)} → KnownBeside k k' → Reports (means_seen least at k seen) (means_seen every at k' seen)
+means_seen_reports at seen known_later = reported_reports at 30
+means_seen_reports at seen known_ahead = fine meaning.Ahead
+means_seen_reports at seen known_begun = reported_reports at 30
+means_seen_reports at seen (known_headed m) = m
+means_seen_reports at seen (known_declared o m) = cond_keeps Reports seen m (reported_reports at 30)
 
-means_as_tells : (at : Pos) {k : Sight Fault} {k' : Sight (List Fault)} → Optionwise SightBeside k k' → Tells (means_as least at k) (means_as every at k')
-means_as_tells at nothing = told_tells at 30
-means_as_tells at (something (sight seen k)) = means_seen_tells at seen k
+means_as_reports : (at : Pos) {k : Sight Fault} {k' : Sight (List Fault)} → Optionwise SightBeside k k' → Reports (means_as least at k) (means_as every at k')
+means_as_reports at nothing = reported_reports at 30
+means_as_reports at (something (sight seen k)) = means_seen_reports at seen k
 
-means_or_tells : (f : Option OpenedField) {m : Result Meaning Fault} {m' : Result Meaning (List Fault)} → Tells m m' → Tells (means_or f m) (means_or f m')
-means_or_tells None p = p
-means_or_tells (Some f) p = fine (meaning.Field f)
+means_or_reports : (f : Option OpenedField) {m : Result Meaning Fault} {m' : Result Meaning (List Fault)} → Reports m m' → Reports (means_or f m) (means_or f m')
+means_or_reports None p = p
+means_or_reports (Some f) p = fine (meaning.Field f)
 
-pub looked_up_tells : (name : Ident) {s : Scope Fault} {s' : Scope (List Fault)} → ScopeBeside s s' → Tells (looked_up least s name) (looked_up every s' name)
-looked_up_tells name (scopes t ty v p {withs = withs} own outer) = means_or_tells (opened ty name.name withs) (means_as_tells name.pos (or_around_beside (found_beside name.name own) (outside_beside name.name outer)))
+pub looked_up_reports : (name : Ident) {s : Scope Fault} {s' : Scope (List Fault)} → ScopeBeside s s' → Reports (looked_up least s name) (looked_up every s' name)
+looked_up_reports name (scopes t ty v p {withs = withs} own outer) = means_or_reports (opened ty name.name withs) (means_as_reports name.pos (or_around_beside (found_beside name.name own) (outside_beside name.name outer)))
 
 -- ---- declarations
 
@@ -133,23 +133,23 @@ pub own_beside : (name : List ℕ) {s : Scope Fault} {s' : Scope (List Fault)} �
 own_beside name (scopes t ty v p own outer) = found_beside name own
 
 pub unless_declared_goes : (name : Ident) {k : Known Fault} {k' : Known (List Fault)} → KnownBeside k k' → {s : Scope Fault} {s' : Scope (List Fault)} → ScopeBeside s s' → StateBeside (unless_declared least s name k) (unless_declared every s' name k')
-unless_declared_goes name k b = cond_same StateBeside (is_free_same (own_beside name.name b)) (goes (with_known_beside name.name k b) (fine tt)) (goes b (told_tells name.pos 31))
+unless_declared_goes name k b = cond_same StateBeside (is_free_same (own_beside name.name b)) (goes (with_known_beside name.name k b) (fine tt)) (goes b (reported_reports name.pos 31))
 
-pub declared_goes : (name : Ident) {m : Result Meaning Fault} {m' : Result Meaning (List Fault)} → Tells m m' → {s : Scope Fault} {s' : Scope (List Fault)} → ScopeBeside s s' → StateBeside (declared least s name m) (declared every s' name m')
+pub declared_goes : (name : Ident) {m : Result Meaning Fault} {m' : Result Meaning (List Fault)} → Reports m m' → {s : Scope Fault} {s' : Scope (List Fault)} → ScopeBeside s s' → StateBeside (declared least s name m) (declared every s' name m')
 declared_goes name m b = unless_declared_goes name (known_declared Here m) b
 
 pub begun_goes : (name : Ident) {s : Scope Fault} {s' : Scope (List Fault)} → ScopeBeside s s' → StateBeside (begun least s name) (begun every s' name)
 begun_goes name b = unless_declared_goes name known_begun b
 
-pub finished_beside : (name : Ident) {m : Result Meaning Fault} {m' : Result Meaning (List Fault)} → Tells m m' → {s : Scope Fault} {s' : Scope (List Fault)} → ScopeBeside s s' → ScopeBeside (finished s name m) (finished s' name m')
+pub finished_beside : (name : Ident) {m : Result Meaning Fault} {m' : Result Meaning (List Fault)} → Reports m m' → {s : Scope Fault} {s' : Scope (List Fault)} → ScopeBeside s s' → ScopeBeside (finished s name m) (finished s' name m')
 finished_beside name m b = cond_same ScopeBeside (is_begun_same (own_beside name.name b)) (with_known_beside name.name (known_declared Here m) b) b
 
 -- ---- imports
 
-pub imported_goes : (at : Pos) (name : List ℕ) (o : Origin) {m : Result Meaning Fault} {m' : Result Meaning (List Fault)} → Tells m m' → {s : Scope Fault} {s' : Scope (List Fault)} → ScopeBeside s s'
+pub imported_goes : (at : Pos) (name : List ℕ) (o : Origin) {m : Result Meaning Fault} {m' : Result Meaning (List Fault)} → Reports m m' → {s : Scope Fault} {s' : Scope (List Fault)} → ScopeBeside s s'
     → StateBeside (imported least s at name o m) (imported every s' at name o m')
 imported_goes at name o m b = cond_same StateBeside (is_again_same o (own_beside name b)) (goes b (fine tt))
-    (cond_same StateBeside (is_free_same (own_beside name b)) (goes (with_known_beside name (known_declared o m) b) (fine tt)) (goes b (told_tells at 31)))
+    (cond_same StateBeside (is_free_same (own_beside name b)) (goes (with_known_beside name (known_declared o m) b) (fine tt)) (goes b (reported_reports at 31)))
 
 -- ---- names that a block declares
 

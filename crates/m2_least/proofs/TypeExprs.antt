@@ -12,87 +12,87 @@ use Rattle.m2_tree.specs.declared.decl.Field.{Field, Field-F, out-Field, roll-Fi
 use Rattle.m2_typed.specs.declared.types.TypeNo.{TypeNo}
 use Rattle.m2_typed.specs.declared.shape.Scalar.{Scalar}
 use Rattle.m2_typed.specs.Types.{integer}
-use Rattle.m2_judged.specs.declared.fault.Fault.{Fault}
+use Rattle.m2_scopes.specs.declared.fault.Fault.{Fault}
 use Rattle.m2_typed.specs.declared.known_types.Types.{Types}
-use Rattle.m2_judged.specs.declared.scope.Scope.{Scope}
+use Rattle.m2_scopes.specs.declared.scope.Scope.{Scope}
 use Rattle.m2_typed.specs.Known.{scalar_at, cells_at}
-use Rattle.m2_judged.specs.Judged.{Gathers, every, least}
+use Rattle.m2_scopes.specs.Elaborated.{Gathers, every, least}
 use Rattle.m2_constants.specs.Parts.{Part}
 use Rattle.m2_made.specs.declared.field.Fields.{Fields}
 use Rattle.m2_made.specs.Named.{first_of}
 use Rattle.m2_made.specs.Cells.{count_at, array_cells, is_index}
 use Rattle.m2_made.specs.Fields.{no_fields}
 use Rattle.m2_made.specs.Made.{with_made, scalar_or, scalar_named, subrange, simple_place, simple_type, index_in, array_in, array_of, index_type, array_made, nothing_of, record_of, Makes, MakesFields, then_fields, type_layer, fields_named, field_layer, type_of, field_list}
-use Rattle.m2_least.specs.Least.{Tells, fine, is_refused}
+use Rattle.m2_least.specs.Least.{Reports, fine, is_refused}
 use Rattle.m2_least.specs.Beside.{Pairwise, ScopeBeside, scopes, StateBeside}
-use Rattle.m2_least.proofs.Forms.{told_tells, where_tells, both_tells, then_tells, beside_tells, fold_pairwise, pairwise_maps, carry}
+use Rattle.m2_least.proofs.Forms.{reported_reports, where_reports, both_reports, then_reports, beside_reports, fold_pairwise, pairwise_maps, carry}
 use Rattle.m2_least.proofs.Scopes.{goes}
-use Rattle.m2_least.proofs.Constants.{PartBeside, parts, constant_tells}
+use Rattle.m2_least.proofs.Constants.{PartBeside, parts, constant_reports}
 use Rattle.m2_least.proofs.Parts.{part_beside}
-use Rattle.m2_least.proofs.Making.{named_type_tells, bound_of_tells, unnamed_tells, under_tells, KeptBeside, is_kept, names_kept, procedure_type_tells, with_made_goes, enumeration_goes}
+use Rattle.m2_least.proofs.Making.{named_type_reports, bound_of_reports, unnamed_reports, under_reports, KeptBeside, is_kept, names_kept, procedure_type_reports, with_made_goes, enumeration_goes}
 
 -- ---- simple types
 
-scalar_or_tells : (at : Pos) (x : Option Scalar) → Tells (scalar_or least at x) (scalar_or every at x)
-scalar_or_tells at None = told_tells at 33
-scalar_or_tells at (Some sc) = fine sc
+scalar_or_reports : (at : Pos) (x : Option Scalar) → Reports (scalar_or least at x) (scalar_or every at x)
+scalar_or_reports at None = reported_reports at 33
+scalar_or_reports at (Some sc) = fine sc
 
-scalar_named_tells : {s : Scope Fault} {s' : Scope (List Fault)} → ScopeBeside s s' → (q : Qualified) → Tells (scalar_named least s q) (scalar_named every s' q)
-scalar_named_tells (scopes t types v p {level = lv} {withs = ws} own outer) q = then_tells (named_type_tells (scopes t types v p {level = lv} {withs = ws} own outer) q) (λ x. scalar_or_tells (first_of q) (scalar_at types x))
+scalar_named_reports : {s : Scope Fault} {s' : Scope (List Fault)} → ScopeBeside s s' → (q : Qualified) → Reports (scalar_named least s q) (scalar_named every s' q)
+scalar_named_reports (scopes t types v p {level = lv} {withs = ws} own outer) q = then_reports (named_type_reports (scopes t types v p {level = lv} {withs = ws} own outer) q) (λ x. scalar_or_reports (first_of q) (scalar_at types x))
 
-subrange_tells : {s : Scope Fault} {s' : Scope (List Fault)} → ScopeBeside s s' → (of : Option Qualified) {x : Part Fault} {x' : Part (List Fault)} → PartBeside x x' → {y : Part Fault} {y' : Part (List Fault)} → PartBeside y y'
-    → Tells (subrange least s of x y) (subrange every s' of x' y')
-subrange_tells b None (parts at d) (parts at' e) = unnamed_tells at (bound_of_tells at (constant_tells b (parts at d))) at' (bound_of_tells at' (constant_tells b (parts at' e)))
-subrange_tells b (Some q) (parts at d) (parts at' e) = under_tells (scalar_named_tells b q) at (bound_of_tells at (constant_tells b (parts at d))) at' (bound_of_tells at' (constant_tells b (parts at' e)))
+subrange_reports : {s : Scope Fault} {s' : Scope (List Fault)} → ScopeBeside s s' → (of : Option Qualified) {x : Part Fault} {x' : Part (List Fault)} → PartBeside x x' → {y : Part Fault} {y' : Part (List Fault)} → PartBeside y y'
+    → Reports (subrange least s of x y) (subrange every s' of x' y')
+subrange_reports b None (parts at d) (parts at' e) = unnamed_reports at (bound_of_reports at (constant_reports b (parts at d))) at' (bound_of_reports at' (constant_reports b (parts at' e)))
+subrange_reports b (Some q) (parts at d) (parts at' e) = under_reports (scalar_named_reports b q) at (bound_of_reports at (constant_reports b (parts at d))) at' (bound_of_reports at' (constant_reports b (parts at' e)))
 
 pub simple_type_goes : {s : Scope Fault} {s' : Scope (List Fault)} → ScopeBeside s s' → (t : Simple) → StateBeside (simple_type least s t) (simple_type every s' t)
-simple_type_goes b (simple.Named q) = goes b (named_type_tells b q)
+simple_type_goes b (simple.Named q) = goes b (named_type_reports b q)
 simple_type_goes b (simple.Enumeration at names) = enumeration_goes b names
-simple_type_goes b (simple.Subrange of at low high) = with_made_goes b (then_tells (subrange_tells b of (part_beside low) (part_beside high)) (λ x. fine _))
+simple_type_goes b (simple.Subrange of at low high) = with_made_goes b (then_reports (subrange_reports b of (part_beside low) (part_beside high)) (λ x. fine _))
 
 -- ---- arrays
 
-index_in_tells : {s : Scope Fault} {s' : Scope (List Fault)} → ScopeBeside s s' → (at : Pos) {t : Result TypeNo Fault} {t' : Result TypeNo (List Fault)} → Tells t t' → Tells (index_in least s.types at t) (index_in every s'.types at t')
-index_in_tells (scopes t types v p own outer) at u = then_tells u (λ x. where_tells (not (is_index types x)) at 36 (fine x))
+index_in_reports : {s : Scope Fault} {s' : Scope (List Fault)} → ScopeBeside s s' → (at : Pos) {t : Result TypeNo Fault} {t' : Result TypeNo (List Fault)} → Reports t t' → Reports (index_in least s.types at t) (index_in every s'.types at t')
+index_in_reports (scopes t types v p own outer) at u = then_reports u (λ x. where_reports (not (is_index types x)) at 36 (fine x))
 
-array_cells_tells : (at : Pos) (count cells : ℕ) → Tells (array_cells least at count cells) (array_cells every at count cells)
-array_cells_tells at count cells = where_tells (nat_lt 131072 (count * cells)) at 38 (fine (count * cells))
+array_cells_reports : (at : Pos) (count cells : ℕ) → Reports (array_cells least at count cells) (array_cells every at count cells)
+array_cells_reports at count cells = where_reports (nat_lt 131072 (count * cells)) at 38 (fine (count * cells))
 
-array_in_tells : (types : Types) (at : Pos) (i e : TypeNo) → Tells (array_in least types at i e) (array_in every types at i e)
-array_in_tells types at i e = then_tells (array_cells_tells at (count_at types i) (cells_at types e)) (λ n. fine _)
+array_in_reports : (types : Types) (at : Pos) (i e : TypeNo) → Reports (array_in least types at i e) (array_in every types at i e)
+array_in_reports types at i e = then_reports (array_cells_reports at (count_at types i) (cells_at types e)) (λ n. fine _)
 
-array_of_tells : {s : Scope Fault} {s' : Scope (List Fault)} → ScopeBeside s s' → (at : Pos) {i : Result TypeNo Fault} {i' : Result TypeNo (List Fault)} → Tells i i' → {e : Result TypeNo Fault} {e' : Result TypeNo (List Fault)} → Tells e e'
-    → Tells (array_of least s.types at i e) (array_of every s'.types at i' e')
-array_of_tells (scopes t types v p own outer) at u w = then_tells (both_tells u w) (λ x. array_in_tells types at x.0 x.1)
+array_of_reports : {s : Scope Fault} {s' : Scope (List Fault)} → ScopeBeside s s' → (at : Pos) {i : Result TypeNo Fault} {i' : Result TypeNo (List Fault)} → Reports i i' → {e : Result TypeNo Fault} {e' : Result TypeNo (List Fault)} → Reports e e'
+    → Reports (array_of least s.types at i e) (array_of every s'.types at i' e')
+array_of_reports (scopes t types v p own outer) at u w = then_reports (both_reports u w) (λ x. array_in_reports types at x.0 x.1)
 
 index_of_goes : {i : Scope Fault × Result TypeNo Fault} {i' : Scope (List Fault) × Result TypeNo (List Fault)} → StateBeside i i' → (at : Pos) → StateBeside (i.0, index_in least i.0.types at i.1) (i'.0, index_in every i'.0.types at i'.1)
-index_of_goes p at = goes p.scope (index_in_tells p.scope at p.told)
+index_of_goes p at = goes p.scope (index_in_reports p.scope at p.reported)
 
 index_type_goes : {s : Scope Fault} {s' : Scope (List Fault)} → ScopeBeside s s' → (t : Simple) → StateBeside (index_type least s t) (index_type every s' t)
 index_type_goes b t = index_of_goes (simple_type_goes b t) (simple_place t)
 
-array_made_goes : (at : Pos) {s : Scope Fault} {s' : Scope (List Fault)} → ScopeBeside s s' → {i : Result TypeNo Fault} {i' : Result TypeNo (List Fault)} → Tells i i' → {e : Result TypeNo Fault} {e' : Result TypeNo (List Fault)} → Tells e e'
+array_made_goes : (at : Pos) {s : Scope Fault} {s' : Scope (List Fault)} → ScopeBeside s s' → {i : Result TypeNo Fault} {i' : Result TypeNo (List Fault)} → Reports i i' → {e : Result TypeNo Fault} {e' : Result TypeNo (List Fault)} → Reports e e'
     → StateBeside (array_made least at s i e) (array_made every at s' i' e')
-array_made_goes at b u w = with_made_goes b (array_of_tells b at u w)
+array_made_goes at b u w = with_made_goes b (array_of_reports b at u w)
 
 -- ---- records
 
 pub data FieldsBeside : Scope Fault × Fields × Result (Unit {0}) Fault → Scope (List Fault) × Fields × Result (Unit {0}) (List Fault) → Type 0 where
-  fields_so : (fs : Fields) {s : Scope Fault} {s' : Scope (List Fault)} → ScopeBeside s s' → {r : Result (Unit {0}) Fault} {r' : Result (Unit {0}) (List Fault)} → Tells r r' → FieldsBeside (s, fs, r) (s', fs, r')
+  fields_so : (fs : Fields) {s : Scope Fault} {s' : Scope (List Fault)} → ScopeBeside s s' → {r : Result (Unit {0}) Fault} {r' : Result (Unit {0}) (List Fault)} → Reports r r' → FieldsBeside (s, fs, r) (s', fs, r')
 
-pub nothing_of_tells : {t : Result TypeNo Fault} {t' : Result TypeNo (List Fault)} → Tells t t' → Tells (nothing_of t) (nothing_of t')
-nothing_of_tells p = then_tells p (λ x. fine tt)
+pub nothing_of_reports : {t : Result TypeNo Fault} {t' : Result TypeNo (List Fault)} → Reports t t' → Reports (nothing_of t) (nothing_of t')
+nothing_of_reports p = then_reports p (λ x. fine tt)
 
 fields_of_both : {s : Scope Fault} {s' : Scope (List Fault)} → ScopeBeside s s' → {a : Fields × Result (Unit {0}) Fault} {a' : Fields × Result (Unit {0}) (List Fault)} → KeptBeside a a' → FieldsBeside (s, a.0, a.1) (s', a'.0, a'.1)
 fields_of_both b (is_kept fs u) = fields_so fs b u
 
-fields_named_at : {s : Scope Fault} {s' : Scope (List Fault)} → ScopeBeside s s' → {t : Result TypeNo Fault} {t' : Result TypeNo (List Fault)} → Tells t t' → (names : List Ident) (fs : Fields)
-    → {before : Result (Unit {0}) Fault} {before' : Result (Unit {0}) (List Fault)} → Tells before before' → FieldsBeside (fields_named least (s, t) names fs before) (fields_named every (s', t') names fs before')
-fields_named_at (scopes tables types v p own outer) (fine t) names fs u = fields_of_both (scopes tables types v p own outer) (names_kept t (cells_at types t) names fs (beside_tells u (fine tt)))
-fields_named_at (scopes tables types v p own outer) (is_refused f gs l) names fs u = fields_of_both (scopes tables types v p own outer) (names_kept integer (cells_at types integer) names fs (beside_tells u (is_refused f gs l)))
+fields_named_at : {s : Scope Fault} {s' : Scope (List Fault)} → ScopeBeside s s' → {t : Result TypeNo Fault} {t' : Result TypeNo (List Fault)} → Reports t t' → (names : List Ident) (fs : Fields)
+    → {before : Result (Unit {0}) Fault} {before' : Result (Unit {0}) (List Fault)} → Reports before before' → FieldsBeside (fields_named least (s, t) names fs before) (fields_named every (s', t') names fs before')
+fields_named_at (scopes tables types v p own outer) (fine t) names fs u = fields_of_both (scopes tables types v p own outer) (names_kept t (cells_at types t) names fs (beside_reports u (fine tt)))
+fields_named_at (scopes tables types v p own outer) (is_refused f gs l) names fs u = fields_of_both (scopes tables types v p own outer) (names_kept integer (cells_at types integer) names fs (beside_reports u (is_refused f gs l)))
 
-record_of_tells : (at : Pos) (fs : Fields) {r : Result (Unit {0}) Fault} {r' : Result (Unit {0}) (List Fault)} → Tells r r' → Tells (record_of least at fs r) (record_of every at fs r')
-record_of_tells at fs u = then_tells u (λ v. where_tells (nat_lt 131072 fs.cells) at 38 (fine _))
+record_of_reports : (at : Pos) (fs : Fields) {r : Result (Unit {0}) Fault} {r' : Result (Unit {0}) (List Fault)} → Reports r r' → Reports (record_of least at fs r) (record_of every at fs r')
+record_of_reports at fs u = then_reports u (λ v. where_reports (nat_lt 131072 fs.cells) at 38 (fine _))
 
 -- ---- layers
 
@@ -107,21 +107,21 @@ of_simple t = record { makes = λ s s' b. simple_type_goes b t }
 
 array_from : (at : Pos) {i : Scope Fault × Result TypeNo Fault} {i' : Scope (List Fault) × Result TypeNo (List Fault)} → StateBeside i i' → {e : Scope Fault × Result TypeNo Fault} {e' : Scope (List Fault) × Result TypeNo (List Fault)} → StateBeside e e'
     → StateBeside (array_made least at e.0 i.1 e.1) (array_made every at e'.0 i'.1 e'.1)
-array_from at p q = array_made_goes at q.scope p.told q.told
+array_from at p q = array_made_goes at q.scope p.reported q.reported
 
 of_array : (at : Pos) (index : Simple) {f : Makes least} {f' : Makes every} → MakesBeside f f' → MakesBeside (type_layer least (layer.Array at index f)) (type_layer every (layer.Array at index f'))
 of_array at index m = record { makes = λ s s' b. let i = index_type_goes b index in array_from at i (m.makes _ _ i.scope) }
 
 record_from : (at : Pos) {st : Scope Fault × Fields × Result (Unit {0}) Fault} {st' : Scope (List Fault) × Fields × Result (Unit {0}) (List Fault)} → FieldsBeside st st'
     → StateBeside (with_made st.0 (record_of least at st.1 st.2)) (with_made st'.0 (record_of every at st'.1 st'.2))
-record_from at (fields_so fs b u) = with_made_goes b (record_of_tells at fs u)
+record_from at (fields_so fs b u) = with_made_goes b (record_of_reports at fs u)
 
 of_record : (at : Pos) {fs : List (MakesFields least)} {fs' : List (MakesFields every)} → Pairwise MakesFieldsBeside fs fs' → MakesBeside (type_layer least (layer.Record at fs)) (type_layer every (layer.Record at fs'))
 of_record at fs = record { makes = λ s s' b. record_from at (fold_pairwise FieldsBeside MakesFieldsBeside (then_fields least) (then_fields every) (λ st st' f f' p q. q.lists st st' p) fs _ _ (fields_so no_fields b (fine tt))) }
 
 fields_from : {f : Makes least} {f' : Makes every} → MakesBeside f f' → (names : List Ident) {st : Scope Fault × Fields × Result (Unit {0}) Fault} {st' : Scope (List Fault) × Fields × Result (Unit {0}) (List Fault)} → FieldsBeside st st'
     → FieldsBeside (fields_named least (f st.0) names st.1 st.2) (fields_named every (f' st'.0) names st'.1 st'.2)
-fields_from m names (fields_so fs b u) = let p = m.makes _ _ b in fields_named_at p.scope p.told names fs u
+fields_from m names (fields_so fs b u) = let p = m.makes _ _ b in fields_named_at p.scope p.reported names fs u
 
 -- ---- the induction
 
@@ -162,8 +162,8 @@ type_beside : (y : TypeExpr-F ST SF) → MakesBeside (type_layer least (opened l
 type_beside (layer.Simple t) = of_simple t
 type_beside (layer.Array p i t) = of_array p i t.1
 type_beside (layer.Record p fs) = of_record p (pairwise_maps {X = SF} {Y = Field} MakesFieldsBeside (λ f. f.0) (field_list least) (field_list every) (λ f. f.1) fs)
-type_beside (layer.Procedure p ps None) = record { makes = λ s s' b. with_made_goes b (procedure_type_tells b ps None) }
-type_beside (layer.Procedure p ps (Some q)) = record { makes = λ s s' b. with_made_goes b (procedure_type_tells b ps (Some q)) }
+type_beside (layer.Procedure p ps None) = record { makes = λ s s' b. with_made_goes b (procedure_type_reports b ps None) }
+type_beside (layer.Procedure p ps (Some q)) = record { makes = λ s s' b. with_made_goes b (procedure_type_reports b ps (Some q)) }
 
 field_beside : (y : Field-F ST SF) → MakesFieldsBeside (field_layer least (opened_field least (bare_field y))) (field_layer every (opened_field every (bare_field y)))
 field_beside y = record { lists = λ st st' p. fields_from y.of.1 y.names p }

@@ -1,17 +1,17 @@
--- What is known where the least broken rule is told, beside what is known where all are.
+-- What is known where the least broken rule is reported, beside what is known where all are.
 use Rattle.std.specs.Prelude.{ℕ, Bool, List, [], ◌∷◌, Option, Some, None, Result}
 use Rattle.m2_typed.specs.declared.types.TypeNo.{TypeNo}
 use Rattle.m2_typed.specs.declared.meaning.Meaning.{Meaning}
 use Rattle.m2_typed.specs.declared.table.Table.{Table}
-use Rattle.m2_judged.specs.declared.fault.Fault.{Fault}
-use Rattle.m2_judged.specs.declared.known.Origin.{Origin}
-use Rattle.m2_judged.specs.declared.known.Known.{Known}
-use Rattle.m2_judged.specs.declared.known.Known.TheVariants.{Later, Ahead, Begun, Headed, Declared}
+use Rattle.m2_scopes.specs.declared.fault.Fault.{Fault}
+use Rattle.m2_scopes.specs.declared.known.Origin.{Origin}
+use Rattle.m2_scopes.specs.declared.known.Known.{Known}
+use Rattle.m2_scopes.specs.declared.known.Known.TheVariants.{Later, Ahead, Begun, Headed, Declared}
 use Rattle.m2_typed.specs.declared.known_types.Types.{Types}
-use Rattle.m2_judged.specs.declared.scope.Block.{Block}
-use Rattle.m2_judged.specs.declared.scope.OpenedRecord.{OpenedRecord}
-use Rattle.m2_judged.specs.declared.scope.Scope.{Scope}
-use Rattle.m2_least.specs.Least.{Tells}
+use Rattle.m2_scopes.specs.declared.scope.Block.{Block}
+use Rattle.m2_scopes.specs.declared.scope.OpenedRecord.{OpenedRecord}
+use Rattle.m2_scopes.specs.declared.scope.Scope.{Scope}
+use Rattle.m2_least.specs.Least.{Reports}
 
 -- lists of one length, element by element
 pub data Pairwise {A B : Type 0} (R : A → B → Type 0) : List A → List B → Type 0 where
@@ -27,8 +27,8 @@ pub data KnownBeside : Known Fault → Known (List Fault) → Type 0 where
   known_later : KnownBeside Later Later
   known_ahead : KnownBeside Ahead Ahead
   known_begun : KnownBeside Begun Begun
-  known_headed : {m : Result Meaning Fault} {m' : Result Meaning (List Fault)} → Tells m m' → KnownBeside (Headed m) (Headed m')
-  known_declared : (o : Origin) {m : Result Meaning Fault} {m' : Result Meaning (List Fault)} → Tells m m' → KnownBeside (Declared o m) (Declared o m')
+  known_headed : {m : Result Meaning Fault} {m' : Result Meaning (List Fault)} → Reports m m' → KnownBeside (Headed m) (Headed m')
+  known_declared : (o : Origin) {m : Result Meaning Fault} {m' : Result Meaning (List Fault)} → Reports m m' → KnownBeside (Declared o m) (Declared o m')
 
 pub data EntryBeside : List ℕ × Known Fault → List ℕ × Known (List Fault) → Type 0 where
   entry : (name : List ℕ) {k : Known Fault} {k' : Known (List Fault)} → KnownBeside k k' → EntryBeside (name, k) (name, k')
@@ -46,7 +46,7 @@ pub data ScopeBeside : Scope Fault → Scope (List Fault) → Type 0 where
       → ScopeBeside (record { tables = tables; types = types; variables = variables; procedures = procedures; level = level; own = own; outer = outer; withs = withs })
       (record { tables = tables; types = types; variables = variables; procedures = procedures; level = level; own = own'; outer = outer'; withs = withs })
 
--- a scope and what is told
+-- a scope and what is reported
 pub record StateBeside {A : Type 0} (st : Scope Fault × Result A Fault) (st' : Scope (List Fault) × Result A (List Fault)) : Type 0 where
   pub scope : ScopeBeside st.0 st'.0
-  pub told : Tells st.1 st'.1
+  pub reported : Reports st.1 st'.1

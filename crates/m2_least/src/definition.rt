@@ -1,11 +1,11 @@
 //! The table of a definition, or the least of all rules that are broken in it.
 
 ghost use Rattle.std.specs.Prelude.{◌≡◌, IfOk};
-ghost use Rattle.m2_judged.specs.Judged.{every, least};
+ghost use Rattle.m2_scopes.specs.Elaborated.{every, least};
 ghost use Rattle.m2_types.specs.Compiled.{compiled};
-ghost use Rattle.m2_least.specs.Least.{Tells};
+ghost use Rattle.m2_least.specs.Least.{Reports};
 
-use m2_judged::Judged;
+use m2_scopes::Elaborated;
 use m2_tree::{Items, Module};
 use m2_typed::{Shared, Table};
 use std::alloc::{AllocError, Global};
@@ -17,11 +17,11 @@ pub fn compile_definition(
     number: u32,
     tree: &Module,
     imports: Items<Shared<Table>>,
-) -> Result<Judged<Table>, AllocError>
+) -> Result<Elaborated<Table>, AllocError>
     // It is what the definition gives.
     ensures exact { IfOk result (λ j. j ≡ compiled least number tree.now imports) }
-    // It is told beside all broken rules.
-    ensures told { IfOk result (λ j. Tells j (compiled every number tree.now imports)) }
+    // It is reported beside all broken rules.
+    ensures reported { IfOk result (λ j. Reports j (compiled every number tree.now imports)) }
 {
     m2_types::compile_definition(alloc, number, tree, imports)
 }

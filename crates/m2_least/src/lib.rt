@@ -1,6 +1,6 @@
-//! Laws: what is told of a module is the least of all rules that are broken in it.
+//! Laws: what is reported of a module is the least of all rules that are broken in it.
 //!
-//! The definitions of m2_judged, m2_values, m2_constants, m2_made and m2_types gather broken rules in one of two ways,
+//! The definitions of m2_scopes, m2_values, m2_constants, m2_made and m2_types gather broken rules in one of two ways,
 //! all of them or the least of them. `specs/Least` says what the two answers have to do with one another, and
 //! `specs/Beside` the same of what is known in a scope. `proofs` has a lemma for each definition, in the order of these
 //! crates.

@@ -11,9 +11,9 @@ use Rattle.m2_tree.specs.declared.decl.TypeExpr.{TypeExpr, TypeExpr-F, out-TypeE
 use Rattle.m2_tree.specs.declared.decl.TypeExpr.TheOpen as layer
 use Rattle.m2_tree.specs.declared.decl.TypeExpr.TheVariants as type
 use Rattle.m2_tree.specs.declared.decl.Field.{Field, Field-F, out-Field, fold_out-Field}
-use Rattle.m2_judged.specs.declared.fault.Fault.{Fault}
-use Rattle.m2_judged.specs.declared.scope.Scope.{Scope}
-use Rattle.m2_judged.specs.Judged.{least}
+use Rattle.m2_scopes.specs.declared.fault.Fault.{Fault}
+use Rattle.m2_scopes.specs.declared.scope.Scope.{Scope}
+use Rattle.m2_scopes.specs.Elaborated.{least}
 use Rattle.m2_made.specs.declared.field.Fields.{Fields}
 use Rattle.m2_made.specs.Fields.{no_fields}
 use Rattle.m2_made.specs.Headings.{procedure_type}

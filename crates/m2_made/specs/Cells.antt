@@ -6,7 +6,7 @@ use Rattle.m2_typed.specs.declared.shape.Scalar.{Scalar}
 use Rattle.m2_typed.specs.Types.{is_numeric}
 use Rattle.m2_typed.specs.declared.known_types.Types.{Types}
 use Rattle.m2_typed.specs.Known.{scalar_at}
-use Rattle.m2_judged.specs.Judged.{Gathers, told_where}
+use Rattle.m2_scopes.specs.Elaborated.{Gathers, reported_where}
 
 abbrev pub counted : ℕ → ℕ
 counted distance = cond (nat_lt 131072 distance) 131073 (distance + 1)
@@ -22,8 +22,8 @@ count_at types t = count_of (scalar_at types t)
 abbrev pub plus : ℕ → ℕ → ℕ
 plus a b = cond (nat_lt 131072 (a + b)) 131073 (a + b)
 
-abbrev pub array_cells : (g : Gathers) → Pos → (count cells : ℕ) → Result ℕ g.Told
-array_cells g at count cells = told_where g (nat_lt 131072 (count * cells)) at 38 (Ok (count * cells))
+abbrev pub array_cells : (g : Gathers) → Pos → (count cells : ℕ) → Result ℕ g.Reported
+array_cells g at count cells = reported_where g (nat_lt 131072 (count * cells)) at 38 (Ok (count * cells))
 
 -- a scalar, but not INTEGER or CARDINAL as a whole
 abbrev pub is_index_scalar : TypeNo → Option Scalar → Bool

@@ -14,36 +14,36 @@ use Rattle.m2_typed.specs.declared.shape.Shape.TheVariants as shape
 use Rattle.m2_typed.specs.declared.shape.Made.{Made}
 use Rattle.m2_typed.specs.Types.{integer}
 use Rattle.m2_typed.specs.declared.known_types.Types.{Types}
-use Rattle.m2_judged.specs.declared.scope.Scope.{Scope}
+use Rattle.m2_scopes.specs.declared.scope.Scope.{Scope}
 use Rattle.m2_typed.specs.Known.{is_result}
-use Rattle.m2_judged.specs.Judged.{Gathers, told, told_where, both, ◌▷◌}
+use Rattle.m2_scopes.specs.Elaborated.{Gathers, reported, reported_where, both, ◌▷◌}
 use Rattle.m2_made.specs.declared.field.Fields.{Fields}
 use Rattle.m2_made.specs.Named.{first_of, named_type}
 use Rattle.m2_made.specs.Fields.{no_fields, with_name}
 
-abbrev pub formal_of : (g : Gathers) → Scope g.Told → Bool → FormalType → Result Formal g.Told
+abbrev pub formal_of : (g : Gathers) → Scope g.Reported → Bool → FormalType → Result Formal g.Reported
 formal_of g s is_var f = named_type g s f.of ▷ λ t. Ok (record { is_var = is_var; is_open = f.is_open; of = t })
 
 -- a function gives no arrays and no records
-abbrev pub result_in : (g : Gathers) → Types → Pos → TypeNo → Result (Option TypeNo) g.Told
-result_in g types at t = told_where g (not (is_result types t)) at 33 (Ok (Some t))
+abbrev pub result_in : (g : Gathers) → Types → Pos → TypeNo → Result (Option TypeNo) g.Reported
+result_in g types at t = reported_where g (not (is_result types t)) at 33 (Ok (Some t))
 
-abbrev pub result_of : (g : Gathers) → Scope g.Told → Option Qualified → Result (Option TypeNo) g.Told
+abbrev pub result_of : (g : Gathers) → Scope g.Reported → Option Qualified → Result (Option TypeNo) g.Reported
 result_of g s None = Ok None
 result_of g s (Some q) = named_type g s q ▷ result_in g s.types (first_of q)
 
-abbrev pub procedure_made : (g : Gathers) → Result (List Formal) g.Told → Result (Option TypeNo) g.Told → Result Made g.Told
+abbrev pub procedure_made : (g : Gathers) → Result (List Formal) g.Reported → Result (Option TypeNo) g.Reported → Result Made g.Reported
 procedure_made g formals of = both g formals of ▷ λ p. Ok (record { shape = shape.Procedure (record { formals = p.0; result = p.1 }); cells = 1 })
 
 -- ---- procedure types
 
-abbrev pub joined_formal : (g : Gathers) → Result (List Formal) g.Told → Result Formal g.Told → Result (List Formal) g.Told
+abbrev pub joined_formal : (g : Gathers) → Result (List Formal) g.Reported → Result Formal g.Reported → Result (List Formal) g.Reported
 joined_formal g so f = both g so f ▷ λ p. Ok (p.0 ++ p.1 ∷ [])
 
-abbrev pub with_parameter : (g : Gathers) → Scope g.Told → Result (List Formal) g.Told → Parameter → Result (List Formal) g.Told
+abbrev pub with_parameter : (g : Gathers) → Scope g.Reported → Result (List Formal) g.Reported → Parameter → Result (List Formal) g.Reported
 with_parameter g s so p = joined_formal g so (formal_of g s p.is_var p.of)
 
-abbrev pub procedure_type : (g : Gathers) → Scope g.Told → List Parameter → Option Qualified → Result Made g.Told
+abbrev pub procedure_type : (g : Gathers) → Scope g.Reported → List Parameter → Option Qualified → Result Made g.Reported
 procedure_type g s ps of = procedure_made g (fold (with_parameter g s) (Ok []) ps) (result_of g s of)
 
 -- ---- headings
@@ -51,20 +51,20 @@ procedure_type g s ps of = procedure_made g (fold (with_parameter g s) (Ok []) p
 abbrev pub repeated : Formal → List Ident → List Formal
 repeated f names = map (λ n. f) names
 
-abbrev pub joined_formals : (g : Gathers) → Result (List Formal) g.Told → Result Formal g.Told → List Ident → Result (List Formal) g.Told
+abbrev pub joined_formals : (g : Gathers) → Result (List Formal) g.Reported → Result Formal g.Reported → List Ident → Result (List Formal) g.Reported
 joined_formals g so f names = both g so f ▷ λ p. Ok (p.0 ++ repeated p.1 names)
 
--- the names so far, what is told of them, and the formals
-abbrev pub with_section : (g : Gathers) → Scope g.Told → Fields × Result (Unit {0}) g.Told × Result (List Formal) g.Told → Section → Fields × Result (Unit {0}) g.Told × Result (List Formal) g.Told
+-- the names so far, what is reported of them, and the formals
+abbrev pub with_section : (g : Gathers) → Scope g.Reported → Fields × Result (Unit {0}) g.Reported × Result (List Formal) g.Reported → Section → Fields × Result (Unit {0}) g.Reported × Result (List Formal) g.Reported
 with_section g s st x =
     let names = fold (with_name g integer 0) (st.0, st.1) x.names in
     (names.0, names.1, joined_formals g st.2 (formal_of g s x.is_var x.of) x.names)
 
-abbrev pub sections : (g : Gathers) → Scope g.Told → List Section → Result (Unit {0}) g.Told × Result (List Formal) g.Told
+abbrev pub sections : (g : Gathers) → Scope g.Reported → List Section → Result (Unit {0}) g.Reported × Result (List Formal) g.Reported
 sections g s xs = let st = fold (with_section g s) (no_fields, Ok tt, Ok []) xs in (st.1, st.2)
 
-abbrev pub signed_by : (g : Gathers) → Result (Unit {0}) g.Told → Result Made g.Told → Result Made g.Told
+abbrev pub signed_by : (g : Gathers) → Result (Unit {0}) g.Reported → Result Made g.Reported → Result Made g.Reported
 signed_by g names made = both g names made ▷ λ p. Ok p.1
 
-abbrev pub heading_of : (g : Gathers) → Scope g.Told → Heading → Result Made g.Told
+abbrev pub heading_of : (g : Gathers) → Scope g.Reported → Heading → Result Made g.Reported
 heading_of g s h = let st = sections g s h.formals in signed_by g st.0 (procedure_made g st.1 (result_of g s h.result))

@@ -6,9 +6,9 @@ use Rattle.m2_tree.specs.declared.expr.Qualified.{Qualified}
 use Rattle.m2_typed.specs.declared.types.TypeNo.{TypeNo}
 use Rattle.m2_typed.specs.declared.meaning.Meaning.{Meaning}
 use Rattle.m2_typed.specs.declared.meaning.Meaning.TheVariants as meaning
-use Rattle.m2_judged.specs.Judged.{Gathers, told, ◌▷◌}
-use Rattle.m2_judged.specs.declared.scope.Scope.{Scope}
-use Rattle.m2_judged.specs.Scopes.{looked_up}
+use Rattle.m2_scopes.specs.Elaborated.{Gathers, reported, ◌▷◌}
+use Rattle.m2_scopes.specs.declared.scope.Scope.{Scope}
+use Rattle.m2_scopes.specs.Scopes.{looked_up}
 use Rattle.m2_constants.specs.Denote.{member}
 
 -- the place of a name's first token
@@ -19,34 +19,34 @@ first_place (Some home) name = home.pos
 abbrev pub first_of : Qualified → Pos
 first_of q = first_place q.module q.name
 
-abbrev pub type_meant : (g : Gathers) → Pos → Meaning → Result TypeNo g.Told
+abbrev pub type_meant : (g : Gathers) → Pos → Meaning → Result TypeNo g.Reported
 type_meant g at (meaning.Type t n) = Ok t
-type_meant g at (meaning.Constant v) = told g at 33
-type_meant g at (meaning.Variable v) = told g at 33
-type_meant g at (meaning.Local v) = told g at 33
-type_meant g at (meaning.Field f) = told g at 33
-type_meant g at (meaning.Procedure p) = told g at 33
-type_meant g at (meaning.LocalProcedure p) = told g at 33
-type_meant g at meaning.Ahead = told g at 33
-type_meant g at (meaning.Standard f) = told g at 33
-type_meant g at (meaning.Module k) = told g at 33
+type_meant g at (meaning.Constant v) = reported g at 33
+type_meant g at (meaning.Variable v) = reported g at 33
+type_meant g at (meaning.Local v) = reported g at 33
+type_meant g at (meaning.Field f) = reported g at 33
+type_meant g at (meaning.Procedure p) = reported g at 33
+type_meant g at (meaning.LocalProcedure p) = reported g at 33
+type_meant g at meaning.Ahead = reported g at 33
+type_meant g at (meaning.Standard f) = reported g at 33
+type_meant g at (meaning.Module k) = reported g at 33
 
 -- M.x, where M means a module
-abbrev pub in_module : (g : Gathers) → Scope g.Told → Pos → Ident → Meaning → Result TypeNo g.Told
+abbrev pub in_module : (g : Gathers) → Scope g.Reported → Pos → Ident → Meaning → Result TypeNo g.Reported
 in_module g s at name (meaning.Module k) = member g s.tables k name ▷ type_meant g at
-in_module g s at name (meaning.Type t n) = told g at 33
-in_module g s at name (meaning.Constant v) = told g at 33
-in_module g s at name (meaning.Variable v) = told g at 33
-in_module g s at name (meaning.Local v) = told g at 33
-in_module g s at name (meaning.Field f) = told g at 33
-in_module g s at name (meaning.Procedure p) = told g at 33
-in_module g s at name (meaning.LocalProcedure p) = told g at 33
-in_module g s at name meaning.Ahead = told g at 33
-in_module g s at name (meaning.Standard f) = told g at 33
+in_module g s at name (meaning.Type t n) = reported g at 33
+in_module g s at name (meaning.Constant v) = reported g at 33
+in_module g s at name (meaning.Variable v) = reported g at 33
+in_module g s at name (meaning.Local v) = reported g at 33
+in_module g s at name (meaning.Field f) = reported g at 33
+in_module g s at name (meaning.Procedure p) = reported g at 33
+in_module g s at name (meaning.LocalProcedure p) = reported g at 33
+in_module g s at name meaning.Ahead = reported g at 33
+in_module g s at name (meaning.Standard f) = reported g at 33
 
-abbrev pub of_module : (g : Gathers) → Scope g.Told → Option Ident → Ident → Result TypeNo g.Told
+abbrev pub of_module : (g : Gathers) → Scope g.Reported → Option Ident → Ident → Result TypeNo g.Reported
 of_module g s None name = looked_up g s name ▷ type_meant g name.pos
 of_module g s (Some home) name = looked_up g s home ▷ in_module g s home.pos name
 
-abbrev pub named_type : (g : Gathers) → Scope g.Told → Qualified → Result TypeNo g.Told
+abbrev pub named_type : (g : Gathers) → Scope g.Reported → Qualified → Result TypeNo g.Reported
 named_type g s q = of_module g s q.module q.name

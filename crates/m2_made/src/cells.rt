@@ -1,10 +1,10 @@
 //! How many scalar cells types have.
 
 ghost use Rattle.std.specs.Prelude.{◌≡◌};
-ghost use Rattle.m2_judged.specs.Judged.{least};
+ghost use Rattle.m2_scopes.specs.Elaborated.{least};
 ghost use Rattle.m2_made.specs.Cells.{counted, count_of, count_at, plus, array_cells, is_index};
 
-use m2_judged::{Judged, told};
+use m2_scopes::{Elaborated, reported};
 use m2_tree::Pos;
 use m2_typed::{Scalar, TypeNo, Types, is_numeric, scalar_of};
 
@@ -47,14 +47,14 @@ pub fn plus(a: u32, b: u32) -> u32
 }
 
 /// The cells of an array of so many elements.
-pub fn array_cells(at: Pos, count: u32, cells: u32) -> Judged<u32>
+pub fn array_cells(at: Pos, count: u32, cells: u32) -> Elaborated<u32>
     ensures { result ≡ array_cells least at count cells }
 {
     match u64::from(count).checked_mul(u64::from(cells)) {
-        None => told(at, 38),
+        None => reported(at, 38),
         Some(all) => {
             if all > 131_072 {
-                return told(at, 38);
+                return reported(at, 38);
             }
             Ok(all as u32)
         }

@@ -2,11 +2,11 @@
 
 ghost use Rattle.std.specs.Prelude.{◌≡◌, [], IfOk};
 ghost use Rattle.std.specs.List.{fold};
-ghost use Rattle.m2_judged.specs.Judged.{least};
+ghost use Rattle.m2_scopes.specs.Elaborated.{least};
 ghost use Rattle.m2_made.specs.Fields.{with_field, with_name};
 
 use crate::cells::plus;
-use m2_judged::{Judged, beside, told};
+use m2_scopes::{Elaborated, beside, reported};
 use m2_tree::Ident;
 use m2_typed::{Dictionary, TypeNo};
 use std::alloc::{AllocError, Global};
@@ -35,11 +35,11 @@ fn with_field(
     name: &Ident,
     t: TypeNo,
     cells: u32,
-) -> Result<Judged<()>, AllocError>
+) -> Result<Elaborated<()>, AllocError>
     ensures { IfOk result (λ j. (fields.new, j) ≡ with_field least t cells fields.old name.now) }
 {
     if fields.names.find(name.name.as_bytes()).is_some() {
-        return Ok(told(name.pos, 31));
+        return Ok(reported(name.pos, 31));
     }
     fields.names.enter(alloc, name.name.as_bytes(), t)?;
     fields.cells = plus(fields.cells, cells);
@@ -50,17 +50,17 @@ fn with_field(
 pub fn with_names(
     alloc: Global,
     fields: &mut Fields,
-    before: Judged<()>,
+    before: Elaborated<()>,
     names: &[Ident],
     t: TypeNo,
     cells: u32,
-) -> Result<Judged<()>, AllocError>
+) -> Result<Elaborated<()>, AllocError>
     ensures { IfOk result (λ j. (fields.new, j) ≡ fold (with_name least t cells) (fields.old, before) names.now) }
 {
-    let mut judged = before;
+    let mut elaborated = before;
     for name in names {
         let one = with_field(alloc, fields, name, t, cells)?;
-        judged = beside(judged, one);
+        elaborated = beside(elaborated, one);
     }
-    Ok(judged)
+    Ok(elaborated)
 }

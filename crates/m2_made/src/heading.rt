@@ -2,12 +2,12 @@
 
 ghost use Rattle.std.specs.Prelude.{◌≡◌, [], Ok, IfOk};
 ghost use Rattle.std.specs.List.{fold};
-ghost use Rattle.m2_judged.specs.Judged.{least};
+ghost use Rattle.m2_scopes.specs.Elaborated.{least};
 ghost use Rattle.m2_made.specs.Headings.{formal_of, result_in, result_of, joined_formal, with_parameter, repeated, joined_formals, with_section, sections, procedure_made, signed_by, heading_of, procedure_type};
 
 use crate::field::{Fields, no_fields, with_names};
 use crate::named::{first_of, named_type};
-use m2_judged::{Fault, Judged, Scope, both, told};
+use m2_scopes::{Elaborated, Fault, Scope, both, reported};
 use m2_tree::{FormalType, Heading, Ident, Items, Parameter, Pos, Qualified, Section};
 use m2_typed::{Formal, INTEGER, Made, Shape, Signature, TypeNo, Types, is_result};
 use std::alloc::{AllocError, Global};
@@ -17,7 +17,7 @@ pub fn formal_of(
     scope: &Scope<Fault>,
     is_var: bool,
     of: &FormalType,
-) -> Result<Judged<Formal>, AllocError>
+) -> Result<Elaborated<Formal>, AllocError>
     ensures { IfOk result (λ f. f ≡ formal_of least scope.now is_var of.now) }
 {
     match named_type(scope, &of.of)? {
@@ -30,11 +30,11 @@ pub fn formal_of(
     }
 }
 
-fn result_in(types: &Types, at: Pos, t: TypeNo) -> Judged<Option<TypeNo>>
+fn result_in(types: &Types, at: Pos, t: TypeNo) -> Elaborated<Option<TypeNo>>
     ensures { result ≡ result_in least types.now at t }
 {
     if !is_result(types, t) {
-        return told(at, 33);
+        return reported(at, 33);
     }
     Ok(Some(t))
 }
@@ -43,7 +43,7 @@ fn result_in(types: &Types, at: Pos, t: TypeNo) -> Judged<Option<TypeNo>>
 pub fn result_of(
     scope: &Scope<Fault>,
     of: &Option<Qualified>,
-) -> Result<Judged<Option<TypeNo>>, AllocError>
+) -> Result<Elaborated<Option<TypeNo>>, AllocError>
     ensures { IfOk result (λ t. t ≡ result_of least scope.now of.now) }
 {
     match of {
@@ -56,9 +56,9 @@ pub fn result_of(
 }
 
 fn joined_formal(
-    formals: Judged<Items<Formal>>,
-    formal: Judged<Formal>,
-) -> Result<Judged<Items<Formal>>, AllocError>
+    formals: Elaborated<Items<Formal>>,
+    formal: Elaborated<Formal>,
+) -> Result<Elaborated<Items<Formal>>, AllocError>
     ensures { IfOk result (λ fs. fs ≡ joined_formal least formals formal) }
 {
     match both(formals, formal) {
@@ -74,7 +74,7 @@ fn parameters(
     alloc: Global,
     scope: &Scope<Fault>,
     list: &[Parameter],
-) -> Result<Judged<Items<Formal>>, AllocError>
+) -> Result<Elaborated<Items<Formal>>, AllocError>
     ensures { IfOk result (λ fs. fs ≡ fold (with_parameter least scope.now) (Ok []) list.now) }
 {
     let mut formals = Ok(Items::new(alloc));
@@ -97,10 +97,10 @@ fn repeated(alloc: Global, formal: Formal, names: &[Ident]) -> Result<Items<Form
 
 fn joined_formals(
     alloc: Global,
-    formals: Judged<Items<Formal>>,
-    formal: Judged<Formal>,
+    formals: Elaborated<Items<Formal>>,
+    formal: Elaborated<Formal>,
     names: &[Ident],
-) -> Result<Judged<Items<Formal>>, AllocError>
+) -> Result<Elaborated<Items<Formal>>, AllocError>
     ensures { IfOk result (λ fs. fs ≡ joined_formals least formals formal names.now) }
 {
     match both(formals, formal) {
@@ -117,23 +117,23 @@ fn with_section(
     alloc: Global,
     scope: &Scope<Fault>,
     fields: &mut Fields,
-    names: Judged<()>,
-    formals: Judged<Items<Formal>>,
+    names: Elaborated<()>,
+    formals: Elaborated<Items<Formal>>,
     section: &Section,
-) -> Result<(Judged<()>, Judged<Items<Formal>>), AllocError>
+) -> Result<(Elaborated<()>, Elaborated<Items<Formal>>), AllocError>
     ensures { IfOk result (λ st. (fields.new, st.0, st.1) ≡ with_section least scope.now (fields.old, names, formals) section.now) }
 {
     let formal = formal_of(scope, section.is_var, &section.of)?;
-    let judged = with_names(alloc, fields, names, section.names.as_slice(), INTEGER, 0)?;
+    let elaborated = with_names(alloc, fields, names, section.names.as_slice(), INTEGER, 0)?;
     let all = joined_formals(alloc, formals, formal, section.names.as_slice())?;
-    Ok((judged, all))
+    Ok((elaborated, all))
 }
 
 fn sections(
     alloc: Global,
     scope: &Scope<Fault>,
     list: &[Section],
-) -> Result<(Judged<()>, Judged<Items<Formal>>), AllocError>
+) -> Result<(Elaborated<()>, Elaborated<Items<Formal>>), AllocError>
     ensures { IfOk result (λ st. st ≡ sections least scope.now list.now) }
 {
     let mut fields = no_fields(alloc);
@@ -145,7 +145,10 @@ fn sections(
     Ok((names, formals))
 }
 
-fn procedure_made(formals: Judged<Items<Formal>>, of: Judged<Option<TypeNo>>) -> Judged<Made>
+fn procedure_made(
+    formals: Elaborated<Items<Formal>>,
+    of: Elaborated<Option<TypeNo>>,
+) -> Elaborated<Made>
     ensures { result ≡ procedure_made least formals of }
 {
     match both(formals, of) {
@@ -157,7 +160,7 @@ fn procedure_made(formals: Judged<Items<Formal>>, of: Judged<Option<TypeNo>>) ->
     }
 }
 
-fn signed_by(names: Judged<()>, made: Judged<Made>) -> Judged<Made>
+fn signed_by(names: Elaborated<()>, made: Elaborated<Made>) -> Elaborated<Made>
     ensures { result ≡ signed_by least names made }
 {
     match both(names, made) {
@@ -171,7 +174,7 @@ pub fn heading_of(
     alloc: Global,
     scope: &Scope<Fault>,
     heading: &Heading,
-) -> Result<Judged<Made>, AllocError>
+) -> Result<Elaborated<Made>, AllocError>
     ensures { IfOk result (λ m. m ≡ heading_of least scope.now heading.now) }
 {
     let (names, formals) = sections(alloc, scope, heading.formals.as_slice())?;
@@ -185,7 +188,7 @@ pub fn procedure_type(
     scope: &Scope<Fault>,
     list: &[Parameter],
     of: &Option<Qualified>,
-) -> Result<Judged<Made>, AllocError>
+) -> Result<Elaborated<Made>, AllocError>
     ensures { IfOk result (λ m. m ≡ procedure_type least scope.now list.now of.now) }
 {
     let formals = parameters(alloc, scope, list)?;

@@ -2,7 +2,7 @@
 
 ghost use Rattle.std.specs.Prelude.{◌≡◌, Ok, IfOk, length};
 ghost use Rattle.std.specs.List.{fold};
-ghost use Rattle.m2_judged.specs.Judged.{least, ◌▷◌};
+ghost use Rattle.m2_scopes.specs.Elaborated.{least, ◌▷◌};
 ghost use Rattle.m2_constants.specs.Parts.{part};
 ghost use Rattle.m2_made.specs.Made.{with_made, scalar_made, too_many, enumeration_constant, enumeration_scalar, enumerated, enumeration, scalar_in, scalar_named, bound_at, subrange, simple_place, subrange_place, simple_type, index_in, array_in, array_of, index_type, array_made, field_type, nothing_of, record_in, record_of, type_of, with_field_list, field_list};
 
@@ -12,7 +12,7 @@ use crate::heading::procedure_type;
 use crate::named::{first_of, named_type};
 use crate::subrange::{bound_of, under, unnamed};
 use m2_constants::{constant_of, place_of};
-use m2_judged::{Fault, Judged, Scope, beside, both, declare, told};
+use m2_scopes::{Elaborated, Fault, Scope, beside, both, declare, reported};
 use m2_tree::{Expr, Field, Ident, Pos, Qualified, Simple, TypeExpr};
 use m2_typed::{
     Home, INTEGER, Made, Meaning, Scalar, ScalarValue, Shape, TypeNo, Types, Value, cells_of,
@@ -22,7 +22,10 @@ use m2_values::Ordinal;
 use std::alloc::{AllocError, Global};
 
 /// Makes a type.
-pub fn with_made(scope: &mut Scope<Fault>, made: Judged<Made>) -> Result<Judged<TypeNo>, AllocError>
+pub fn with_made(
+    scope: &mut Scope<Fault>,
+    made: Elaborated<Made>,
+) -> Result<Elaborated<TypeNo>, AllocError>
     ensures { IfOk result (λ t. (scope.new, t) ≡ with_made scope.old made) }
 {
     match made {
@@ -38,7 +41,7 @@ pub fn with_made(scope: &mut Scope<Fault>, made: Judged<Made>) -> Result<Judged<
     }
 }
 
-fn scalar_made(scalar: Judged<Scalar>) -> Judged<Made>
+fn scalar_made(scalar: Elaborated<Scalar>) -> Elaborated<Made>
     ensures { result ≡ scalar_made scalar }
 {
     match scalar {
@@ -53,12 +56,12 @@ fn scalar_made(scalar: Judged<Scalar>) -> Judged<Made>
 // ---- enumerations
 
 /// The 257th constant.
-fn too_many(names: &[Ident]) -> Judged<()>
+fn too_many(names: &[Ident]) -> Elaborated<()>
     ensures { result ≡ too_many least names.now }
 {
     match names.get(256) {
         None => Ok(()),
-        Some(name) => told(name.pos, 37),
+        Some(name) => reported(name.pos, 37),
     }
 }
 
@@ -76,24 +79,24 @@ fn enumerated(
     alloc: Global,
     scope: &mut Scope<Fault>,
     t: TypeNo,
-    before: Judged<()>,
+    before: Elaborated<()>,
     names: &[Ident],
-) -> Result<Judged<()>, AllocError>
+) -> Result<Elaborated<()>, AllocError>
     ensures { IfOk result (λ j. (scope.new, length names.now, j) ≡ enumerated least t scope.old before names.now) }
 {
-    let mut judged = before;
+    let mut elaborated = before;
     for (number, name) in names.iter().enumerate() {
         let constant = enumeration_constant(t, number as i64);
         let one = declare(alloc, scope, name, Ok(constant))?;
-        judged = beside(judged, one);
+        elaborated = beside(elaborated, one);
     }
-    Ok(judged)
+    Ok(elaborated)
 }
 
-fn of_type(judged: Judged<()>, t: TypeNo) -> Judged<TypeNo>
-    ensures { result ≡ judged ▷ λ fine. Ok t }
+fn of_type(elaborated: Elaborated<()>, t: TypeNo) -> Elaborated<TypeNo>
+    ensures { result ≡ elaborated ▷ λ fine. Ok t }
 {
-    match judged {
+    match elaborated {
         Err(fault) => Err(fault),
         Ok(()) => Ok(t),
     }
@@ -116,7 +119,7 @@ fn enumeration(
     alloc: Global,
     scope: &mut Scope<Fault>,
     names: &[Ident],
-) -> Result<Judged<TypeNo>, AllocError>
+) -> Result<Elaborated<TypeNo>, AllocError>
     ensures { IfOk result (λ t. (scope.new, t) ≡ enumeration least scope.old names.now) }
 {
     let t = TypeNo {
@@ -124,33 +127,37 @@ fn enumeration(
         number: scope.types.own.len(),
     };
     scope.types.own.push(enumeration_scalar(t, names))?;
-    let judged = enumerated(alloc, scope, t, too_many(names), names)?;
-    Ok(of_type(judged, t))
+    let elaborated = enumerated(alloc, scope, t, too_many(names), names)?;
+    Ok(of_type(elaborated, t))
 }
 
 // ---- subranges
 
-fn scalar_in(types: &Types, at: Pos, t: Judged<TypeNo>) -> Judged<Scalar>
+fn scalar_in(types: &Types, at: Pos, t: Elaborated<TypeNo>) -> Elaborated<Scalar>
     ensures { result ≡ scalar_in least types.now at t }
 {
     match t {
         Err(fault) => Err(fault),
         Ok(t) => match scalar_of(types, t) {
-            None => told(at, 33),
+            None => reported(at, 33),
             Some(scalar) => Ok(scalar),
         },
     }
 }
 
 /// The scalar type of a subrange's name.
-fn scalar_named(scope: &Scope<Fault>, q: &Qualified) -> Result<Judged<Scalar>, AllocError>
+fn scalar_named(scope: &Scope<Fault>, q: &Qualified) -> Result<Elaborated<Scalar>, AllocError>
     ensures { IfOk result (λ s. s ≡ scalar_named least scope.now q.now) }
 {
     let t = named_type(scope, q)?;
     Ok(scalar_in(&scope.types, first_of(q), t))
 }
 
-fn bound_at(alloc: Global, scope: &Scope<Fault>, e: &Expr) -> Result<Judged<Ordinal>, AllocError>
+fn bound_at(
+    alloc: Global,
+    scope: &Scope<Fault>,
+    e: &Expr,
+) -> Result<Elaborated<Ordinal>, AllocError>
     ensures { IfOk result (λ a. a ≡ bound_at least scope.now (part least e.now)) }
 {
     let value = constant_of(alloc, scope, e)?;
@@ -163,7 +170,7 @@ fn subrange(
     of: &Option<Qualified>,
     low: &Expr,
     high: &Expr,
-) -> Result<Judged<Scalar>, AllocError>
+) -> Result<Elaborated<Scalar>, AllocError>
     ensures { IfOk result (λ s. s ≡ subrange least scope.now of.now (part least low.now) (part least high.now)) }
 {
     let first = bound_at(alloc, scope, low)?;
@@ -202,7 +209,7 @@ fn simple_type(
     alloc: Global,
     scope: &mut Scope<Fault>,
     t: &Simple,
-) -> Result<Judged<TypeNo>, AllocError>
+) -> Result<Elaborated<TypeNo>, AllocError>
     ensures { IfOk result (λ j. (scope.new, j) ≡ simple_type least scope.old t.now) }
 {
     match t {
@@ -217,21 +224,21 @@ fn simple_type(
 
 // ---- arrays
 
-fn index_in(types: &Types, at: Pos, t: Judged<TypeNo>) -> Judged<TypeNo>
+fn index_in(types: &Types, at: Pos, t: Elaborated<TypeNo>) -> Elaborated<TypeNo>
     ensures { result ≡ index_in least types.now at t }
 {
     match t {
         Err(fault) => Err(fault),
         Ok(t) => {
             if !is_index(types, t) {
-                return told(at, 36);
+                return reported(at, 36);
             }
             Ok(t)
         }
     }
 }
 
-fn array_in(types: &Types, at: Pos, index: TypeNo, element: TypeNo) -> Judged<Made>
+fn array_in(types: &Types, at: Pos, index: TypeNo, element: TypeNo) -> Elaborated<Made>
     ensures { result ≡ array_in least types.now at index element }
 {
     match array_cells(at, count_at(types, index), cells_of(types, element)) {
@@ -243,7 +250,12 @@ fn array_in(types: &Types, at: Pos, index: TypeNo, element: TypeNo) -> Judged<Ma
     }
 }
 
-fn array_of(types: &Types, at: Pos, index: Judged<TypeNo>, element: Judged<TypeNo>) -> Judged<Made>
+fn array_of(
+    types: &Types,
+    at: Pos,
+    index: Elaborated<TypeNo>,
+    element: Elaborated<TypeNo>,
+) -> Elaborated<Made>
     ensures { result ≡ array_of least types.now at index element }
 {
     match both(index, element) {
@@ -257,7 +269,7 @@ fn index_type(
     alloc: Global,
     scope: &mut Scope<Fault>,
     t: &Simple,
-) -> Result<Judged<TypeNo>, AllocError>
+) -> Result<Elaborated<TypeNo>, AllocError>
     ensures { IfOk result (λ j. (scope.new, j) ≡ index_type least scope.old t.now) }
 {
     let i = simple_type(alloc, scope, t)?;
@@ -267,9 +279,9 @@ fn index_type(
 fn array_made(
     scope: &mut Scope<Fault>,
     at: Pos,
-    index: Judged<TypeNo>,
-    element: Judged<TypeNo>,
-) -> Result<Judged<TypeNo>, AllocError>
+    index: Elaborated<TypeNo>,
+    element: Elaborated<TypeNo>,
+) -> Result<Elaborated<TypeNo>, AllocError>
     ensures { IfOk result (λ j. (scope.new, j) ≡ array_made least at scope.old index element) }
 {
     let made = array_of(&scope.types, at, index, element);
@@ -279,7 +291,7 @@ fn array_made(
 // ---- records
 
 /// The type of a field. One whose type is broken stands for its name alone.
-fn field_type(t: Judged<TypeNo>) -> TypeNo
+fn field_type(t: Elaborated<TypeNo>) -> TypeNo
     ensures { result ≡ field_type t }
 {
     match t {
@@ -288,8 +300,8 @@ fn field_type(t: Judged<TypeNo>) -> TypeNo
     }
 }
 
-/// What is told of a part.
-pub fn nothing_of(t: Judged<TypeNo>) -> Judged<()>
+/// What is reported of a part.
+pub fn nothing_of(t: Elaborated<TypeNo>) -> Elaborated<()>
     ensures { result ≡ nothing_of t }
 {
     match t {
@@ -298,11 +310,11 @@ pub fn nothing_of(t: Judged<TypeNo>) -> Judged<()>
     }
 }
 
-fn record_in(at: Pos, fields: Fields) -> Judged<Made>
+fn record_in(at: Pos, fields: Fields) -> Elaborated<Made>
     ensures { result ≡ record_in least at fields }
 {
     if fields.cells > 131_072 {
-        return told(at, 38);
+        return reported(at, 38);
     }
     Ok(Made {
         shape: Shape::Record(fields.names),
@@ -310,10 +322,10 @@ fn record_in(at: Pos, fields: Fields) -> Judged<Made>
     })
 }
 
-fn record_of(at: Pos, fields: Fields, judged: Judged<()>) -> Judged<Made>
-    ensures { result ≡ record_of least at fields judged }
+fn record_of(at: Pos, fields: Fields, elaborated: Elaborated<()>) -> Elaborated<Made>
+    ensures { result ≡ record_of least at fields elaborated }
 {
-    match judged {
+    match elaborated {
         Err(fault) => Err(fault),
         Ok(()) => record_in(at, fields),
     }
@@ -328,7 +340,7 @@ pub fn type_of(
     alloc: Global,
     scope: &mut Scope<Fault>,
     t: &TypeExpr,
-) -> Result<Judged<TypeNo>, AllocError>
+) -> Result<Elaborated<TypeNo>, AllocError>
     ensures { IfOk result (λ j. (scope.new, j) ≡ type_of least t.now scope.old) }
 {
     match t {
@@ -340,8 +352,8 @@ pub fn type_of(
         }
         TypeExpr::Record(at, list) => {
             let mut fields = no_fields(alloc);
-            let judged = fields_of(alloc, scope, &mut fields, list.as_slice())?;
-            with_made(scope, record_of(*at, fields, judged))
+            let elaborated = fields_of(alloc, scope, &mut fields, list.as_slice())?;
+            with_made(scope, record_of(*at, fields, elaborated))
         }
         TypeExpr::Procedure(_, formals, result) => {
             let made = procedure_type(alloc, scope, formals.as_slice(), result)?;
@@ -356,14 +368,14 @@ fn fields_of(
     scope: &mut Scope<Fault>,
     fields: &mut Fields,
     list: &[Field],
-) -> Result<Judged<()>, AllocError>
+) -> Result<Elaborated<()>, AllocError>
     ensures { IfOk result (λ j. (scope.new, fields.new, j) ≡ fold with_field_list (scope.old, fields.old, Ok tt) list.now) }
 {
-    let mut judged = Ok(());
+    let mut elaborated = Ok(());
     for field in list {
-        judged = field_list(alloc, scope, fields, judged, field)?;
+        elaborated = field_list(alloc, scope, fields, elaborated, field)?;
     }
-    Ok(judged)
+    Ok(elaborated)
 }
 
 #[cycle(types)]
@@ -372,9 +384,9 @@ fn field_list(
     alloc: Global,
     scope: &mut Scope<Fault>,
     fields: &mut Fields,
-    before: Judged<()>,
+    before: Elaborated<()>,
     field: &Field,
-) -> Result<Judged<()>, AllocError>
+) -> Result<Elaborated<()>, AllocError>
     ensures { IfOk result (λ j. (scope.new, fields.new, j) ≡ field_list least field.now (scope.old, fields.old, before)) }
 {
     let t = type_of(alloc, scope, &field.of)?;

@@ -1,11 +1,11 @@
 //! Names of types.
 
 ghost use Rattle.std.specs.Prelude.{◌≡◌, IfOk};
-ghost use Rattle.m2_judged.specs.Judged.{least, ◌▷◌};
+ghost use Rattle.m2_scopes.specs.Elaborated.{least, ◌▷◌};
 ghost use Rattle.m2_made.specs.Named.{first_of, type_meant, in_module, of_module, named_type};
 
 use m2_constants::member;
-use m2_judged::{Fault, Judged, Scope, looked_up, told};
+use m2_scopes::{Elaborated, Fault, Scope, looked_up, reported};
 use m2_tree::{Ident, Pos, Qualified};
 use m2_typed::{Meaning, TypeNo};
 use std::alloc::AllocError;
@@ -20,24 +20,24 @@ pub fn first_of(q: &Qualified) -> Pos
     }
 }
 
-fn type_meant(at: Pos, meaning: Meaning) -> Judged<TypeNo>
+fn type_meant(at: Pos, meaning: Meaning) -> Elaborated<TypeNo>
     ensures { result ≡ type_meant least at meaning }
 {
     match meaning {
         Meaning::Type(t, _) => Ok(t),
-        Meaning::Constant(_) => told(at, 33),
-        Meaning::Variable(_) => told(at, 33),
-        Meaning::Local(_) => told(at, 33),
-        Meaning::Field(_) => told(at, 33),
-        Meaning::Procedure(_) => told(at, 33),
-        Meaning::LocalProcedure(_) => told(at, 33),
-        Meaning::Ahead => told(at, 33),
-        Meaning::Standard(_) => told(at, 33),
-        Meaning::Module(_) => told(at, 33),
+        Meaning::Constant(_) => reported(at, 33),
+        Meaning::Variable(_) => reported(at, 33),
+        Meaning::Local(_) => reported(at, 33),
+        Meaning::Field(_) => reported(at, 33),
+        Meaning::Procedure(_) => reported(at, 33),
+        Meaning::LocalProcedure(_) => reported(at, 33),
+        Meaning::Ahead => reported(at, 33),
+        Meaning::Standard(_) => reported(at, 33),
+        Meaning::Module(_) => reported(at, 33),
     }
 }
 
-fn type_by(at: Pos, meaning: Judged<Meaning>) -> Judged<TypeNo>
+fn type_by(at: Pos, meaning: Elaborated<Meaning>) -> Elaborated<TypeNo>
     ensures { result ≡ meaning ▷ type_meant least at }
 {
     match meaning {
@@ -51,25 +51,25 @@ fn in_module(
     at: Pos,
     name: &Ident,
     meaning: Meaning,
-) -> Result<Judged<TypeNo>, AllocError>
+) -> Result<Elaborated<TypeNo>, AllocError>
     ensures { IfOk result (λ t. t ≡ in_module least scope.now at name.now meaning) }
 {
     match meaning {
         Meaning::Module(place) => Ok(type_by(at, member(scope, place, name)?)),
-        Meaning::Type(_, _) => Ok(told(at, 33)),
-        Meaning::Constant(_) => Ok(told(at, 33)),
-        Meaning::Variable(_) => Ok(told(at, 33)),
-        Meaning::Local(_) => Ok(told(at, 33)),
-        Meaning::Field(_) => Ok(told(at, 33)),
-        Meaning::Procedure(_) => Ok(told(at, 33)),
-        Meaning::LocalProcedure(_) => Ok(told(at, 33)),
-        Meaning::Ahead => Ok(told(at, 33)),
-        Meaning::Standard(_) => Ok(told(at, 33)),
+        Meaning::Type(_, _) => Ok(reported(at, 33)),
+        Meaning::Constant(_) => Ok(reported(at, 33)),
+        Meaning::Variable(_) => Ok(reported(at, 33)),
+        Meaning::Local(_) => Ok(reported(at, 33)),
+        Meaning::Field(_) => Ok(reported(at, 33)),
+        Meaning::Procedure(_) => Ok(reported(at, 33)),
+        Meaning::LocalProcedure(_) => Ok(reported(at, 33)),
+        Meaning::Ahead => Ok(reported(at, 33)),
+        Meaning::Standard(_) => Ok(reported(at, 33)),
     }
 }
 
 /// The type of this name.
-pub fn named_type(scope: &Scope<Fault>, q: &Qualified) -> Result<Judged<TypeNo>, AllocError>
+pub fn named_type(scope: &Scope<Fault>, q: &Qualified) -> Result<Elaborated<TypeNo>, AllocError>
     ensures { IfOk result (λ t. t ≡ named_type least scope.now q.now) }
 {
     match &q.module {

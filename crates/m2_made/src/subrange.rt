@@ -1,26 +1,26 @@
 //! Subranges.
 
 ghost use Rattle.std.specs.Prelude.{◌≡◌};
-ghost use Rattle.m2_judged.specs.Judged.{least, ◌▷◌};
+ghost use Rattle.m2_scopes.specs.Elaborated.{least, ◌▷◌};
 ghost use Rattle.m2_made.specs.Subranges.{ordinal_in, bound_of, number_base, base_of, fits_at, between, unnamed, ordered, is_of_base, is_of, bound_in, alike_ordered, are_bounds, limited, under};
 
-use m2_judged::{Judged, beside, both, told};
+use m2_scopes::{Elaborated, beside, both, reported};
 use m2_tree::Pos;
 use m2_typed::{CARDINAL, INTEGER, Scalar, TypeNo, Value, are_same, is_numeric};
 use m2_values::{Operand, Ordinal, common, fits, operand_of};
 
-fn ordinal_in(at: Pos, x: Option<Operand>) -> Judged<Ordinal>
+fn ordinal_in(at: Pos, x: Option<Operand>) -> Elaborated<Ordinal>
     ensures { result ≡ ordinal_in least at x }
 {
     match x {
-        None => told(at, 40),
-        Some(Operand::Set(_)) => told(at, 40),
+        None => reported(at, 40),
+        Some(Operand::Set(_)) => reported(at, 40),
         Some(Operand::Scalar(a)) => Ok(a),
     }
 }
 
 /// A bound, which is a scalar.
-pub fn bound_of(at: Pos, value: Judged<Value>) -> Judged<Ordinal>
+pub fn bound_of(at: Pos, value: Elaborated<Value>) -> Elaborated<Ordinal>
     ensures { result ≡ bound_of least at value }
 {
     match value {
@@ -45,25 +45,25 @@ fn base_of(sort: Option<TypeNo>, low: i64) -> TypeNo
 }
 
 /// A bound that takes the base, if it is a number without a type.
-fn fits_at(at: Pos, base: TypeNo, a: Ordinal) -> Judged<()>
+fn fits_at(at: Pos, base: TypeNo, a: Ordinal) -> Elaborated<()>
     ensures { result ≡ fits_at least at base a.sort a.number }
 {
     match a.sort {
         Some(_) => Ok(()),
         None => {
             if !fits(Some(base), a.number) {
-                return told(at, 52);
+                return reported(at, 52);
             }
             Ok(())
         }
     }
 }
 
-fn ordered(at: Pos, low: i64, high: i64) -> Judged<()>
+fn ordered(at: Pos, low: i64, high: i64) -> Elaborated<()>
     ensures { result ≡ ordered least at low high }
 {
     if high < low {
-        return told(at, 35);
+        return reported(at, 35);
     }
     Ok(())
 }
@@ -74,11 +74,11 @@ fn between(
     high_at: Pos,
     b: Ordinal,
     sort: Option<Option<TypeNo>>,
-) -> Judged<Scalar>
+) -> Elaborated<Scalar>
     ensures { result ≡ between least at a high_at b sort }
 {
     match sort {
-        None => told(high_at, 40),
+        None => reported(high_at, 40),
         Some(sort) => {
             let base = base_of(sort, a.number);
             let fit = beside(fits_at(at, base, a), fits_at(high_at, base, b));
@@ -95,7 +95,12 @@ fn between(
 }
 
 /// The subrange between two bounds, with no type named.
-pub fn unnamed(at: Pos, low: Judged<Ordinal>, high_at: Pos, high: Judged<Ordinal>) -> Judged<Scalar>
+pub fn unnamed(
+    at: Pos,
+    low: Elaborated<Ordinal>,
+    high_at: Pos,
+    high: Elaborated<Ordinal>,
+) -> Elaborated<Scalar>
     ensures { result ≡ unnamed least at low high_at high }
 {
     match both(low, high) {
@@ -114,19 +119,19 @@ fn is_of_base(base: TypeNo, sort: Option<TypeNo>) -> bool
     }
 }
 
-fn is_of(of: Scalar, at: Pos, a: Ordinal) -> Judged<()>
+fn is_of(of: Scalar, at: Pos, a: Ordinal) -> Elaborated<()>
     ensures { result ≡ is_of least of at a }
 {
     if !is_of_base(of.base, a.sort) {
-        return told(at, 40);
+        return reported(at, 40);
     }
     if !(of.low <= a.number && a.number <= of.high) {
-        return told(at, 52);
+        return reported(at, 52);
     }
     Ok(())
 }
 
-fn bound_in(of: Judged<Scalar>, at: Pos, a: Judged<Ordinal>) -> Judged<()>
+fn bound_in(of: Elaborated<Scalar>, at: Pos, a: Elaborated<Ordinal>) -> Elaborated<()>
     ensures { result ≡ bound_in least of at a }
 {
     match both(of, a) {
@@ -136,7 +141,7 @@ fn bound_in(of: Judged<Scalar>, at: Pos, a: Judged<Ordinal>) -> Judged<()>
 }
 
 /// The order of two bounds that go together.
-fn alike_ordered(at: Pos, low: Judged<Ordinal>, high: Judged<Ordinal>) -> Judged<()>
+fn alike_ordered(at: Pos, low: Elaborated<Ordinal>, high: Elaborated<Ordinal>) -> Elaborated<()>
     ensures { result ≡ alike_ordered least at low high }
 {
     match both(low, high) {
@@ -149,19 +154,22 @@ fn alike_ordered(at: Pos, low: Judged<Ordinal>, high: Judged<Ordinal>) -> Judged
 }
 
 fn are_bounds(
-    of: Judged<Scalar>,
+    of: Elaborated<Scalar>,
     at: Pos,
-    low: Judged<Ordinal>,
+    low: Elaborated<Ordinal>,
     high_at: Pos,
-    high: Judged<Ordinal>,
-) -> Judged<()>
+    high: Elaborated<Ordinal>,
+) -> Elaborated<()>
     ensures { result ≡ are_bounds least of at low high_at high }
 {
     let within = beside(bound_in(of, at, low), bound_in(of, high_at, high));
     beside(within, alike_ordered(at, low, high))
 }
 
-fn limited(parts: Judged<(Scalar, (Ordinal, Ordinal))>, fine: Judged<()>) -> Judged<Scalar>
+fn limited(
+    parts: Elaborated<(Scalar, (Ordinal, Ordinal))>,
+    fine: Elaborated<()>,
+) -> Elaborated<Scalar>
     ensures { result ≡ limited least parts fine }
 {
     match both(parts, fine) {
@@ -176,12 +184,12 @@ fn limited(parts: Judged<(Scalar, (Ordinal, Ordinal))>, fine: Judged<()>) -> Jud
 
 /// The subrange between two bounds, under a named type.
 pub fn under(
-    of: Judged<Scalar>,
+    of: Elaborated<Scalar>,
     at: Pos,
-    low: Judged<Ordinal>,
+    low: Elaborated<Ordinal>,
     high_at: Pos,
-    high: Judged<Ordinal>,
-) -> Judged<Scalar>
+    high: Elaborated<Ordinal>,
+) -> Elaborated<Scalar>
     ensures { result ≡ under least of at low high_at high }
 {
     let fine = are_bounds(of, at, low, high_at, high);

@@ -21,14 +21,14 @@ joined {xs = xs} b c = record { more = b.more ++ c.more; rest = sym (append_asso
 
 -- ---- the ends of expressions and of statements, where this was printed before
 
-abbrev pub told : {A : Type 0} → Answer A → List ℕ
-told (Gave v st) = st.out
-told (Ended k out) = out
-told (Running out) = out
+abbrev pub reported : {A : Type 0} → Answer A → List ℕ
+reported (Gave v st) = st.out
+reported (Ended k out) = out
+reported (Running out) = out
 
 pub data Later {A : Type 0} (out : List ℕ) : Answer A → Answer A → Type 0 where
-  alike : (x : Answer A) → Begins out (told x) → Later out x x
-  going : (more : List ℕ) (x : Answer A) → Begins out more → Begins more (told x) → Later out (Running more) x
+  alike : (x : Answer A) → Begins out (reported x) → Later out x x
+  going : (more : List ℕ) (x : Answer A) → Begins out more → Begins more (reported x) → Later out (Running more) x
 
 pub data After (out : List ℕ) : Outcome → Outcome → Type 0 where
   same : (x : Outcome) → Begins out (printed x) → After out x x
@@ -36,9 +36,9 @@ pub data After (out : List ℕ) : Outcome → Outcome → Type 0 where
 
 -- ---- the second of both
 
-pub told_later : {A : Type 0} {out : List ℕ} {x y : Answer A} → Later out x y → Begins out (told y)
-told_later (alike x b) = b
-told_later (going more x b c) = joined b c
+pub reported_later : {A : Type 0} {out : List ℕ} {x y : Answer A} → Later out x y → Begins out (reported y)
+reported_later (alike x b) = b
+reported_later (going more x b c) = joined b c
 
 pub printed_later : {out : List ℕ} {x y : Outcome} → After out x y → Begins out (printed y)
 printed_later (same x b) = b
@@ -55,19 +55,19 @@ before d (open_yet more x b c) = open_yet more x (joined d b) c
 -- ---- one after the other
 
 module _ {A B : Type 0} {f g : A → State → Answer B} (k : (v : A) (st : State) → Later st.out (f v st) (g v st)) where
-  told_on : {more : List ℕ} (x : Answer A) → Begins more (told x) → Begins more (told (then_give x g))
-  told_on (Gave v st) b = joined b (told_later (k v st))
-  told_on (Ended n out) b = b
-  told_on (Running out) b = b
+  reported_on : {more : List ℕ} (x : Answer A) → Begins more (reported x) → Begins more (reported (then_give x g))
+  reported_on (Gave v st) b = joined b (reported_later (k v st))
+  reported_on (Ended n out) b = b
+  reported_on (Running out) b = b
 
   pub then_later : {out : List ℕ} {x y : Answer A} → Later out x y → Later out (then_give x f) (then_give y g)
   then_later (alike (Gave v st) b) = earlier b (k v st)
   then_later (alike (Ended n out) b) = alike (Ended n out) b
   then_later (alike (Running out) b) = alike (Running out) b
-  then_later (going more x b c) = going more (then_give x g) b (told_on x c)
+  then_later (going more x b c) = going more (then_give x g) b (reported_on x c)
 
 module _ {A : Type 0} {f g : A → State → Outcome} (k : (v : A) (st : State) → After st.out (f v st) (g v st)) where
-  answered_on : {more : List ℕ} (x : Answer A) → Begins more (told x) → Begins more (printed (with_answer x g))
+  answered_on : {more : List ℕ} (x : Answer A) → Begins more (reported x) → Begins more (printed (with_answer x g))
   answered_on (Gave v st) b = joined b (printed_later (k v st))
   answered_on (Ended n out) b = b
   answered_on (Running out) b = b
@@ -126,20 +126,20 @@ module _ {f g : State → Outcome} (k : (st : State) → After st.out (f st) (g 
 
 -- ---- results of functions
 
-end_told : (function : Bool) (st : State) → Begins st.out (told (at_end function st))
-end_told true st = begins st.out
-end_told false st = begins st.out
+end_reported : (function : Bool) (st : State) → Begins st.out (reported (at_end function st))
+end_reported true st = begins st.out
+end_reported false st = begins st.out
 
-result_told : {more : List ℕ} (function : Bool) (x : Outcome) → Begins more (printed x) → Begins more (told (result function x))
-result_told function (Went st) b = joined b (end_told function st)
-result_told function (Left st) b = joined b (end_told function st)
-result_told function (Came v st) b = b
-result_told function (Stopped n out) b = b
-result_told function (Unfinished out) b = b
+result_reported : {more : List ℕ} (function : Bool) (x : Outcome) → Begins more (printed x) → Begins more (reported (result function x))
+result_reported function (Went st) b = joined b (end_reported function st)
+result_reported function (Left st) b = joined b (end_reported function st)
+result_reported function (Came v st) b = b
+result_reported function (Stopped n out) b = b
+result_reported function (Unfinished out) b = b
 
 pub result_later : {out : List ℕ} {x y : Outcome} (function : Bool) → After out x y → Later out (result function x) (result function y)
-result_later function (same x b) = alike (result function x) (result_told function x b)
-result_later function (open_yet more x b c) = going more (result function x) b (result_told function x c)
+result_later function (same x b) = alike (result function x) (result_reported function x b)
+result_later function (open_yet more x b c) = going more (result function x) b (result_reported function x c)
 
 -- ---- choices
 

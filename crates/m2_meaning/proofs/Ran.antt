@@ -9,7 +9,7 @@ use Rattle.m2_meaning.specs.Statements.{does}
 use Rattle.m2_meaning.specs.Calls.{needed, is_function, entered, around_of, body_does, runs, calling}
 use Rattle.m2_meaning.specs.Runs.{storage, body_frame, first_state, around_body, bodies, run}
 use Rattle.m2_meaning.specs.Later.{printed, Begins, EndsAlike, PrintsOn}
-use Rattle.m2_meaning.proofs.After.{begins, Later, alike, going, told_later, After, same, open_yet, if_later, ended, result_later, body_later}
+use Rattle.m2_meaning.proofs.After.{begins, Later, alike, going, reported_later, After, same, open_yet, if_later, ended, result_later, body_later}
 use Rattle.m2_meaning.proofs.Evaluated.{AsksLater, Pairwise, none, more}
 use Rattle.m2_meaning.proofs.Done.{DoesLater, turn_later, does_later}
 
@@ -39,7 +39,7 @@ calling_twice p m (suc d) = record { at = deeper p m m (omega arith) d d (callin
 
 no_more : (p : Modules) (n m e : ℕ) (c : Option Callee) (vs : List Passed) (next left : ℕ) (st : State) → Later st.out (calling p n zero c vs next left st) (calling p m e c vs next left st)
 unfolding calling
-no_more p n m e c vs next left st = going st.out (calling p m e c vs next left st) (begins st.out) (told_later ((calling_twice p m e).at c vs next left st))
+no_more p n m e c vs next left st = going st.out (calling p m e c vs next left st) (begins st.out) (reported_later ((calling_twice p m e).at c vs next left st))
 
 calling_later : (p : Modules) (n m : ℕ) → n ≤ m → (d e : ℕ) → d ≤ e → AsksLater (calling p n d) (calling p m e)
 calling_later p n m q zero e r = record { at = no_more p n m e }

@@ -5,7 +5,7 @@ use Rattle.m2_meaning.specs.Store.{Location}
 use Rattle.m2_meaning.specs.Answer.{State, Answer, Outcome, Unfinished}
 use Rattle.m2_meaning.specs.Operators.{is_true}
 use Rattle.m2_meaning.specs.Statements.{stored, looped, while_true, until_true, has_passed, for_turns, for_all}
-use Rattle.m2_meaning.proofs.After.{begins, Later, alike, told_later, After, same, open_yet, printed_later, with_later, go_later, left_later, if_after, went}
+use Rattle.m2_meaning.proofs.After.{begins, Later, alike, reported_later, After, same, open_yet, printed_later, with_later, go_later, left_later, if_after, went}
 
 abbrev Alike : (State → Outcome) → (State → Outcome) → Type 0
 Alike f g = (st : State) → After st.out (f st) (g st)
@@ -25,7 +25,7 @@ pub second : {f g : State → Outcome} → Alike f g → Alike g g
 second {g = g} h = λ st. same (g st) (printed_later (h st))
 
 pub second_test : {f g : State → Answer ℤ} → Tests f g → Tests g g
-second_test {g = g} h = λ st. alike (g st) (told_later (h st))
+second_test {g = g} h = λ st. alike (g st) (reported_later (h st))
 
 -- ---- LOOP
 

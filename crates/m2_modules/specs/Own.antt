@@ -11,10 +11,10 @@ use Rattle.m2_typed.specs.declared.known_types.Types.{Types}
 use Rattle.m2_typed.specs.declared.table.ModuleTypes.{ModuleTypes}
 use Rattle.m2_typed.specs.declared.table.Table.{Table}
 use Rattle.m2_typed.specs.Names.{entered}
-use Rattle.m2_judged.specs.declared.known.Origin.TheVariants.{Here}
-use Rattle.m2_judged.specs.declared.known.Known.{Known}
-use Rattle.m2_judged.specs.declared.known.Known.TheVariants.{Declared}
-use Rattle.m2_judged.specs.declared.scope.Scope.{Scope}
+use Rattle.m2_scopes.specs.declared.known.Origin.TheVariants.{Here}
+use Rattle.m2_scopes.specs.declared.known.Known.{Known}
+use Rattle.m2_scopes.specs.declared.known.Known.TheVariants.{Declared}
+use Rattle.m2_scopes.specs.declared.scope.Scope.{Scope}
 use Rattle.m2_types.specs.Predeclared.{with_table, first_scope}
 
 -- ---- names: all that the definition declares

@@ -13,9 +13,9 @@ use Rattle.m2_typed.specs.declared.typed_module.Which.TheVariants as which
 use Rattle.m2_typed.specs.declared.typed_module.TypedModule.{TypedModule}
 use Rattle.m2_typed.specs.Types.{integer}
 use Rattle.m2_typed.specs.Names.{found}
-use Rattle.m2_judged.specs.declared.known.Known.{Known}
-use Rattle.m2_judged.specs.declared.known.Known.TheVariants.{Later, Ahead, Begun, Headed, Declared}
-use Rattle.m2_judged.specs.declared.scope.Scope.{Scope}
+use Rattle.m2_scopes.specs.declared.known.Known.{Known}
+use Rattle.m2_scopes.specs.declared.known.Known.TheVariants.{Later, Ahead, Begun, Headed, Declared}
+use Rattle.m2_scopes.specs.declared.scope.Scope.{Scope}
 use Rattle.m2_modules.specs.declared.routine.Numbered.{Numbered}
 use Rattle.m2_modules.specs.declared.routine.Bodies.{Bodies}
 use Rattle.m2_modules.specs.Imports.{all_imports, typed_imports}
@@ -34,16 +34,16 @@ numbered_by meaning.Ahead = None
 numbered_by (meaning.Standard f) = None
 numbered_by (meaning.Module k) = None
 
-abbrev pub numbered_judged : {T : Type 0} → Result Meaning T → Option Numbered
-numbered_judged (Ok m) = numbered_by m
-numbered_judged (Err e) = None
+abbrev pub numbered_elaborated : {T : Type 0} → Result Meaning T → Option Numbered
+numbered_elaborated (Ok m) = numbered_by m
+numbered_elaborated (Err e) = None
 
 abbrev pub numbered_known : {T : Type 0} → Option (Known T) → Option Numbered
 numbered_known None = None
 numbered_known (Some Later) = None
 numbered_known (Some Ahead) = None
 numbered_known (Some Begun) = None
-numbered_known (Some (Headed m)) = numbered_judged m
+numbered_known (Some (Headed m)) = numbered_elaborated m
 numbered_known (Some (Declared o m)) = None
 
 abbrev pub procedure_named : {T : Type 0} → Scope T → Ident → Option Numbered

@@ -6,7 +6,7 @@ ghost use Rattle.std.specs.Option.{option_map};
 ghost use Rattle.m2_types.specs.Steps.{if_some};
 ghost use Rattle.m2_modules.specs.Own.{with_own_name, own_names, with_variable_of, with_exported_variable, exported_variables, with_heading_of, with_exported_heading, exported_headings, with_field_copy, fields_copy, shape_copy, made_copy, types_made_in, own_types, with_own_types, with_own, implementation_scope};
 
-use m2_judged::{Fault, Known, Origin, Scope};
+use m2_scopes::{Fault, Known, Origin, Scope};
 use m2_tree::Items;
 use m2_typed::{
     Dictionary, Formal, Made, Meaning, ModuleTypes, Shape, Shared, Signature, Table, TypeNo, Types,

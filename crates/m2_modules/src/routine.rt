@@ -2,10 +2,10 @@
 
 ghost use Rattle.std.specs.Prelude.{◌≡◌, [], map, drop, slice_set, IfOk, OnOk};
 ghost use Rattle.std.specs.Option.{option_copied};
-ghost use Rattle.m2_modules.specs.Routines.{numbered_by, numbered_judged, numbered_known, procedure_named, unfilled, no_bodies, begun_at, filled, routine, typed_module};
+ghost use Rattle.m2_modules.specs.Routines.{numbered_by, numbered_elaborated, numbered_known, procedure_named, unfilled, no_bodies, begun_at, filled, routine, typed_module};
 
 use crate::imports::{all_imports, typed_imports};
-use m2_judged::{Fault, Judged, Known, Scope};
+use m2_scopes::{Elaborated, Fault, Known, Scope};
 use m2_tree::{Ident, Items, Module, Pos};
 use m2_typed::{
     Dictionary, INTEGER, Meaning, Routine, Table, TypeNo, TypedModule, TypedStmt, Which,
@@ -55,8 +55,8 @@ fn numbered_by(meaning: &Meaning) -> Option<Numbered>
     }
 }
 
-fn numbered_judged(means: &Judged<Meaning>) -> Option<Numbered>
-    ensures { result ≡ numbered_judged means.now }
+fn numbered_elaborated(means: &Elaborated<Meaning>) -> Option<Numbered>
+    ensures { result ≡ numbered_elaborated means.now }
 {
     match means {
         Err(_) => None,
@@ -73,7 +73,7 @@ fn numbered_known(known: Option<&Known<Fault>>) -> Option<Numbered>
             Known::Later => None,
             Known::Ahead => None,
             Known::Begun => None,
-            Known::Headed(means) => numbered_judged(means),
+            Known::Headed(means) => numbered_elaborated(means),
             Known::Declared(_, _) => None,
         },
     }

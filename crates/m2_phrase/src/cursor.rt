@@ -56,7 +56,7 @@ fn is_symbol(lexeme: &Lexeme, symbol: Symbol) -> bool
     }
 }
 
-/// The number that is told of a token that does not fit.
+/// The number that is reported of a token that does not fit.
 fn unfit_number(lexeme: &Lexeme) -> u32
     ensures { result ≡ unfit_number lexeme.now }
 {
@@ -299,7 +299,7 @@ impl<'a> Cursor<'a> {
         self.rest.is_empty()
     }
 
-    /// What is told of a fault at the next token.
+    /// What is reported of a fault at the next token.
     pub fn refusal(&self, fault: Fault) -> ParseRefusal
         ensures pos { result.pos ≡ place_of self.now }
         ensures number { result.number ≡ number_of fault self.now }

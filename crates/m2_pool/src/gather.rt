@@ -183,7 +183,7 @@ fn agree<W: Work, G: Gate>(
     ensures all { IsTrue (all_settled settled.old.items (prerequisites_of pool.now.graph.now job))
         → IsTrue result }
 {
-    // This tells the proof that the graph is sound.
+    // It gives the proof that the graph is sound.
     let _jobs = pool.graph.jobs();
     let prerequisites = pool.graph.prerequisites(job);
     let mut place = 0;

@@ -7,7 +7,7 @@ use Rattle.m2_tree.specs.declared.decl.Module.{Module}
 use Rattle.m2_scan.specs.Division.{HasTokens, Refuses, max_text}
 use Rattle.m2_scan.specs.FaultNumber.{number_of}
 use Rattle.m2_scan.specs.declared.refusal.ScanRefusal.{ScanRefusal}
-use Rattle.m2_grammar.specs.Refusal.{IsTree, IsTold}
+use Rattle.m2_grammar.specs.Refusal.{IsTree, IsReported}
 use Rattle.m2_grammar.specs.declared.refusal.ParseRefusal.{ParseRefusal}
 use Rattle.m2_read.specs.declared.file.SourceFile.{SourceFile}
 use Rattle.m2_read.specs.declared.reading.Read.{Read}
@@ -30,7 +30,7 @@ pub record IsNoTree (text : List ℕ) (pos : Pos) (number : ℕ) : Type 0 where
   pub tokens : List Token
   pub divides : AreTokens text tokens
   pub refusal : ParseRefusal
-  pub told : IsTold tokens refusal
+  pub reported : IsReported tokens refusal
   pub place : pos ≡ refusal.pos
   pub rule : number ≡ refusal.number
 

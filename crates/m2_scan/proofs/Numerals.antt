@@ -30,7 +30,7 @@ decimal_last c h =
 last_passes : (p : ℕ → Bool) (front : Text) (c : ℕ) → list_all p (front ++ c ∷ []) ≡ true → p c ≡ true
 last_passes p front c h = (and_true (p c) true (all_append p front (c ∷ []) h).1).0
 
--- the last byte tells how a number is written
+-- the last byte says how a number is written
 pub written_last : (form : Numeral) (w : Text) (n : ℕ) (front : Text) (c : ℕ) → Writes w form n → w ≡ front ++ c ∷ [] → form ≡ form_by c
 written_last Decimal w n front c h e =
     let digits : h.0 ≡ front ++ c ∷ [] = sym (append-nil h.0) ∙ sym h.1 ∙ e in

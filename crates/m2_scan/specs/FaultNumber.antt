@@ -1,4 +1,4 @@
--- The numbers by which the refusals of a text are told.
+-- The numbers by which the refusals of a text are reported.
 use Rattle.std.specs.Prelude.{ℕ}
 use Rattle.m2_scan.specs.declared.refusal.Fault.{Fault}
 use Rattle.m2_scan.specs.declared.refusal.Fault.TheVariants.{TooLong, StrayByte, OpenComment, OpenString, BadNumber, LargeNumber, LongName}

@@ -1,4 +1,4 @@
--- Numbers as they are written: digits, and a letter that tells the base.
+-- Numbers as they are written: digits, and a letter that says the base.
 use Rattle.std.specs.Prelude.{◌≡◌, ◌≤◌, ℕ, ◌+◌, ◌-◌, ◌*◌, ◌^◌, true, ◌&&◌, nat_le, nat_lt, Bool, [], ◌∷◌, ◌++◌, fold, if◌then◌else◌}
 use Rattle.std.specs.List.{list_all}
 use Rattle.m2_scan.specs.declared.number.Numeral.{Numeral}

@@ -9,7 +9,7 @@ use std::alloc::{AllocError, AllocFailed};
 /// A rule of the language that a text can break before there are tokens.
 #[derive(Clone, Copy, Debug, PartialEq, Eq)]
 pub enum Fault {
-    /// The text has more than 1048576 bytes. It is told at 1:1, and before all others.
+    /// The text has more than 1048576 bytes. It is reported at 1:1, and before all others.
     TooLong,
     /// A byte that begins no token, or that may not stand in a string.
     StrayByte,
@@ -28,7 +28,7 @@ pub enum Fault {
 impl Fault {
     ghost use Rattle.m2_scan.specs.FaultNumber.{number_of};
 
-    /// The number by which the refusal is told, from 1 to 7.
+    /// The number by which the refusal is reported, from 1 to 7.
     pub fn number(self) -> u32
         ensures { result ≡ number_of self }
     {

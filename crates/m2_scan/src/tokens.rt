@@ -31,7 +31,7 @@ pub fn scan(alloc: Global, text: &[u8]) -> Result<Vec<Token>, ScanError>
     ensures accepted { (ts : List Token) → length text.now ≤ max_text → HasTokens text.now ts
         → MatchResult result (λ tokens. tokens.items ≡ ts) (λ e. e ≡ NoMemory) }
     // A text that has a refusal is refused so.
-    ensures told { (r : ScanRefusal) → Refuses text.now r
+    ensures reported { (r : ScanRefusal) → Refuses text.now r
         → MatchResult result (λ _. ⊥) (λ e. (e ≡ Refused r) ⊎ (e ≡ NoMemory)) }
 {
     let mut pos = Pos { line: 1, col: 1 };

@@ -1,8 +1,8 @@
 -- What a WITH opens is taken back at its end.
 use Rattle.std.proofs.Common.{◌≡◌, List, [], ◌∷◌, ◌++◌, length, refl, ap}
 use Rattle.m2_typed.specs.declared.types.TypeNo.{TypeNo}
-use Rattle.m2_judged.specs.declared.scope.OpenedRecord.{OpenedRecord}
-use Rattle.m2_judged.specs.declared.scope.Scope.{Scope}
+use Rattle.m2_scopes.specs.declared.scope.OpenedRecord.{OpenedRecord}
+use Rattle.m2_scopes.specs.declared.scope.Scope.{Scope}
 use Rattle.m2_steps.specs.Simple.{front, opened, closed}
 
 pub front_push : {A : Type 0} (xs : List A) (x : A) → front (xs ++ x ∷ []) ≡ xs

@@ -2,9 +2,9 @@
 use Rattle.std.proofs.Common.{◌≡◌, Some, Result, ap, ◌∙◌}
 use Rattle.m2_tree.specs.declared.pos.Pos.{Pos}
 use Rattle.m2_typed.specs.declared.types.TypeNo.{TypeNo}
-use Rattle.m2_judged.specs.declared.fault.Fault.{Fault}
-use Rattle.m2_judged.specs.declared.scope.Scope.{Scope}
-use Rattle.m2_judged.specs.Judged.{least}
+use Rattle.m2_scopes.specs.declared.fault.Fault.{Fault}
+use Rattle.m2_scopes.specs.declared.scope.Scope.{Scope}
+use Rattle.m2_scopes.specs.Elaborated.{least}
 use Rattle.m2_values.specs.declared.operand.Ordinal.{Ordinal}
 use Rattle.m2_exprs.specs.Meanings.{Meant}
 use Rattle.m2_steps.specs.Labels.{bound_of, spanned, label_between}

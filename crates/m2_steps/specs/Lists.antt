@@ -6,33 +6,33 @@ use Rattle.m2_typed.specs.declared.statement.Label.{Label}
 use Rattle.m2_typed.specs.declared.statement.TypedArm.{TypedArm}
 use Rattle.m2_typed.specs.declared.statement.TypedStmt.{TypedStmt}
 use Rattle.m2_typed.specs.declared.statement.TypedStmt.TheVariants as step
-use Rattle.m2_judged.specs.Judged.{Gathers, both, ◌▷◌}
+use Rattle.m2_scopes.specs.Elaborated.{Gathers, both, ◌▷◌}
 
 -- one more of a list
-abbrev pub with_next : (g : Gathers) {A : Type 0} → Result (List A) g.Told → Result A g.Told → Result (List A) g.Told
+abbrev pub with_next : (g : Gathers) {A : Type 0} → Result (List A) g.Reported → Result A g.Reported → Result (List A) g.Reported
 with_next g so x = both g so x ▷ λ p. Ok (p.0 ++ p.1 ∷ [])
 
 -- statements behind an ELSE that stands
 abbrev pub standing : {T : Type 0} → Result (List TypedStmt) T → Result (Option (List TypedStmt)) T
 standing body = body ▷ λ x. Ok (Some x)
 
-abbrev pub chosen : (g : Gathers) → Result TypedExpr g.Told → Result (List TypedStmt) g.Told → Result (Option (List TypedStmt)) g.Told → Result TypedStmt g.Told
+abbrev pub chosen : (g : Gathers) → Result TypedExpr g.Reported → Result (List TypedStmt) g.Reported → Result (Option (List TypedStmt)) g.Reported → Result TypedStmt g.Reported
 chosen g c body rest = both g c (both g body rest) ▷ λ p. Ok (step.If p.0 p.1.0 p.1.1)
 
 -- an ELSIF is an IF in the ELSE
 abbrev pub chosen_else : {T : Type 0} → Result TypedStmt T → Result (Option (List TypedStmt)) T
 chosen_else s = s ▷ λ x. Ok (Some (x ∷ []))
 
-abbrev pub cased : (g : Gathers) → TypedExpr → Result (List TypedArm) g.Told → Result (Option (List TypedStmt)) g.Told → Result TypedStmt g.Told
+abbrev pub cased : (g : Gathers) → TypedExpr → Result (List TypedArm) g.Reported → Result (Option (List TypedStmt)) g.Reported → Result TypedStmt g.Reported
 cased g e arms otherwise = both g arms otherwise ▷ λ p. Ok (step.Case e p.0 p.1)
 
-abbrev pub armed : (g : Gathers) → Result (List Label) g.Told → Result (List TypedStmt) g.Told → Result TypedArm g.Told
+abbrev pub armed : (g : Gathers) → Result (List Label) g.Reported → Result (List TypedStmt) g.Reported → Result TypedArm g.Reported
 armed g labels body = both g labels body ▷ λ p. Ok (record { labels = p.0; body = p.1 })
 
-abbrev pub repeated_while : (g : Gathers) → Result TypedExpr g.Told → Result (List TypedStmt) g.Told → Result TypedStmt g.Told
+abbrev pub repeated_while : (g : Gathers) → Result TypedExpr g.Reported → Result (List TypedStmt) g.Reported → Result TypedStmt g.Reported
 repeated_while g c body = both g c body ▷ λ p. Ok (step.While p.0 p.1)
 
-abbrev pub repeated_until : (g : Gathers) → Result (List TypedStmt) g.Told → Result TypedExpr g.Told → Result TypedStmt g.Told
+abbrev pub repeated_until : (g : Gathers) → Result (List TypedStmt) g.Reported → Result TypedExpr g.Reported → Result TypedStmt g.Reported
 repeated_until g body c = both g body c ▷ λ p. Ok (step.Repeat p.0 p.1)
 
 abbrev pub looped : {T : Type 0} → Result (List TypedStmt) T → Result TypedStmt T

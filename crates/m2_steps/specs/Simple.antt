@@ -11,9 +11,9 @@ use Rattle.m2_typed.specs.declared.statement.TypedStmt.{TypedStmt}
 use Rattle.m2_typed.specs.declared.statement.TypedStmt.TheVariants as step
 use Rattle.m2_typed.specs.declared.known_types.Types.{Types}
 use Rattle.m2_typed.specs.Types.{boolean}
-use Rattle.m2_judged.specs.Judged.{Gathers, told, told_where, both, ◌▷◌}
-use Rattle.m2_judged.specs.declared.scope.Scope.{Scope}
-use Rattle.m2_judged.specs.Scopes.{fields_at}
+use Rattle.m2_scopes.specs.Elaborated.{Gathers, reported, reported_where, both, ◌▷◌}
+use Rattle.m2_scopes.specs.declared.scope.Scope.{Scope}
+use Rattle.m2_scopes.specs.Scopes.{fields_at}
 use Rattle.m2_computed.specs.declared.computed.Computed.{Computed}
 use Rattle.m2_computed.specs.declared.computed.Designated.{Designated}
 use Rattle.m2_computed.specs.declared.computed.Designated.TheVariants as designated
@@ -28,7 +28,7 @@ use Rattle.m2_exprs.specs.Meanings.{Meant, meant, value_of}
 use Rattle.m2_steps.specs.declared.around.Around.{Around}
 
 -- an expression, if one stands there
-abbrev pub meant_if : (g : Gathers) → Option Expr → Option (Meant g.Told)
+abbrev pub meant_if : (g : Gathers) → Option Expr → Option (Meant g.Reported)
 meant_if g None = None
 meant_if g (Some e) = Some (meant g e)
 
@@ -38,26 +38,26 @@ abbrev pub in_loop : {T : Type 0} → Around T → Around T
 in_loop w = record { gives = w.gives; in_loop = true }
 
 -- an EXIT stands in a LOOP
-abbrev pub exited : (g : Gathers) → Pos → Around g.Told → Result TypedStmt g.Told
-exited g at w = told_where g (not w.in_loop) at 45 (Ok step.Exit)
+abbrev pub exited : (g : Gathers) → Pos → Around g.Reported → Result TypedStmt g.Reported
+exited g at w = reported_where g (not w.in_loop) at 45 (Ok step.Exit)
 
 -- a value is assignment compatible with the type of the result
-abbrev pub given_back : (g : Gathers) → Types → Result TypeNo g.Told → Pos → Result Computed g.Told → Result TypedStmt g.Told
+abbrev pub given_back : (g : Gathers) → Types → Result TypeNo g.Reported → Pos → Result Computed g.Reported → Result TypedStmt g.Reported
 given_back g types t at x = both g t x ▷ λ p. value_suited g 41 types p.0 at p.1 ▷ λ e. Ok (step.Give p.0 e)
 
 -- functions alone give a value, and always
-abbrev pub returned : (g : Gathers) → Scope g.Told → Pos → Option (Result TypeNo g.Told) → Option (Meant g.Told) → Result TypedStmt g.Told
+abbrev pub returned : (g : Gathers) → Scope g.Reported → Pos → Option (Result TypeNo g.Reported) → Option (Meant g.Reported) → Result TypedStmt g.Reported
 returned g s at None None = Ok step.Return
-returned g s at None (Some x) = told g at 46
-returned g s at (Some t) None = told g at 46
+returned g s at None (Some x) = reported g at 46
+returned g s at (Some t) None = reported g at 46
 returned g s at (Some t) (Some x) = given_back g s.types t x.fixed.at (value_of g s x)
 
 -- ---- conditions and assignments
 
-abbrev pub condition : (g : Gathers) → Scope g.Told → Meant g.Told → Result TypedExpr g.Told
+abbrev pub condition : (g : Gathers) → Scope g.Reported → Meant g.Reported → Result TypedExpr g.Reported
 condition g s x = value_of g s x ▷ value_suited g 40 s.types boolean x.fixed.at
 
-abbrev pub assignment : (g : Gathers) → Scope g.Told → Meant g.Told → Meant g.Told → Result TypedStmt g.Told
+abbrev pub assignment : (g : Gathers) → Scope g.Reported → Meant g.Reported → Meant g.Reported → Result TypedStmt g.Reported
 assignment g s d x = assigned g s.types (target_at g d.fixed.at (d.means s)) x.fixed.at (value_of g s x)
 
 -- ---- calls: no brackets are no arguments
@@ -72,29 +72,29 @@ abbrev pub selector_amount : Amount → TypeNo × TypedExpr
 selector_amount (Known a) = (untyped a.number a.sort, expr.Constant (untyped a.number a.sort) a.number)
 selector_amount (Run b e) = (b, e)
 
-abbrev pub selector_of : (g : Gathers) → Pos → Option Side → Result (TypeNo × TypedExpr) g.Told
-selector_of g at None = told g at 40
+abbrev pub selector_of : (g : Gathers) → Pos → Option Side → Result (TypeNo × TypedExpr) g.Reported
+selector_of g at None = reported g at 40
 selector_of g at (Some (side.Scalar a)) = Ok (selector_amount a)
-selector_of g at (Some (side.Set e)) = told g at 40
-selector_of g at (Some (side.Routine t e)) = told g at 40
-selector_of g at (Some (side.Procedure p)) = told g at 40
+selector_of g at (Some (side.Set e)) = reported g at 40
+selector_of g at (Some (side.Routine t e)) = reported g at 40
+selector_of g at (Some (side.Procedure p)) = reported g at 40
 
-abbrev pub selected : (g : Gathers) → Scope g.Told → Meant g.Told → Result (TypeNo × TypedExpr) g.Told
+abbrev pub selected : (g : Gathers) → Scope g.Reported → Meant g.Reported → Result (TypeNo × TypedExpr) g.Reported
 selected g s x = value_of g s x ▷ λ v. selector_of g x.fixed.at (side_of v)
 
 -- ---- the record of a WITH, with its type
 
-abbrev pub record_by : (g : Gathers) → Types → Pos → Designated → Result (TypeNo × Place) g.Told
-record_by g types at (designated.Variable t d) = told_where g (not (is_some (fields_at types t))) at 40 (Ok (t, d))
-record_by g types at (designated.Value x) = told g at 40
-record_by g types at (designated.Open t slot) = told g at 40
-record_by g types at (designated.Type t) = told g at 40
-record_by g types at (designated.Procedure p) = told g at 40
-record_by g types at (designated.Nested p) = told g at 40
-record_by g types at (designated.Standard f) = told g at 40
-record_by g types at (designated.Module k) = told g at 40
+abbrev pub record_by : (g : Gathers) → Types → Pos → Designated → Result (TypeNo × Place) g.Reported
+record_by g types at (designated.Variable t d) = reported_where g (not (is_some (fields_at types t))) at 40 (Ok (t, d))
+record_by g types at (designated.Value x) = reported g at 40
+record_by g types at (designated.Open t slot) = reported g at 40
+record_by g types at (designated.Type t) = reported g at 40
+record_by g types at (designated.Procedure p) = reported g at 40
+record_by g types at (designated.Nested p) = reported g at 40
+record_by g types at (designated.Standard f) = reported g at 40
+record_by g types at (designated.Module k) = reported g at 40
 
-abbrev pub record_of : (g : Gathers) → Scope g.Told → Meant g.Told → Result (TypeNo × Place) g.Told
+abbrev pub record_of : (g : Gathers) → Scope g.Reported → Meant g.Reported → Result (TypeNo × Place) g.Reported
 record_of g s d = d.means s ▷ record_by g s.types d.fixed.at
 
 -- inside, the fields of a record of this type stand for themselves

@@ -1,10 +1,10 @@
 //! What stands around a statement.
 
 ghost use Rattle.std.specs.Prelude.{◌≡◌};
-ghost use Rattle.m2_judged.specs.Judged.{least};
+ghost use Rattle.m2_scopes.specs.Elaborated.{least};
 ghost use Rattle.m2_steps.specs.Simple.{in_loop, exited};
 
-use m2_judged::{Fault, Judged, told};
+use m2_scopes::{Elaborated, Fault, reported};
 use m2_tree::Pos;
 use m2_typed::{TypeNo, TypedStmt};
 
@@ -28,11 +28,11 @@ pub fn in_loop(around: &Around<Fault>) -> Around<Fault>
 }
 
 /// EXIT: 45 where no LOOP stands around it.
-pub fn exited(at: Pos, around: &Around<Fault>) -> Judged<TypedStmt>
+pub fn exited(at: Pos, around: &Around<Fault>) -> Elaborated<TypedStmt>
     ensures { result ≡ exited least at around.now }
 {
     if !around.in_loop {
-        return told(at, 45);
+        return reported(at, 45);
     }
     Ok(TypedStmt::Exit)
 }

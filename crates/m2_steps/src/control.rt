@@ -1,7 +1,7 @@
 //! The control variable of a FOR, and from where to where it goes.
 
 ghost use Rattle.std.specs.Prelude.{◌≡◌, IfOk, Some};
-ghost use Rattle.m2_judged.specs.Judged.{least};
+ghost use Rattle.m2_scopes.specs.Elaborated.{least};
 ghost use Rattle.m2_computed.specs.declared.side.Side.TheVariants as side;
 ghost use Rattle.m2_exprs.specs.Meanings.{meant, value_of};
 ghost use Rattle.m2_steps.specs.Simple.{meant_if};
@@ -12,7 +12,7 @@ use m2_computed::{
 };
 use m2_constants::constant_of;
 use m2_exprs::{place_of, value_of};
-use m2_judged::{Fault, Judged, Scope, both, looked_up, told};
+use m2_scopes::{Elaborated, Fault, Scope, both, looked_up, reported};
 use m2_tree::{Boxed, Expr, Ident, Items, Pos};
 use m2_typed::{
     LocalKind, Meaning, Place, Root, TypeNo, TypedExpr, TypedStmt, Types, Value, rooted,
@@ -39,7 +39,7 @@ pub struct Course {
     pub by: i64,
 }
 
-fn controlled(types: &Types, at: Pos, t: TypeNo, place: Place) -> Judged<Control>
+fn controlled(types: &Types, at: Pos, t: TypeNo, place: Place) -> Elaborated<Control>
     ensures { result ≡ controlled least types.now at t place }
 {
     match class_of(types, t) {
@@ -48,9 +48,9 @@ fn controlled(types: &Types, at: Pos, t: TypeNo, place: Place) -> Judged<Control
             base: scalar.base,
             place,
         }),
-        Class::Set => told(at, 47),
-        Class::Procedure => told(at, 47),
-        Class::Whole => told(at, 47),
+        Class::Set => reported(at, 47),
+        Class::Procedure => reported(at, 47),
+        Class::Whole => reported(at, 47),
     }
 }
 
@@ -63,33 +63,33 @@ fn is_own(kind: LocalKind) -> bool
     }
 }
 
-fn control_by(alloc: Global, scope: &Scope<Fault>, at: Pos, meaning: Meaning) -> Judged<Control>
+fn control_by(alloc: Global, scope: &Scope<Fault>, at: Pos, meaning: Meaning) -> Elaborated<Control>
     ensures { result ≡ control_by least scope.now at meaning }
 {
     match meaning {
         Meaning::Variable(variable) => {
             if variable.home != scope.types.home {
-                return told(at, 47);
+                return reported(at, 47);
             }
             let place = rooted(alloc, Root::Global(variable));
             controlled(&scope.types, at, variable.of, place)
         }
         Meaning::Local(variable) => {
             if !(is_own(variable.kind) && variable.level == scope.level) {
-                return told(at, 47);
+                return reported(at, 47);
             }
             let slot = slot_of(scope.level, variable);
             let place = rooted(alloc, Root::Local(slot));
             controlled(&scope.types, at, variable.of, place)
         }
-        Meaning::Ahead => told(at, 30),
-        Meaning::Constant(_) => told(at, 47),
-        Meaning::Type(_, _) => told(at, 47),
-        Meaning::Field(_) => told(at, 47),
-        Meaning::Procedure(_) => told(at, 47),
-        Meaning::LocalProcedure(_) => told(at, 47),
-        Meaning::Standard(_) => told(at, 47),
-        Meaning::Module(_) => told(at, 47),
+        Meaning::Ahead => reported(at, 30),
+        Meaning::Constant(_) => reported(at, 47),
+        Meaning::Type(_, _) => reported(at, 47),
+        Meaning::Field(_) => reported(at, 47),
+        Meaning::Procedure(_) => reported(at, 47),
+        Meaning::LocalProcedure(_) => reported(at, 47),
+        Meaning::Standard(_) => reported(at, 47),
+        Meaning::Module(_) => reported(at, 47),
     }
 }
 
@@ -97,7 +97,7 @@ fn control_of(
     alloc: Global,
     scope: &Scope<Fault>,
     name: &Ident,
-) -> Result<Judged<Control>, AllocError>
+) -> Result<Elaborated<Control>, AllocError>
     ensures { IfOk result (λ j. j ≡ control_of least scope.now name.now) }
 {
     match looked_up(scope, name)? {
@@ -106,7 +106,12 @@ fn control_of(
     }
 }
 
-fn start_at(types: &Types, at: Pos, t: Judged<TypeNo>, value: Judged<Computed>) -> Judged<TypedExpr>
+fn start_at(
+    types: &Types,
+    at: Pos,
+    t: Elaborated<TypeNo>,
+    value: Elaborated<Computed>,
+) -> Elaborated<TypedExpr>
     ensures { result ≡ start_at least types.now at t value }
 {
     match both(t, value) {
@@ -115,13 +120,13 @@ fn start_at(types: &Types, at: Pos, t: Judged<TypeNo>, value: Judged<Computed>) 
     }
 }
 
-fn limit_number(base: TypeNo, at: Pos, n: i64, sort: Option<TypeNo>) -> Judged<TypedExpr>
+fn limit_number(base: TypeNo, at: Pos, n: i64, sort: Option<TypeNo>) -> Elaborated<TypedExpr>
     ensures { result ≡ limit_number least base at n sort }
 {
     match sort {
         None => {
             if !fits(Some(base), n) {
-                return told(at, 52);
+                return reported(at, 52);
             }
             Ok(TypedExpr::Constant(base, n))
         }
@@ -129,38 +134,38 @@ fn limit_number(base: TypeNo, at: Pos, n: i64, sort: Option<TypeNo>) -> Judged<T
     }
 }
 
-fn limit_amount(base: TypeNo, at: Pos, a: Amount) -> Judged<TypedExpr>
+fn limit_amount(base: TypeNo, at: Pos, a: Amount) -> Elaborated<TypedExpr>
     ensures { result ≡ limit_by least base at (Some (side.Scalar a)) }
 {
     match a {
         Amount::Known(a) => {
             if !sort_suits(base, a.sort) {
-                return told(at, 41);
+                return reported(at, 41);
             }
             limit_number(base, at, a.number, a.sort)
         }
         Amount::Run(other, e) => {
             if !bases_suit(base, other) {
-                return told(at, 41);
+                return reported(at, 41);
             }
             Ok(e)
         }
     }
 }
 
-fn limit_by(base: TypeNo, at: Pos, limit: Option<Side>) -> Judged<TypedExpr>
+fn limit_by(base: TypeNo, at: Pos, limit: Option<Side>) -> Elaborated<TypedExpr>
     ensures { result ≡ limit_by least base at limit }
 {
     match limit {
-        None => told(at, 41),
+        None => reported(at, 41),
         Some(Side::Scalar(a)) => limit_amount(base, at, a),
-        Some(Side::Set(_)) => told(at, 41),
-        Some(Side::Routine(_, _)) => told(at, 41),
-        Some(Side::Procedure(_)) => told(at, 41),
+        Some(Side::Set(_)) => reported(at, 41),
+        Some(Side::Routine(_, _)) => reported(at, 41),
+        Some(Side::Procedure(_)) => reported(at, 41),
     }
 }
 
-fn limit_at(at: Pos, base: Judged<TypeNo>, value: Judged<Computed>) -> Judged<TypedExpr>
+fn limit_at(at: Pos, base: Elaborated<TypeNo>, value: Elaborated<Computed>) -> Elaborated<TypedExpr>
     ensures { result ≡ limit_at least at base value }
 {
     match both(base, value) {
@@ -175,21 +180,21 @@ fn is_zero(n: i64) -> bool
     !(n < 0 || 0 < n)
 }
 
-fn step_number(at: Pos, number: Option<Ordinal>) -> Judged<i64>
+fn step_number(at: Pos, number: Option<Ordinal>) -> Elaborated<i64>
     ensures { result ≡ step_number least at number }
 {
     match number {
-        None => told(at, 40),
+        None => reported(at, 40),
         Some(a) => {
             if is_zero(a.number) {
-                return told(at, 48);
+                return reported(at, 48);
             }
             Ok(a.number)
         }
     }
 }
 
-fn step_by(at: Pos, value: &Value) -> Judged<i64>
+fn step_by(at: Pos, value: &Value) -> Elaborated<i64>
     ensures { result ≡ step_by least at value.now }
 {
     step_number(at, whole_number(value))
@@ -201,7 +206,7 @@ fn step_of(
     alloc: Global,
     scope: &Scope<Fault>,
     by: &Option<Boxed<Expr>>,
-) -> Result<Judged<i64>, AllocError>
+) -> Result<Elaborated<i64>, AllocError>
     ensures { IfOk result (λ j. j ≡ step_of least scope.now (meant_if least by.now)) }
 {
     match by {
@@ -216,7 +221,7 @@ fn step_of(
     }
 }
 
-fn type_of(control: &Judged<Control>) -> Judged<TypeNo>
+fn type_of(control: &Elaborated<Control>) -> Elaborated<TypeNo>
     ensures { result ≡ type_of control.now }
 {
     match control {
@@ -225,7 +230,7 @@ fn type_of(control: &Judged<Control>) -> Judged<TypeNo>
     }
 }
 
-fn base_of(control: &Judged<Control>) -> Judged<TypeNo>
+fn base_of(control: &Elaborated<Control>) -> Elaborated<TypeNo>
     ensures { result ≡ base_of control.now }
 {
     match control {
@@ -235,11 +240,11 @@ fn base_of(control: &Judged<Control>) -> Judged<TypeNo>
 }
 
 fn joined(
-    control: Judged<Control>,
-    start: Judged<TypedExpr>,
-    limit: Judged<TypedExpr>,
-    by: Judged<i64>,
-) -> Judged<Course>
+    control: Elaborated<Control>,
+    start: Elaborated<TypedExpr>,
+    limit: Elaborated<TypedExpr>,
+    by: Elaborated<i64>,
+) -> Elaborated<Course>
     ensures { result ≡ course least control start limit by }
 {
     match both(both(control, start), both(limit, by)) {
@@ -257,9 +262,9 @@ fn joined(
 fn start_of(
     alloc: Global,
     scope: &Scope<Fault>,
-    control: &Judged<Control>,
+    control: &Elaborated<Control>,
     e: &Expr,
-) -> Result<Judged<TypedExpr>, AllocError>
+) -> Result<Elaborated<TypedExpr>, AllocError>
     ensures { IfOk result (λ j. j ≡ start_at least scope.now.types (meant least e.now).fixed.at
         (type_of control.now) (value_of least scope.now (meant least e.now))) }
 {
@@ -271,9 +276,9 @@ fn start_of(
 fn limit_of(
     alloc: Global,
     scope: &Scope<Fault>,
-    control: &Judged<Control>,
+    control: &Elaborated<Control>,
     e: &Expr,
-) -> Result<Judged<TypedExpr>, AllocError>
+) -> Result<Elaborated<TypedExpr>, AllocError>
     ensures { IfOk result (λ j. j ≡ limit_at least (meant least e.now).fixed.at
         (base_of control.now) (value_of least scope.now (meant least e.now))) }
 {
@@ -291,7 +296,7 @@ pub fn course_of(
     start: &Expr,
     limit: &Expr,
     by: &Option<Boxed<Expr>>,
-) -> Result<Judged<Course>, AllocError>
+) -> Result<Elaborated<Course>, AllocError>
     ensures { IfOk result (λ j. j ≡ course_of least scope.now name.now (meant least start.now)
         (meant least limit.now) (meant_if least by.now)) }
 {
@@ -303,7 +308,10 @@ pub fn course_of(
 }
 
 /// FOR.
-pub fn repeated_for(course: Judged<Course>, body: Judged<Items<TypedStmt>>) -> Judged<TypedStmt>
+pub fn repeated_for(
+    course: Elaborated<Course>,
+    body: Elaborated<Items<TypedStmt>>,
+) -> Elaborated<TypedStmt>
     ensures { result ≡ repeated_for least course body }
 {
     match both(course, body) {

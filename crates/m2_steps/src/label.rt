@@ -1,7 +1,7 @@
 //! Labels of CASE.
 
 ghost use Rattle.std.specs.Prelude.{◌≡◌, IfOk, Some, Ok};
-ghost use Rattle.m2_judged.specs.Judged.{least, ◌▷◌};
+ghost use Rattle.m2_scopes.specs.Elaborated.{least, ◌▷◌};
 ghost use Rattle.m2_exprs.specs.Meanings.{meant};
 ghost use Rattle.m2_values.specs.Common.{common};
 ghost use Rattle.m2_computed.specs.Classes.{class_at};
@@ -10,44 +10,44 @@ ghost use Rattle.m2_steps.specs.Labels.{ordinal_in, of_type, no_constant, value_
 use crate::lists::with_next;
 use m2_computed::{Class, Computed, Designated, class_of};
 use m2_exprs::{place_of, stands_for};
-use m2_judged::{Fault, Judged, Scope, beside, both, told};
 use m2_labels::Ranges;
+use m2_scopes::{Elaborated, Fault, Scope, beside, both, reported};
 use m2_tree::{Expr, Item, Items, Pos};
 use m2_typed::{Label, TypeNo, Types, are_same, is_numeric};
 use m2_values::{Operand, Ordinal, common, fits, operand_of};
 use std::alloc::{AllocError, Global};
 
-fn ordinal_in(at: Pos, operand: Option<Operand>) -> Judged<Ordinal>
+fn ordinal_in(at: Pos, operand: Option<Operand>) -> Elaborated<Ordinal>
     ensures { result ≡ ordinal_in least at operand }
 {
     match operand {
-        None => told(at, 40),
-        Some(Operand::Set(_)) => told(at, 40),
+        None => reported(at, 40),
+        Some(Operand::Set(_)) => reported(at, 40),
         Some(Operand::Scalar(a)) => Ok(a),
     }
 }
 
-fn of_type(alike: bool, at: Pos) -> Judged<()>
+fn of_type(alike: bool, at: Pos) -> Elaborated<()>
     ensures { result ≡ of_type least alike at }
 {
     if !alike {
-        return told(at, 40);
+        return reported(at, 40);
     }
     Ok(())
 }
 
 /// A bound that is no constant: 49 at the label, and 40 at the bound where it has another base type than the selector.
-fn no_constant(alike: bool, label: Pos, at: Pos) -> Judged<Ordinal>
+fn no_constant(alike: bool, label: Pos, at: Pos) -> Elaborated<Ordinal>
     ensures { result ≡ no_constant least alike label at }
 {
-    let unknown: Judged<Ordinal> = told(label, 49);
+    let unknown: Elaborated<Ordinal> = reported(label, 49);
     match both(of_type(alike, at), unknown) {
         Err(fault) => Err(fault),
         Ok(((), a)) => Ok(a),
     }
 }
 
-fn value_bound(base: TypeNo, label: Pos, at: Pos, value: Computed) -> Judged<Ordinal>
+fn value_bound(base: TypeNo, label: Pos, at: Pos, value: Computed) -> Elaborated<Ordinal>
     ensures { result ≡ value_bound least base label at value }
 {
     match value {
@@ -61,7 +61,7 @@ fn value_bound(base: TypeNo, label: Pos, at: Pos, value: Computed) -> Judged<Ord
     }
 }
 
-fn variable_bound(base: TypeNo, label: Pos, at: Pos, class: Class) -> Judged<Ordinal>
+fn variable_bound(base: TypeNo, label: Pos, at: Pos, class: Class) -> Elaborated<Ordinal>
     ensures { result ≡ variable_bound least base label at class }
 {
     match class {
@@ -78,7 +78,7 @@ fn bound_by(
     label: Pos,
     at: Pos,
     designated: Designated,
-) -> Judged<Ordinal>
+) -> Elaborated<Ordinal>
     ensures { result ≡ bound_by least types.now base label at designated }
 {
     match designated {
@@ -100,7 +100,7 @@ fn bound_of(
     base: TypeNo,
     label: Pos,
     e: &Expr,
-) -> Result<Judged<Ordinal>, AllocError>
+) -> Result<Elaborated<Ordinal>, AllocError>
     ensures { IfOk result (λ j. j ≡ bound_of least scope.now base label (meant least e.now)) }
 {
     match stands_for(alloc, scope, e)? {
@@ -118,13 +118,13 @@ fn is_of_base(base: TypeNo, sort: Option<TypeNo>) -> bool
     }
 }
 
-fn number_fits(base: TypeNo, at: Pos, a: Ordinal) -> Judged<()>
+fn number_fits(base: TypeNo, at: Pos, a: Ordinal) -> Elaborated<()>
     ensures { result ≡ number_fits least base at a a.sort }
 {
     match a.sort {
         None => {
             if !fits(Some(base), a.number) {
-                return told(at, 52);
+                return reported(at, 52);
             }
             Ok(())
         }
@@ -132,17 +132,17 @@ fn number_fits(base: TypeNo, at: Pos, a: Ordinal) -> Judged<()>
     }
 }
 
-fn suits_base(base: TypeNo, at: Pos, a: Ordinal) -> Judged<()>
+fn suits_base(base: TypeNo, at: Pos, a: Ordinal) -> Elaborated<()>
     ensures { result ≡ suits_base least base at a }
 {
     if !is_of_base(base, a.sort) {
-        return told(at, 40);
+        return reported(at, 40);
     }
     number_fits(base, at, a)
 }
 
 /// The rule that a bound is one of the base type.
-fn bound_suits(base: TypeNo, at: Pos, bound: Judged<Ordinal>) -> Judged<()>
+fn bound_suits(base: TypeNo, at: Pos, bound: Elaborated<Ordinal>) -> Elaborated<()>
     ensures { result ≡ bound_suits least base at bound }
 {
     match bound {
@@ -152,7 +152,7 @@ fn bound_suits(base: TypeNo, at: Pos, bound: Judged<Ordinal>) -> Judged<()>
 }
 
 /// A label of one value.
-fn single(base: TypeNo, at: Pos, bound: Judged<Ordinal>) -> Judged<Label>
+fn single(base: TypeNo, at: Pos, bound: Elaborated<Ordinal>) -> Elaborated<Label>
     ensures { result ≡ single least base at bound }
 {
     match both(bound, bound_suits(base, at, bound)) {
@@ -164,14 +164,14 @@ fn single(base: TypeNo, at: Pos, bound: Judged<Ordinal>) -> Judged<Label>
     }
 }
 
-fn ordered_if(at: Pos, low: Ordinal, high: Ordinal) -> Judged<()>
+fn ordered_if(at: Pos, low: Ordinal, high: Ordinal) -> Elaborated<()>
     ensures { result ≡ ordered_if least at low high (common low.sort high.sort) }
 {
     match common(low.sort, high.sort) {
         None => Ok(()),
         Some(_) => {
             if high.number < low.number {
-                return told(at, 35);
+                return reported(at, 35);
             }
             Ok(())
         }
@@ -179,7 +179,7 @@ fn ordered_if(at: Pos, low: Ordinal, high: Ordinal) -> Judged<()>
 }
 
 /// The rule that the bounds of a range are in order.
-fn are_ordered(at: Pos, low: Judged<Ordinal>, high: Judged<Ordinal>) -> Judged<()>
+fn are_ordered(at: Pos, low: Elaborated<Ordinal>, high: Elaborated<Ordinal>) -> Elaborated<()>
     ensures { result ≡ are_ordered least at low high }
 {
     match both(low, high) {
@@ -192,10 +192,10 @@ fn are_ordered(at: Pos, low: Judged<Ordinal>, high: Judged<Ordinal>) -> Judged<(
 fn spanned(
     base: TypeNo,
     at: Pos,
-    low: Judged<Ordinal>,
+    low: Elaborated<Ordinal>,
     high_at: Pos,
-    high: Judged<Ordinal>,
-) -> Judged<Label>
+    high: Elaborated<Ordinal>,
+) -> Elaborated<Label>
     ensures { result ≡ spanned least base at low high_at high }
 {
     let suit = beside(bound_suits(base, at, low), bound_suits(base, high_at, high));
@@ -217,7 +217,7 @@ fn range_from(
     base: TypeNo,
     low: &Expr,
     high: &Expr,
-) -> Result<Judged<Label>, AllocError>
+) -> Result<Elaborated<Label>, AllocError>
     ensures { IfOk result (λ j. j ≡ label_between least scope.now base (meant least low.now)
         (Some (meant least high.now))) }
 {
@@ -234,7 +234,7 @@ fn label_of(
     scope: &Scope<Fault>,
     base: TypeNo,
     item: &Item,
-) -> Result<Judged<Label>, AllocError>
+) -> Result<Elaborated<Label>, AllocError>
     ensures { IfOk result (λ j. j ≡ item_label least scope.now base item.now) }
 {
     match &item.high {
@@ -251,15 +251,15 @@ fn label_of(
 fn with_new(
     at: Pos,
     ranges: &mut Ranges,
-    done: Judged<Items<Label>>,
+    done: Elaborated<Items<Label>>,
     label: Label,
-) -> Result<Judged<Items<Label>>, AllocError>
+) -> Result<Elaborated<Items<Label>>, AllocError>
     ensures { IfOk result (λ j. (ranges.new, j) ≡ with_new least at (ranges.old, done) label) }
 {
     let next = if ranges.take(label.low, label.high)? {
         Ok(label)
     } else {
-        told(at, 49)
+        reported(at, 49)
     };
     with_next(done, next)
 }
@@ -267,9 +267,9 @@ fn with_new(
 fn with_label(
     at: Pos,
     ranges: &mut Ranges,
-    done: Judged<Items<Label>>,
-    label: Judged<Label>,
-) -> Result<Judged<Items<Label>>, AllocError>
+    done: Elaborated<Items<Label>>,
+    label: Elaborated<Label>,
+) -> Result<Elaborated<Items<Label>>, AllocError>
     ensures { IfOk result (λ j. (ranges.new, j) ≡ with_label least at (ranges.old, done) label) }
 {
     match label {
@@ -283,9 +283,9 @@ fn with_item(
     scope: &Scope<Fault>,
     base: TypeNo,
     ranges: &mut Ranges,
-    done: Judged<Items<Label>>,
+    done: Elaborated<Items<Label>>,
     item: &Item,
-) -> Result<Judged<Items<Label>>, AllocError>
+) -> Result<Elaborated<Items<Label>>, AllocError>
     ensures { IfOk result
         (λ j. (ranges.new, j) ≡ with_item least scope.now base (ranges.old, done) item.now) }
 {
@@ -302,7 +302,7 @@ pub fn labels_in(
     base: TypeNo,
     ranges: &mut Ranges,
     items: &[Item],
-) -> Result<Judged<Items<Label>>, AllocError>
+) -> Result<Elaborated<Items<Label>>, AllocError>
     ensures { IfOk result
         (λ j. (ranges.new, j) ≡ labels_in least scope.now base ranges.old items.now) }
 {

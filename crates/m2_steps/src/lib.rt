@@ -1,4 +1,4 @@
-//! The steps of checking the statements of bodies: each judges one form of a statement, of parts that are known.
+//! The steps of checking the statements of bodies: each elaborates one form of a statement, of parts that are known.
 #![tactic(auto)]
 
 mod around;

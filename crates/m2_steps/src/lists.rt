@@ -1,19 +1,19 @@
 //! Lists of statements, and statements around them.
 
 ghost use Rattle.std.specs.Prelude.{◌≡◌, IfOk};
-ghost use Rattle.m2_judged.specs.Judged.{least};
+ghost use Rattle.m2_scopes.specs.Elaborated.{least};
 ghost use Rattle.m2_steps.specs.Lists.{with_next, standing, chosen, chosen_else, cased, armed, repeated_while, repeated_until, looped, within};
 
-use m2_judged::{Judged, both};
+use m2_scopes::{Elaborated, both};
 use m2_tree::Items;
 use m2_typed::{Label, Place, TypedArm, TypedExpr, TypedStmt};
 use std::alloc::{AllocError, Global};
 
 /// One more of a list.
 pub fn with_next<A: Drop>(
-    done: Judged<Items<A>>,
-    next: Judged<A>,
-) -> Result<Judged<Items<A>>, AllocError>
+    done: Elaborated<Items<A>>,
+    next: Elaborated<A>,
+) -> Result<Elaborated<Items<A>>, AllocError>
     ensures { IfOk result (λ j. j ≡ with_next least done next) }
 {
     match both(done, next) {
@@ -26,7 +26,7 @@ pub fn with_next<A: Drop>(
 }
 
 /// The statements behind an ELSE.
-pub fn standing(body: Judged<Items<TypedStmt>>) -> Judged<Option<Items<TypedStmt>>>
+pub fn standing(body: Elaborated<Items<TypedStmt>>) -> Elaborated<Option<Items<TypedStmt>>>
     ensures { result ≡ standing body }
 {
     match body {
@@ -37,10 +37,10 @@ pub fn standing(body: Judged<Items<TypedStmt>>) -> Judged<Option<Items<TypedStmt
 
 /// IF: the condition, what is done then, and what follows.
 pub fn chosen(
-    condition: Judged<TypedExpr>,
-    body: Judged<Items<TypedStmt>>,
-    rest: Judged<Option<Items<TypedStmt>>>,
-) -> Judged<TypedStmt>
+    condition: Elaborated<TypedExpr>,
+    body: Elaborated<Items<TypedStmt>>,
+    rest: Elaborated<Option<Items<TypedStmt>>>,
+) -> Elaborated<TypedStmt>
     ensures { result ≡ chosen least condition body rest }
 {
     match both(condition, both(body, rest)) {
@@ -52,8 +52,8 @@ pub fn chosen(
 /// ELSIF: an IF that stands alone behind an ELSE.
 pub fn chosen_else(
     alloc: Global,
-    inner: Judged<TypedStmt>,
-) -> Result<Judged<Option<Items<TypedStmt>>>, AllocError>
+    inner: Elaborated<TypedStmt>,
+) -> Result<Elaborated<Option<Items<TypedStmt>>>, AllocError>
     ensures { IfOk result (λ j. j ≡ chosen_else inner) }
 {
     match inner {
@@ -69,9 +69,9 @@ pub fn chosen_else(
 /// CASE: the selector, the arms, and what stands behind the ELSE.
 pub fn cased(
     selector: TypedExpr,
-    arms: Judged<Items<TypedArm>>,
-    otherwise: Judged<Option<Items<TypedStmt>>>,
-) -> Judged<TypedStmt>
+    arms: Elaborated<Items<TypedArm>>,
+    otherwise: Elaborated<Option<Items<TypedStmt>>>,
+) -> Elaborated<TypedStmt>
     ensures { result ≡ cased least selector arms otherwise }
 {
     match both(arms, otherwise) {
@@ -81,7 +81,10 @@ pub fn cased(
 }
 
 /// An arm of a CASE.
-pub fn armed(labels: Judged<Items<Label>>, body: Judged<Items<TypedStmt>>) -> Judged<TypedArm>
+pub fn armed(
+    labels: Elaborated<Items<Label>>,
+    body: Elaborated<Items<TypedStmt>>,
+) -> Elaborated<TypedArm>
     ensures { result ≡ armed least labels body }
 {
     match both(labels, body) {
@@ -92,9 +95,9 @@ pub fn armed(labels: Judged<Items<Label>>, body: Judged<Items<TypedStmt>>) -> Ju
 
 /// WHILE.
 pub fn repeated_while(
-    condition: Judged<TypedExpr>,
-    body: Judged<Items<TypedStmt>>,
-) -> Judged<TypedStmt>
+    condition: Elaborated<TypedExpr>,
+    body: Elaborated<Items<TypedStmt>>,
+) -> Elaborated<TypedStmt>
     ensures { result ≡ repeated_while least condition body }
 {
     match both(condition, body) {
@@ -105,9 +108,9 @@ pub fn repeated_while(
 
 /// REPEAT.
 pub fn repeated_until(
-    body: Judged<Items<TypedStmt>>,
-    condition: Judged<TypedExpr>,
-) -> Judged<TypedStmt>
+    body: Elaborated<Items<TypedStmt>>,
+    condition: Elaborated<TypedExpr>,
+) -> Elaborated<TypedStmt>
     ensures { result ≡ repeated_until least body condition }
 {
     match both(body, condition) {
@@ -117,7 +120,7 @@ pub fn repeated_until(
 }
 
 /// LOOP.
-pub fn looped(body: Judged<Items<TypedStmt>>) -> Judged<TypedStmt>
+pub fn looped(body: Elaborated<Items<TypedStmt>>) -> Elaborated<TypedStmt>
     ensures { result ≡ looped body }
 {
     match body {
@@ -127,7 +130,7 @@ pub fn looped(body: Judged<Items<TypedStmt>>) -> Judged<TypedStmt>
 }
 
 /// WITH a record.
-pub fn within(place: Place, body: Judged<Items<TypedStmt>>) -> Judged<TypedStmt>
+pub fn within(place: Place, body: Elaborated<Items<TypedStmt>>) -> Elaborated<TypedStmt>
     ensures { result ≡ within place body }
 {
     match body {

@@ -2,8 +2,8 @@
 
 ghost use Rattle.std.specs.Prelude.{◌≡◌, IfOk, OnOk, map};
 ghost use Rattle.std.specs.Option.{is_some};
-ghost use Rattle.m2_judged.specs.Judged.{least};
-ghost use Rattle.m2_judged.specs.Scopes.{fields_at};
+ghost use Rattle.m2_scopes.specs.Elaborated.{least};
+ghost use Rattle.m2_scopes.specs.Scopes.{fields_at};
 ghost use Rattle.m2_exprs.specs.Meanings.{meant, head};
 ghost use Rattle.m2_exprs.specs.Effects.{done_by};
 ghost use Rattle.m2_steps.specs.Simple.{meant_if, given_back, returned, condition, assignment, or_none, selector_amount, selector_of, selected, record_by, record_of, opened, closed};
@@ -11,17 +11,17 @@ ghost use Rattle.m2_steps.specs.Simple.{meant_if, given_back, returned, conditio
 use m2_calls::{assigned, target_at, untyped};
 use m2_computed::{Amount, Computed, Designated, Side, side_of, value_suited};
 use m2_exprs::{designated, done_by, first_of, place_of, value_of};
-use m2_judged::{Fault, Judged, OpenedRecord, Scope, both, fields_of, told};
+use m2_scopes::{Elaborated, Fault, OpenedRecord, Scope, both, fields_of, reported};
 use m2_tree::{Designator, Expr, Items, Pos};
 use m2_typed::{BOOLEAN, Place, TypeNo, TypedExpr, TypedStmt, Types};
 use std::alloc::{AllocError, Global};
 
 fn given_back(
     types: &Types,
-    t: Judged<TypeNo>,
+    t: Elaborated<TypeNo>,
     at: Pos,
-    value: Judged<Computed>,
-) -> Judged<TypedStmt>
+    value: Elaborated<Computed>,
+) -> Elaborated<TypedStmt>
     ensures { result ≡ given_back least types.now t at value }
 {
     match both(t, value) {
@@ -39,19 +39,19 @@ pub fn returned(
     alloc: Global,
     scope: &Scope<Fault>,
     at: Pos,
-    gives: Option<Judged<TypeNo>>,
+    gives: Option<Elaborated<TypeNo>>,
     value: &Option<Expr>,
-) -> Result<Judged<TypedStmt>, AllocError>
+) -> Result<Elaborated<TypedStmt>, AllocError>
     ensures { IfOk result
         (λ j. j ≡ returned least scope.now at gives (meant_if least value.now)) }
 {
     match gives {
         None => match value {
             None => Ok(Ok(TypedStmt::Return)),
-            Some(_) => Ok(told(at, 46)),
+            Some(_) => Ok(reported(at, 46)),
         },
         Some(t) => match value {
-            None => Ok(told(at, 46)),
+            None => Ok(reported(at, 46)),
             Some(e) => {
                 let value = value_of(alloc, scope, e)?;
                 Ok(given_back(&scope.types, t, place_of(e), value))
@@ -65,7 +65,7 @@ pub fn condition(
     alloc: Global,
     scope: &Scope<Fault>,
     e: &Expr,
-) -> Result<Judged<TypedExpr>, AllocError>
+) -> Result<Elaborated<TypedExpr>, AllocError>
     ensures { IfOk result (λ j. j ≡ condition least scope.now (meant least e.now)) }
 {
     match value_of(alloc, scope, e)? {
@@ -80,7 +80,7 @@ pub fn assignment(
     scope: &Scope<Fault>,
     designator: &Designator,
     e: &Expr,
-) -> Result<Judged<TypedStmt>, AllocError>
+) -> Result<Elaborated<TypedStmt>, AllocError>
     ensures { IfOk result
         (λ j. j ≡ assignment least scope.now (head least designator.now) (meant least e.now)) }
 {
@@ -95,7 +95,7 @@ pub fn called(
     scope: &Scope<Fault>,
     designator: &Designator,
     args: &Option<Items<Expr>>,
-) -> Result<Judged<TypedStmt>, AllocError>
+) -> Result<Elaborated<TypedStmt>, AllocError>
     ensures { IfOk result (λ j. j ≡ done_by least scope.now (head least designator.now)
         (map (meant least) (or_none args.now))) }
 {
@@ -117,15 +117,15 @@ fn selector_amount(a: Amount) -> (TypeNo, TypedExpr)
     }
 }
 
-fn selector_of(at: Pos, side: Option<Side>) -> Judged<(TypeNo, TypedExpr)>
+fn selector_of(at: Pos, side: Option<Side>) -> Elaborated<(TypeNo, TypedExpr)>
     ensures { result ≡ selector_of least at side }
 {
     match side {
-        None => told(at, 40),
+        None => reported(at, 40),
         Some(Side::Scalar(a)) => Ok(selector_amount(a)),
-        Some(Side::Set(_)) => told(at, 40),
-        Some(Side::Routine(_, _)) => told(at, 40),
-        Some(Side::Procedure(_)) => told(at, 40),
+        Some(Side::Set(_)) => reported(at, 40),
+        Some(Side::Routine(_, _)) => reported(at, 40),
+        Some(Side::Procedure(_)) => reported(at, 40),
     }
 }
 
@@ -134,7 +134,7 @@ pub fn selected(
     alloc: Global,
     scope: &Scope<Fault>,
     e: &Expr,
-) -> Result<Judged<(TypeNo, TypedExpr)>, AllocError>
+) -> Result<Elaborated<(TypeNo, TypedExpr)>, AllocError>
     ensures { IfOk result (λ j. j ≡ selected least scope.now (meant least e.now)) }
 {
     match value_of(alloc, scope, e)? {
@@ -152,26 +152,26 @@ fn is_record(types: &Types, t: TypeNo) -> bool
     }
 }
 
-fn record_by(types: &Types, at: Pos, designated: Designated) -> Judged<(TypeNo, Place)>
+fn record_by(types: &Types, at: Pos, designated: Designated) -> Elaborated<(TypeNo, Place)>
     ensures { result ≡ record_by least types.now at designated }
 {
     match designated {
         Designated::Variable(t, place) => {
             if !is_record(types, t) {
-                return told(at, 40);
+                return reported(at, 40);
             }
             Ok((t, place))
         }
         Designated::Value(value) => {
             drop(value);
-            told(at, 40)
+            reported(at, 40)
         }
-        Designated::Open(_, _) => told(at, 40),
-        Designated::Type(_) => told(at, 40),
-        Designated::Procedure(_) => told(at, 40),
-        Designated::Nested(_) => told(at, 40),
-        Designated::Standard(_) => told(at, 40),
-        Designated::Module(_) => told(at, 40),
+        Designated::Open(_, _) => reported(at, 40),
+        Designated::Type(_) => reported(at, 40),
+        Designated::Procedure(_) => reported(at, 40),
+        Designated::Nested(_) => reported(at, 40),
+        Designated::Standard(_) => reported(at, 40),
+        Designated::Module(_) => reported(at, 40),
     }
 }
 
@@ -180,7 +180,7 @@ pub fn record_of(
     alloc: Global,
     scope: &Scope<Fault>,
     designator: &Designator,
-) -> Result<Judged<(TypeNo, Place)>, AllocError>
+) -> Result<Elaborated<(TypeNo, Place)>, AllocError>
     ensures { IfOk result (λ j. j ≡ record_of least scope.now (head least designator.now)) }
 {
     match designated(alloc, scope, designator)? {

@@ -17,9 +17,9 @@ use Rattle.m2_typed.specs.declared.computed.Place.{Place}
 use Rattle.m2_typed.specs.declared.computed.TypedExpr.{TypedExpr}
 use Rattle.m2_typed.specs.declared.statement.TypedStmt.{TypedStmt}
 use Rattle.m2_typed.specs.declared.statement.TypedArm.{TypedArm}
-use Rattle.m2_judged.specs.declared.fault.Fault.{Fault}
-use Rattle.m2_judged.specs.declared.scope.Scope.{Scope}
-use Rattle.m2_judged.specs.Judged.{least, ◌▷◌}
+use Rattle.m2_scopes.specs.declared.fault.Fault.{Fault}
+use Rattle.m2_scopes.specs.declared.scope.Scope.{Scope}
+use Rattle.m2_scopes.specs.Elaborated.{least, ◌▷◌}
 use Rattle.m2_exprs.specs.Meanings.{meant, head}
 use Rattle.m2_exprs.specs.Effects.{done_by}
 use Rattle.m2_steps.specs.declared.around.Around.{Around}
@@ -27,16 +27,16 @@ use Rattle.m2_steps.specs.Lists.{standing, chosen, chosen_else, cased, armed, re
 use Rattle.m2_steps.specs.Simple.{meant_if, in_loop, exited, returned, condition, assignment, selected, record_of, opened}
 use Rattle.m2_steps.specs.Labels.{labels_in}
 use Rattle.m2_steps.specs.Control.{course_of, repeated_for}
-use Rattle.m2_stmts.specs.Statements.{Judges, JudgesRest, JudgesArm, Arms, args_meant, with_stmt, with_arm, stmt_layer, rest_layer, arm_layer, stmt, rest, arm, statements, arms}
+use Rattle.m2_stmts.specs.Statements.{Elaborates, ElaboratesRest, ElaboratesArm, Arms, args_meant, with_stmt, with_arm, stmt_layer, rest_layer, arm_layer, stmt, rest, arm, statements, arms}
 
 abbrev R : Type 0
-R = JudgesRest Fault
+R = ElaboratesRest Fault
 
 abbrev S : Type 0
-S = Judges Fault
+S = Elaborates Fault
 
 abbrev A : Type 0
-A = JudgesArm Fault
+A = ElaboratesArm Fault
 
 abbrev Steps : Type 0
 Steps = Result (List TypedStmt) Fault

@@ -9,8 +9,8 @@ use Rattle.m2_tree.specs.declared.stmt.Arm.{Arm, Arm-F, fold-Arm}
 use Rattle.m2_typed.specs.declared.types.TypeNo.{TypeNo}
 use Rattle.m2_typed.specs.declared.statement.TypedStmt.{TypedStmt}
 use Rattle.m2_typed.specs.declared.statement.TypedArm.{TypedArm}
-use Rattle.m2_judged.specs.Judged.{Gathers, ◌▷◌}
-use Rattle.m2_judged.specs.declared.scope.Scope.{Scope}
+use Rattle.m2_scopes.specs.Elaborated.{Gathers, ◌▷◌}
+use Rattle.m2_scopes.specs.declared.scope.Scope.{Scope}
 use Rattle.m2_exprs.specs.Meanings.{Meant, meant, head}
 use Rattle.m2_exprs.specs.Effects.{done_by}
 use Rattle.m2_steps.specs.declared.around.Around.{Around}
@@ -20,48 +20,48 @@ use Rattle.m2_steps.specs.Labels.{labels_in}
 use Rattle.m2_steps.specs.Control.{course_of, repeated_for}
 
 -- a statement, in a scope and at a place of a body
-abbrev pub Judges : Type 0 → Type 0
-Judges T = Scope T → Around T → Result TypedStmt T
+abbrev pub Elaborates : Type 0 → Type 0
+Elaborates T = Scope T → Around T → Result TypedStmt T
 
 -- what follows the first part of an IF
-abbrev pub JudgesRest : Type 0 → Type 0
-JudgesRest T = Scope T → Around T → Result (Option (List TypedStmt)) T
+abbrev pub ElaboratesRest : Type 0 → Type 0
+ElaboratesRest T = Scope T → Around T → Result (Option (List TypedStmt)) T
 
 -- an arm, with the base type of the selector and the values of the labels before it
-abbrev pub JudgesArm : Type 0 → Type 0
-JudgesArm T = Scope T → Around T → TypeNo → List (ℤ × ℤ) → List (ℤ × ℤ) × Result TypedArm T
+abbrev pub ElaboratesArm : Type 0 → Type 0
+ElaboratesArm T = Scope T → Around T → TypeNo → List (ℤ × ℤ) → List (ℤ × ℤ) × Result TypedArm T
 
 -- the values of the labels so far, and the arms
 abbrev pub Arms : Type 0 → Type 0
 Arms T = List (ℤ × ℤ) × Result (List TypedArm) T
 
 module _ (g : Gathers) where
-  abbrev pub args_meant : Option (List Expr) → List (Meant g.Told)
+  abbrev pub args_meant : Option (List Expr) → List (Meant g.Reported)
   args_meant args = map (meant g) (or_none args)
 
   -- ---- one after another
 
-  abbrev pub with_stmt : Scope g.Told → Around g.Told → Result (List TypedStmt) g.Told → Judges g.Told → Result (List TypedStmt) g.Told
+  abbrev pub with_stmt : Scope g.Reported → Around g.Reported → Result (List TypedStmt) g.Reported → Elaborates g.Reported → Result (List TypedStmt) g.Reported
   with_stmt s w so x = with_next g so (x s w)
 
-  abbrev pub all_of : Scope g.Told → Around g.Told → List (Judges g.Told) → Result (List TypedStmt) g.Told
+  abbrev pub all_of : Scope g.Reported → Around g.Reported → List (Elaborates g.Reported) → Result (List TypedStmt) g.Reported
   all_of s w xs = fold (with_stmt s w) (Ok []) xs
 
-  abbrev pub all_if : Scope g.Told → Around g.Told → Option (List (Judges g.Told)) → Result (Option (List TypedStmt)) g.Told
+  abbrev pub all_if : Scope g.Reported → Around g.Reported → Option (List (Elaborates g.Reported)) → Result (Option (List TypedStmt)) g.Reported
   all_if s w None = Ok None
   all_if s w (Some xs) = standing (all_of s w xs)
 
-  abbrev pub with_arm : Scope g.Told → Around g.Told → TypeNo → Arms g.Told → JudgesArm g.Told → Arms g.Told
+  abbrev pub with_arm : Scope g.Reported → Around g.Reported → TypeNo → Arms g.Reported → ElaboratesArm g.Reported → Arms g.Reported
   with_arm s w base st a = let r = a s w base st.0 in (r.0, with_next g st.1 r.1)
 
   -- no two labels of the arms have a value in common
-  abbrev pub arms_of : Scope g.Told → Around g.Told → TypeNo → List (JudgesArm g.Told) → Result (List TypedArm) g.Told
+  abbrev pub arms_of : Scope g.Reported → Around g.Reported → TypeNo → List (ElaboratesArm g.Reported) → Result (List TypedArm) g.Reported
   arms_of s w base arms = (fold (with_arm s w base) ([], Ok []) arms).1
 
   -- ---- the layers
 
-  -- the arms are judged where the selector has a type that labels can have
-  abbrev pub stmt_layer : Stmt-F (JudgesRest g.Told) (Judges g.Told) (JudgesArm g.Told) → Judges g.Told
+  -- the arms are elaborated where the selector has a type that labels can have
+  abbrev pub stmt_layer : Stmt-F (ElaboratesRest g.Reported) (Elaborates g.Reported) (ElaboratesArm g.Reported) → Elaborates g.Reported
   stmt_layer (layer.Assign d e) s w = assignment g s (head g d) (meant g e)
   stmt_layer (layer.Call d args) s w = done_by g s (head g d) (args_meant args)
   stmt_layer (layer.If c body rest) s w = chosen g (condition g s (meant g c)) (all_of s w body) (rest s w)
@@ -75,32 +75,32 @@ module _ (g : Gathers) where
   stmt_layer (layer.With d body) s w = record_of g s (head g d) ▷ λ r. within r.1 (all_of (opened s r.0) w body)
 
   -- an ELSIF is an IF in the ELSE
-  abbrev pub rest_layer : Rest-F (JudgesRest g.Told) (Judges g.Told) (JudgesArm g.Told) → JudgesRest g.Told
+  abbrev pub rest_layer : Rest-F (ElaboratesRest g.Reported) (Elaborates g.Reported) (ElaboratesArm g.Reported) → ElaboratesRest g.Reported
   rest_layer (layer.Elsif c body rest) s w = chosen_else (chosen g (condition g s (meant g c)) (all_of s w body) (rest s w))
   rest_layer (layer.Else body) s w = all_if s w body
 
-  abbrev pub arm_layer : Arm-F (JudgesRest g.Told) (Judges g.Told) (JudgesArm g.Told) → JudgesArm g.Told
+  abbrev pub arm_layer : Arm-F (ElaboratesRest g.Reported) (Elaborates g.Reported) (ElaboratesArm g.Reported) → ElaboratesArm g.Reported
   arm_layer a s w base ranges = let labels = labels_in g s base ranges a.labels in (labels.0, armed g labels.1 (all_of s w a.body))
 
   -- ---- what each means
 
-  unfoldable pub rest : Rest → JudgesRest g.Told
-  rest = fold-Rest (JudgesRest g.Told) (Judges g.Told) (JudgesArm g.Told) rest_layer stmt_layer arm_layer
+  unfoldable pub rest : Rest → ElaboratesRest g.Reported
+  rest = fold-Rest (ElaboratesRest g.Reported) (Elaborates g.Reported) (ElaboratesArm g.Reported) rest_layer stmt_layer arm_layer
 
-  unfoldable pub stmt : Stmt → Judges g.Told
-  stmt = fold-Stmt (JudgesRest g.Told) (Judges g.Told) (JudgesArm g.Told) rest_layer stmt_layer arm_layer
+  unfoldable pub stmt : Stmt → Elaborates g.Reported
+  stmt = fold-Stmt (ElaboratesRest g.Reported) (Elaborates g.Reported) (ElaboratesArm g.Reported) rest_layer stmt_layer arm_layer
 
-  unfoldable pub arm : Arm → JudgesArm g.Told
-  arm = fold-Arm (JudgesRest g.Told) (Judges g.Told) (JudgesArm g.Told) rest_layer stmt_layer arm_layer
+  unfoldable pub arm : Arm → ElaboratesArm g.Reported
+  arm = fold-Arm (ElaboratesRest g.Reported) (Elaborates g.Reported) (ElaboratesArm g.Reported) rest_layer stmt_layer arm_layer
 
-  abbrev pub with_written : Scope g.Told → Around g.Told → Result (List TypedStmt) g.Told → Stmt → Result (List TypedStmt) g.Told
+  abbrev pub with_written : Scope g.Reported → Around g.Reported → Result (List TypedStmt) g.Reported → Stmt → Result (List TypedStmt) g.Reported
   with_written s w so x = with_next g so (stmt x s w)
 
-  abbrev pub statements : Scope g.Told → Around g.Told → List Stmt → Result (List TypedStmt) g.Told
+  abbrev pub statements : Scope g.Reported → Around g.Reported → List Stmt → Result (List TypedStmt) g.Reported
   statements s w xs = fold (with_written s w) (Ok []) xs
 
-  abbrev pub with_written_arm : Scope g.Told → Around g.Told → TypeNo → Arms g.Told → Arm → Arms g.Told
+  abbrev pub with_written_arm : Scope g.Reported → Around g.Reported → TypeNo → Arms g.Reported → Arm → Arms g.Reported
   with_written_arm s w base st x = let r = arm x s w base st.0 in (r.0, with_next g st.1 r.1)
 
-  abbrev pub arms : Scope g.Told → Around g.Told → TypeNo → List Arm → Result (List TypedArm) g.Told
+  abbrev pub arms : Scope g.Reported → Around g.Reported → TypeNo → List Arm → Result (List TypedArm) g.Reported
   arms s w base xs = (fold (with_written_arm s w base) ([], Ok []) xs).1

@@ -1,15 +1,15 @@
 //! What statements of bodies mean.
 
 ghost use Rattle.std.specs.Prelude.{◌≡◌, None, Ok, IfOk, OnOk};
-ghost use Rattle.m2_judged.specs.Judged.{least, ◌▷◌};
+ghost use Rattle.m2_scopes.specs.Elaborated.{least, ◌▷◌};
 ghost use Rattle.m2_exprs.specs.Meanings.{meant, head};
 ghost use Rattle.m2_steps.specs.Lists.{standing, chosen, cased, repeated_while, repeated_until, looped, within};
 ghost use Rattle.m2_steps.specs.Simple.{meant_if, in_loop, condition, selected, record_of, opened};
 ghost use Rattle.m2_steps.specs.Control.{course_of, repeated_for};
 ghost use Rattle.m2_stmts.specs.Statements.{stmt, rest, arm, statements, arms};
 
-use m2_judged::{Fault, Judged, Scope};
 use m2_labels::Ranges;
+use m2_scopes::{Elaborated, Fault, Scope};
 use m2_steps::{
     Around, armed, assignment, called, cased, chosen, chosen_else, close, condition, course_of,
     exited, in_loop, labels_in, looped, open, record_of, repeated_for, repeated_until,
@@ -19,26 +19,26 @@ use m2_tree::{Arm, Boxed, Designator, Expr, Ident, Items, Rest, Stmt};
 use m2_typed::{TypeNo, TypedArm, TypedExpr, TypedStmt};
 use std::alloc::{AllocError, Global};
 
-/// Judges statements, one after another.
+/// Elaborates statements, one after another.
 #[cycle(body)]
 pub fn statements(
     alloc: Global,
     scope: &mut Scope<Fault>,
     around: &Around<Fault>,
     body: &[Stmt],
-) -> Result<Judged<Items<TypedStmt>>, AllocError>
+) -> Result<Elaborated<Items<TypedStmt>>, AllocError>
     ensures stays { OnOk result (scope.new ≡ scope.old) }
     ensures means { IfOk result (λ j. j ≡ statements least scope.old around.now body.now) }
 {
     let mut done = Ok(Items::new(alloc));
     for written in body {
-        let judged = statement(alloc, scope, around, written)?;
-        done = with_next(done, judged)?;
+        let elaborated = statement(alloc, scope, around, written)?;
+        done = with_next(done, elaborated)?;
     }
     Ok(done)
 }
 
-/// Judges a statement.
+/// Elaborates a statement.
 #[cycle(body)]
 #[tactic(auto, using(crate::proofs::Variants::variants))]
 fn statement(
@@ -46,7 +46,7 @@ fn statement(
     scope: &mut Scope<Fault>,
     around: &Around<Fault>,
     written: &Stmt,
-) -> Result<Judged<TypedStmt>, AllocError>
+) -> Result<Elaborated<TypedStmt>, AllocError>
     ensures stays { OnOk result (scope.new ≡ scope.old) }
     ensures means { IfOk result (λ j. j ≡ stmt least written.now scope.old around.now) }
 {
@@ -85,7 +85,7 @@ fn statement(
     }
 }
 
-/// Judges a condition, and the statements that depend on it.
+/// Elaborates a condition, and the statements that depend on it.
 #[cycle(body)]
 fn tested(
     alloc: Global,
@@ -93,7 +93,7 @@ fn tested(
     around: &Around<Fault>,
     body: &[Stmt],
     e: &Expr,
-) -> Result<(Judged<TypedExpr>, Judged<Items<TypedStmt>>), AllocError>
+) -> Result<(Elaborated<TypedExpr>, Elaborated<Items<TypedStmt>>), AllocError>
     ensures stays { OnOk result (scope.new ≡ scope.old) }
     ensures means { IfOk result
         (λ p. p ≡ (
@@ -106,15 +106,15 @@ fn tested(
     Ok((condition, body))
 }
 
-/// Judges what follows the first part of an IF.
+/// Elaborates what follows the first part of an IF.
 #[cycle(body)]
 fn if_rest(
     alloc: Global,
     scope: &mut Scope<Fault>,
     around: &Around<Fault>,
     written: &Rest,
-    first: (Judged<TypedExpr>, Judged<Items<TypedStmt>>),
-) -> Result<Judged<TypedStmt>, AllocError>
+    first: (Elaborated<TypedExpr>, Elaborated<Items<TypedStmt>>),
+) -> Result<Elaborated<TypedStmt>, AllocError>
     ensures stays { OnOk result (scope.new ≡ scope.old) }
     ensures means { IfOk result
         (λ j. j ≡ chosen least first.0 first.1 (rest least written.now scope.old around.now)) }
@@ -124,7 +124,7 @@ fn if_rest(
     Ok(chosen(condition, body, further))
 }
 
-/// Judges the selector and the arms of a CASE.
+/// Elaborates the selector and the arms of a CASE.
 #[cycle(body)]
 fn case_arms(
     alloc: Global,
@@ -132,7 +132,7 @@ fn case_arms(
     around: &Around<Fault>,
     all: &[Arm],
     selector: &Expr,
-) -> Result<Judged<(TypedExpr, Judged<Items<TypedArm>>)>, AllocError>
+) -> Result<Elaborated<(TypedExpr, Elaborated<Items<TypedArm>>)>, AllocError>
     ensures stays { OnOk result (scope.new ≡ scope.old) }
     ensures means { IfOk result (λ j. j ≡ (selected least scope.old (meant least selector.now)
         ▷ λ x. Ok (x.1, arms least scope.old around.now x.0 all.now))) }
@@ -146,7 +146,7 @@ fn case_arms(
     }
 }
 
-/// Judges a CASE without an ELSE.
+/// Elaborates a CASE without an ELSE.
 #[cycle(body)]
 fn case_alone(
     alloc: Global,
@@ -154,7 +154,7 @@ fn case_alone(
     around: &Around<Fault>,
     all: &[Arm],
     selector: &Expr,
-) -> Result<Judged<TypedStmt>, AllocError>
+) -> Result<Elaborated<TypedStmt>, AllocError>
     ensures stays { OnOk result (scope.new ≡ scope.old) }
     ensures means { IfOk result (λ j. j ≡ (selected least scope.old (meant least selector.now)
         ▷ λ x. cased least x.1 (arms least scope.old around.now x.0 all.now) (Ok None))) }
@@ -165,15 +165,15 @@ fn case_alone(
     }
 }
 
-/// Judges the ELSE of a CASE.
+/// Elaborates the ELSE of a CASE.
 #[cycle(body)]
 fn case_else(
     alloc: Global,
     scope: &mut Scope<Fault>,
     around: &Around<Fault>,
     body: &[Stmt],
-    first: Judged<(TypedExpr, Judged<Items<TypedArm>>)>,
-) -> Result<Judged<TypedStmt>, AllocError>
+    first: Elaborated<(TypedExpr, Elaborated<Items<TypedArm>>)>,
+) -> Result<Elaborated<TypedStmt>, AllocError>
     ensures stays { OnOk result (scope.new ≡ scope.old) }
     ensures means { IfOk result (λ j. j ≡ (first
         ▷ λ x. cased least x.0 x.1
@@ -188,7 +188,7 @@ fn case_else(
     }
 }
 
-/// Judges a WHILE.
+/// Elaborates a WHILE.
 #[cycle(body)]
 fn while_of(
     alloc: Global,
@@ -196,7 +196,7 @@ fn while_of(
     around: &Around<Fault>,
     body: &[Stmt],
     e: &Expr,
-) -> Result<Judged<TypedStmt>, AllocError>
+) -> Result<Elaborated<TypedStmt>, AllocError>
     ensures stays { OnOk result (scope.new ≡ scope.old) }
     ensures means { IfOk result (λ j. j ≡ repeated_while least
         (condition least scope.old (meant least e.now))
@@ -206,7 +206,7 @@ fn while_of(
     Ok(repeated_while(condition, body))
 }
 
-/// Judges a REPEAT.
+/// Elaborates a REPEAT.
 #[cycle(body)]
 fn repeat_of(
     alloc: Global,
@@ -214,7 +214,7 @@ fn repeat_of(
     around: &Around<Fault>,
     body: &[Stmt],
     e: &Expr,
-) -> Result<Judged<TypedStmt>, AllocError>
+) -> Result<Elaborated<TypedStmt>, AllocError>
     ensures stays { OnOk result (scope.new ≡ scope.old) }
     ensures means { IfOk result (λ j. j ≡ repeated_until least
         (statements least scope.old around.now body.now)
@@ -224,14 +224,14 @@ fn repeat_of(
     Ok(repeated_until(body, condition))
 }
 
-/// Judges a LOOP.
+/// Elaborates a LOOP.
 #[cycle(body)]
 fn loop_of(
     alloc: Global,
     scope: &mut Scope<Fault>,
     around: &Around<Fault>,
     body: &[Stmt],
-) -> Result<Judged<TypedStmt>, AllocError>
+) -> Result<Elaborated<TypedStmt>, AllocError>
     ensures stays { OnOk result (scope.new ≡ scope.old) }
     ensures means { IfOk result
         (λ j. j ≡ looped (statements least scope.old (in_loop around.now) body.now)) }
@@ -241,7 +241,7 @@ fn loop_of(
     Ok(looped(body))
 }
 
-/// Judges a FOR.
+/// Elaborates a FOR.
 #[cycle(body)]
 fn for_of(
     alloc: Global,
@@ -252,7 +252,7 @@ fn for_of(
     start: &Expr,
     limit: &Expr,
     by: &Option<Boxed<Expr>>,
-) -> Result<Judged<TypedStmt>, AllocError>
+) -> Result<Elaborated<TypedStmt>, AllocError>
     ensures stays { OnOk result (scope.new ≡ scope.old) }
     ensures means { IfOk result (λ j. j ≡ repeated_for least
         (course_of least scope.old name.now (meant least start.now) (meant least limit.now)
@@ -263,7 +263,7 @@ fn for_of(
     Ok(repeated_for(course, body))
 }
 
-/// Judges a WITH.
+/// Elaborates a WITH.
 #[cycle(body)]
 fn with_of(
     alloc: Global,
@@ -271,7 +271,7 @@ fn with_of(
     around: &Around<Fault>,
     body: &[Stmt],
     whole: &Designator,
-) -> Result<Judged<TypedStmt>, AllocError>
+) -> Result<Elaborated<TypedStmt>, AllocError>
     ensures stays { OnOk result (scope.new ≡ scope.old) }
     ensures means { IfOk result (λ j. j ≡ (record_of least scope.old (head least whole.now)
         ▷ λ r. within r.1 (statements least (opened scope.old r.0) around.now body.now))) }
@@ -285,7 +285,7 @@ fn with_of(
     }
 }
 
-/// Judges statements in which the fields of a record of this type stand for themselves.
+/// Elaborates statements in which the fields of a record of this type stand for themselves.
 #[cycle(body)]
 #[tactic(auto, using(m2_steps::proofs::Closing::closed_opened))]
 fn opened_body(
@@ -294,18 +294,18 @@ fn opened_body(
     around: &Around<Fault>,
     body: &[Stmt],
     t: TypeNo,
-) -> Result<Judged<Items<TypedStmt>>, AllocError>
+) -> Result<Elaborated<Items<TypedStmt>>, AllocError>
     ensures stays { OnOk result (scope.new ≡ scope.old) }
     ensures means { IfOk result
         (λ j. j ≡ statements least (opened scope.old t) around.now body.now) }
 {
     open(scope, t)?;
-    let judged = statements(alloc, scope, around, body)?;
+    let elaborated = statements(alloc, scope, around, body)?;
     close(scope);
-    Ok(judged)
+    Ok(elaborated)
 }
 
-/// Judges what follows a part of an IF.
+/// Elaborates what follows a part of an IF.
 #[cycle(body)]
 #[tactic(auto, using(crate::proofs::Variants::variants))]
 fn rest(
@@ -313,7 +313,7 @@ fn rest(
     scope: &mut Scope<Fault>,
     around: &Around<Fault>,
     written: &Rest,
-) -> Result<Judged<Option<Items<TypedStmt>>>, AllocError>
+) -> Result<Elaborated<Option<Items<TypedStmt>>>, AllocError>
     ensures stays { OnOk result (scope.new ≡ scope.old) }
     ensures means { IfOk result (λ j. j ≡ rest least written.now scope.old around.now) }
 {
@@ -333,7 +333,7 @@ fn rest(
     }
 }
 
-/// Judges the arms of a CASE whose selector has this base type. No two of their labels have a
+/// Elaborates the arms of a CASE whose selector has this base type. No two of their labels have a
 /// value in common.
 #[cycle(body)]
 fn arms(
@@ -342,20 +342,20 @@ fn arms(
     around: &Around<Fault>,
     all: &[Arm],
     base: TypeNo,
-) -> Result<Judged<Items<TypedArm>>, AllocError>
+) -> Result<Elaborated<Items<TypedArm>>, AllocError>
     ensures stays { OnOk result (scope.new ≡ scope.old) }
     ensures means { IfOk result (λ j. j ≡ arms least scope.old around.now base all.now) }
 {
     let mut ranges = Ranges::new(alloc);
     let mut done = Ok(Items::new(alloc));
     for written in all {
-        let judged = arm(alloc, scope, around, written, base, &mut ranges)?;
-        done = with_next(done, judged)?;
+        let elaborated = arm(alloc, scope, around, written, base, &mut ranges)?;
+        done = with_next(done, elaborated)?;
     }
     Ok(done)
 }
 
-/// Judges an arm of a CASE, and takes in the values of its labels.
+/// Elaborates an arm of a CASE, and takes in the values of its labels.
 #[cycle(body)]
 #[tactic(auto, using(crate::proofs::Variants::arm_is))]
 fn arm(
@@ -365,7 +365,7 @@ fn arm(
     written: &Arm,
     base: TypeNo,
     ranges: &mut Ranges,
-) -> Result<Judged<TypedArm>, AllocError>
+) -> Result<Elaborated<TypedArm>, AllocError>
     ensures stays { OnOk result (scope.new ≡ scope.old) }
     ensures means { IfOk result
         (λ j. (ranges.new, j) ≡ arm least written.now scope.old around.now base ranges.old) }

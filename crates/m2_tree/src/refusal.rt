@@ -1,4 +1,4 @@
-//! What is told of a program that is refused.
+//! What is reported of a program that is refused.
 
 ghost use Rattle.std.specs.Prelude.{Some, codes, ◌++◌};
 ghost use Rattle.std.specs.String.{string_bytes};

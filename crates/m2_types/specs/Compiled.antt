@@ -6,9 +6,9 @@ use Rattle.m2_tree.specs.declared.decl.Contents.{Contents}
 use Rattle.m2_tree.specs.declared.decl.Contents.TheVariants as contents
 use Rattle.m2_tree.specs.declared.decl.Module.{Module}
 use Rattle.m2_typed.specs.declared.table.Table.{Table}
-use Rattle.m2_judged.specs.declared.scope.Scope.{Scope}
-use Rattle.m2_judged.specs.Scopes.{State}
-use Rattle.m2_judged.specs.Judged.{Gathers, told, ◌▷◌}
+use Rattle.m2_scopes.specs.declared.scope.Scope.{Scope}
+use Rattle.m2_scopes.specs.Scopes.{State}
+use Rattle.m2_scopes.specs.Elaborated.{Gathers, reported, ◌▷◌}
 use Rattle.m2_types.specs.Marking.{marked_def}
 use Rattle.m2_types.specs.Predeclared.{console, first_scope}
 use Rattle.m2_types.specs.Importing.{numbered_modules, with_import}
@@ -25,23 +25,23 @@ table_of m modules s = record {
 }
 
 abbrev pub table_or : {T : Type 0} → Module → List (List ℕ × ℕ) → Scope T → Result (Unit {0}) T → Result Table T
-table_or m modules s judged = judged ▷ λ fine. Ok (table_of m modules s)
+table_or m modules s elaborated = elaborated ▷ λ fine. Ok (table_of m modules s)
 
 -- its imports and its declarations, in order; the names that it declares are known to be declared wherever they stand
-abbrev pub declared_in : (g : Gathers) → Module → List (List ℕ × ℕ) → Scope g.Told → List Def → State (Unit {0}) g.Told
+abbrev pub declared_in : (g : Gathers) → Module → List (List ℕ × ℕ) → Scope g.Reported → List Def → State (Unit {0}) g.Reported
 declared_in g m modules s defs = fold (with_def g) (fold (with_import g modules) (fold marked_def s defs, Ok tt) m.imports) defs
 
-abbrev pub of_definition : (g : Gathers) → ℕ → Module → List Table → List Def → Result Table g.Told
+abbrev pub of_definition : (g : Gathers) → ℕ → Module → List Table → List Def → Result Table g.Reported
 of_definition g number m tables defs =
     let modules = (numbered_modules tables).0 in
     let st = declared_in g m modules (first_scope number tables) defs in
     table_or m modules st.0 st.1
 
-abbrev pub of_contents : (g : Gathers) → ℕ → Module → List Table → Contents → Result Table g.Told
+abbrev pub of_contents : (g : Gathers) → ℕ → Module → List Table → Contents → Result Table g.Reported
 of_contents g number m tables (contents.Definition defs) = of_definition g number m tables defs
-of_contents g number m tables (contents.Implementation b) = told g m.name.pos 24
-of_contents g number m tables (contents.Program b) = told g m.name.pos 24
+of_contents g number m tables (contents.Implementation b) = reported g m.name.pos 24
+of_contents g number m tables (contents.Program b) = reported g m.name.pos 24
 
 -- the table of a definition, given the tables of those that it imports; the table of Console is always there
-abbrev pub compiled : (g : Gathers) → ℕ → Module → List Table → Result Table g.Told
+abbrev pub compiled : (g : Gathers) → ℕ → Module → List Table → Result Table g.Reported
 compiled g number m imports = of_contents g number m (imports ++ console ∷ []) m.contents

@@ -17,26 +17,26 @@ use Rattle.m2_typed.specs.declared.types.TypeNo.{TypeNo}
 use Rattle.m2_typed.specs.declared.meaning.Value.{Value}
 use Rattle.m2_typed.specs.declared.meaning.Meaning.{Meaning}
 use Rattle.m2_typed.specs.declared.meaning.Meaning.TheVariants as meaning
-use Rattle.m2_judged.specs.declared.scope.Scope.{Scope}
-use Rattle.m2_judged.specs.Scopes.{State, declared, begun, finished}
-use Rattle.m2_judged.specs.Judged.{Gathers, beside, ◌▷◌}
+use Rattle.m2_scopes.specs.declared.scope.Scope.{Scope}
+use Rattle.m2_scopes.specs.Scopes.{State, declared, begun, finished}
+use Rattle.m2_scopes.specs.Elaborated.{Gathers, beside, ◌▷◌}
 use Rattle.m2_constants.specs.Parts.{part, constant}
 use Rattle.m2_made.specs.Headings.{heading_of}
 use Rattle.m2_made.specs.Made.{nothing_of, type_of, with_made}
 
 -- ---- constants
 
-abbrev pub nothing_told : {T : Type 0} → Result Value T → Result (Unit {0}) T
-nothing_told v = v ▷ λ x. Ok tt
+abbrev pub nothing_reported : {T : Type 0} → Result Value T → Result (Unit {0}) T
+nothing_reported v = v ▷ λ x. Ok tt
 
 abbrev pub constant_meaning : {T : Type 0} → Result Value T → Result Meaning T
 constant_meaning v = v ▷ λ x. Ok (meaning.Constant x)
 
-abbrev pub with_constant : (g : Gathers) → State (Unit {0}) g.Told → Constant → State (Unit {0}) g.Told
+abbrev pub with_constant : (g : Gathers) → State (Unit {0}) g.Reported → Constant → State (Unit {0}) g.Reported
 with_constant g st c =
     let b = begun g st.0 c.name in
     let v = constant g b.0 (part g c.value) in
-    (finished b.0 c.name (constant_meaning v), beside g st.1 (beside g b.1 (nothing_told v)))
+    (finished b.0 c.name (constant_meaning v), beside g st.1 (beside g b.1 (nothing_reported v)))
 
 -- ---- types
 
@@ -58,7 +58,7 @@ brings_with t = brings_layer (out-TypeExpr t)
 abbrev pub type_meaning : {T : Type 0} → Result TypeNo T → ℕ → Result Meaning T
 type_meaning t n = t ▷ λ x. Ok (meaning.Type x n)
 
-abbrev pub with_type : (g : Gathers) → State (Unit {0}) g.Told → TypeDecl → State (Unit {0}) g.Told
+abbrev pub with_type : (g : Gathers) → State (Unit {0}) g.Reported → TypeDecl → State (Unit {0}) g.Reported
 with_type g st d =
     let b = begun g st.0 d.name in
     let t = type_of g d.of b.0 in
@@ -66,7 +66,7 @@ with_type g st d =
 
 -- ---- variables: the names of one list together
 
-abbrev pub begun_name : (g : Gathers) → State (Unit {0}) g.Told → Ident → State (Unit {0}) g.Told
+abbrev pub begun_name : (g : Gathers) → State (Unit {0}) g.Reported → Ident → State (Unit {0}) g.Reported
 begun_name g st name = let b = begun g st.0 name in (b.0, beside g st.1 b.1)
 
 abbrev pub variable_meaning : {T : Type 0} → ℕ → ℕ → Result TypeNo T → Result Meaning T
@@ -79,7 +79,7 @@ with_variable_type s (Err e) = s
 abbrev pub finished_variable : {T : Type 0} → Result TypeNo T → Scope T → Ident → Scope T
 finished_variable t s name = finished (with_variable_type s t) name (variable_meaning s.types.home (length s.variables) t)
 
-abbrev pub with_variables : (g : Gathers) → State (Unit {0}) g.Told → Variables → State (Unit {0}) g.Told
+abbrev pub with_variables : (g : Gathers) → State (Unit {0}) g.Reported → Variables → State (Unit {0}) g.Reported
 with_variables g st v =
     let b = fold (begun_name g) st v.names in
     let t = type_of g v.of b.0 in
@@ -94,10 +94,10 @@ abbrev pub with_procedure_type : {T : Type 0} → Scope T → Result TypeNo T �
 with_procedure_type s (Ok t) = record s { procedures = s.procedures ++ t ∷ [] }
 with_procedure_type s (Err e) = s
 
-abbrev pub declared_procedure : (g : Gathers) → Scope g.Told → Ident → Result TypeNo g.Told → State (Unit {0}) g.Told
+abbrev pub declared_procedure : (g : Gathers) → Scope g.Reported → Ident → Result TypeNo g.Reported → State (Unit {0}) g.Reported
 declared_procedure g s name t = declared g (with_procedure_type s t) name (procedure_meaning s.types.home (length s.procedures) t)
 
-abbrev pub with_procedure : (g : Gathers) → State (Unit {0}) g.Told → Heading → State (Unit {0}) g.Told
+abbrev pub with_procedure : (g : Gathers) → State (Unit {0}) g.Reported → Heading → State (Unit {0}) g.Reported
 with_procedure g st h =
     let t = with_made st.0 (heading_of g st.0 h) in
     let d = declared_procedure g t.0 h.name t.1 in
@@ -105,7 +105,7 @@ with_procedure g st h =
 
 -- ---- all of them
 
-abbrev pub with_def : (g : Gathers) → State (Unit {0}) g.Told → Def → State (Unit {0}) g.Told
+abbrev pub with_def : (g : Gathers) → State (Unit {0}) g.Reported → Def → State (Unit {0}) g.Reported
 with_def g st (def.Constants cs) = fold (with_constant g) st cs
 with_def g st (def.Types ts) = fold (with_type g) st ts
 with_def g st (def.Variables vs) = fold (with_variables g) st vs

@@ -8,10 +8,10 @@ use Rattle.m2_typed.specs.declared.meaning.Meaning.{Meaning}
 use Rattle.m2_typed.specs.declared.table.ModuleTypes.{ModuleTypes}
 use Rattle.m2_typed.specs.declared.table.Table.{Table}
 use Rattle.m2_typed.specs.Names.{found, entered}
-use Rattle.m2_judged.specs.declared.known.Origin.{Origin}
-use Rattle.m2_judged.specs.declared.known.Origin.TheVariants.{Here, Module, Export}
-use Rattle.m2_judged.specs.declared.known.Known.{Known}
-use Rattle.m2_judged.specs.declared.known.Known.TheVariants.{Later, Ahead, Begun, Headed, Declared}
+use Rattle.m2_scopes.specs.declared.known.Origin.{Origin}
+use Rattle.m2_scopes.specs.declared.known.Origin.TheVariants.{Here, Module, Export}
+use Rattle.m2_scopes.specs.declared.known.Known.{Known}
+use Rattle.m2_scopes.specs.declared.known.Known.TheVariants.{Later, Ahead, Begun, Headed, Declared}
 use Rattle.m2_typed.specs.declared.known_types.Types.{Types}
 
 -- ---- exports: what the block declares, in order

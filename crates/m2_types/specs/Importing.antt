@@ -9,12 +9,12 @@ use Rattle.m2_typed.specs.declared.meaning.Meaning.{Meaning}
 use Rattle.m2_typed.specs.declared.meaning.Meaning.TheVariants as meaning
 use Rattle.m2_typed.specs.declared.table.Table.{Table}
 use Rattle.m2_typed.specs.Names.{found, place_of, entered}
-use Rattle.m2_judged.specs.declared.known.Origin.TheVariants.{Module, Export}
-use Rattle.m2_judged.specs.declared.known.Known.{Known}
-use Rattle.m2_judged.specs.declared.known.Known.TheVariants.{Later, Ahead, Begun, Headed, Declared}
-use Rattle.m2_judged.specs.declared.scope.Scope.{Scope}
-use Rattle.m2_judged.specs.Scopes.{State, is_one_origin, imported}
-use Rattle.m2_judged.specs.Judged.{Gathers, told, told_where, beside}
+use Rattle.m2_scopes.specs.declared.known.Origin.TheVariants.{Module, Export}
+use Rattle.m2_scopes.specs.declared.known.Known.{Known}
+use Rattle.m2_scopes.specs.declared.known.Known.TheVariants.{Later, Ahead, Begun, Headed, Declared}
+use Rattle.m2_scopes.specs.declared.scope.Scope.{Scope}
+use Rattle.m2_scopes.specs.Scopes.{State, is_one_origin, imported}
+use Rattle.m2_scopes.specs.Elaborated.{Gathers, reported, reported_where, beside}
 
 -- ---- modules by name: the first of a name counts
 
@@ -27,25 +27,25 @@ with_numbered st t = (with_place t.name st.1 st.0, st.1 + 1)
 abbrev pub numbered_modules : List Table → List (List ℕ × ℕ) × ℕ
 numbered_modules tables = fold with_numbered ([], 0) tables
 
-abbrev pub module_found : (g : Gathers) → Pos → Option ℕ → Result ℕ g.Told
-module_found g at None = told g at 20
+abbrev pub module_found : (g : Gathers) → Pos → Option ℕ → Result ℕ g.Reported
+module_found g at None = reported g at 20
 module_found g at (Some k) = Ok k
 
-abbrev pub module_named : (g : Gathers) → List (List ℕ × ℕ) → Ident → Result ℕ g.Told
+abbrev pub module_named : (g : Gathers) → List (List ℕ × ℕ) → Ident → Result ℕ g.Reported
 module_named g modules name = module_found g name.pos (found name.name modules)
 
 -- ---- IMPORT M
 
-abbrev pub with_module_as : (g : Gathers) → Scope g.Told → Ident → Result ℕ g.Told → State (Unit {0}) g.Told
+abbrev pub with_module_as : (g : Gathers) → Scope g.Reported → Ident → Result ℕ g.Reported → State (Unit {0}) g.Reported
 with_module_as g s name (Ok k) = imported g s name.pos name.name (Module k) (Ok (meaning.Module k))
 with_module_as g s name (Err e) = (s, Err e)
 
-abbrev pub with_module_name : (g : Gathers) → List (List ℕ × ℕ) → State (Unit {0}) g.Told → Ident → State (Unit {0}) g.Told
+abbrev pub with_module_name : (g : Gathers) → List (List ℕ × ℕ) → State (Unit {0}) g.Reported → Ident → State (Unit {0}) g.Reported
 with_module_name g modules st name = let one = with_module_as g st.0 name (module_named g modules name) in (one.0, beside g st.1 one.1)
 
 -- ---- FROM M IMPORT x
 
-abbrev pub with_entry : (g : Gathers) → Pos → ℕ → State (Unit {0}) g.Told → List ℕ × Meaning → State (Unit {0}) g.Told
+abbrev pub with_entry : (g : Gathers) → Pos → ℕ → State (Unit {0}) g.Reported → List ℕ × Meaning → State (Unit {0}) g.Reported
 with_entry g at k st e = let one = imported g st.0 at e.0 (Export k) (Ok e.1) in (one.0, beside g st.1 one.1)
 
 -- how many names come with a name: the constants of an enumeration follow it in the table
@@ -65,38 +65,38 @@ abbrev pub brings_in : Option (List ℕ × Meaning) → ℕ
 brings_in None = 0
 brings_in (Some e) = brings_of e.1
 
--- what is told of a name that is taken, if it is; it brings nothing more
-abbrev pub told_of_taken : (g : Gathers) → Pos → ℕ → Option (Known g.Told) → Option (Result (Unit {0}) g.Told)
-told_of_taken g at k None = None
-told_of_taken g at k (Some Later) = None
-told_of_taken g at k (Some Ahead) = None
-told_of_taken g at k (Some Begun) = Some (told g at 31)
-told_of_taken g at k (Some (Headed m)) = Some (told g at 31)
-told_of_taken g at k (Some (Declared o m)) = Some (told_where g (not (is_one_origin o (Export k))) at 31 (Ok tt))
+-- what is reported of a name that is taken, if it is; it brings nothing more
+abbrev pub reported_of_taken : (g : Gathers) → Pos → ℕ → Option (Known g.Reported) → Option (Result (Unit {0}) g.Reported)
+reported_of_taken g at k None = None
+reported_of_taken g at k (Some Later) = None
+reported_of_taken g at k (Some Ahead) = None
+reported_of_taken g at k (Some Begun) = Some (reported g at 31)
+reported_of_taken g at k (Some (Headed m)) = Some (reported g at 31)
+reported_of_taken g at k (Some (Declared o m)) = Some (reported_where g (not (is_one_origin o (Export k))) at 31 (Ok tt))
 
 -- a name with those that come with it
-abbrev pub unless_taken : (g : Gathers) → Scope g.Told → Pos → ℕ → List (List ℕ × Meaning) → ℕ → Option (Result (Unit {0}) g.Told) → State (Unit {0}) g.Told
+abbrev pub unless_taken : (g : Gathers) → Scope g.Reported → Pos → ℕ → List (List ℕ × Meaning) → ℕ → Option (Result (Unit {0}) g.Reported) → State (Unit {0}) g.Reported
 unless_taken g s at k es i (Some j) = (s, j)
 unless_taken g s at k es i None = fold (with_entry g at k) (s, Ok tt) (take (brings_in (slice_get es i)) (drop i es))
 
-abbrev pub from_place : (g : Gathers) → Scope g.Told → Ident → ℕ → List (List ℕ × Meaning) → Option ℕ → State (Unit {0}) g.Told
-from_place g s name k es None = (s, told g name.pos 32)
-from_place g s name k es (Some i) = unless_taken g s name.pos k es i (told_of_taken g name.pos k (found name.name s.own))
+abbrev pub from_place : (g : Gathers) → Scope g.Reported → Ident → ℕ → List (List ℕ × Meaning) → Option ℕ → State (Unit {0}) g.Reported
+from_place g s name k es None = (s, reported g name.pos 32)
+from_place g s name k es (Some i) = unless_taken g s name.pos k es i (reported_of_taken g name.pos k (found name.name s.own))
 
-abbrev pub with_from : (g : Gathers) → ℕ → List (List ℕ × Meaning) → State (Unit {0}) g.Told → Ident → State (Unit {0}) g.Told
+abbrev pub with_from : (g : Gathers) → ℕ → List (List ℕ × Meaning) → State (Unit {0}) g.Reported → Ident → State (Unit {0}) g.Reported
 with_from g k es st name = let one = from_place g st.0 name k es (place_of name.name es) in (one.0, beside g st.1 one.1)
 
 abbrev pub exports_of : Option Table → List (List ℕ × Meaning)
 exports_of None = []
 exports_of (Some t) = t.exported
 
-abbrev pub from_module : (g : Gathers) → Result ℕ g.Told → State (Unit {0}) g.Told → List Ident → State (Unit {0}) g.Told
+abbrev pub from_module : (g : Gathers) → Result ℕ g.Reported → State (Unit {0}) g.Reported → List Ident → State (Unit {0}) g.Reported
 from_module g (Ok k) st names = fold (with_from g k (exports_of (slice_get st.0.tables k))) st names
 from_module g (Err e) st names = (st.0, beside g st.1 (Err e))
 
-abbrev pub with_imports : (g : Gathers) → List (List ℕ × ℕ) → State (Unit {0}) g.Told → Option Ident → List Ident → State (Unit {0}) g.Told
+abbrev pub with_imports : (g : Gathers) → List (List ℕ × ℕ) → State (Unit {0}) g.Reported → Option Ident → List Ident → State (Unit {0}) g.Reported
 with_imports g modules st None names = fold (with_module_name g modules) st names
 with_imports g modules st (Some m) names = from_module g (module_named g modules m) st names
 
-abbrev pub with_import : (g : Gathers) → List (List ℕ × ℕ) → State (Unit {0}) g.Told → Import → State (Unit {0}) g.Told
+abbrev pub with_import : (g : Gathers) → List (List ℕ × ℕ) → State (Unit {0}) g.Reported → Import → State (Unit {0}) g.Reported
 with_import g modules st i = with_imports g modules st i.from i.names

@@ -13,11 +13,11 @@ use Rattle.m2_typed.specs.declared.table.ModuleTypes.{ModuleTypes}
 use Rattle.m2_typed.specs.declared.table.Table.{Table}
 use Rattle.m2_typed.specs.Types.{integer, cardinal, boolean, char, bitset}
 use Rattle.m2_typed.specs.Names.{entered}
-use Rattle.m2_judged.specs.declared.known.Origin.TheVariants.{Here}
-use Rattle.m2_judged.specs.declared.known.Known.{Known}
-use Rattle.m2_judged.specs.declared.known.Known.TheVariants.{Declared}
-use Rattle.m2_judged.specs.declared.scope.Block.{Block}
-use Rattle.m2_judged.specs.declared.scope.Scope.{Scope}
+use Rattle.m2_scopes.specs.declared.known.Origin.TheVariants.{Here}
+use Rattle.m2_scopes.specs.declared.known.Known.{Known}
+use Rattle.m2_scopes.specs.declared.known.Known.TheVariants.{Declared}
+use Rattle.m2_scopes.specs.declared.scope.Block.{Block}
+use Rattle.m2_scopes.specs.declared.scope.Scope.{Scope}
 
 -- ---- predeclared names
 

@@ -2,20 +2,20 @@
 
 ghost use Rattle.std.specs.Prelude.{◌≡◌, Ok, IfOk, OnOk};
 ghost use Rattle.std.specs.List.{fold};
-ghost use Rattle.m2_judged.specs.Judged.{least};
-ghost use Rattle.m2_types.specs.Declare.{constant_meaning, nothing_told, with_constant, brings_simple, brings_with, type_meaning, with_type, begun_name, variable_meaning, with_variable_type, finished_variable, with_variables, procedure_meaning, with_procedure_type, declared_procedure, with_procedure, with_def};
+ghost use Rattle.m2_scopes.specs.Elaborated.{least};
+ghost use Rattle.m2_types.specs.Declare.{constant_meaning, nothing_reported, with_constant, brings_simple, brings_with, type_meaning, with_type, begun_name, variable_meaning, with_variable_type, finished_variable, with_variables, procedure_meaning, with_procedure_type, declared_procedure, with_procedure, with_def};
 
 use m2_constants::constant_of;
-use m2_judged::{Fault, Judged, Scope, begin, beside, declare, finish};
 use m2_made::{heading_of, nothing_of, type_of, with_made};
+use m2_scopes::{Elaborated, Fault, Scope, begin, beside, declare, finish};
 use m2_tree::{Constant, Def, Heading, Ident, Simple, TypeDecl, TypeExpr, Variables};
 use m2_typed::{Meaning, Procedure, TypeNo, Value, Variable};
 use std::alloc::{AllocError, Global};
 
 // ---- constants
 
-fn nothing_told(value: &Judged<Value>) -> Judged<()>
-    ensures { result ≡ nothing_told value.now }
+fn nothing_reported(value: &Elaborated<Value>) -> Elaborated<()>
+    ensures { result ≡ nothing_reported value.now }
 {
     match value {
         Err(fault) => Err(*fault),
@@ -23,7 +23,7 @@ fn nothing_told(value: &Judged<Value>) -> Judged<()>
     }
 }
 
-fn constant_meaning(value: Judged<Value>) -> Judged<Meaning>
+fn constant_meaning(value: Elaborated<Value>) -> Elaborated<Meaning>
     ensures { result ≡ constant_meaning value }
 {
     match value {
@@ -35,32 +35,32 @@ fn constant_meaning(value: Judged<Value>) -> Judged<Meaning>
 fn with_constant(
     alloc: Global,
     scope: &mut Scope<Fault>,
-    before: Judged<()>,
+    before: Elaborated<()>,
     constant: &Constant,
-) -> Result<Judged<()>, AllocError>
+) -> Result<Elaborated<()>, AllocError>
     ensures { IfOk result (λ j. (scope.new, j) ≡ with_constant least (scope.old, before) constant.now) }
 {
     let first = begin(alloc, scope, &constant.name)?;
     let value = constant_of(alloc, scope, &constant.value)?;
-    let told = nothing_told(&value);
+    let reported = nothing_reported(&value);
     finish(alloc, scope, &constant.name, constant_meaning(value))?;
-    Ok(beside(before, beside(first, told)))
+    Ok(beside(before, beside(first, reported)))
 }
 
 /// Declares constants.
 pub fn declare_constants(
     alloc: Global,
     scope: &mut Scope<Fault>,
-    before: Judged<()>,
+    before: Elaborated<()>,
     list: &[Constant],
-) -> Result<Judged<()>, AllocError>
+) -> Result<Elaborated<()>, AllocError>
     ensures { IfOk result (λ j. (scope.new, j) ≡ fold (with_constant least) (scope.old, before) list.now) }
 {
-    let mut judged = before;
+    let mut elaborated = before;
     for constant in list {
-        judged = with_constant(alloc, scope, judged, constant)?;
+        elaborated = with_constant(alloc, scope, elaborated, constant)?;
     }
-    Ok(judged)
+    Ok(elaborated)
 }
 
 // ---- types
@@ -87,7 +87,7 @@ fn brings_with(t: &TypeExpr) -> usize
     }
 }
 
-fn type_meaning(t: Judged<TypeNo>, names: usize) -> Judged<Meaning>
+fn type_meaning(t: Elaborated<TypeNo>, names: usize) -> Elaborated<Meaning>
     ensures { result ≡ type_meaning t names }
 {
     match t {
@@ -99,9 +99,9 @@ fn type_meaning(t: Judged<TypeNo>, names: usize) -> Judged<Meaning>
 fn with_type(
     alloc: Global,
     scope: &mut Scope<Fault>,
-    before: Judged<()>,
+    before: Elaborated<()>,
     decl: &TypeDecl,
-) -> Result<Judged<()>, AllocError>
+) -> Result<Elaborated<()>, AllocError>
     ensures { IfOk result (λ j. (scope.new, j) ≡ with_type least (scope.old, before) decl.now) }
 {
     let first = begin(alloc, scope, &decl.name)?;
@@ -119,16 +119,16 @@ fn with_type(
 pub fn declare_types(
     alloc: Global,
     scope: &mut Scope<Fault>,
-    before: Judged<()>,
+    before: Elaborated<()>,
     list: &[TypeDecl],
-) -> Result<Judged<()>, AllocError>
+) -> Result<Elaborated<()>, AllocError>
     ensures { IfOk result (λ j. (scope.new, j) ≡ fold (with_type least) (scope.old, before) list.now) }
 {
-    let mut judged = before;
+    let mut elaborated = before;
     for decl in list {
-        judged = with_type(alloc, scope, judged, decl)?;
+        elaborated = with_type(alloc, scope, elaborated, decl)?;
     }
-    Ok(judged)
+    Ok(elaborated)
 }
 
 // ---- variables
@@ -137,20 +137,20 @@ pub fn declare_types(
 pub fn begin_all(
     alloc: Global,
     scope: &mut Scope<Fault>,
-    before: Judged<()>,
+    before: Elaborated<()>,
     names: &[Ident],
-) -> Result<Judged<()>, AllocError>
+) -> Result<Elaborated<()>, AllocError>
     ensures { IfOk result (λ j. (scope.new, j) ≡ fold (begun_name least) (scope.old, before) names.now) }
 {
-    let mut judged = before;
+    let mut elaborated = before;
     for name in names {
         let one = begin(alloc, scope, name)?;
-        judged = beside(judged, one);
+        elaborated = beside(elaborated, one);
     }
-    Ok(judged)
+    Ok(elaborated)
 }
 
-fn variable_meaning(home: u32, number: usize, t: Judged<TypeNo>) -> Judged<Meaning>
+fn variable_meaning(home: u32, number: usize, t: Elaborated<TypeNo>) -> Elaborated<Meaning>
     ensures { result ≡ variable_meaning home number t }
 {
     match t {
@@ -160,7 +160,7 @@ fn variable_meaning(home: u32, number: usize, t: Judged<TypeNo>) -> Judged<Meani
 }
 
 /// Numbers one more variable of this type.
-pub fn with_variable_type(scope: &mut Scope<Fault>, t: Judged<TypeNo>) -> Result<(), AllocError>
+pub fn with_variable_type(scope: &mut Scope<Fault>, t: Elaborated<TypeNo>) -> Result<(), AllocError>
     ensures { OnOk result (scope.new ≡ with_variable_type scope.old t) }
 {
     match t {
@@ -175,7 +175,7 @@ pub fn with_variable_type(scope: &mut Scope<Fault>, t: Judged<TypeNo>) -> Result
 fn finish_variable(
     alloc: Global,
     scope: &mut Scope<Fault>,
-    t: Judged<TypeNo>,
+    t: Elaborated<TypeNo>,
     name: &Ident,
 ) -> Result<(), AllocError>
     ensures { OnOk result (scope.new ≡ finished_variable t scope.old name.now) }
@@ -188,7 +188,7 @@ fn finish_variable(
 fn finish_all(
     alloc: Global,
     scope: &mut Scope<Fault>,
-    t: Judged<TypeNo>,
+    t: Elaborated<TypeNo>,
     names: &[Ident],
 ) -> Result<(), AllocError>
     ensures { OnOk result (scope.new ≡ fold (finished_variable t) scope.old names.now) }
@@ -202,37 +202,37 @@ fn finish_all(
 fn with_variables(
     alloc: Global,
     scope: &mut Scope<Fault>,
-    before: Judged<()>,
+    before: Elaborated<()>,
     variables: &Variables,
-) -> Result<Judged<()>, AllocError>
+) -> Result<Elaborated<()>, AllocError>
     ensures { IfOk result (λ j. (scope.new, j) ≡ with_variables least (scope.old, before) variables.now) }
 {
-    let judged = begin_all(alloc, scope, before, variables.names.as_slice())?;
+    let elaborated = begin_all(alloc, scope, before, variables.names.as_slice())?;
     let t = type_of(alloc, scope, &variables.of)?;
     finish_all(alloc, scope, t, variables.names.as_slice())?;
-    Ok(beside(judged, nothing_of(t)))
+    Ok(beside(elaborated, nothing_of(t)))
 }
 
 /// Declares variables of a module.
 pub fn declare_variables(
     alloc: Global,
     scope: &mut Scope<Fault>,
-    before: Judged<()>,
+    before: Elaborated<()>,
     list: &[Variables],
-) -> Result<Judged<()>, AllocError>
+) -> Result<Elaborated<()>, AllocError>
     ensures { IfOk result (λ j. (scope.new, j) ≡ fold (with_variables least) (scope.old, before) list.now) }
 {
-    let mut judged = before;
+    let mut elaborated = before;
     for variables in list {
-        judged = with_variables(alloc, scope, judged, variables)?;
+        elaborated = with_variables(alloc, scope, elaborated, variables)?;
     }
-    Ok(judged)
+    Ok(elaborated)
 }
 
 // ---- procedures
 
 /// What a procedure of a module means, from its number and its heading.
-pub fn procedure_meaning(home: u32, number: usize, t: Judged<TypeNo>) -> Judged<Meaning>
+pub fn procedure_meaning(home: u32, number: usize, t: Elaborated<TypeNo>) -> Elaborated<Meaning>
     ensures { result ≡ procedure_meaning home number t }
 {
     match t {
@@ -246,7 +246,10 @@ pub fn procedure_meaning(home: u32, number: usize, t: Judged<TypeNo>) -> Judged<
 }
 
 /// Numbers one more procedure with this heading.
-pub fn with_procedure_type(scope: &mut Scope<Fault>, t: Judged<TypeNo>) -> Result<(), AllocError>
+pub fn with_procedure_type(
+    scope: &mut Scope<Fault>,
+    t: Elaborated<TypeNo>,
+) -> Result<(), AllocError>
     ensures { OnOk result (scope.new ≡ with_procedure_type scope.old t) }
 {
     match t {
@@ -262,8 +265,8 @@ fn declare_procedure(
     alloc: Global,
     scope: &mut Scope<Fault>,
     name: &Ident,
-    t: Judged<TypeNo>,
-) -> Result<Judged<()>, AllocError>
+    t: Elaborated<TypeNo>,
+) -> Result<Elaborated<()>, AllocError>
     ensures { IfOk result (λ j. (scope.new, j) ≡ declared_procedure least scope.old name.now t) }
 {
     let means = procedure_meaning(scope.types.home, scope.procedures.len(), t);
@@ -274,9 +277,9 @@ fn declare_procedure(
 fn with_procedure(
     alloc: Global,
     scope: &mut Scope<Fault>,
-    before: Judged<()>,
+    before: Elaborated<()>,
     heading: &Heading,
-) -> Result<Judged<()>, AllocError>
+) -> Result<Elaborated<()>, AllocError>
     ensures { IfOk result (λ j. (scope.new, j) ≡ with_procedure least (scope.old, before) heading.now) }
 {
     let made = heading_of(alloc, scope, heading)?;
@@ -290,9 +293,9 @@ fn with_procedure(
 fn with_def(
     alloc: Global,
     scope: &mut Scope<Fault>,
-    before: Judged<()>,
+    before: Elaborated<()>,
     def: &Def,
-) -> Result<Judged<()>, AllocError>
+) -> Result<Elaborated<()>, AllocError>
     ensures { IfOk result (λ j. (scope.new, j) ≡ with_def least (scope.old, before) def.now) }
 {
     match def {
@@ -307,14 +310,14 @@ fn with_def(
 pub fn declare_all(
     alloc: Global,
     scope: &mut Scope<Fault>,
-    before: Judged<()>,
+    before: Elaborated<()>,
     defs: &[Def],
-) -> Result<Judged<()>, AllocError>
+) -> Result<Elaborated<()>, AllocError>
     ensures { IfOk result (λ j. (scope.new, j) ≡ fold (with_def least) (scope.old, before) defs.now) }
 {
-    let mut judged = before;
+    let mut elaborated = before;
     for def in defs {
-        judged = with_def(alloc, scope, judged, def)?;
+        elaborated = with_def(alloc, scope, elaborated, def)?;
     }
-    Ok(judged)
+    Ok(elaborated)
 }

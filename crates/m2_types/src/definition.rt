@@ -1,7 +1,7 @@
 //! The table of a definition.
 
 ghost use Rattle.std.specs.Prelude.{◌≡◌, IfOk, ◌++◌, ◌∷◌, []};
-ghost use Rattle.m2_judged.specs.Judged.{least};
+ghost use Rattle.m2_scopes.specs.Elaborated.{least};
 ghost use Rattle.m2_types.specs.Predeclared.{console};
 ghost use Rattle.m2_types.specs.Compiled.{table_of, declared_in, table_or, of_definition, compiled};
 
@@ -10,7 +10,7 @@ use crate::export::{exports, imported_modules, reached_of};
 use crate::importing::{import_all, modules_of};
 use crate::marking::mark_defs;
 use crate::predeclared::{console, first_scope};
-use m2_judged::{Fault, Judged, Scope, told};
+use m2_scopes::{Elaborated, Fault, Scope, reported};
 use m2_tree::{Contents, Def, Items, Module};
 use m2_typed::{Dictionary, Shared, Table};
 use std::alloc::{AllocError, Global};
@@ -56,29 +56,29 @@ fn table_or(
     tree: &Module,
     modules: &Dictionary<usize>,
     scope: Scope<Fault>,
-    judged: Judged<()>,
-) -> Result<Judged<Table>, AllocError>
-    ensures { IfOk result (λ j. j ≡ table_or tree.now modules.now scope judged) }
+    elaborated: Elaborated<()>,
+) -> Result<Elaborated<Table>, AllocError>
+    ensures { IfOk result (λ j. j ≡ table_or tree.now modules.now scope elaborated) }
 {
-    match judged {
+    match elaborated {
         Err(fault) => Ok(Err(fault)),
         Ok(()) => Ok(Ok(table_of(alloc, tree, modules, scope)?)),
     }
 }
 
-/// What is known behind a definition's declarations, and what is told of it.
+/// What is known behind a definition's declarations, and what is reported of it.
 fn declared_in(
     alloc: Global,
     scope: &mut Scope<Fault>,
     tree: &Module,
     modules: &Dictionary<usize>,
     defs: &[Def],
-) -> Result<Judged<()>, AllocError>
+) -> Result<Elaborated<()>, AllocError>
     ensures { IfOk result (λ j. (scope.new, j) ≡ declared_in least tree.now modules.now scope.old defs.now) }
 {
     mark_defs(alloc, scope, defs)?;
-    let judged = import_all(alloc, scope, modules, tree.imports.as_slice())?;
-    declare_all(alloc, scope, judged, defs)
+    let elaborated = import_all(alloc, scope, modules, tree.imports.as_slice())?;
+    declare_all(alloc, scope, elaborated, defs)
 }
 
 fn of_definition(
@@ -87,13 +87,13 @@ fn of_definition(
     tree: &Module,
     tables: Items<Shared<Table>>,
     defs: &[Def],
-) -> Result<Judged<Table>, AllocError>
+) -> Result<Elaborated<Table>, AllocError>
     ensures { IfOk result (λ j. j ≡ of_definition least number tree.now tables defs.now) }
 {
     let modules = modules_of(alloc, tables.as_slice())?;
     let mut scope = first_scope(alloc, number, tables)?;
-    let judged = declared_in(alloc, &mut scope, tree, &modules, defs)?;
-    table_or(alloc, tree, &modules, scope, judged)
+    let elaborated = declared_in(alloc, &mut scope, tree, &modules, defs)?;
+    table_or(alloc, tree, &modules, scope, elaborated)
 }
 
 /// The table of a definition, whose module has this number, from the tables of the definitions that it imports. It
@@ -109,13 +109,13 @@ pub fn compile_definition(
     number: u32,
     tree: &Module,
     imports: Items<Shared<Table>>,
-) -> Result<Judged<Table>, AllocError>
+) -> Result<Elaborated<Table>, AllocError>
     ensures { IfOk result (λ j. j ≡ compiled least number tree.now imports) }
 {
     let tables = with_console(alloc, imports)?;
     match &tree.contents {
         Contents::Definition(defs) => of_definition(alloc, number, tree, tables, defs.as_slice()),
-        Contents::Implementation(_) => Ok(told(tree.name.pos, 24)),
-        Contents::Program(_) => Ok(told(tree.name.pos, 24)),
+        Contents::Implementation(_) => Ok(reported(tree.name.pos, 24)),
+        Contents::Program(_) => Ok(reported(tree.name.pos, 24)),
     }
 }

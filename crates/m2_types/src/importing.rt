@@ -3,13 +3,13 @@
 ghost use Rattle.std.specs.Prelude.{◌≡◌, not, ◌+◌, ◌<◌, ◌^◌, [], Ok, IfOk, OnOk, length, take, drop, slice_get};
 ghost use Rattle.std.specs.List.{fold};
 ghost use Rattle.std.specs.Option.{option_copied, option_map};
-ghost use Rattle.m2_judged.specs.Judged.{least, told_where};
-ghost use Rattle.m2_judged.specs.Scopes.{is_one_origin};
-ghost use Rattle.m2_judged.specs.declared.known.Origin.TheVariants.{Export};
+ghost use Rattle.m2_scopes.specs.Elaborated.{least, reported_where};
+ghost use Rattle.m2_scopes.specs.Scopes.{is_one_origin};
+ghost use Rattle.m2_scopes.specs.declared.known.Origin.TheVariants.{Export};
 ghost use Rattle.m2_types.specs.Steps.{if_some};
-ghost use Rattle.m2_types.specs.Importing.{with_place, numbered_modules, module_named, with_module_as, with_module_name, with_entry, brings_in, brings_of, told_of_taken, from_place, with_from, exports_of, from_module, with_import};
+ghost use Rattle.m2_types.specs.Importing.{with_place, numbered_modules, module_named, with_module_as, with_module_name, with_entry, brings_in, brings_of, reported_of_taken, from_place, with_from, exports_of, from_module, with_import};
 
-use m2_judged::{Fault, Judged, Known, Origin, Scope, beside, import, told};
+use m2_scopes::{Elaborated, Fault, Known, Origin, Scope, beside, import, reported};
 use m2_tree::{Ident, Import, Pos};
 use m2_typed::{Dictionary, Meaning, Shared, Table};
 use std::alloc::{AllocError, Global};
@@ -40,11 +40,11 @@ pub fn modules_of(alloc: Global, tables: &[Shared<Table>]) -> Result<Dictionary<
     Ok(modules)
 }
 
-fn module_named(modules: &Dictionary<usize>, name: &Ident) -> Judged<usize>
+fn module_named(modules: &Dictionary<usize>, name: &Ident) -> Elaborated<usize>
     ensures { result ≡ module_named least modules.now name.now }
 {
     match modules.find(name.name.as_bytes()) {
-        None => told(name.pos, 20),
+        None => reported(name.pos, 20),
         Some(place) => Ok(*place),
     }
 }
@@ -53,8 +53,8 @@ fn with_module_as(
     alloc: Global,
     scope: &mut Scope<Fault>,
     name: &Ident,
-    place: Judged<usize>,
-) -> Result<Judged<()>, AllocError>
+    place: Elaborated<usize>,
+) -> Result<Elaborated<()>, AllocError>
     ensures { IfOk result (λ j. (scope.new, j) ≡ with_module_as least scope.old name.now place) }
 {
     match place {
@@ -74,17 +74,17 @@ fn import_modules(
     alloc: Global,
     scope: &mut Scope<Fault>,
     modules: &Dictionary<usize>,
-    before: Judged<()>,
+    before: Elaborated<()>,
     names: &[Ident],
-) -> Result<Judged<()>, AllocError>
+) -> Result<Elaborated<()>, AllocError>
     ensures { IfOk result (λ j. (scope.new, j) ≡ fold (with_module_name least modules.now) (scope.old, before) names.now) }
 {
-    let mut judged = before;
+    let mut elaborated = before;
     for name in names {
         let one = with_module_as(alloc, scope, name, module_named(modules, name))?;
-        judged = beside(judged, one);
+        elaborated = beside(elaborated, one);
     }
-    Ok(judged)
+    Ok(elaborated)
 }
 
 fn with_entry(
@@ -92,10 +92,10 @@ fn with_entry(
     scope: &mut Scope<Fault>,
     at: Pos,
     place: usize,
-    before: Judged<()>,
+    before: Elaborated<()>,
     name: &[u8],
     meaning: &Meaning,
-) -> Result<Judged<()>, AllocError>
+) -> Result<Elaborated<()>, AllocError>
     ensures { IfOk result (λ j. (scope.new, j) ≡ with_entry least at place (scope.old, before) (name.now, meaning.now)) }
 {
     let copy = meaning.copy()?;
@@ -108,9 +108,9 @@ fn with_entry_if(
     scope: &mut Scope<Fault>,
     at: Pos,
     place: usize,
-    before: Judged<()>,
+    before: Elaborated<()>,
     entry: Option<(&[u8], &Meaning)>,
-) -> Result<Judged<()>, AllocError>
+) -> Result<Elaborated<()>, AllocError>
     ensures { IfOk result (λ j. (scope.new, j) ≡ if_some (with_entry least at place) (scope.old, before) (option_map (λ e. (e.0.now, e.1.now)) entry.entry)) }
 {
     match entry {
@@ -128,16 +128,16 @@ fn bring_all(
     exported: &Dictionary<Meaning>,
     first: usize,
     count: usize,
-) -> Result<Judged<()>, AllocError>
+) -> Result<Elaborated<()>, AllocError>
     requires { first + count < 2 ^ 64 }
     ensures { IfOk result (λ j. (scope.new, j) ≡ fold (with_entry least at place) (scope.old, Ok tt) (take count (drop first exported.now))) }
 {
-    let mut judged = Ok(());
+    let mut elaborated = Ok(());
     for k in 0..count {
         let entry = exported.get(first + k);
-        judged = with_entry_if(alloc, scope, at, place, judged, entry)?;
+        elaborated = with_entry_if(alloc, scope, at, place, elaborated, entry)?;
     }
-    Ok(judged)
+    Ok(elaborated)
 }
 
 /// Imports so many names of a table from a place on, as far as there are names.
@@ -149,7 +149,7 @@ fn bring(
     exported: &Dictionary<Meaning>,
     first: usize,
     count: usize,
-) -> Result<Judged<()>, AllocError>
+) -> Result<Elaborated<()>, AllocError>
     ensures { IfOk result (λ j. (scope.new, j) ≡ fold (with_entry least at place) (scope.old, Ok tt) (take count (drop first exported.now))) }
 {
     let left = exported.len().saturating_sub(first);
@@ -186,31 +186,31 @@ fn brings_in(entry: Option<(&[u8], &Meaning)>) -> usize
     }
 }
 
-/// What is told of an import whose name is taken, if it is.
-fn told_of_taken(known: Option<&Known<Fault>>, at: Pos, place: usize) -> Option<Judged<()>>
-    ensures { result ≡ told_of_taken least at place (option_copied known.entry) }
+/// What is reported of an import whose name is taken, if it is.
+fn reported_of_taken(known: Option<&Known<Fault>>, at: Pos, place: usize) -> Option<Elaborated<()>>
+    ensures { result ≡ reported_of_taken least at place (option_copied known.entry) }
 {
     match known {
         None => None,
         Some(known) => match known {
             Known::Later | Known::Ahead => None,
-            Known::Begun => Some(told(at, 31)),
-            Known::Headed(_) => Some(told(at, 31)),
-            Known::Declared(origin, _) => Some(told_unless_from(*origin, at, place)),
+            Known::Begun => Some(reported(at, 31)),
+            Known::Headed(_) => Some(reported(at, 31)),
+            Known::Declared(origin, _) => Some(reported_unless_from(*origin, at, place)),
         },
     }
 }
 
-fn told_unless_from(origin: Origin, at: Pos, place: usize) -> Judged<()>
-    ensures { result ≡ told_where least (not (is_one_origin origin (Export place))) at 31 (Ok tt) }
+fn reported_unless_from(origin: Origin, at: Pos, place: usize) -> Elaborated<()>
+    ensures { result ≡ reported_where least (not (is_one_origin origin (Export place))) at 31 (Ok tt) }
 {
     match origin {
-        Origin::Here | Origin::Module(_) => told(at, 31),
+        Origin::Here | Origin::Module(_) => reported(at, 31),
         Origin::Export(first) => {
             if first == place {
                 return Ok(());
             }
-            told(at, 31)
+            reported(at, 31)
         }
     }
 }
@@ -223,15 +223,15 @@ fn from_place(
     place: usize,
     exported: &Dictionary<Meaning>,
     found: Option<usize>,
-) -> Result<Judged<()>, AllocError>
+) -> Result<Elaborated<()>, AllocError>
     ensures { IfOk result (λ j. (scope.new, j) ≡ from_place least scope.old name.now place exported.now found) }
 {
     let Some(first) = found else {
-        return Ok(told(name.pos, 32));
+        return Ok(reported(name.pos, 32));
     };
     let known = scope.own.find(name.name.as_bytes());
-    match told_of_taken(known, name.pos, place) {
-        Some(judged) => Ok(judged),
+    match reported_of_taken(known, name.pos, place) {
+        Some(elaborated) => Ok(elaborated),
         None => {
             let count = brings_in(exported.get(first));
             bring(alloc, scope, name.pos, place, exported, first, count)
@@ -244,27 +244,27 @@ fn import_names(
     scope: &mut Scope<Fault>,
     place: usize,
     exported: &Dictionary<Meaning>,
-    before: Judged<()>,
+    before: Elaborated<()>,
     names: &[Ident],
-) -> Result<Judged<()>, AllocError>
+) -> Result<Elaborated<()>, AllocError>
     ensures { IfOk result (λ j. (scope.new, j) ≡ fold (with_from least place exported.now) (scope.old, before) names.now) }
 {
-    let mut judged = before;
+    let mut elaborated = before;
     for name in names {
         let found = exported.place(name.name.as_bytes());
         let one = from_place(alloc, scope, name, place, exported, found)?;
-        judged = beside(judged, one);
+        elaborated = beside(elaborated, one);
     }
-    Ok(judged)
+    Ok(elaborated)
 }
 
 fn import_from(
     alloc: Global,
     scope: &mut Scope<Fault>,
     place: usize,
-    before: Judged<()>,
+    before: Elaborated<()>,
     names: &[Ident],
-) -> Result<Judged<()>, AllocError>
+) -> Result<Elaborated<()>, AllocError>
     ensures { IfOk result (λ j. (scope.new, j) ≡ fold (with_from least place (exports_of (slice_get scope.old.tables place))) (scope.old, before) names.now) }
 {
     match scope.tables.get(place) {
@@ -282,10 +282,10 @@ fn import_from(
 fn import_from_module(
     alloc: Global,
     scope: &mut Scope<Fault>,
-    place: Judged<usize>,
-    before: Judged<()>,
+    place: Elaborated<usize>,
+    before: Elaborated<()>,
     names: &[Ident],
-) -> Result<Judged<()>, AllocError>
+) -> Result<Elaborated<()>, AllocError>
     ensures { IfOk result (λ j. (scope.new, j) ≡ from_module least place (scope.old, before) names.now) }
 {
     match place {
@@ -298,9 +298,9 @@ fn with_import(
     alloc: Global,
     scope: &mut Scope<Fault>,
     modules: &Dictionary<usize>,
-    before: Judged<()>,
+    before: Elaborated<()>,
     one: &Import,
-) -> Result<Judged<()>, AllocError>
+) -> Result<Elaborated<()>, AllocError>
     ensures { IfOk result (λ j. (scope.new, j) ≡ with_import least modules.now (scope.old, before) one.now) }
 {
     let names = one.names.as_slice();
@@ -318,12 +318,12 @@ pub fn import_all(
     scope: &mut Scope<Fault>,
     modules: &Dictionary<usize>,
     imports: &[Import],
-) -> Result<Judged<()>, AllocError>
+) -> Result<Elaborated<()>, AllocError>
     ensures { IfOk result (λ j. (scope.new, j) ≡ fold (with_import least modules.now) (scope.old, Ok tt) imports.now) }
 {
-    let mut judged = Ok(());
+    let mut elaborated = Ok(());
     for one in imports {
-        judged = with_import(alloc, scope, modules, judged, one)?;
+        elaborated = with_import(alloc, scope, modules, elaborated, one)?;
     }
-    Ok(judged)
+    Ok(elaborated)
 }

@@ -13,14 +13,14 @@ use Rattle.m2_typed.specs.declared.meaning.Meaning.TheVariants as meaning
 use Rattle.m2_typed.specs.declared.table.Table.{Table}
 use Rattle.m2_typed.specs.Types.{integer, cardinal, boolean, char, bitset}
 use Rattle.m2_typed.specs.Names.{same_name, found, entered}
-use Rattle.m2_judged.specs.Judged.{Gathers}
-use Rattle.m2_judged.specs.declared.known.Origin.{Origin}
-use Rattle.m2_judged.specs.declared.known.Origin.TheVariants.{Here}
-use Rattle.m2_judged.specs.declared.known.Origin.TheVariants as origin
-use Rattle.m2_judged.specs.declared.known.Known.{Known}
-use Rattle.m2_judged.specs.declared.known.Known.TheVariants.{Later, Ahead, Begun, Headed, Declared}
-use Rattle.m2_judged.specs.declared.scope.Block.{Block}
-use Rattle.m2_judged.specs.declared.scope.Scope.{Scope}
+use Rattle.m2_scopes.specs.Elaborated.{Gathers}
+use Rattle.m2_scopes.specs.declared.known.Origin.{Origin}
+use Rattle.m2_scopes.specs.declared.known.Origin.TheVariants.{Here}
+use Rattle.m2_scopes.specs.declared.known.Origin.TheVariants as origin
+use Rattle.m2_scopes.specs.declared.known.Known.{Known}
+use Rattle.m2_scopes.specs.declared.known.Known.TheVariants.{Later, Ahead, Begun, Headed, Declared}
+use Rattle.m2_scopes.specs.declared.scope.Block.{Block}
+use Rattle.m2_scopes.specs.declared.scope.Scope.{Scope}
 use Rattle.m2_made.specs.Headings.{formal_of}
 use Rattle.m2_types.specs.Predeclared.{predeclared_as, with_types, truth, with_truth, with_functions, with_bounds, with_procedures, predeclared, first_scope}
 use Rattle.m2_types.specs.Export.{with_meaning, with_declared, with_known, with_export, exports}
@@ -67,11 +67,11 @@ pub left_words : {T : Type 0} (o : Outside) (s : Scope T) → ScopeWords s → S
 left_words o s h = let k = left_by s.outer h.outer in record { names = k.1; outer = k.0; tables = h.tables }
 
 module _ (g : Gathers) where
-  sections_formals : (s : Scope g.Told) (xs : List Section) (fs : Formals g.Told) → NamesWords fs.0 → NamesWords (fold (with_section g s) fs xs).0
+  sections_formals : (s : Scope g.Reported) (xs : List Section) (fs : Formals g.Reported) → NamesWords fs.0 → NamesWords (fold (with_section g s) fs xs).0
   sections_formals s [] fs h = h
   sections_formals s (x ∷ xs) fs h = sections_formals s xs (with_section g s fs x) (names_formals s.level (formal_of g s x.is_var x.of) x.names fs h)
 
-  pub entered_words : (s : Scope g.Told) (seen : ℕ) (h : Heading) → ScopeWords s → ScopeWords (entered_procedure g s seen h).0
+  pub entered_words : (s : Scope g.Reported) (seen : ℕ) (h : Heading) → ScopeWords s → ScopeWords (entered_procedure g s seen h).0
   entered_words s seen h p =
       let k : ScopeWords (inwards s seen) = inwards_words s seen p in
       record { names = sections_formals (inwards s seen) h.formals ([], []) tt; outer = k.outer; tables = k.tables }

@@ -19,12 +19,12 @@ use Rattle.m2_typed.specs.declared.types.Home.TheVariants.{Predeclared, Module}
 use Rattle.m2_typed.specs.declared.types.TypeNo.{TypeNo}
 use Rattle.m2_typed.specs.Known.{made_from, in_list, scalar_at}
 use Rattle.m2_typed.specs.Names.{same_name, found, entered}
-use Rattle.m2_judged.specs.Judged.{Gathers, told}
-use Rattle.m2_judged.specs.Scopes.{State, is_free, with_known, unless_declared, begun, is_begun, finished, unless_marked, marked}
-use Rattle.m2_judged.specs.declared.known.Known.{Known}
-use Rattle.m2_judged.specs.declared.known.Known.TheVariants.{Later, Ahead, Begun, Headed, Declared}
-use Rattle.m2_judged.specs.declared.known.Origin.TheVariants.{Here}
-use Rattle.m2_judged.specs.declared.scope.Scope.{Scope}
+use Rattle.m2_scopes.specs.Elaborated.{Gathers, reported}
+use Rattle.m2_scopes.specs.Scopes.{State, is_free, with_known, unless_declared, begun, is_begun, finished, unless_marked, marked}
+use Rattle.m2_scopes.specs.declared.known.Known.{Known}
+use Rattle.m2_scopes.specs.declared.known.Known.TheVariants.{Later, Ahead, Begun, Headed, Declared}
+use Rattle.m2_scopes.specs.declared.known.Origin.TheVariants.{Here}
+use Rattle.m2_scopes.specs.declared.scope.Scope.{Scope}
 use Rattle.m2_computed.specs.Classes.{array_shape, array_made, array_at}
 use Rattle.m2_made.specs.Made.{with_shape, with_made}
 use Rattle.m2_types.specs.Declare.{with_variable_type, with_procedure_type}
@@ -213,12 +213,12 @@ known_carries s name k p w z = record {
   slots = λ o l q. slots_more (slots_in o s.variables) s.level name k s.own (z o l) q;
 }
 
-module _ (g : Gathers) (s : Scope g.Told) where
-  pub free_carries : (at : Pos) (name : List ℕ) (k : Known g.Told) (b : Bool) → KnownPlaced s.types.home s.variables k → (ScopeWords s → KnownWord k) → SlotFor s k → Carries s (cond {A = State (Unit {0}) g.Told} b (with_known name k s, Ok tt) (s, told g at 31)).0
+module _ (g : Gathers) (s : Scope g.Reported) where
+  pub free_carries : (at : Pos) (name : List ℕ) (k : Known g.Reported) (b : Bool) → KnownPlaced s.types.home s.variables k → (ScopeWords s → KnownWord k) → SlotFor s k → Carries s (cond {A = State (Unit {0}) g.Reported} b (with_known name k s, Ok tt) (s, reported g at 31)).0
   free_carries at name k true p w z = known_carries s name k p w z
   free_carries at name k false p w z = carries_refl s
 
-  pub unless_carries : (name : Ident) (k : Known g.Told) → KnownPlaced s.types.home s.variables k → (ScopeWords s → KnownWord k) → SlotFor s k → Carries s (unless_declared g s name k).0
+  pub unless_carries : (name : Ident) (k : Known g.Reported) → KnownPlaced s.types.home s.variables k → (ScopeWords s → KnownWord k) → SlotFor s k → Carries s (unless_declared g s name k).0
   unless_carries name k p w z = free_carries name.pos name.name k (is_free (found name.name s.own)) p w z
 
   pub begun_carries : (name : Ident) → Carries s (begun g s name).0

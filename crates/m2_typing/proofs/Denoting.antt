@@ -25,12 +25,12 @@ use Rattle.m2_typed.specs.declared.meaning.Value.TheVariants as value
 use Rattle.m2_typed.specs.declared.table.Table.{Table}
 use Rattle.m2_typed.specs.Types.{char}
 use Rattle.m2_typed.specs.Names.{same_name, found, place_of}
-use Rattle.m2_judged.specs.declared.known.Known.{Known}
-use Rattle.m2_judged.specs.declared.known.Known.TheVariants.{Later, Ahead, Begun, Headed, Declared}
-use Rattle.m2_judged.specs.declared.scope.Block.{Block}
-use Rattle.m2_judged.specs.declared.scope.Scope.{Scope}
-use Rattle.m2_judged.specs.Judged.{Gathers, told, both}
-use Rattle.m2_judged.specs.Scopes.{or_outside, Sight, seen_at, in_block, nearer, known_outside, or_around, known, means_seen, means_as, opened, means_or, looked_up}
+use Rattle.m2_scopes.specs.declared.known.Known.{Known}
+use Rattle.m2_scopes.specs.declared.known.Known.TheVariants.{Later, Ahead, Begun, Headed, Declared}
+use Rattle.m2_scopes.specs.declared.scope.Block.{Block}
+use Rattle.m2_scopes.specs.declared.scope.Scope.{Scope}
+use Rattle.m2_scopes.specs.Elaborated.{Gathers, reported, both}
+use Rattle.m2_scopes.specs.Scopes.{or_outside, Sight, seen_at, in_block, nearer, known_outside, or_around, known, means_seen, means_as, opened, means_or, looked_up}
 use Rattle.m2_values.specs.declared.operand.Ordinal.{Ordinal}
 use Rattle.m2_values.specs.declared.operator.BinaryOp.{BinaryOp}
 use Rattle.m2_values.specs.declared.operator.BinaryOp.TheVariants as op
@@ -46,7 +46,7 @@ use Rattle.m2_constants.specs.Denote.{denoted_by, as_constant, of_value, compone
 use Rattle.m2_constants.specs.Calls.{sort_of, bound_by, type_argument}
 use Rattle.m2_constants.specs.Parts.{Part, Pick, Adds, sign_place, signed_first, named, field_of, constant, one, type_only, conversion, by_sort, called_as, called, factor, term, set_type, expr_layer, selector_layer, designator_layer, item_layer, part, pick, head, item}
 use Rattle.m2_formed.specs.Formed.{Holds, fine}
-use Rattle.m2_formed.proofs.Basics.{then_holds, told_holds, where_holds, both_holds, any_holds}
+use Rattle.m2_formed.proofs.Basics.{then_holds, reported_holds, where_holds, both_holds, any_holds}
 use Rattle.m2_typing.specs.Typing.{IsWord}
 use Rattle.m2_typing.specs.Carried.{MeaningWord, KnownWord, NamesWords, BlocksWords, ExportsWords, TablesWords, ScopeWords}
 use Rattle.m2_typing.proofs.Words.{operand_word, binary_words, signed_words, negated_words, unary_words, bound_word, B_, added_small, AllSmall, items_small}
@@ -92,25 +92,25 @@ module _ {T : Type 0} where
   around_words (Some k) far p q = p
 
 module _ (g : Gathers) where
-  abbrev Means_ : Result Meaning g.Told → Type 0
+  abbrev Means_ : Result Meaning g.Reported → Type 0
   Means_ r = Holds (MeaningWord) r
 
-  declared_means : (at : Pos) (seen : Bool) (r : Result Meaning g.Told) → Means_ r → Means_ (cond seen r (told g at 30))
+  declared_means : (at : Pos) (seen : Bool) (r : Result Meaning g.Reported) → Means_ r → Means_ (cond seen r (reported g at 30))
   declared_means at true r p = p
-  declared_means at false r p = told_holds g at 30
+  declared_means at false r p = reported_holds g at 30
 
-  seen_means : (at : Pos) (k : Known g.Told) (seen : Bool) → KnownWord k → Means_ (means_seen g at k seen)
-  seen_means at Later seen p = told_holds g at 30
+  seen_means : (at : Pos) (k : Known g.Reported) (seen : Bool) → KnownWord k → Means_ (means_seen g at k seen)
+  seen_means at Later seen p = reported_holds g at 30
   seen_means at Ahead seen p = fine meaning.Ahead tt
-  seen_means at Begun seen p = told_holds g at 30
+  seen_means at Begun seen p = reported_holds g at 30
   seen_means at (Headed r) seen p = p
   seen_means at (Declared o r) seen p = declared_means at seen r p
 
-  means_words : (at : Pos) (o : Sight g.Told) → WordSight o → Means_ (means_as g at o)
-  means_words at None p = told_holds g at 30
+  means_words : (at : Pos) (o : Sight g.Reported) → WordSight o → Means_ (means_as g at o)
+  means_words at None p = reported_holds g at 30
   means_words at (Some k) p = seen_means at k.0 k.1 p
 
-  field_or : (o : Option OpenedField) (r : Result Meaning g.Told) → Means_ r → Means_ (means_or o r)
+  field_or : (o : Option OpenedField) (r : Result Meaning g.Reported) → Means_ r → Means_ (means_or o r)
   field_or (Some f) r p = fine (meaning.Field f) tt
   field_or None r p = p
 
@@ -134,10 +134,10 @@ module _ (g : Gathers) where
   export_at name (t ∷ ts) (suc k) all = export_at name ts k all.1
 
   exported_means : (at : Pos) (o : Option Meaning) → ExportIf o → Means_ (exported g at o)
-  exported_means at None p = told_holds g at 32
+  exported_means at None p = reported_holds g at 32
   exported_means at (Some m) p = fine m p
 
-module _ (g : Gathers) (s : Scope g.Told) (h : ScopeWords s) where
+module _ (g : Gathers) (s : Scope g.Reported) (h : ScopeWords s) where
   name_means : (name : Ident) → Means_ g (looked_up g s name)
   name_means name =
       field_or g (opened s.types name.name s.withs) (means_as g name.pos (known name.name s))
@@ -156,23 +156,23 @@ module _ (g : Gathers) (s : Scope g.Told) (h : ScopeWords s) where
   DenotedWord (denoted.Standard f) = Unit {0}
   DenotedWord (denoted.Module k) = Unit {0}
 
-  abbrev D_ : Result Denoted g.Told → Type 0
+  abbrev D_ : Result Denoted g.Reported → Type 0
   D_ r = Holds DenotedWord r
 
-  abbrev V_ : Result Value g.Told → Type 0
+  abbrev V_ : Result Value g.Reported → Type 0
   V_ r = Holds IsWord r
 
-  abbrev FM : Part g.Told → Type 0
+  abbrev FM : Part g.Reported → Type 0
   FM x = D_ (x.denotes s)
 
-  abbrev FP : Pick g.Told → Type 0
-  FP p = (d : Result Denoted g.Told) → D_ d → D_ (p s d)
+  abbrev FP : Pick g.Reported → Type 0
+  FP p = (d : Result Denoted g.Reported) → D_ d → D_ (p s d)
 
-  abbrev AllM : List (Part g.Told) → Type 0
+  abbrev AllM : List (Part g.Reported) → Type 0
   AllM [] = Unit {0}
   AllM (x ∷ xs) = FM x × AllM xs
 
-  abbrev AllP : List (Pick g.Told) → Type 0
+  abbrev AllP : List (Pick g.Reported) → Type 0
   AllP [] = Unit {0}
   AllP (x ∷ xs) = FP x × AllP xs
 
@@ -193,11 +193,11 @@ module _ (g : Gathers) (s : Scope g.Told) (h : ScopeWords s) where
 
   component_words : (at : Pos) (d : Denoted) → D_ (component g at d)
   component_words at denoted.Variable = fine denoted.Variable tt
-  component_words at (denoted.Value v) = told_holds g at 40
-  component_words at (denoted.Type t) = told_holds g at 40
-  component_words at denoted.Procedure = told_holds g at 40
-  component_words at (denoted.Standard f) = told_holds g at 40
-  component_words at (denoted.Module k) = told_holds g at 40
+  component_words at (denoted.Value v) = reported_holds g at 40
+  component_words at (denoted.Type t) = reported_holds g at 40
+  component_words at denoted.Procedure = reported_holds g at 40
+  component_words at (denoted.Standard f) = reported_holds g at 40
+  component_words at (denoted.Module k) = reported_holds g at 40
 
   field_words : (at : Pos) (name : Ident) (d : Denoted) → D_ (field_of g s at name d)
   field_words at name (denoted.Module k) = then_holds (member_means k name) (λ m p. fine (denoted_by m) (by_meaning m p))
@@ -209,69 +209,69 @@ module _ (g : Gathers) (s : Scope g.Told) (h : ScopeWords s) where
 
   as_constant_words : (at : Pos) (d : Denoted) → DenotedWord d → V_ (as_constant g at d)
   as_constant_words at (denoted.Value v) p = fine v p
-  as_constant_words at (denoted.Type t) p = told_holds g at 34
-  as_constant_words at denoted.Variable p = told_holds g at 34
-  as_constant_words at denoted.Procedure p = told_holds g at 34
-  as_constant_words at (denoted.Standard f) p = told_holds g at 34
-  as_constant_words at (denoted.Module k) p = told_holds g at 34
+  as_constant_words at (denoted.Type t) p = reported_holds g at 34
+  as_constant_words at denoted.Variable p = reported_holds g at 34
+  as_constant_words at denoted.Procedure p = reported_holds g at 34
+  as_constant_words at (denoted.Standard f) p = reported_holds g at 34
+  as_constant_words at (denoted.Module k) p = reported_holds g at 34
 
-  pub constant_words : (x : Part g.Told) → FM x → V_ (constant g s x)
+  pub constant_words : (x : Part g.Reported) → FM x → V_ (constant g s x)
   constant_words x p = then_holds p (λ d k. as_constant_words x.at d k)
 
-  value_words : {r : Result Value g.Told} → V_ r → D_ (of_value r)
+  value_words : {r : Result Value g.Reported} → V_ r → D_ (of_value r)
   value_words p = then_holds p (λ v k. fine (denoted.Value v) k)
 
   -- ---- calls
 
-  sorted_words : (at : Pos) (f : Standard) (args : List (Part g.Told)) (o : Sort) → V_ (by_sort g s at f args o)
+  sorted_words : (at : Pos) (f : Standard) (args : List (Part g.Reported)) (o : Sort) → V_ (by_sort g s at f args o)
   sorted_words at f args Unary = then_holds (any_holds (one g s at args)) (λ p k. unary_words g f p.0 p.1)
   sorted_words at f args Bound = then_holds (any_holds (type_only g s at args)) (λ p k. fine (bound_by f p.0 p.1) (bound_word g f p.0 p.1))
   sorted_words at f args Conversion = conversion_words at args
     where
       converted_words : (t : TypeNo) (r : Range) (at : Pos) (o : Option Ordinal) → V_ (converted_part g t r at o)
-      converted_words t r at None = told_holds g at 43
+      converted_words t r at None = reported_holds g at 43
       converted_words t r at (Some a) = where_holds g _ at 52 (fine (bound_of t r a.number) tt)
 
-      conversion_words : (at : Pos) (args : List (Part g.Told)) → V_ (conversion g s at args)
-      conversion_words at [] = told_holds g at 42
-      conversion_words at (t ∷ []) = told_holds g at 42
+      conversion_words : (at : Pos) (args : List (Part g.Reported)) → V_ (conversion g s at args)
+      conversion_words at [] = reported_holds g at 42
+      conversion_words at (t ∷ []) = reported_holds g at 42
       conversion_words at (t ∷ x ∷ []) = then_holds (any_holds (both g (type_argument g s.types t.at (t.denotes s)) (constant g s x))) (λ p k. converted_words p.0.0 p.0.1 x.at (whole_number p.1))
-      conversion_words at (t ∷ x ∷ y ∷ xs) = told_holds g at 42
-  sorted_words at f args Never = told_holds g at 34
+      conversion_words at (t ∷ x ∷ y ∷ xs) = reported_holds g at 42
+  sorted_words at f args Never = reported_holds g at 34
 
-  called_as_words : (at : Pos) (d : Denoted) (args : List (Part g.Told)) → V_ (called_as g s at d args)
+  called_as_words : (at : Pos) (d : Denoted) (args : List (Part g.Reported)) → V_ (called_as g s at d args)
   called_as_words at (denoted.Standard f) args = sorted_words at f args (sort_of f)
-  called_as_words at (denoted.Value v) args = told_holds g at 34
-  called_as_words at (denoted.Type t) args = told_holds g at 34
-  called_as_words at denoted.Variable args = told_holds g at 34
-  called_as_words at denoted.Procedure args = told_holds g at 34
-  called_as_words at (denoted.Module k) args = told_holds g at 34
+  called_as_words at (denoted.Value v) args = reported_holds g at 34
+  called_as_words at (denoted.Type t) args = reported_holds g at 34
+  called_as_words at denoted.Variable args = reported_holds g at 34
+  called_as_words at denoted.Procedure args = reported_holds g at 34
+  called_as_words at (denoted.Module k) args = reported_holds g at 34
 
-  called_words : (at : Pos) (d : Result Denoted g.Told) (args : List (Part g.Told)) → V_ (called g s at d args)
+  called_words : (at : Pos) (d : Result Denoted g.Reported) (args : List (Part g.Reported)) → V_ (called g s at d args)
   called_words at d args = then_holds (any_holds d) (λ x k. called_as_words at x args)
 
   -- ---- operators
 
-  abbrev AllT : {O : Type 0} → List (Operator O × Part g.Told) → Type 0
+  abbrev AllT : {O : Type 0} → List (Operator O × Part g.Reported) → Type 0
   AllT [] = Unit {0}
   AllT (x ∷ xs) = FM x.1 × AllT xs
 
-  combined_words : (o : BinaryOp) (spot at : Pos) {x : Result Value g.Told} (at' : Pos) {y : Result Value g.Told} → V_ x → V_ y → V_ (combined g o spot at x at' y)
+  combined_words : (o : BinaryOp) (spot at : Pos) {x : Result Value g.Reported} (at' : Pos) {y : Result Value g.Reported} → V_ x → V_ y → V_ (combined g o spot at x at' y)
   combined_words o spot at at' p q = then_holds (both_holds g p q) (λ v k. binary_words g o spot at (operand_of v.0) at' (operand_of v.1) (operand_word v.0 k.0) (operand_word v.1 k.1))
 
-  factors_words : (at : Pos) (rest : List (Operator MulOp × Part g.Told)) (v : Result Value g.Told) → V_ v → AllT rest → V_ (fold (factor g s at) v rest)
+  factors_words : (at : Pos) (rest : List (Operator MulOp × Part g.Reported)) (v : Result Value g.Reported) → V_ v → AllT rest → V_ (fold (factor g s at) v rest)
   factors_words at [] v p all = p
   factors_words at (x ∷ xs) v p all = factors_words at xs (factor g s at v x) (combined_words (mul_op x.0.op) x.0.pos at x.1.at p (constant_words x.1 all.0)) all.1
 
-  terms_words : (at : Pos) (rest : List (Operator AddOp × Part g.Told)) (v : Result Value g.Told) → V_ v → AllT rest → V_ (fold (term g s at) v rest)
+  terms_words : (at : Pos) (rest : List (Operator AddOp × Part g.Reported)) (v : Result Value g.Reported) → V_ v → AllT rest → V_ (fold (term g s at) v rest)
   terms_words at [] v p all = p
   terms_words at (x ∷ xs) v p all = terms_words at xs (term g s at v x) (combined_words (add_op x.0.op) x.0.pos at x.1.at p (constant_words x.1 all.0)) all.1
 
-  first_words : (o : Option (Operator Sign)) {x : Result Value g.Told} → V_ x → V_ (signed_first g o x)
+  first_words : (o : Option (Operator Sign)) {x : Result Value g.Reported} → V_ x → V_ (signed_first g o x)
   first_words None p = p
   first_words (Some o) p = then_holds p (λ v k. signed_words g o.op o.pos (operand_of v))
 
-  picks_words : (ps : List (Pick g.Told)) (d : Result Denoted g.Told) → D_ d → AllP ps → D_ (fold (λ x p. p s x) d ps)
+  picks_words : (ps : List (Pick g.Reported)) (d : Result Denoted g.Reported) → D_ d → AllP ps → D_ (fold (λ x p. p s x) d ps)
   picks_words [] d p all = p
   picks_words (x ∷ ps) d p all = picks_words ps (x s d) (all.0 d p) all.1
 
@@ -301,33 +301,33 @@ module _ (g : Gathers) (s : Scope g.Told) (h : ScopeWords s) where
   abbrev SI : Type 0
   SI = (e : Item) × PI e
 
-  abbrev parts : Expr-F Expr Selector Designator Item → Expr-F (Part g.Told) (Pick g.Told) (Part g.Told) (Adds g.Told)
-  parts x = map-Expr Expr Selector Designator Item (Part g.Told) (Pick g.Told) (Part g.Told) (Adds g.Told) (part g) (pick g) (head g) (item g) x
+  abbrev parts : Expr-F Expr Selector Designator Item → Expr-F (Part g.Reported) (Pick g.Reported) (Part g.Reported) (Adds g.Reported)
+  parts x = map-Expr Expr Selector Designator Item (Part g.Reported) (Pick g.Reported) (Part g.Reported) (Adds g.Reported) (part g) (pick g) (head g) (item g) x
 
-  abbrev parts_selector : Selector-F Expr Selector Designator Item → Selector-F (Part g.Told) (Pick g.Told) (Part g.Told) (Adds g.Told)
-  parts_selector x = map-Selector Expr Selector Designator Item (Part g.Told) (Pick g.Told) (Part g.Told) (Adds g.Told) (part g) (pick g) (head g) (item g) x
+  abbrev parts_selector : Selector-F Expr Selector Designator Item → Selector-F (Part g.Reported) (Pick g.Reported) (Part g.Reported) (Adds g.Reported)
+  parts_selector x = map-Selector Expr Selector Designator Item (Part g.Reported) (Pick g.Reported) (Part g.Reported) (Adds g.Reported) (part g) (pick g) (head g) (item g) x
 
-  abbrev parts_designator : Designator-F Expr Selector Designator Item → Designator-F (Part g.Told) (Pick g.Told) (Part g.Told) (Adds g.Told)
-  parts_designator x = map-Designator Expr Selector Designator Item (Part g.Told) (Pick g.Told) (Part g.Told) (Adds g.Told) (part g) (pick g) (head g) (item g) x
+  abbrev parts_designator : Designator-F Expr Selector Designator Item → Designator-F (Part g.Reported) (Pick g.Reported) (Part g.Reported) (Adds g.Reported)
+  parts_designator x = map-Designator Expr Selector Designator Item (Part g.Reported) (Pick g.Reported) (Part g.Reported) (Adds g.Reported) (part g) (pick g) (head g) (item g) x
 
-  abbrev parts_item : Item-F Expr Selector Designator Item → Item-F (Part g.Told) (Pick g.Told) (Part g.Told) (Adds g.Told)
-  parts_item x = map-Item Expr Selector Designator Item (Part g.Told) (Pick g.Told) (Part g.Told) (Adds g.Told) (part g) (pick g) (head g) (item g) x
+  abbrev parts_item : Item-F Expr Selector Designator Item → Item-F (Part g.Reported) (Pick g.Reported) (Part g.Reported) (Adds g.Reported)
+  parts_item x = map-Item Expr Selector Designator Item (Part g.Reported) (Pick g.Reported) (Part g.Reported) (Adds g.Reported) (part g) (pick g) (head g) (item g) x
 
   at_expr : (e : Expr) (x : Expr-F Expr Selector Designator Item) → out-Expr e ≡ x → part g e ≡ expr_layer g (parts x)
   unfolding part pick head item
-  at_expr e x q = fold_out-Expr (Part g.Told) (Pick g.Told) (Part g.Told) (Adds g.Told) (expr_layer g) (selector_layer g) (designator_layer g) (item_layer g) e ∙ ap (λ (y : Expr-F Expr Selector Designator Item). expr_layer g (parts y)) q
+  at_expr e x q = fold_out-Expr (Part g.Reported) (Pick g.Reported) (Part g.Reported) (Adds g.Reported) (expr_layer g) (selector_layer g) (designator_layer g) (item_layer g) e ∙ ap (λ (y : Expr-F Expr Selector Designator Item). expr_layer g (parts y)) q
 
   at_selector : (e : Selector) (x : Selector-F Expr Selector Designator Item) → out-Selector e ≡ x → pick g e ≡ selector_layer g (parts_selector x)
   unfolding part pick head item
-  at_selector e x q = fold_out-Selector (Part g.Told) (Pick g.Told) (Part g.Told) (Adds g.Told) (expr_layer g) (selector_layer g) (designator_layer g) (item_layer g) e ∙ ap (λ (y : Selector-F Expr Selector Designator Item). selector_layer g (parts_selector y)) q
+  at_selector e x q = fold_out-Selector (Part g.Reported) (Pick g.Reported) (Part g.Reported) (Adds g.Reported) (expr_layer g) (selector_layer g) (designator_layer g) (item_layer g) e ∙ ap (λ (y : Selector-F Expr Selector Designator Item). selector_layer g (parts_selector y)) q
 
   at_designator : (e : Designator) (x : Designator-F Expr Selector Designator Item) → out-Designator e ≡ x → head g e ≡ designator_layer g (parts_designator x)
   unfolding part pick head item
-  at_designator e x q = fold_out-Designator (Part g.Told) (Pick g.Told) (Part g.Told) (Adds g.Told) (expr_layer g) (selector_layer g) (designator_layer g) (item_layer g) e ∙ ap (λ (y : Designator-F Expr Selector Designator Item). designator_layer g (parts_designator y)) q
+  at_designator e x q = fold_out-Designator (Part g.Reported) (Pick g.Reported) (Part g.Reported) (Adds g.Reported) (expr_layer g) (selector_layer g) (designator_layer g) (item_layer g) e ∙ ap (λ (y : Designator-F Expr Selector Designator Item). designator_layer g (parts_designator y)) q
 
   at_item : (e : Item) (x : Item-F Expr Selector Designator Item) → out-Item e ≡ x → item g e ≡ item_layer g (parts_item x)
   unfolding part pick head item
-  at_item e x q = fold_out-Item (Part g.Told) (Pick g.Told) (Part g.Told) (Adds g.Told) (expr_layer g) (selector_layer g) (designator_layer g) (item_layer g) e ∙ ap (λ (y : Item-F Expr Selector Designator Item). item_layer g (parts_item y)) q
+  at_item e x q = fold_out-Item (Part g.Reported) (Pick g.Reported) (Part g.Reported) (Adds g.Reported) (expr_layer g) (selector_layer g) (designator_layer g) (item_layer g) e ∙ ap (λ (y : Item-F Expr Selector Designator Item). item_layer g (parts_item y)) q
 
   abbrev bare : Expr-F SE SS SD SI → Expr-F Expr Selector Designator Item
   bare x = map-Expr SE SS SD SI Expr Selector Designator Item (λ e. e.0) (λ e. e.0) (λ e. e.0) (λ e. e.0) x
@@ -388,7 +388,7 @@ module _ (g : Gathers) (s : Scope g.Told) (h : ScopeWords s) where
   step_designator y z q = subst FM (sym (at_designator (roll-Designator y) (bare_designator z) (out-roll-Designator y ∙ sym q))) (designator_words z)
 
   step_item : (y : Item-F Expr Selector Designator Item) (z : Item-F SE SS SD SI) → bare_item z ≡ y → PI (roll-Item y)
-  step_item y z q = subst (λ (i : Adds g.Told). B_ g (i s)) (sym (at_item (roll-Item y) (bare_item z) (out-roll-Item y ∙ sym q))) (added_small g s (parts_item (bare_item z)).low (parts_item (bare_item z)).high)
+  step_item y z q = subst (λ (i : Adds g.Reported). B_ g (i s)) (sym (at_item (roll-Item y) (bare_item z) (out-roll-Item y ∙ sym q))) (added_small g s (parts_item (bare_item z)).low (parts_item (bare_item z)).high)
 
   part_words : (e : Expr) → PE e
   part_words = ind-Expr PE PS PD PI step_expr step_selector step_designator step_item

@@ -13,7 +13,7 @@ use Rattle.m2_typed.specs.declared.types.Home.TheVariants.{Predeclared, Module}
 use Rattle.m2_typed.specs.declared.types.TypeNo.{TypeNo}
 use Rattle.m2_typed.specs.Known.{made_in, made_at, scalar_at, scalar_shape, scalar_made, scalar_from, predeclared_scalar, is_result, is_result_shape, is_result_made}
 use Rattle.m2_typed.specs.Types.{are_same, is_integer, integer}
-use Rattle.m2_judged.specs.Scopes.{fields_shape, fields_made, fields_at}
+use Rattle.m2_scopes.specs.Scopes.{fields_shape, fields_made, fields_at}
 use Rattle.m2_computed.specs.declared.class.Class.{Class}
 use Rattle.m2_computed.specs.declared.class.Class.TheVariants as class
 use Rattle.m2_computed.specs.Classes.{class_shape, class_made, class_range, class_from, class_at, signature_shape, signature_made, signature_at, array_shape, array_made, array_at}

@@ -35,8 +35,8 @@ use Rattle.m2_typed.specs.declared.shape.Signature.{Signature}
 use Rattle.m2_typed.specs.declared.types.TypeNo.{TypeNo}
 use Rattle.m2_typed.specs.Chains.{rooted}
 use Rattle.m2_typed.specs.Types.{char}
-use Rattle.m2_judged.specs.Judged.{Gathers, told_where, ◌▷◌}
-use Rattle.m2_judged.specs.declared.scope.Scope.{Scope}
+use Rattle.m2_scopes.specs.Elaborated.{Gathers, reported_where, ◌▷◌}
+use Rattle.m2_scopes.specs.declared.scope.Scope.{Scope}
 use Rattle.m2_constants.specs.Denote.{as_constant as constant_of}
 use Rattle.m2_constants.specs.Parts.{Part, Pick, Adds, sign_place, set_type}
 use Rattle.m2_constants.specs.declared.denoted.Denoted.{Denoted}
@@ -67,7 +67,7 @@ use Rattle.m2_agree_calls.specs.Frames.{kind_at}
 use Rattle.m2_agree_calls.specs.Passing.{Forms, form_of}
 use Rattle.m2_agree_trees.specs.Typed.{Context, GlobalRoot, LocalRoot, AliasRoot, WithRoot}
 use Rattle.m2_formed.specs.Formed.{Holds, fine, broken}
-use Rattle.m2_formed.proofs.Basics.{then_holds, told_holds, both_holds, any_holds, heading_kept}
+use Rattle.m2_formed.proofs.Basics.{then_holds, reported_holds, both_holds, any_holds, heading_kept}
 use Rattle.m2_formed_ranges.specs.FormedRanges.{itself, fits_letter, fits_layer, LetterRanged}
 use Rattle.m2_formed_ranges.proofs.Types.{both_left, both_right}
 use Rattle.m2_formed_ranges.proofs.Subranges.{from_le}
@@ -79,38 +79,38 @@ use Rattle.m2_typing.proofs.Constructs as made
 use Rattle.m2_typing.proofs.Operators.{signed_typed, negated_typed, combined_typed, field_typed, indexed_typed}
 use Rattle.m2_typing.proofs.Calls.{given_typed, taken_typed, actual_typed, CalleeTyped, CalledTyped, callee_typed, call_typed, unary_typed, TypeIs, type_is, bound_typed, conversion_typed, high_typed}
 
-module _ (g : Gathers) (x : Context) (ws : List Ty) (opens : ℕ → Bool) (s : Scope g.Told) (h : IsTyped g x ws opens s) where
+module _ (g : Gathers) (x : Context) (ws : List Ty) (opens : ℕ → Bool) (s : Scope g.Reported) (h : IsTyped g x ws opens s) where
   abbrev types : Types
   types = x.home.types
 
-  abbrev pub Value_ : Result Computed g.Told → Type 0
+  abbrev pub Value_ : Result Computed g.Reported → Type 0
   Value_ r = Holds (ValueTyped x ws) r
 
-  abbrev pub Designated_ : Result Designated g.Told → Type 0
+  abbrev pub Designated_ : Result Designated g.Reported → Type 0
   Designated_ r = Holds (DesignatedTyped x ws opens) r
 
-  abbrev pub FM : Meant g.Told → Type 0
+  abbrev pub FM : Meant g.Reported → Type 0
   FM y = Designated_ (y.means s)
 
-  abbrev FP : Picks g.Told → Type 0
-  FP p = (d : Result Designated g.Told) → Designated_ d → Designated_ (p.picks s d)
+  abbrev FP : Picks g.Reported → Type 0
+  FP p = (d : Result Designated g.Reported) → Designated_ d → Designated_ (p.picks s d)
 
-  abbrev pub AllM : List (Meant g.Told) → Type 0
+  abbrev pub AllM : List (Meant g.Reported) → Type 0
   AllM [] = Unit {0}
   AllM (y ∷ ys) = FM y × AllM ys
 
-  abbrev AllT : {O : Type 0} → List (Operator O × Meant g.Told) → Type 0
+  abbrev AllT : {O : Type 0} → List (Operator O × Meant g.Reported) → Type 0
   AllT [] = Unit {0}
   AllT (y ∷ ys) = FM y.1 × AllT ys
 
-  abbrev AllP : List (Picks g.Told) → Type 0
+  abbrev AllP : List (Picks g.Reported) → Type 0
   AllP [] = Unit {0}
   AllP (y ∷ ys) = FP y × AllP ys
 
-  pub value_typed : (y : Meant g.Told) → FM y → Value_ (value_of g s y)
+  pub value_typed : (y : Meant g.Reported) → FM y → Value_ (value_of g s y)
   value_typed y p = then_holds p (λ d k. taken_typed x ws h.all g opens s.types h.types y.fixed.at d k)
 
-  computed_typed : {r : Result Computed g.Told} → Value_ r → Designated_ (of_computed r)
+  computed_typed : {r : Result Computed g.Reported} → Value_ r → Designated_ (of_computed r)
   computed_typed p = then_holds p (λ v k. fine (designated.Value v) k)
 
   -- ---- constants
@@ -125,13 +125,13 @@ module _ (g : Gathers) (x : Context) (ws : List Ty) (opens : ℕ → Bool) (s : 
 
   constant_of_typed : (at : Pos) (d : Denoted) → DenotedTyped d → Holds (IsConstant types) (constant_of g at d)
   constant_of_typed at (denoted.Value v) p = fine v p
-  constant_of_typed at (denoted.Type t) p = told_holds g at 34
-  constant_of_typed at denoted.Variable p = told_holds g at 34
-  constant_of_typed at denoted.Procedure p = told_holds g at 34
-  constant_of_typed at (denoted.Standard f) p = told_holds g at 34
-  constant_of_typed at (denoted.Module k) p = told_holds g at 34
+  constant_of_typed at (denoted.Type t) p = reported_holds g at 34
+  constant_of_typed at denoted.Variable p = reported_holds g at 34
+  constant_of_typed at denoted.Procedure p = reported_holds g at 34
+  constant_of_typed at (denoted.Standard f) p = reported_holds g at 34
+  constant_of_typed at (denoted.Module k) p = reported_holds g at 34
 
-  constant_meant : (y : Part g.Told) → Holds DenotedTyped (y.denotes s) → Designated_ (as_constant g s y)
+  constant_meant : (y : Part g.Reported) → Holds DenotedTyped (y.denotes s) → Designated_ (as_constant g s y)
   constant_meant y p = then_holds (then_holds p (λ d k. constant_of_typed y.at d k)) (λ v k. fine (designated.Value (value.Constant v)) k)
 
   -- ---- names
@@ -151,7 +151,7 @@ module _ (g : Gathers) (x : Context) (ws : List Ty) (opens : ℕ → Bool) (s : 
       fine _ (made.behind_typed x ws (rooted (root.With f.with)) (part.Field f.whole f.number) (tree types f.whole) (tree types f.of) (made.rooted_typed x ws (root.With f.with) (tree types f.whole) (WithRoot f.with (tree types f.whole) p.0)) (made.field_typed x ws f.whole f.number (tree types f.of) p.1))
   by_meaning at (meaning.Procedure f) p = fine (designated.Procedure f) p
   by_meaning at (meaning.LocalProcedure f) p = fine _ p
-  by_meaning at meaning.Ahead p = told_holds g at 30
+  by_meaning at meaning.Ahead p = reported_holds g at 30
   by_meaning at (meaning.Standard f) p = fine (designated.Standard f) tt
   by_meaning at (meaning.Module k) p = fine (designated.Module k) p
 
@@ -173,10 +173,10 @@ module _ (g : Gathers) (x : Context) (ws : List Ty) (opens : ℕ → Bool) (s : 
 
   -- ---- calls
 
-  abbrev pub Arguments_ : Forms → Result (List Argument) g.Told → Type 0
+  abbrev pub Arguments_ : Forms → Result (List Argument) g.Reported → Type 0
   Arguments_ fs r = Holds (λ gs. made.ArgumentsTyped x ws gs fs) r
 
-  args_typed : (args : List (Meant g.Told)) (fs : List Formal) (taken : Forms) (r : Result (List Argument) g.Told) → length fs ≡ length args → FormalsKnown s.types fs → Arguments_ taken r → AllM args
+  args_typed : (args : List (Meant g.Reported)) (fs : List Formal) (taken : Forms) (r : Result (List Argument) g.Reported) → length fs ≡ length args → FormalsKnown s.types fs → Arguments_ taken r → AllM args
       → Arguments_ (taken ++ map (form_of types) fs) (fold (with_actual g s) (fs, r) args).1
   args_typed [] [] taken r e f p all = subst (λ (fs : Forms). Arguments_ fs r) (sym (append-nil taken)) p
   args_typed [] (y ∷ fs) taken r e f p all = absurd (omega (arith, e))
@@ -187,10 +187,10 @@ module _ (g : Gathers) (x : Context) (ws : List Ty) (opens : ℕ → Bool) (s : 
       in
       subst (λ (es : Forms). Arguments_ es (fold (with_actual g s) (z ∷ fs, r) (y ∷ args)).1) (append_assoc taken (form_of types z ∷ []) (map (form_of types) fs)) (args_typed args fs (taken ++ form_of types z ∷ []) _ (omega (arith, e)) f.1 one all.1)
 
-  pub actuals_typed : (args : List (Meant g.Told)) (fs : List Formal) → length fs ≡ length args → FormalsKnown s.types fs → AllM args → Arguments_ (map (form_of types) fs) (actuals g s fs args)
+  pub actuals_typed : (args : List (Meant g.Reported)) (fs : List Formal) → length fs ≡ length args → FormalsKnown s.types fs → AllM args → Arguments_ (map (form_of types) fs) (actuals g s fs args)
   actuals_typed args fs e f all = args_typed args fs [] (Ok []) e f (fine [] (made.no_arguments_typed x ws)) all
 
-  module _ (at : Pos) (t : TypeNo) (c : Callee) (args : List (Meant g.Told)) (there : CalleeTyped x ws h.all g opens s.types h.types t c) (all : AllM args) where
+  module _ (at : Pos) (t : TypeNo) (c : Callee) (args : List (Meant g.Reported)) (there : CalleeTyped x ws h.all g opens s.types h.types t c) (all : AllM args) where
     -- a call with these arguments has the result of the heading
     pub call_made : (k : Signature) → signature_at s.types t ≡ Some k → (gs : List Argument) → made.ArgumentsTyped x ws gs (map (form_of types) k.formals) → CallTyped x ws (call_by gs c) (option_map (tree types) k.result)
     call_made k e gs p =
@@ -205,7 +205,7 @@ module _ (g : Gathers) (x : Context) (ws : List Ty) (opens : ℕ → Bool) (s : 
         (given_typed x ws h.all g opens s.types h.types r (call_by gs c) (subst (CallTyped x ws (call_by gs c)) (ap (option_map (tree types)) q) (call_made k e gs p))))
 
     by_count : (k : Signature) (r : TypeNo) (q : Bool) → (length k.formals == length args) ≡ q → signature_at s.types t ≡ Some k → k.result ≡ Some r
-        → Value_ ((told_where g {A = Unit {0}} (not q) at 42 (Ok (tt {0})) ▷ λ fine. Ok r) ▷ λ r. call_given g s.types r c (actuals g s k.formals args))
+        → Value_ ((reported_where g {A = Unit {0}} (not q) at 42 (Ok (tt {0})) ▷ λ fine. Ok r) ▷ λ r. call_given g s.types r c (actuals g s k.formals args))
     by_count k r true count e q = given_call k r e q (eqb-true (length k.formals) (length args) count)
     by_count k r false count e q = broken _
 
@@ -223,62 +223,62 @@ module _ (g : Gathers) (x : Context) (ws : List Ty) (opens : ℕ → Bool) (s : 
 
   -- ---- standard functions
 
-  unary_all : (at : Pos) (f : Standard) (u : Unary) (args : List (Meant g.Told)) → AllM args → Value_ (unary g s at f u args)
-  unary_all at f u [] all = told_holds g at 42
+  unary_all : (at : Pos) (f : Standard) (u : Unary) (args : List (Meant g.Reported)) → AllM args → Value_ (unary g s at f u args)
+  unary_all at f u [] all = reported_holds g at 42
   unary_all at f u (y ∷ []) all = then_holds (value_typed y all.0) (λ v p. unary_typed x ws h.all g opens s.types h.types f u y.fixed.at v p)
-  unary_all at f u (y ∷ z ∷ ys) all = told_holds g at 42
+  unary_all at f u (y ∷ z ∷ ys) all = reported_holds g at 42
 
-  named_type : (at : Pos) (d : Result Designated g.Told) → Holds (TypeIs x ws h.all g opens s.types h.types) (d ▷ type_named g s.types at)
+  named_type : (at : Pos) (d : Result Designated g.Reported) → Holds (TypeIs x ws h.all g opens s.types h.types) (d ▷ type_named g s.types at)
   named_type at d = then_holds (any_holds d) (λ y k. type_is x ws h.all g opens s.types h.types at y)
 
-  bound_all : (at : Pos) (f : Standard) (args : List (Meant g.Told)) → Value_ (bound g s at f args)
-  bound_all at f [] = told_holds g at 42
+  bound_all : (at : Pos) (f : Standard) (args : List (Meant g.Reported)) → Value_ (bound g s at f args)
+  bound_all at f [] = reported_holds g at 42
   bound_all at f (y ∷ []) = bound_typed x ws h.all g opens s.types h.types f (named_type y.fixed.at (y.means s))
-  bound_all at f (y ∷ z ∷ ys) = told_holds g at 42
+  bound_all at f (y ∷ z ∷ ys) = reported_holds g at 42
 
-  conversion_all : (at : Pos) (args : List (Meant g.Told)) → AllM args → Value_ (conversion g s at args)
-  conversion_all at [] all = told_holds g at 42
-  conversion_all at (t ∷ []) all = told_holds g at 42
+  conversion_all : (at : Pos) (args : List (Meant g.Reported)) → AllM args → Value_ (conversion g s at args)
+  conversion_all at [] all = reported_holds g at 42
+  conversion_all at (t ∷ []) all = reported_holds g at 42
   conversion_all at (t ∷ y ∷ []) all = conversion_typed x ws h.all g opens s.types h.types y.fixed.at (named_type t.fixed.at (t.means s)) (value_typed y all.1.0)
-  conversion_all at (t ∷ y ∷ z ∷ ys) all = told_holds g at 42
+  conversion_all at (t ∷ y ∷ z ∷ ys) all = reported_holds g at 42
 
-  high_all : (at : Pos) (args : List (Meant g.Told)) → AllM args → Value_ (high g s at args)
-  high_all at [] all = told_holds g at 42
+  high_all : (at : Pos) (args : List (Meant g.Reported)) → AllM args → Value_ (high g s at args)
+  high_all at [] all = reported_holds g at 42
   high_all at (y ∷ []) all = then_holds all.0 (λ d p. high_typed x ws h.all g opens s.types h.types y.fixed.at d p)
-  high_all at (y ∷ z ∷ ys) all = told_holds g at 42
+  high_all at (y ∷ z ∷ ys) all = reported_holds g at 42
 
-  form_typed : (at : Pos) (f : Standard) (args : List (Meant g.Told)) (o : Form) → AllM args → Value_ (by_form g s at f args o)
+  form_typed : (at : Pos) (f : Standard) (args : List (Meant g.Reported)) (o : Form) → AllM args → Value_ (by_form g s at f args o)
   form_typed at f args (form.Unary u) all = unary_all at f u args all
   form_typed at f args form.Bound all = bound_all at f args
   form_typed at f args form.Conversion all = conversion_all at args all
   form_typed at f args form.High all = high_all at args all
-  form_typed at f args form.Proper all = told_holds g at 40
+  form_typed at f args form.Proper all = reported_holds g at 40
 
-  called_as_typed : (at : Pos) (args : List (Meant g.Told)) (y : Called) → CalledTyped x ws h.all g opens s.types h.types y → AllM args → Value_ (called_as g s at args y)
+  called_as_typed : (at : Pos) (args : List (Meant g.Reported)) (y : Called) → CalledTyped x ws h.all g opens s.types h.types y → AllM args → Value_ (called_as g s at args y)
   called_as_typed at args (called.Routine t c) p all = routine_typed at t c args p all
   called_as_typed at args (called.Standard f) p all = form_typed at f args (standard_form f) all
 
-  called_typed : (at : Pos) {d : Result Designated g.Told} (args : List (Meant g.Told)) → Designated_ d → AllM args → Value_ (called_by g s at d args)
+  called_typed : (at : Pos) {d : Result Designated g.Reported} (args : List (Meant g.Reported)) → Designated_ d → AllM args → Value_ (called_by g s at d args)
   called_typed at args p all = then_holds (then_holds p (λ d k. callee_typed x ws h.all g opens s.types h.types at d k)) (λ y k. called_as_typed at args y k all)
 
   -- ---- operators
 
-  factors_typed : (at : Pos) (rest : List (Operator MulOp × Meant g.Told)) (v : Result Computed g.Told) → Value_ v → AllT rest → Value_ (fold (factor g s at) v rest)
+  factors_typed : (at : Pos) (rest : List (Operator MulOp × Meant g.Reported)) (v : Result Computed g.Reported) → Value_ v → AllT rest → Value_ (fold (factor g s at) v rest)
   factors_typed at [] v p all = p
   factors_typed at (y ∷ ys) v p all = factors_typed at ys (factor g s at v y) (combined_typed x ws h.all g s.types h.types (mul_op y.0.op) y.0.pos at y.1.fixed.at p (value_typed y.1 all.0)) all.1
 
-  terms_typed : (at : Pos) (rest : List (Operator AddOp × Meant g.Told)) (v : Result Computed g.Told) → Value_ v → AllT rest → Value_ (fold (term g s at) v rest)
+  terms_typed : (at : Pos) (rest : List (Operator AddOp × Meant g.Reported)) (v : Result Computed g.Reported) → Value_ v → AllT rest → Value_ (fold (term g s at) v rest)
   terms_typed at [] v p all = p
   terms_typed at (y ∷ ys) v p all = terms_typed at ys (term g s at v y) (combined_typed x ws h.all g s.types h.types (add_op y.0.op) y.0.pos at y.1.fixed.at p (value_typed y.1 all.0)) all.1
 
-  first_typed : (o : Option (Operator Sign)) {v : Result Computed g.Told} → Value_ v → Value_ (signed_first g o v)
+  first_typed : (o : Option (Operator Sign)) {v : Result Computed g.Reported} → Value_ v → Value_ (signed_first g o v)
   first_typed None p = p
   first_typed (Some o) p = signed_typed x ws h.all g o.op o.pos p
 
-  relation_typed : (a : Meant g.Told) (o : Operator RelOp) (b : Meant g.Told) → FM a → FM b → Value_ (relation g s a o b)
+  relation_typed : (a : Meant g.Reported) (o : Operator RelOp) (b : Meant g.Reported) → FM a → FM b → Value_ (relation g s a o b)
   relation_typed a o b p q = combined_typed x ws h.all g s.types h.types (op.Relation o.op) o.pos a.fixed.at b.fixed.at (value_typed a p) (value_typed b q)
 
-  picks_typed : (ps : List (Picks g.Told)) (d : Result Designated g.Told) → Designated_ d → AllP ps → Designated_ (fold (λ y p. p.picks s y) d ps)
+  picks_typed : (ps : List (Picks g.Reported)) (d : Result Designated g.Reported) → Designated_ d → AllP ps → Designated_ (fold (λ y p. p.picks s y) d ps)
   picks_typed [] d p all = p
   picks_typed (y ∷ ps) d p all = picks_typed ps (y.picks s d) (all.0 d p) all.1
 
@@ -308,33 +308,33 @@ module _ (g : Gathers) (x : Context) (ws : List Ty) (opens : ℕ → Bool) (s : 
   abbrev SI : Type 0
   SI = (e : Item) × PI e
 
-  abbrev opened : Expr-F Expr Selector Designator Item → Expr-F (Meant g.Told) (Picks g.Told) (Meant g.Told) (Adds g.Told)
-  opened x = map-Expr Expr Selector Designator Item (Meant g.Told) (Picks g.Told) (Meant g.Told) (Adds g.Told) (meant g) (picks g) (head g) (item g) x
+  abbrev opened : Expr-F Expr Selector Designator Item → Expr-F (Meant g.Reported) (Picks g.Reported) (Meant g.Reported) (Adds g.Reported)
+  opened x = map-Expr Expr Selector Designator Item (Meant g.Reported) (Picks g.Reported) (Meant g.Reported) (Adds g.Reported) (meant g) (picks g) (head g) (item g) x
 
-  abbrev opened_selector : Selector-F Expr Selector Designator Item → Selector-F (Meant g.Told) (Picks g.Told) (Meant g.Told) (Adds g.Told)
-  opened_selector x = map-Selector Expr Selector Designator Item (Meant g.Told) (Picks g.Told) (Meant g.Told) (Adds g.Told) (meant g) (picks g) (head g) (item g) x
+  abbrev opened_selector : Selector-F Expr Selector Designator Item → Selector-F (Meant g.Reported) (Picks g.Reported) (Meant g.Reported) (Adds g.Reported)
+  opened_selector x = map-Selector Expr Selector Designator Item (Meant g.Reported) (Picks g.Reported) (Meant g.Reported) (Adds g.Reported) (meant g) (picks g) (head g) (item g) x
 
-  abbrev opened_designator : Designator-F Expr Selector Designator Item → Designator-F (Meant g.Told) (Picks g.Told) (Meant g.Told) (Adds g.Told)
-  opened_designator x = map-Designator Expr Selector Designator Item (Meant g.Told) (Picks g.Told) (Meant g.Told) (Adds g.Told) (meant g) (picks g) (head g) (item g) x
+  abbrev opened_designator : Designator-F Expr Selector Designator Item → Designator-F (Meant g.Reported) (Picks g.Reported) (Meant g.Reported) (Adds g.Reported)
+  opened_designator x = map-Designator Expr Selector Designator Item (Meant g.Reported) (Picks g.Reported) (Meant g.Reported) (Adds g.Reported) (meant g) (picks g) (head g) (item g) x
 
-  abbrev opened_item : Item-F Expr Selector Designator Item → Item-F (Meant g.Told) (Picks g.Told) (Meant g.Told) (Adds g.Told)
-  opened_item x = map-Item Expr Selector Designator Item (Meant g.Told) (Picks g.Told) (Meant g.Told) (Adds g.Told) (meant g) (picks g) (head g) (item g) x
+  abbrev opened_item : Item-F Expr Selector Designator Item → Item-F (Meant g.Reported) (Picks g.Reported) (Meant g.Reported) (Adds g.Reported)
+  opened_item x = map-Item Expr Selector Designator Item (Meant g.Reported) (Picks g.Reported) (Meant g.Reported) (Adds g.Reported) (meant g) (picks g) (head g) (item g) x
 
   at_expr : (e : Expr) (x : Expr-F Expr Selector Designator Item) → out-Expr e ≡ x → meant g e ≡ expr_layer g (opened x)
   unfolding meant picks head item
-  at_expr e x q = fold_out-Expr (Meant g.Told) (Picks g.Told) (Meant g.Told) (Adds g.Told) (expr_layer g) (selector_layer g) (designator_layer g) (item_layer g) e ∙ ap (λ (y : Expr-F Expr Selector Designator Item). expr_layer g (opened y)) q
+  at_expr e x q = fold_out-Expr (Meant g.Reported) (Picks g.Reported) (Meant g.Reported) (Adds g.Reported) (expr_layer g) (selector_layer g) (designator_layer g) (item_layer g) e ∙ ap (λ (y : Expr-F Expr Selector Designator Item). expr_layer g (opened y)) q
 
   at_selector : (e : Selector) (x : Selector-F Expr Selector Designator Item) → out-Selector e ≡ x → picks g e ≡ selector_layer g (opened_selector x)
   unfolding meant picks head item
-  at_selector e x q = fold_out-Selector (Meant g.Told) (Picks g.Told) (Meant g.Told) (Adds g.Told) (expr_layer g) (selector_layer g) (designator_layer g) (item_layer g) e ∙ ap (λ (y : Selector-F Expr Selector Designator Item). selector_layer g (opened_selector y)) q
+  at_selector e x q = fold_out-Selector (Meant g.Reported) (Picks g.Reported) (Meant g.Reported) (Adds g.Reported) (expr_layer g) (selector_layer g) (designator_layer g) (item_layer g) e ∙ ap (λ (y : Selector-F Expr Selector Designator Item). selector_layer g (opened_selector y)) q
 
   at_designator : (e : Designator) (x : Designator-F Expr Selector Designator Item) → out-Designator e ≡ x → head g e ≡ designator_layer g (opened_designator x)
   unfolding meant picks head item
-  at_designator e x q = fold_out-Designator (Meant g.Told) (Picks g.Told) (Meant g.Told) (Adds g.Told) (expr_layer g) (selector_layer g) (designator_layer g) (item_layer g) e ∙ ap (λ (y : Designator-F Expr Selector Designator Item). designator_layer g (opened_designator y)) q
+  at_designator e x q = fold_out-Designator (Meant g.Reported) (Picks g.Reported) (Meant g.Reported) (Adds g.Reported) (expr_layer g) (selector_layer g) (designator_layer g) (item_layer g) e ∙ ap (λ (y : Designator-F Expr Selector Designator Item). designator_layer g (opened_designator y)) q
 
   at_item : (e : Item) (x : Item-F Expr Selector Designator Item) → out-Item e ≡ x → item g e ≡ item_layer g (opened_item x)
   unfolding meant picks head item
-  at_item e x q = fold_out-Item (Meant g.Told) (Picks g.Told) (Meant g.Told) (Adds g.Told) (expr_layer g) (selector_layer g) (designator_layer g) (item_layer g) e ∙ ap (λ (y : Item-F Expr Selector Designator Item). item_layer g (opened_item y)) q
+  at_item e x q = fold_out-Item (Meant g.Reported) (Picks g.Reported) (Meant g.Reported) (Adds g.Reported) (expr_layer g) (selector_layer g) (designator_layer g) (item_layer g) e ∙ ap (λ (y : Item-F Expr Selector Designator Item). item_layer g (opened_item y)) q
 
   -- what fits
 
@@ -392,7 +392,7 @@ module _ (g : Gathers) (x : Context) (ws : List Ty) (opens : ℕ → Bool) (s : 
   all_picks [] e = tt
   all_picks (y ∷ ys) e = (y.1 (both_left (fits_picked y.0) (list_all itself (map fits_picked (map (λ (e : SS). e.0) ys))) e), all_picks ys (both_right (fits_picked y.0) (list_all itself (map fits_picked (map (λ (e : SS). e.0) ys))) e))
 
-  all_items : (ys : List SI) → AllSmall g s (map (λ (i : Adds g.Told). i) (map (item g) (map (λ (e : SI). e.0) ys)))
+  all_items : (ys : List SI) → AllSmall g s (map (λ (i : Adds g.Reported). i) (map (item g) (map (λ (e : SI). e.0) ys)))
   all_items [] = tt
   all_items (y ∷ ys) = (y.1, all_items ys)
 
@@ -409,7 +409,7 @@ module _ (g : Gathers) (x : Context) (ws : List Ty) (opens : ℕ → Bool) (s : 
   expr_typed (layer.Text p t) e = constant_meant (expr_layer g (opened (bare (layer.Text p t)))).fixed (fine (denoted.Value (constant_value.Text t)) (letter_typed (letter t) e, tt))
   expr_typed (layer.Set q p items) e =
       constant_meant (expr_layer g (opened (bare (layer.Set q p items)))).fixed
-      (then_holds (both_holds g (any_holds (set_type g s q)) (items_small g s (map (λ (i : Adds g.Told). i) (map (item g) (map (λ (e : SI). e.0) items))) (Ok 0) (fine 0 (omega arith)) (all_items items)))
+      (then_holds (both_holds g (any_holds (set_type g s q)) (items_small g s (map (λ (i : Adds g.Reported). i) (map (item g) (map (λ (e : SI). e.0) items))) (Ok 0) (fine 0 (omega arith)) (all_items items)))
       (λ (b : Unit {0} × ℕ) k. fine (denoted.Value (constant_value.Set b.1)) (tt, k.1)))
   expr_typed (layer.Not p y) e = computed_typed (negated_typed x ws h.all g p (value_typed (meant g y.0) (y.1 e)))
   expr_typed (layer.Bracketed p y) e = computed_typed (value_typed (meant g y.0) (y.1 e))
@@ -446,11 +446,11 @@ module _ (g : Gathers) (x : Context) (ws : List Ty) (opens : ℕ → Bool) (s : 
       let is : out-Designator (roll-Designator y) ≡ bare_designator z = out-roll-Designator y ∙ sym q in λ e.
       subst FM (sym (at_designator (roll-Designator y) (bare_designator z) is)) (designator_typed z (sym (head_at (roll-Designator y) (bare_designator z) is) ∙ e))
 
-  abbrev fixed_item : Item-F SE SS SD SI → Item-F (Part g.Told) (Pick g.Told) (Part g.Told) (Adds g.Told)
-  fixed_item z = map-Item (Meant g.Told) (Picks g.Told) (Meant g.Told) (Adds g.Told) (Part g.Told) (Pick g.Told) (Part g.Told) (Adds g.Told) (λ e. e.fixed) (λ e. e.fixed) (λ e. e.fixed) (λ e. e) (opened_item (bare_item z))
+  abbrev fixed_item : Item-F SE SS SD SI → Item-F (Part g.Reported) (Pick g.Reported) (Part g.Reported) (Adds g.Reported)
+  fixed_item z = map-Item (Meant g.Reported) (Picks g.Reported) (Meant g.Reported) (Adds g.Reported) (Part g.Reported) (Pick g.Reported) (Part g.Reported) (Adds g.Reported) (λ e. e.fixed) (λ e. e.fixed) (λ e. e.fixed) (λ e. e) (opened_item (bare_item z))
 
   step_item : (y : Item-F Expr Selector Designator Item) (z : Item-F SE SS SD SI) → bare_item z ≡ y → PI (roll-Item y)
-  step_item y z q = subst (λ (i : Adds g.Told). B_ g (i s)) (sym (at_item (roll-Item y) (bare_item z) (out-roll-Item y ∙ sym q))) (added_small g s (fixed_item z).low (fixed_item z).high)
+  step_item y z q = subst (λ (i : Adds g.Reported). B_ g (i s)) (sym (at_item (roll-Item y) (bare_item z) (out-roll-Item y ∙ sym q))) (added_small g s (fixed_item z).low (fixed_item z).high)
 
   pub meant_typed : (e : Expr) → PE e
   meant_typed = ind-Expr PE PS PD PI step_expr step_selector step_designator step_item

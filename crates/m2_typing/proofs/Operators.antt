@@ -29,8 +29,8 @@ use Rattle.m2_typed.specs.Chains.{linked, behind}
 use Rattle.m2_typed.specs.Known.{scalar_at}
 use Rattle.m2_typed.specs.Names.{place_of}
 use Rattle.m2_typed.specs.Types.{are_same, is_integer, is_numeric, integer, cardinal, boolean, char, bitset}
-use Rattle.m2_judged.specs.Judged.{Gathers, told_where, ◌▷◌}
-use Rattle.m2_judged.specs.Scopes.{fields_shape, fields_at}
+use Rattle.m2_scopes.specs.Elaborated.{Gathers, reported_where, ◌▷◌}
+use Rattle.m2_scopes.specs.Scopes.{fields_shape, fields_at}
 use Rattle.m2_values.specs.Common.{common}
 use Rattle.m2_values.specs.Numbers.{is_between, fits}
 use Rattle.m2_values.specs.Operands.{operand_of, is_number}
@@ -68,7 +68,7 @@ use Rattle.m2_agree.specs.Scene.{IsValue, AreAmong}
 use Rattle.m2_agree_calls.specs.Frames.{Open, kind_at}
 use Rattle.m2_agree_trees.specs.Typed.{Context, IsNamed}
 use Rattle.m2_formed.specs.Formed.{Holds, fine, broken}
-use Rattle.m2_formed.proofs.Basics.{then_holds, holds_weaker, told_holds, where_holds, both_holds, any_holds, Grows}
+use Rattle.m2_formed.proofs.Basics.{then_holds, holds_weaker, reported_holds, where_holds, both_holds, any_holds, Grows}
 use Rattle.m2_formed_ranges.specs.FormedRanges.{IsNumber, ValueRanged}
 use Rattle.m2_formed_ranges.proofs.Types.{same_types, both_left, both_right}
 use Rattle.m2_formed_ranges.proofs.Subranges.{between_in, test_holds, beside_holds, SortRanged, OperandRanged, operand_ranged, fits_number}
@@ -81,11 +81,11 @@ use Rattle.m2_typing.proofs.Constructs as made
 
 -- ---- tests
 
-pub where_not : (g : Gathers) {A : Type 0} {P : A → Type 0} (b : Bool) (at : Pos) (n : ℕ) {r : Result A g.Told} → (b ≡ true → Holds P r) → Holds P (told_where g (not b) at n r)
+pub where_not : (g : Gathers) {A : Type 0} {P : A → Type 0} (b : Bool) (at : Pos) (n : ℕ) {r : Result A g.Reported} → (b ≡ true → Holds P r) → Holds P (reported_where g (not b) at n r)
 where_not g true at n k = k refl
 where_not g false at n k = broken _
 
-not_so : (g : Gathers) (b : Bool) (at : Pos) (n : ℕ) → Holds (λ x. b ≡ true) (told_where g {A = Unit {0}} (not b) at n (Ok tt))
+not_so : (g : Gathers) (b : Bool) (at : Pos) (n : ℕ) → Holds (λ x. b ≡ true) (reported_where g {A = Unit {0}} (not b) at n (Ok tt))
 not_so g b at n = where_not g b at n (λ e. fine tt e)
 
 one_type : (t u : TypeNo) → Some t ≡ Some u → t ≡ u
@@ -319,10 +319,10 @@ module _ (x : Context) (ws : List Ty) (h : TypesTyped x.home.types) where
     SuitsProcedure : (i : IsRoutine types t) → ProcedureTyped x ws e i.heading → IsSuited t e
 
   module _ (g : Gathers) where
-    abbrev pub Value_ : Result Computed g.Told → Type 0
+    abbrev pub Value_ : Result Computed g.Reported → Type 0
     Value_ r = Holds (ValueTyped x ws) r
 
-    pub of_value_typed : {v : Result Value g.Told} → Holds (IsConstant types) v → Value_ (of_value v)
+    pub of_value_typed : {v : Result Value g.Reported} → Holds (IsConstant types) v → Value_ (of_value v)
     of_value_typed p = then_holds p (λ v k. fine (value.Constant v) k)
 
     pub scalar_typed : (t b : TypeNo) (e : TypedExpr) → ExprTyped x ws e t → HasBase types t b → made.IsRun m e → ValueTyped x ws (value.Scalar t b e)
@@ -337,32 +337,32 @@ module _ (x : Context) (ws : List Ty) (h : TypesTyped x.home.types) where
     signed_scalar_typed sign.Plus at t b e p = where_not g (is_numeric b) at 40 (λ k. fine (value.Scalar b b (expr.Plus b e)) (scalar_typed b b (expr.Plus b e) (made.plus_typed x ws b t e p.typed (among_base types t b p.based)) (numeric_is b k).base (made.run_plus m b e)))
     signed_scalar_typed sign.Minus at t b e p = where_not g (is_integer b) at 40 (λ k. fine (value.Scalar b b (expr.Negate e)) (subst (λ (w : TypeNo). ValueTyped x ws (value.Scalar w w (expr.Negate e))) (sym (same_types b integer k)) (scalar_typed integer integer (expr.Negate e) (made.negate_typed x ws t e p.typed) integer_base (made.run_negate m e))))
 
-    constants : {v : Result Value g.Told} → Holds (ValueRanged types) v → Holds IsWord v → Holds (IsConstant types) v
+    constants : {v : Result Value g.Reported} → Holds (ValueRanged types) v → Holds IsWord v → Holds (IsConstant types) v
     constants {v} p q = holds_both v p q
 
     signed_value_typed : (o : Sign) (at : Pos) (v : Computed) → ValueTyped x ws v → Value_ (signed_value g o at v)
     signed_value_typed o at (value.Constant v) p = of_value_typed (constants (signed_ranged g types o at (fine v p.0)) (signed_words g o at (operand_of v)))
     signed_value_typed o at (value.Scalar t b e) p = signed_scalar_typed o at t b e p
-    signed_value_typed o at (value.Set e) p = told_holds g at 40
-    signed_value_typed o at (value.Routine t e) p = told_holds g at 40
-    signed_value_typed o at (value.Procedure f) p = told_holds g at 40
-    signed_value_typed o at (value.Whole t d) p = told_holds g at 40
-    signed_value_typed o at value.Untaken p = told_holds g at 40
+    signed_value_typed o at (value.Set e) p = reported_holds g at 40
+    signed_value_typed o at (value.Routine t e) p = reported_holds g at 40
+    signed_value_typed o at (value.Procedure f) p = reported_holds g at 40
+    signed_value_typed o at (value.Whole t d) p = reported_holds g at 40
+    signed_value_typed o at value.Untaken p = reported_holds g at 40
 
-    pub signed_typed : (o : Sign) (at : Pos) {v : Result Computed g.Told} → Value_ v → Value_ (signed g o at v)
+    pub signed_typed : (o : Sign) (at : Pos) {v : Result Computed g.Reported} → Value_ v → Value_ (signed g o at v)
     signed_typed o at p = then_holds p (λ v k. signed_value_typed o at v k)
 
     negated_value_typed : (at : Pos) (v : Computed) → ValueTyped x ws v → Value_ (negated_value g at v)
     negated_value_typed at (value.Constant v) p = of_value_typed (constants (negated_ranged g types at (Ok v)) (negated_words g at (operand_of v)))
     negated_value_typed at (value.Scalar t b e) p =
         where_not g (are_same b boolean) at 40 (λ k. fine (truth_of (expr.Not e)) (truth_typed (expr.Not e) (made.not_typed x ws t e p.typed (subst (λ (w : TypeNo). AreAmong types t w) (same_types b boolean k) (among_base types t b p.based))) (made.run_not m e)))
-    negated_value_typed at (value.Set e) p = told_holds g at 40
-    negated_value_typed at (value.Routine t e) p = told_holds g at 40
-    negated_value_typed at (value.Procedure f) p = told_holds g at 40
-    negated_value_typed at (value.Whole t d) p = told_holds g at 40
-    negated_value_typed at value.Untaken p = told_holds g at 40
+    negated_value_typed at (value.Set e) p = reported_holds g at 40
+    negated_value_typed at (value.Routine t e) p = reported_holds g at 40
+    negated_value_typed at (value.Procedure f) p = reported_holds g at 40
+    negated_value_typed at (value.Whole t d) p = reported_holds g at 40
+    negated_value_typed at value.Untaken p = reported_holds g at 40
 
-    pub negated_typed : (at : Pos) {v : Result Computed g.Told} → Value_ v → Value_ (negated g at v)
+    pub negated_typed : (at : Pos) {v : Result Computed g.Reported} → Value_ v → Value_ (negated g at v)
     negated_typed at p = then_holds p (λ v k. negated_value_typed at v k)
 
     -- ---- operators on scalars
@@ -405,13 +405,13 @@ module _ (x : Context) (ws : List Ty) (h : TypesTyped x.home.types) where
     relation_typed at w a b rel.AtMost p q = fine _ (compared_typed w (run_of w a) (run_of w b) p q _)
     relation_typed at w a b rel.Greater p q = fine _ (compared_typed w (run_of w a) (run_of w b) p q _)
     relation_typed at w a b rel.AtLeast p q = fine _ (compared_typed w (run_of w a) (run_of w b) p q _)
-    relation_typed at w a b rel.In p q = told_holds g at 40
+    relation_typed at w a b rel.In p q = reported_holds g at 40
 
     stepped_typed : (op : BinaryOp) (at : Pos) (w : TypeNo) (a b : Amount) → takes op (Some w) ≡ true → AmongTyped w (run_of w a) → AmongTyped w (run_of w b) → Value_ (stepped g at (Some w) a b (step_of op))
     stepped_typed Plus at w a b k p q = fine _ (sum_made w (run_of w a) (run_of w b) p q k)
     stepped_typed Minus at w a b k p q = fine _ (difference_made w (run_of w a) (run_of w b) p q k)
     stepped_typed Times at w a b k p q = fine _ (product_made w (run_of w a) (run_of w b) p q k)
-    stepped_typed Over at w a b k p q = told_holds g at 40
+    stepped_typed Over at w a b k p q = reported_holds g at 40
     stepped_typed Div at w a b k p q = fine _ (quotient_made w (run_of w a) (run_of w b) p q k)
     stepped_typed Mod at w a b k p q = fine _ (remainder_made w (run_of w a) (run_of w b) p q k)
     stepped_typed And at w a b k p q = fine _ (and_made w (run_of w a) (run_of w b) p q k)
@@ -428,7 +428,7 @@ module _ (x : Context) (ws : List Ty) (h : TypesTyped x.home.types) where
         holds_weaker (λ y j. (k, j.1.0, j.1.1)) (beside_holds g {P = Unit {0}} {Q = FitsAmount sort a × FitsAmount sort b} (any_holds (divisor_of g op spot b)) (beside_holds g (fits_typed sort at a) (fits_typed sort at' b))))
 
     amounts_typed : (op : BinaryOp) (spot at : Pos) (a : Amount) (at' : Pos) (b : Amount) (o : Option (Option TypeNo)) → common (sort_of a) (sort_of b) ≡ o → Sorted (sort_of a) ⊎ Sorted (sort_of b) → AmountTyped a → AmountTyped b → Value_ (on_amounts g op spot at a at' b o)
-    amounts_typed op spot at a at' b None e s p q = told_holds g spot 40
+    amounts_typed op spot at a at' b None e s p q = reported_holds g spot 40
     amounts_typed op spot at a at' b (Some None) e s p q = absurd (common_some (sort_of a) (sort_of b) s e)
     amounts_typed op spot at a at' b (Some (Some w)) e s p q =
         then_holds (both_fit op spot (Some w) at a at' b) (λ f k.
@@ -474,15 +474,15 @@ module _ (x : Context) (ws : List Ty) (h : TypesTyped x.home.types) where
     set_made_typed e f (set_step.Include i) p q = truth_typed (expr.Include i e f) (made.include_typed x ws p.of q.of i e f p.typed (word_among e p) q.typed (word_among f q)) (made.run_include m i e f)
 
     sets_typed : (at : Pos) (e f : TypedExpr) (o : Option SetStep) → WordTyped x ws e → WordTyped x ws f → Value_ (on_sets g at e f o)
-    sets_typed at e f None p q = told_holds g at 40
+    sets_typed at e f None p q = reported_holds g at 40
     sets_typed at e f (Some o) p q = fine (set_built e f o) (set_made_typed e f o p q)
 
     with_set_typed : (op : BinaryOp) (spot : Pos) (e : TypedExpr) (y : Option Side) → WordTyped x ws e → SideTyped y → Value_ (with_set g op spot e (set_in y))
-    with_set_typed op spot e None p q = told_holds g spot 40
-    with_set_typed op spot e (Some (side.Scalar b)) p q = told_holds g spot 40
+    with_set_typed op spot e None p q = reported_holds g spot 40
+    with_set_typed op spot e (Some (side.Scalar b)) p q = reported_holds g spot 40
     with_set_typed op spot e (Some (side.Set s)) p q = sets_typed spot e s (set_step_of op) p q
-    with_set_typed op spot e (Some (side.Routine t f)) p q = told_holds g spot 40
-    with_set_typed op spot e (Some (side.Procedure f)) p q = told_holds g spot 40
+    with_set_typed op spot e (Some (side.Routine t f)) p q = reported_holds g spot 40
+    with_set_typed op spot e (Some (side.Procedure f)) p q = reported_holds g spot 40
 
     -- ---- scalars, on either side
 
@@ -494,11 +494,11 @@ module _ (x : Context) (ws : List Ty) (h : TypesTyped x.home.types) where
     SideSorted (Some (side.Procedure f)) = Unit {0}
 
     with_scalar_typed : (op : BinaryOp) (spot at : Pos) (a : Amount) (at' : Pos) (y : Option Side) → Sorted (sort_of a) ⊎ SideSorted y → AmountTyped a → SideTyped y → Value_ (with_scalar g op spot at a at' y)
-    with_scalar_typed op spot at a at' None s p q = told_holds g spot 40
+    with_scalar_typed op spot at a at' None s p q = reported_holds g spot 40
     with_scalar_typed op spot at a at' (Some (side.Scalar b)) s p q = amounts_typed op spot at a at' b (common (sort_of a) (sort_of b)) refl s p q
     with_scalar_typed op spot at a at' (Some (side.Set e)) s p q = member_typed op spot at a e p q
-    with_scalar_typed op spot at a at' (Some (side.Routine t e)) s p q = told_holds g spot 40
-    with_scalar_typed op spot at a at' (Some (side.Procedure f)) s p q = told_holds g spot 40
+    with_scalar_typed op spot at a at' (Some (side.Routine t e)) s p q = reported_holds g spot 40
+    with_scalar_typed op spot at a at' (Some (side.Procedure f)) s p q = reported_holds g spot 40
 
     operand_sorted : (v : Value) → operand_of v ≡ None → SideSorted (constant_side (operand_of v))
     operand_sorted v e = subst (λ (o : Option Operand). SideSorted (constant_side o)) (sym e) tt
@@ -519,12 +519,12 @@ module _ (x : Context) (ws : List Ty) (h : TypesTyped x.home.types) where
     PairTyped e (Some p) = p.0 ≡ true → SomeTyped e × SomeTyped p.1
 
     procedures_typed : (at : Pos) (fit : Bool) (e f : TypedExpr) (o : Option Comparison) → (fit ≡ true → SomeTyped e × SomeTyped f) → Value_ (on_procedures g at fit e f o)
-    procedures_typed at fit e f None k = told_holds g at 40
+    procedures_typed at fit e f None k = reported_holds g at 40
     procedures_typed at fit e f (Some c) k =
         where_not g fit at 40 (λ q. let p = k q in fine (truth_of (expr.Compare c e f)) (truth_typed (expr.Compare c e f) (made.compare_typed x ws p.0.of p.1.of c e f p.0.typed p.1.typed) (made.run_compare m c e f)))
 
     partner_typed : (at : Pos) (e : TypedExpr) (c : Option Comparison) (o : Option (Bool × TypedExpr)) → PairTyped e o → Value_ (with_partner g at e c o)
-    partner_typed at e c None p = told_holds g at 40
+    partner_typed at e c None p = reported_holds g at 40
     partner_typed at e c (Some o) p = procedures_typed at o.0 e o.1 c p
 
     -- ---- what is made of two constants
@@ -584,7 +584,7 @@ module _ (x : Context) (ws : List Ty) (h : TypesTyped x.home.types) where
       routine_pair f (Some (side.Procedure h)) p q = tt
 
       between_typed : (op : BinaryOp) (spot at : Pos) (v : Option Side) (at' : Pos) (y : Option Side) → SideSorted v ⊎ SideSorted y → SideTyped v → SideTyped y → Value_ (between g scope op spot at v at' y)
-      between_typed op spot at None at' y s p q = told_holds g spot 40
+      between_typed op spot at None at' y s p q = reported_holds g spot 40
       between_typed op spot at (Some (side.Scalar a)) at' y s p q = with_scalar_typed op spot at a at' y s p q
       between_typed op spot at (Some (side.Set e)) at' y s p q = with_set_typed op spot e y p q
       between_typed op spot at (Some (side.Routine t e)) at' y s p q = partner_typed spot e (equality_of op) (partner_of scope t y) (partner_pair t e y p q)
@@ -595,12 +595,12 @@ module _ (x : Context) (ws : List Ty) (h : TypesTyped x.home.types) where
       by_known_typed op spot at v at' u (Some a) None e f p q = between_typed op spot at (side_of v) at' (side_of u) (inr (side_sorted u f)) (side_typed v p) (side_typed u q)
       by_known_typed op spot at v at' u (Some a) (Some b) e f p q = folded_typed op spot at v a at' u b e f p q
 
-      pub combined_typed : (op : BinaryOp) (spot at : Pos) {v : Result Computed g.Told} (at' : Pos) {u : Result Computed g.Told} → Value_ v → Value_ u → Value_ (combined g scope op spot at v at' u)
+      pub combined_typed : (op : BinaryOp) (spot at : Pos) {v : Result Computed g.Reported} (at' : Pos) {u : Result Computed g.Reported} → Value_ v → Value_ u → Value_ (combined g scope op spot at v at' u)
       combined_typed op spot at at' p q = then_holds (both_holds g p q) (λ v k. by_known_typed op spot at v.0 at' v.1 (known_of v.0) (known_of v.1) refl refl k.0 k.1)
 
       -- ---- what places take
 
-      abbrev pub Given_ : TypeNo → Result TypedExpr g.Told → Type 0
+      abbrev pub Given_ : TypeNo → Result TypedExpr g.Reported → Type 0
       Given_ t r = Holds (λ e. GivenTyped x ws e t) r
 
       -- a value of a type is taken as one of this type
@@ -623,31 +623,31 @@ module _ (x : Context) (ws : List Ty) (h : TypesTyped x.home.types) where
       }
 
       scalar_given : (number : ℕ) (t : TypeNo) (s : Range) (at : Pos) (v : Option Side) → scalar_at types t ≡ Some s → SideTyped v → Given_ t (scalar_suited g number t s at v)
-      scalar_given number t s at None e p = told_holds g at number
+      scalar_given number t s at None e p = reported_holds g at number
       scalar_given number t s at (Some (side.Scalar (Known a))) e p = where_holds g _ at number (where_not g (is_between s.low a.number s.high) at 52 (λ k. fine (expr.Constant t a.number) (known_given t s a e k)))
       scalar_given number t s at (Some (side.Scalar (Run b f))) e p = where_holds g _ at number (fine f (run_given t s b f e p))
-      scalar_given number t s at (Some (side.Set f)) e p = told_holds g at number
-      scalar_given number t s at (Some (side.Routine u f)) e p = told_holds g at number
-      scalar_given number t s at (Some (side.Procedure f)) e p = told_holds g at number
+      scalar_given number t s at (Some (side.Set f)) e p = reported_holds g at number
+      scalar_given number t s at (Some (side.Routine u f)) e p = reported_holds g at number
+      scalar_given number t s at (Some (side.Procedure f)) e p = reported_holds g at number
 
       set_given : (number : ℕ) (t : TypeNo) (at : Pos) (v : Option Side) → scalar_at types t ≡ None → SideTyped v → Given_ t (set_suited g number at v)
-      set_given number t at None e p = told_holds g at number
-      set_given number t at (Some (side.Scalar a)) e p = told_holds g at number
+      set_given number t at None e p = reported_holds g at number
+      set_given number t at (Some (side.Scalar a)) e p = reported_holds g at number
       set_given number t at (Some (side.Set f)) e p = fine f (given_among t p.of f p.typed (among_words types p.of t p.word e))
-      set_given number t at (Some (side.Routine u f)) e p = told_holds g at number
-      set_given number t at (Some (side.Procedure f)) e p = told_holds g at number
+      set_given number t at (Some (side.Routine u f)) e p = reported_holds g at number
+      set_given number t at (Some (side.Procedure f)) e p = reported_holds g at number
 
       -- a value of a procedure type, with its heading
-      abbrev pub Procedure_ : Heading → Result TypedExpr g.Told → Type 0
+      abbrev pub Procedure_ : Heading → Result TypedExpr g.Reported → Type 0
       Procedure_ k r = Holds (λ e. ProcedureTyped x ws e k) r
 
       one_heading : (a b : Heading) → Some a ≡ Some b → a ≡ b
       one_heading a b e = cc
 
       procedure_given : (number : ℕ) (t : TypeNo) (at : Pos) (v : Option Side) (i : IsRoutine types t) → SideTyped v → Procedure_ i.heading (procedure_suited g number scope t at v)
-      procedure_given number t at None e p = told_holds g at number
-      procedure_given number t at (Some (side.Scalar a)) e p = told_holds g at number
-      procedure_given number t at (Some (side.Set f)) e p = told_holds g at number
+      procedure_given number t at None e p = reported_holds g at number
+      procedure_given number t at (Some (side.Scalar a)) e p = reported_holds g at number
+      procedure_given number t at (Some (side.Set f)) e p = reported_holds g at number
       procedure_given number t at (Some (side.Routine u f)) e p =
           where_not g (are_same u t) at number (λ k.
           let same : p.heading ≡ e.heading = one_heading p.heading e.heading (sym p.is ∙ ap (heading_at types) (same_types u t k) ∙ e.is) in
@@ -662,9 +662,9 @@ module _ (x : Context) (ws : List Ty) (h : TypesTyped x.home.types) where
       -- and as one of its own type, the values of which are the same numbers
       routine_given : (number : ℕ) (t : TypeNo) (at : Pos) (v : Option Side) → scalar_at types t ≡ None → SideTyped v → Given_ t (procedure_suited g number scope t at v)
       unfolding routine_some named_some
-      routine_given number t at None e p = told_holds g at number
-      routine_given number t at (Some (side.Scalar a)) e p = told_holds g at number
-      routine_given number t at (Some (side.Set f)) e p = told_holds g at number
+      routine_given number t at None e p = reported_holds g at number
+      routine_given number t at (Some (side.Scalar a)) e p = reported_holds g at number
+      routine_given number t at (Some (side.Set f)) e p = reported_holds g at number
       routine_given number t at (Some (side.Routine u f)) e p = where_not g (are_same u t) at number (λ k. fine f (given_among t u f (routine_some u f p).typed (among_words types u t p.word e)))
       routine_given number t at (Some (side.Procedure f)) e p =
           where_not g (headings_agree scope t f.heading) at number (λ k.
@@ -675,7 +675,7 @@ module _ (x : Context) (ws : List Ty) (h : TypesTyped x.home.types) where
       value_given number t at v (class.Scalar s) e p = scalar_given number t s at v e p
       value_given number t at v class.Set e p = set_given number t at v e.none p
       value_given number t at v class.Procedure e p = routine_given number t at v e.none p
-      value_given number t at v class.Whole e p = told_holds g at number
+      value_given number t at v class.Whole e p = reported_holds g at number
 
       pub suited_typed : (number : ℕ) (t : TypeNo) (at : Pos) (v : Computed) → ValueTyped x ws v → Given_ t (value_suited g number scope t at v)
       suited_typed number t at v p = value_given number t at (side_of v) (class_at scope t) (class_is scope types grows t) (side_typed v p)
@@ -684,7 +684,7 @@ module _ (x : Context) (ws : List Ty) (h : TypesTyped x.home.types) where
       place_suited number t at v (class.Scalar s) e p = holds_weaker (λ f k. SuitsCell (ranged_cell types h t s e) k) (scalar_given number t s at v e p)
       place_suited number t at v class.Set e p = holds_weaker (λ f k. SuitsCell (bits_cell types t e) k) (set_given number t at v e.none p)
       place_suited number t at v class.Procedure e p = holds_weaker (λ f k. SuitsProcedure e k) (procedure_given number t at v e p)
-      place_suited number t at v class.Whole e p = told_holds g at number
+      place_suited number t at v class.Whole e p = reported_holds g at number
 
       pub place_suited_typed : (number : ℕ) (t : TypeNo) (at : Pos) (v : Computed) → ValueTyped x ws v → Holds (IsSuited t) (value_suited g number scope t at v)
       place_suited_typed number t at v p = place_suited number t at (side_of v) (class_at scope t) (class_is scope types grows t) (side_typed v p)
@@ -695,7 +695,7 @@ module _ (x : Context) (ws : List Ty) (h : TypesTyped x.home.types) where
       -- ---- components
 
       module _ (opens : ℕ → Bool) where
-        abbrev Designated_ : Result Designated g.Told → Type 0
+        abbrev Designated_ : Result Designated g.Reported → Type 0
         Designated_ r = Holds (DesignatedTyped x ws opens) r
 
         -- the component of the record with this number is of this type
@@ -704,51 +704,51 @@ module _ (x : Context) (ws : List Ty) (h : TypesTyped x.home.types) where
 
         field_found : (t : TypeNo) (fs : List (List ℕ × TypeNo)) (n : ℕ) (at : Pos) (o : Option (List ℕ × TypeNo)) → MadeSo types t fields_shape fs → slice_get fs n ≡ o
             → Holds (IsField t) (field_named g at (option_map (λ (e : List ℕ × TypeNo). (n, e.1)) o))
-        field_found t fs n at None k q = told_holds g at 30
+        field_found t fs n at None k q = reported_holds g at 30
         field_found t fs n at (Some e) k q = fine (n, e.1) (ap (λ (u : Ty). component u (n ∷ [])) (record_is types h t fs k) ∙ field_in_row (tree types) fs n e q)
 
         field_at : (t : TypeNo) (fs : List (List ℕ × TypeNo)) (at : Pos) (o : Option ℕ) → MadeSo types t fields_shape fs → Holds (IsField t) (field_named g at (typed_field fs o))
-        field_at t fs at None k = told_holds g at 30
+        field_at t fs at None k = reported_holds g at 30
         field_at t fs at (Some n) k = field_found t fs n at (slice_get fs n) k refl
 
         fields_by : (t : TypeNo) (at : Pos) (name : Ident) (o : Option (List (List ℕ × TypeNo))) → fields_at scope t ≡ o → Holds (IsField t) (record_field g at name o)
-        fields_by t at name None e = told_holds g at 40
+        fields_by t at name None e = reported_holds g at 40
         fields_by t at name (Some fs) e = field_at t fs name.pos (place_of name.name fs) (fields_known scope types grows t fs e)
 
         pub field_typed : (at : Pos) (name : Ident) (d : Designated) → DesignatedTyped x ws opens d → Designated_ (field g scope at name d)
         field_typed at name (designated.Variable t d) p =
             then_holds (fields_by t at name (fields_at scope t) refl) (λ f k. fine (designated.Variable f.1 (behind d (part.Field t f.0))) (made.behind_typed x ws d (part.Field t f.0) (tree types t) (tree types f.1) p (made.field_typed x ws t f.0 (tree types f.1) k)))
-        field_typed at name (designated.Value v) p = told_holds g at 40
-        field_typed at name (designated.Open t slot) p = told_holds g at 40
-        field_typed at name (designated.Type t) p = told_holds g at 40
-        field_typed at name (designated.Procedure f) p = told_holds g at 40
-        field_typed at name (designated.Nested f) p = told_holds g at 40
-        field_typed at name (designated.Standard f) p = told_holds g at 40
-        field_typed at name (designated.Module k) p = told_holds g at 40
+        field_typed at name (designated.Value v) p = reported_holds g at 40
+        field_typed at name (designated.Open t slot) p = reported_holds g at 40
+        field_typed at name (designated.Type t) p = reported_holds g at 40
+        field_typed at name (designated.Procedure f) p = reported_holds g at 40
+        field_typed at name (designated.Nested f) p = reported_holds g at 40
+        field_typed at name (designated.Standard f) p = reported_holds g at 40
+        field_typed at name (designated.Module k) p = reported_holds g at 40
 
         abbrev SubscriptedTyped : Subscripted → Type 0
         SubscriptedTyped (indexes.Array t i e d) = PlaceTyped x ws d (tree types t) × IsArray types h t i e
         SubscriptedTyped (indexes.Open t slot) = kind_at x.kinds slot ≡ Some (Open (tree types t))
 
         array_typed : (at : Pos) (t : TypeNo) (d : Place) (o : Option (TypeNo × TypeNo)) → array_at scope t ≡ o → PlaceTyped x ws d (tree types t) → Holds SubscriptedTyped (array_indexed g at t d o)
-        array_typed at t d None e p = told_holds g at 40
+        array_typed at t d None e p = reported_holds g at 40
         array_typed at t d (Some a) e p = fine (indexes.Array t a.0 a.1 d) (p, array_is types h t a (array_known scope types grows t a e))
 
         indices_typed : (at : Pos) (d : Designated) → DesignatedTyped x ws opens d → Holds SubscriptedTyped (indices g scope at d)
         indices_typed at (designated.Variable t d) p = array_typed at t d (array_at scope t) refl p
         indices_typed at (designated.Open t slot) p = fine (indexes.Open t slot) p
-        indices_typed at (designated.Value v) p = told_holds g at 40
-        indices_typed at (designated.Type t) p = told_holds g at 40
-        indices_typed at (designated.Procedure f) p = told_holds g at 40
-        indices_typed at (designated.Nested f) p = told_holds g at 40
-        indices_typed at (designated.Standard f) p = told_holds g at 40
-        indices_typed at (designated.Module k) p = told_holds g at 40
+        indices_typed at (designated.Value v) p = reported_holds g at 40
+        indices_typed at (designated.Type t) p = reported_holds g at 40
+        indices_typed at (designated.Procedure f) p = reported_holds g at 40
+        indices_typed at (designated.Nested f) p = reported_holds g at 40
+        indices_typed at (designated.Standard f) p = reported_holds g at 40
+        indices_typed at (designated.Module k) p = reported_holds g at 40
 
         picked_typed : (t : TypeNo) (e : TypedExpr) (a : Subscripted) → GivenTyped x ws e t → SubscriptedTyped a → DesignatedTyped x ws opens (picked e a)
         picked_typed t e (indexes.Array u i z d) p q = made.behind_typed x ws d (part.Element u e) (tree types u) (tree types z) q.0 (made.element_typed x ws u p.of q.1.range (tree types z) e q.1.index q.1.elements p.typed)
         picked_typed t e (indexes.Open u slot) p q = made.open_element_typed x ws slot u p.of e q p.typed
 
-        pub indexed_typed : (at : Pos) {d : Result Designated g.Told} (at' : Pos) {v : Result Computed g.Told} → Designated_ d → Value_ v → Designated_ (indexed g scope (d ▷ indices g scope at) at' v)
+        pub indexed_typed : (at : Pos) {d : Result Designated g.Reported} (at' : Pos) {v : Result Computed g.Reported} → Designated_ d → Value_ v → Designated_ (indexed g scope (d ▷ indices g scope at) at' v)
         indexed_typed at at' p q =
             then_holds (both_holds g (then_holds p (λ d k. indices_typed at d k)) q)
             (λ v k. then_holds (suited_typed 41 (asked v.0) at' v.1 k.1) (λ e j. fine (picked e v.0) (picked_typed (asked v.0) e v.0 j k.0)))

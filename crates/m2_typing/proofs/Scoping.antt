@@ -15,13 +15,13 @@ use Rattle.m2_typed.specs.declared.shape.Formal.{Formal}
 use Rattle.m2_typed.specs.declared.typed_module.Routine.{Routine}
 use Rattle.m2_typed.specs.declared.types.TypeNo.{TypeNo}
 use Rattle.m2_typed.specs.Names.{same_name, found, place_of}
-use Rattle.m2_judged.specs.Judged.{Gathers, told}
-use Rattle.m2_judged.specs.Scopes.{or_outside, Sight, seen_at, in_block, nearer, known_outside, or_around, known, means_seen, means_as, opened, means_or, looked_up}
-use Rattle.m2_judged.specs.declared.known.Known.{Known}
-use Rattle.m2_judged.specs.declared.known.Known.TheVariants.{Later, Ahead, Begun, Headed, Declared}
-use Rattle.m2_judged.specs.declared.scope.Block.{Block}
-use Rattle.m2_judged.specs.declared.scope.OpenedRecord.{OpenedRecord}
-use Rattle.m2_judged.specs.declared.scope.Scope.{Scope}
+use Rattle.m2_scopes.specs.Elaborated.{Gathers, reported}
+use Rattle.m2_scopes.specs.Scopes.{or_outside, Sight, seen_at, in_block, nearer, known_outside, or_around, known, means_seen, means_as, opened, means_or, looked_up}
+use Rattle.m2_scopes.specs.declared.known.Known.{Known}
+use Rattle.m2_scopes.specs.declared.known.Known.TheVariants.{Later, Ahead, Begun, Headed, Declared}
+use Rattle.m2_scopes.specs.declared.scope.Block.{Block}
+use Rattle.m2_scopes.specs.declared.scope.OpenedRecord.{OpenedRecord}
+use Rattle.m2_scopes.specs.declared.scope.Scope.{Scope}
 use Rattle.m2_computed.specs.Values.{nested_by}
 use Rattle.m2_layout.specs.Frames.{formals_of}
 use Rattle.m2_layout.specs.Shapes.{tree}
@@ -29,7 +29,7 @@ use Rattle.m2_agree_calls.specs.Frames.{Kind, Kept, Kinds, or_none, kind_at, for
 use Rattle.m2_agree_trees.specs.Typed.{Context, IsInner}
 use Rattle.m2_blocks.specs.Inner.{formal_kind}
 use Rattle.m2_formed.specs.Formed.{Holds, fine}
-use Rattle.m2_formed.proofs.Basics.{holds_weaker, told_holds}
+use Rattle.m2_formed.proofs.Basics.{holds_weaker, reported_holds}
 use Rattle.m2_typing.specs.Typing.{kind_of, MeaningTyped, IsTyped}
 use Rattle.m2_typing.specs.Scopes.{MeaningIn, KnownIn, NamesIn, BlocksIn, ScopeTyped, formal_slot, variable_slot, slots_of}
 
@@ -90,22 +90,22 @@ module _ (P : Meaning → Type 0) (ahead : P meaning.Ahead) where
     around_has (Some k) far p q = p
 
   module _ (g : Gathers) where
-    declared_has : (at : Pos) (seen : Bool) (r : Result Meaning g.Told) → Holds P r → Holds P (cond seen r (told g at 30))
+    declared_has : (at : Pos) (seen : Bool) (r : Result Meaning g.Reported) → Holds P r → Holds P (cond seen r (reported g at 30))
     declared_has at true r p = p
-    declared_has at false r p = told_holds g at 30
+    declared_has at false r p = reported_holds g at 30
 
-    means_has : (at : Pos) (k : Known g.Told) (seen : Bool) → KnownHas k → Holds P (means_seen g at k seen)
-    means_has at Later seen p = told_holds g at 30
+    means_has : (at : Pos) (k : Known g.Reported) (seen : Bool) → KnownHas k → Holds P (means_seen g at k seen)
+    means_has at Later seen p = reported_holds g at 30
     means_has at Ahead seen p = fine meaning.Ahead ahead
-    means_has at Begun seen p = told_holds g at 30
+    means_has at Begun seen p = reported_holds g at 30
     means_has at (Headed r) seen p = p
     means_has at (Declared o r) seen p = declared_has at seen r p
 
-    sight_has : (at : Pos) (o : Sight g.Told) → SightHas o → Holds P (means_as g at o)
-    sight_has at None p = told_holds g at 30
+    sight_has : (at : Pos) (o : Sight g.Reported) → SightHas o → Holds P (means_as g at o)
+    sight_has at None p = reported_holds g at 30
     sight_has at (Some k) p = means_has at k.0 k.1 p
 
-    looked_has : (s : Scope g.Told) → s.withs ≡ [] → NamesHave s.own → BlocksHave s.outer → (name : Ident) → Holds P (looked_up g s name)
+    looked_has : (s : Scope g.Reported) → s.withs ≡ [] → NamesHave s.own → BlocksHave s.outer → (name : Ident) → Holds P (looked_up g s name)
     looked_has s e own outer name =
         subst (λ (ws : List OpenedRecord). Holds P (means_or (opened s.types name.name ws) (means_as g name.pos (known name.name s)))) (sym e)
         (sight_has name.pos (known name.name s) (around_has (found name.name s.own) (known_outside name.name s.outer) (found_has name.name s.own own) (outside_has name.name s.outer None tt outer)))
@@ -166,7 +166,7 @@ module _ (x : Context) (opens : ℕ → Bool) (level : ℕ) (long : length x.kin
     blocks_typed i [] e p = tt
     blocks_typed i (b ∷ bs) e p = (names_typed (i - 1) (omega (arith, e)) b.names p.0, blocks_typed (suc i) bs (omega (arith, e)) p.1)
 
-pub scope_typed : (g : Gathers) (x : Context) (opens : ℕ → Bool) (s : Scope g.Told) → ScopeTyped x opens g s → IsTyped g x [] opens s
+pub scope_typed : (g : Gathers) (x : Context) (opens : ℕ → Bool) (s : Scope g.Reported) → ScopeTyped x opens g s → IsTyped g x [] opens s
 scope_typed g x opens s h =
     let none : s.level - s.level ≡ 0 = omega arith in
     record {

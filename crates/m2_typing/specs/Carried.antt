@@ -23,12 +23,12 @@ use Rattle.m2_typed.specs.declared.table.ModuleTypes.{ModuleTypes}
 use Rattle.m2_typed.specs.declared.table.Table.{Table}
 use Rattle.m2_typed.specs.declared.known_types.Types.{Types}
 use Rattle.m2_typed.specs.Known.{made_at, scalar_at}
-use Rattle.m2_judged.specs.Judged.{Gathers}
-use Rattle.m2_judged.specs.Scopes.{State}
-use Rattle.m2_judged.specs.declared.known.Known.{Known}
-use Rattle.m2_judged.specs.declared.known.Known.TheVariants.{Later, Ahead, Begun, Headed, Declared}
-use Rattle.m2_judged.specs.declared.scope.Block.{Block}
-use Rattle.m2_judged.specs.declared.scope.Scope.{Scope}
+use Rattle.m2_scopes.specs.Elaborated.{Gathers}
+use Rattle.m2_scopes.specs.Scopes.{State}
+use Rattle.m2_scopes.specs.declared.known.Known.{Known}
+use Rattle.m2_scopes.specs.declared.known.Known.TheVariants.{Later, Ahead, Begun, Headed, Declared}
+use Rattle.m2_scopes.specs.declared.scope.Block.{Block}
+use Rattle.m2_scopes.specs.declared.scope.Scope.{Scope}
 use Rattle.m2_constants.specs.Parts.{part, constant}
 use Rattle.m2_computed.specs.Classes.{array_at}
 use Rattle.m2_made.specs.Headings.{sections}
@@ -41,7 +41,7 @@ use Rattle.m2_blocks.specs.Declarations.{Course, with_decl, declared_block, decl
 use Rattle.m2_blocks.specs.declared.inner.Outside.{Outside}
 use Rattle.m2_blocks.specs.Inner.{inwards, entered_procedure, left_procedure}
 use Rattle.m2_modules.specs.Own.{implementation_scope}
-use Rattle.m2_bodies.specs.Judging.{Judges}
+use Rattle.m2_bodies.specs.Elaborating.{Elaborates}
 use Rattle.m2_bodies.specs.Checked.{checked}
 use Rattle.m2_formed.specs.Formed.{Holds}
 use Rattle.m2_formed_ranges.specs.FormedRanges.{first_types}
@@ -167,7 +167,7 @@ pub record ScopeWords {T : Type 0} (s : Scope T) : Type 0 where
 
 -- a constant expression means such a constant
 abbrev pub ConstantsAreWords : Gathers → Type 0
-ConstantsAreWords g = (s : Scope g.Told) → ScopeWords s → (e : Expr) → Holds IsWord (constant g s (part g e))
+ConstantsAreWords g = (s : Scope g.Reported) → ScopeWords s → (e : Expr) → Holds IsWord (constant g s (part g e))
 
 -- ---- formals and variables of a procedure stand in the slots that their names say
 
@@ -213,12 +213,12 @@ ScopeSlots o s = NamesSlots (slots_in o s.variables) s.level s.own
 
 -- Where the formals of a procedure break no rule in its scope, they are its first variables.
 abbrev pub FormalsAreSlots : Gathers → Type 0
-FormalsAreSlots g = (s : Scope g.Told) (seen : ℕ) (h : Heading) (fs : List Formal) → (sections g (inwards s seen) h.formals).1 ≡ Ok fs
+FormalsAreSlots g = (s : Scope g.Reported) (seen : ℕ) (h : Heading) (fs : List Formal) → (sections g (inwards s seen) h.formals).1 ≡ Ok fs
     → let e = (entered_procedure g s seen h).0 in (e.variables ≡ map (λ f. f.of) fs) × ScopeSlots (Some fs) e
 
 -- Two scopes in which names of types mean the same have the same formals.
 abbrev pub FormalsStay : Gathers → Type 0
-FormalsStay g = (a b : Scope g.Told) → ((q : Qualified) (t : TypeNo) → named_type g a q ≡ Ok t → named_type g b q ≡ Ok t)
+FormalsStay g = (a b : Scope g.Reported) → ((q : Qualified) (t : TypeNo) → named_type g a q ≡ Ok t → named_type g b q ≡ Ok t)
     → (xs : List Section) (fs : List Formal) → (sections g a xs).1 ≡ Ok fs → (sections g b xs).1 ≡ Ok fs
 
 -- ---- what is carried from one scope to another
@@ -245,27 +245,27 @@ IndexedAreKnown = (types : Types) → TypesIndexed types → (t i e : TypeNo) �
 
 -- a declaration of a definition carries on,
 abbrev pub DefsCarry : Gathers → Type 0
-DefsCarry g = (st : State (Unit {0}) g.Told) (d : Def) → Carries st.0 (with_def g st d).0
+DefsCarry g = (st : State (Unit {0}) g.Reported) (d : Def) → Carries st.0 (with_def g st d).0
 
 -- one of a block,
 abbrev pub DeclsCarry : Gathers → Type 0
-DeclsCarry g = (ends : List ℕ) (c : Course g.Told) (d : Decl) → Carries c.0 (with_decl g ends c d).0
+DeclsCarry g = (ends : List ℕ) (c : Course g.Reported) (d : Decl) → Carries c.0 (with_decl g ends c d).0
 
 -- all declarations of a block,
 abbrev pub BlocksCarry : Gathers → Type 0
-BlocksCarry g = (ends : List ℕ) (st : State (Unit {0}) g.Told) (first : ℕ) (ds : List Decl) → Carries st.0 (declared_block g ends st first ds).0
+BlocksCarry g = (ends : List ℕ) (st : State (Unit {0}) g.Reported) (first : ℕ) (ds : List Decl) → Carries st.0 (declared_block g ends st first ds).0
 
 -- those of a definition, behind its imports,
 abbrev pub DefinitionsCarry : Gathers → Type 0
-DefinitionsCarry g = (m : Module) (modules : List (List ℕ × ℕ)) (s : Scope g.Told) (ds : List Def) → TablesElsewhere s.types.home s.tables → Carries s (declared_in g m modules s ds).0
+DefinitionsCarry g = (m : Module) (modules : List (List ℕ × ℕ)) (s : Scope g.Reported) (ds : List Def) → TablesElsewhere s.types.home s.tables → Carries s (declared_in g m modules s ds).0
 
 -- and those of a module
 abbrev pub ModulesCarry : Gathers → Type 0
-ModulesCarry g = (modules : List (List ℕ × ℕ)) (ends : List ℕ) (s : Scope g.Told) (m : Module) (ds : List Decl) → TablesElsewhere s.types.home s.tables → Carries s (declared_module g modules ends s m ds).0
+ModulesCarry g = (modules : List (List ℕ × ℕ)) (ends : List ℕ) (s : Scope g.Reported) (m : Module) (ds : List Decl) → TablesElsewhere s.types.home s.tables → Carries s (declared_module g modules ends s m ds).0
 
 -- into a procedure and back the types stay, and constants are such constants
 abbrev pub ProceduresStay : Gathers → Type 0
-ProceduresStay g = (s : Scope g.Told)
+ProceduresStay g = (s : Scope g.Reported)
     → ((seen : ℕ) (h : Heading) → ((entered_procedure g s seen h).0.types ≡ s.types) × (ScopeWords s → ScopeWords (entered_procedure g s seen h).0))
     × ((o : Outside) → ((left_procedure o s).types ≡ s.types) × (ScopeWords s → ScopeWords (left_procedure o s)))
 
@@ -290,7 +290,7 @@ ReachedStay = (a b : Types) → ((t : TypeNo) (m : Made) → made_at a t ≡ Som
 
 -- a module begins with such constants, if its tables have such, and exports such
 abbrev pub WordsCarry : Gathers → Type 0
-WordsCarry g = ((home : ℕ) (tables : List Table) → TablesWords tables → ScopeWords (first_scope {T = g.Told} home tables)) × ((s : Scope g.Told) → ScopeWords s → ExportsWords (exports s.own))
+WordsCarry g = ((home : ℕ) (tables : List Table) → TablesWords tables → ScopeWords (first_scope {T = g.Reported} home tables)) × ((s : Scope g.Reported) → ScopeWords s → ExportsWords (exports s.own))
 
 -- what a module exports is no variable of a procedure
 abbrev pub ExportsFree : List (List ℕ × Meaning) → Type 0
@@ -299,13 +299,13 @@ ExportsFree (e ∷ es) = MeaningSlot [] 0 e.1 × ExportsFree es
 
 -- A module exports no such variable, and begins without one.
 abbrev pub ModulesHaveNoSlots : Gathers → Type 0
-ModulesHaveNoSlots g = ((s : Scope g.Told) → s.level ≡ 0 → ScopeSlots None s → ExportsFree (exports s.own))
-    × ((home : ℕ) (tables : List Table) → let s = first_scope {T = g.Told} home tables in ScopeSlots None s × ScopePlaced s)
-    × ((own : Table) (tables : List Table) → ExportsFree own.exported → ScopeSlots None (implementation_scope {T = g.Told} own tables))
+ModulesHaveNoSlots g = ((s : Scope g.Reported) → s.level ≡ 0 → ScopeSlots None s → ExportsFree (exports s.own))
+    × ((home : ℕ) (tables : List Table) → let s = first_scope {T = g.Reported} home tables in ScopeSlots None s × ScopePlaced s)
+    × ((own : Table) (tables : List Table) → ExportsFree own.exported → ScopeSlots None (implementation_scope {T = g.Reported} own tables))
 
 -- An implementation begins with such constants, if its definition exports such, and so do the other tables.
 abbrev pub ImplementationsAreWords : Gathers → Type 0
-ImplementationsAreWords g = (own : Table) (tables : List Table) → ExportsWords own.exported → TablesWords tables → ScopeWords (implementation_scope {T = g.Told} own tables)
+ImplementationsAreWords g = (own : Table) (tables : List Table) → ExportsWords own.exported → TablesWords tables → ScopeWords (implementation_scope {T = g.Reported} own tables)
 
 -- ---- whole bodies
 
@@ -322,8 +322,8 @@ BodyBegins number own tables (contents.Program b) = TypesIndexed (first_types nu
 
 -- then its module knows such types
 abbrev pub BodiesCarry : Gathers → Type 0
-BodiesCarry g = (judges : Judges g.Told) (number : ℕ) (m : Module) (own : Option Table) (tables : List Table) → BodyBegins number own (tables ++ console ∷ []) m.contents
-    → Holds (λ t. TypesIndexed t.types) (checked g judges number m own tables)
+BodiesCarry g = (elaborates : Elaborates g.Reported) (number : ℕ) (m : Module) (own : Option Table) (tables : List Table) → BodyBegins number own (tables ++ console ∷ []) m.contents
+    → Holds (λ t. TypesIndexed t.types) (checked g elaborates number m own tables)
 
 -- An implementation begins with such types, if those that its definition and the other tables reach are such types.
 abbrev pub ImplementationsCarry : Type 0

@@ -8,9 +8,9 @@ use Rattle.m2_typed.specs.declared.known_types.Types.{Types}
 use Rattle.m2_typed.specs.declared.shape.Made.{Made}
 use Rattle.m2_typed.specs.declared.types.TypeNo.{TypeNo}
 use Rattle.m2_typed.specs.Known.{made_at}
-use Rattle.m2_judged.specs.Judged.{Gathers}
-use Rattle.m2_judged.specs.declared.known.Known.{Known}
-use Rattle.m2_judged.specs.declared.known.Known.TheVariants.{Later, Ahead, Begun, Headed, Declared}
+use Rattle.m2_scopes.specs.Elaborated.{Gathers}
+use Rattle.m2_scopes.specs.declared.known.Known.{Known}
+use Rattle.m2_scopes.specs.declared.known.Known.TheVariants.{Later, Ahead, Begun, Headed, Declared}
 use Rattle.m2_layout.specs.Types.{Ty, row}
 use Rattle.m2_layout.specs.Shapes.{tree}
 use Rattle.m2_meaning.specs.Around.{module_place}
@@ -85,5 +85,5 @@ VariablesAreThere = (x : Context) (v : Variable) (ts : List TypeNo) → HasVaria
 
 -- the names of such a block are typed
 abbrev pub NamesAreTyped : Gathers → Type 0
-NamesAreTyped g = (x : Context) (opens : ℕ → Bool) (types : Types) (vs : List TypeNo) (slots : List (LocalKind × TypeNo)) (level : ℕ) (kss : List Kinds) (es : List (List ℕ × Known g.Told))
+NamesAreTyped g = (x : Context) (opens : ℕ → Bool) (types : Types) (vs : List TypeNo) (slots : List (LocalKind × TypeNo)) (level : ℕ) (kss : List Kinds) (es : List (List ℕ × Known g.Reported))
     → BlockFound x opens types vs slots level kss es → NamesIn x opens level kss es

@@ -13,11 +13,11 @@ use Rattle.m2_typed.specs.declared.shape.Signature.{Signature}
 use Rattle.m2_typed.specs.declared.typed_module.Routine.{Routine}
 use Rattle.m2_typed.specs.declared.types.TypeNo.{TypeNo}
 use Rattle.m2_typed.specs.Known.{made_at}
-use Rattle.m2_judged.specs.Judged.{Gathers}
-use Rattle.m2_judged.specs.declared.known.Known.{Known}
-use Rattle.m2_judged.specs.declared.known.Known.TheVariants.{Later, Ahead, Begun, Headed, Declared}
-use Rattle.m2_judged.specs.declared.scope.Block.{Block}
-use Rattle.m2_judged.specs.declared.scope.Scope.{Scope}
+use Rattle.m2_scopes.specs.Elaborated.{Gathers}
+use Rattle.m2_scopes.specs.declared.known.Known.{Known}
+use Rattle.m2_scopes.specs.declared.known.Known.TheVariants.{Later, Ahead, Begun, Headed, Declared}
+use Rattle.m2_scopes.specs.declared.scope.Block.{Block}
+use Rattle.m2_scopes.specs.declared.scope.Scope.{Scope}
 use Rattle.m2_constants.specs.Denote.{member}
 use Rattle.m2_computed.specs.Classes.{signature_at}
 use Rattle.m2_layout.specs.Frames.{formals_of}
@@ -70,7 +70,7 @@ module _ (x : Context) (opens : ℕ → Bool) where
   BlocksIn level i (b ∷ bs) = NamesIn (i - 1) (drop (level - (i - 1)) x.kinds) b.names × BlocksIn level (suc i) bs
 
   -- the scope of a body, where no WITH is open
-  pub record ScopeTyped (g : Gathers) (s : Scope g.Told) : Type 0 where
+  pub record ScopeTyped (g : Gathers) (s : Scope g.Reported) : Type 0 where
     pub all : TypesTyped x.home.types
     pub room : length x.characters ≤ 2 ^ 32
     pub types : (t : TypeNo) (m : Made) → made_at s.types t ≡ Some m → made_at x.home.types t ≡ Some m
@@ -86,11 +86,11 @@ module _ (x : Context) (opens : ℕ → Bool) where
 
 -- in such a scope names mean what is there
 abbrev pub ScopesAreTyped : Gathers → Type 0
-ScopesAreTyped g = (x : Context) (opens : ℕ → Bool) (s : Scope g.Told) → ScopeTyped x opens g s → IsTyped g x [] opens s
+ScopesAreTyped g = (x : Context) (opens : ℕ → Bool) (s : Scope g.Reported) → ScopeTyped x opens g s → IsTyped g x [] opens s
 
 -- The names of the blocks around stay so in a procedure of the innermost block.
 abbrev pub BlocksStay : Gathers → Type 0
-BlocksStay g = (x : Context) (opens : ℕ → Bool) (ks : Kinds) (level : ℕ) (b : Block g.Told) (bs : List (Block g.Told)) → length bs ≡ suc level → length x.kinds ≡ level
+BlocksStay g = (x : Context) (opens : ℕ → Bool) (ks : Kinds) (level : ℕ) (b : Block g.Reported) (bs : List (Block g.Reported)) → length bs ≡ suc level → length x.kinds ≡ level
     → BlocksIn x opens level 0 bs → NamesIn x opens level x.kinds b.names → BlocksIn (record x { kinds = ks ∷ x.kinds }) opens (suc level) 0 (bs ++ b ∷ [])
 
 -- what a procedure declares: its formals, and then its variables

@@ -27,9 +27,9 @@ use Rattle.m2_typed.specs.declared.types.Home.{Home}
 use Rattle.m2_typed.specs.declared.types.Home.TheVariants.{Predeclared, Module}
 use Rattle.m2_typed.specs.declared.types.TypeNo.{TypeNo}
 use Rattle.m2_typed.specs.Known.{made_in, made_at, scalar_at}
-use Rattle.m2_judged.specs.Judged.{Gathers}
-use Rattle.m2_judged.specs.Scopes.{looked_up}
-use Rattle.m2_judged.specs.declared.scope.Scope.{Scope}
+use Rattle.m2_scopes.specs.Elaborated.{Gathers}
+use Rattle.m2_scopes.specs.Scopes.{looked_up}
+use Rattle.m2_scopes.specs.declared.scope.Scope.{Scope}
 use Rattle.m2_constants.specs.Denote.{member}
 use Rattle.m2_computed.specs.Classes.{signature_at, array_at}
 use Rattle.m2_computed.specs.Values.{slot_of, nested_by}
@@ -211,7 +211,7 @@ pub record TypesTyped (types : Types) : Type 0 where
 
 -- The types that are known in a scope are those of the module, and formals are of such types. Its names mean what is there,
 -- and so do those that open modules export.
-pub record IsTyped (g : Gathers) (x : Context) (ws : List Ty) (opens : ℕ → Bool) (s : Scope g.Told) : Type 0 where
+pub record IsTyped (g : Gathers) (x : Context) (ws : List Ty) (opens : ℕ → Bool) (s : Scope g.Reported) : Type 0 where
   pub all : TypesTyped x.home.types
   pub room : length x.characters ≤ 2 ^ 32
   pub types : (t : TypeNo) (m : Made) → made_at s.types t ≡ Some m → made_at x.home.types t ≡ Some m
@@ -223,10 +223,10 @@ pub record IsTyped (g : Gathers) (x : Context) (ws : List Ty) (opens : ℕ → B
 
 -- what the checker makes of an expression
 abbrev pub ExpressionsAreTyped : Gathers → Type 0
-ExpressionsAreTyped g = (x : Context) (ws : List Ty) (opens : ℕ → Bool) (s : Scope g.Told) → IsTyped g x ws opens s
+ExpressionsAreTyped g = (x : Context) (ws : List Ty) (opens : ℕ → Bool) (s : Scope g.Reported) → IsTyped g x ws opens s
     → (e : Expr) → fits_whole e ≡ true → Holds (DesignatedTyped x ws opens) ((meant g e).means s)
 
 -- and of a designator
 abbrev pub DesignatorsAreTyped : Gathers → Type 0
-DesignatorsAreTyped g = (x : Context) (ws : List Ty) (opens : ℕ → Bool) (s : Scope g.Told) → IsTyped g x ws opens s
+DesignatorsAreTyped g = (x : Context) (ws : List Ty) (opens : ℕ → Bool) (s : Scope g.Reported) → IsTyped g x ws opens s
     → (d : Designator) → fits_head d ≡ true → Holds (DesignatedTyped x ws opens) ((head g d).means s)

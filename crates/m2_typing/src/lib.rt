@@ -15,7 +15,7 @@
 //!   `proofs/Meanings` those of `m2_exprs`, with the induction.
 #![tactic(auto)]
 
-ghost use Rattle.m2_judged.specs.Judged.{least, every};
+ghost use Rattle.m2_scopes.specs.Elaborated.{least, every};
 ghost use Rattle.m2_typing.specs.Typing.{ExpressionsAreTyped, DesignatorsAreTyped};
 ghost use Rattle.m2_typing.specs.Scopes.{BlocksStay, ScopesAreTyped, SlotsAreKinds};
 ghost use Rattle.m2_typing.specs.Names.{NamesAreTyped, VariablesAreThere};

@@ -17,9 +17,9 @@ use Rattle.m2_typed.specs.declared.shape.Shape.{Shape}
 use Rattle.m2_typed.specs.declared.types.TypeNo.{TypeNo}
 use Rattle.m2_typed.specs.Known.{made_at}
 use Rattle.m2_layout.specs.Shapes.{tree}
-use Rattle.m2_judged.specs.Judged.{Gathers}
-use Rattle.m2_judged.specs.declared.known.Known.{Known}
-use Rattle.m2_judged.specs.declared.scope.Scope.{Scope}
+use Rattle.m2_scopes.specs.Elaborated.{Gathers}
+use Rattle.m2_scopes.specs.declared.known.Known.{Known}
+use Rattle.m2_scopes.specs.declared.scope.Scope.{Scope}
 use Rattle.m2_layout.specs.Frames.{formals_in, formals_made}
 use Rattle.m2_agree_calls.specs.Passing.{Result as Gives, result_in, result_made}
 use Rattle.m2_made.specs.Headings.{result_of}
@@ -29,7 +29,7 @@ use Rattle.m2_blocks.specs.Declarations.{Course, Declared, with_decl, declared_b
 use Rattle.m2_modules.specs.declared.routine.Numbered.{Numbered}
 use Rattle.m2_modules.specs.Routines.{numbered_by, numbered_known}
 use Rattle.m2_bodies.specs.Inside.{returns_of}
-use Rattle.m2_formed_scopes.proofs.Declarations.{decl_told}
+use Rattle.m2_formed_scopes.proofs.Declarations.{decl_reported}
 use Rattle.m2_formed_headings.specs.FormedHeadings.{heading_in, HeadingStands}
 use Rattle.m2_formed_headings.proofs.Headings.{headings_stay}
 use Rattle.m2_typing.proofs.Bounding.{left_words, entered_words}
@@ -58,42 +58,42 @@ words_stay g = record {
 }
 
 module _ (g : Gathers) where
-  returned_by : (types : Types) (o : Option TypeNo) → AreReturned {T = g.Told} types (returns_of (Ok o)) (option_map (tree types) o)
+  returned_by : (types : Types) (o : Option TypeNo) → AreReturned {T = g.Reported} types (returns_of (Ok o)) (option_map (tree types) o)
   returned_by types None = refl
   returned_by types (Some t) = refl
 
-  stands_agrees : (s : Scope g.Told) (n : ℕ) (h : Heading) → HeadingStands g s n h → HeadingAgrees g s n h
+  stands_agrees : (s : Scope g.Reported) (n : ℕ) (h : Heading) → HeadingStands g s n h → HeadingAgrees g s n h
   stands_agrees s n h k q named types grows =
-      let is : q.heading ≡ k.heading = heading_same k.means q k.heading (sym (ap (λ (o : Option (Known g.Told)). numbered_known o) k.named) ∙ named) k.is in
+      let is : q.heading ≡ k.heading = heading_same k.means q k.heading (sym (ap (λ (o : Option (Known g.Reported)). numbered_known o) k.named) ∙ named) k.is in
       let made : made_at types q.heading ≡ Some k.made = ap (λ (t : TypeNo). made_at types t) is ∙ grows k.heading k.made k.there in (
         ap (λ (o : Option Made). formals_made o) made ∙ ap (λ (x : Shape). formals_in x) k.shape,
         subst (λ (r : Gives). AreReturned types (returns_of (result_of g (inwards s n) h.result)) r) (sym (ap (λ (o : Option Made). result_made types o) made ∙ ap (λ (x : Shape). result_in types x) k.shape))
-            (subst (λ (r : Result (Option TypeNo) g.Told). AreReturned types (returns_of r) (option_map (tree types) k.result)) (sym k.gives) (returned_by types k.result)),
+            (subst (λ (r : Result (Option TypeNo) g.Reported). AreReturned types (returns_of r) (option_map (tree types) k.result)) (sym k.gives) (returned_by types k.result)),
       )
 
   -- ---- how many names stand before each declaration
 
-  abbrev marked : Scope g.Told → List Decl → Scope g.Told
+  abbrev marked : Scope g.Reported → List Decl → Scope g.Reported
   marked s ds = fold marked_decl s ds
 
-  abbrev counts : Scope g.Told → List Decl → List ℕ
+  abbrev counts : Scope g.Reported → List Decl → List ℕ
   counts s [] = []
   counts s (d ∷ ds) = length s.own ∷ counts (marked_decl s d) ds
 
-  marks_are : (ds : List Decl) (s : Scope g.Told) (l : List ℕ) → ◌≡◌ {A = Scope g.Told × List ℕ} (fold (with_marks marked_decl) (s, l) ds) (marked s ds, l ++ counts s ds)
+  marks_are : (ds : List Decl) (s : Scope g.Reported) (l : List ℕ) → ◌≡◌ {A = Scope g.Reported × List ℕ} (fold (with_marks marked_decl) (s, l) ds) (marked s ds, l ++ counts s ds)
   marks_are [] s l = ap (λ (k : List ℕ). (s, k)) (sym (append-nil l))
   marks_are (d ∷ ds) s l = marks_are ds (marked_decl s d) (l ++ length s.own ∷ []) ∙ ap (λ (k : List ℕ). (marked s (d ∷ ds), k)) (append_assoc l (length s.own ∷ []) (counts (marked_decl s d) ds))
 
-  count_at : (before : List Decl) (s : Scope g.Told) (d : Decl) (rest : List Decl) → slice_get (counts s (before ++ d ∷ rest)) (length before) ≡ Some (length (marked s before).own)
+  count_at : (before : List Decl) (s : Scope g.Reported) (d : Decl) (rest : List Decl) → slice_get (counts s (before ++ d ∷ rest)) (length before) ≡ Some (length (marked s before).own)
   count_at [] s d rest = refl
   count_at (x ∷ before) s d rest = count_at before (marked_decl s x) d rest
 
-  pub all_told : (ends : List ℕ) (ds : List Decl) (c : Course g.Told) → (fold (with_decl g ends) c ds).1 ≡ Ok tt → c.1 ≡ Ok tt
-  all_told ends [] c e = e
-  all_told ends (d ∷ ds) c e = decl_told g {A = Decl} {B = Block} ends c (out-Decl d) (all_told ends ds (with_decl g ends c d) e)
+  pub all_reported : (ends : List ℕ) (ds : List Decl) (c : Course g.Reported) → (fold (with_decl g ends) c ds).1 ≡ Ok tt → c.1 ≡ Ok tt
+  all_reported ends [] c e = e
+  all_reported ends (d ∷ ds) c e = decl_reported g {A = Decl} {B = Block} ends c (out-Decl d) (all_reported ends ds (with_decl g ends c d) e)
 
-  module _ (ends : List ℕ) (a : Scope g.Told) (first : ℕ) (withs : a.withs ≡ []) where
-    abbrev declared : List Decl → Course g.Told
+  module _ (ends : List ℕ) (a : Scope g.Reported) (first : ℕ) (withs : a.withs ≡ []) where
+    abbrev declared : List Decl → Course g.Reported
     declared ds = fold (with_decl g ends) (marked a ds, Ok tt, first) ds
 
     one_by : (before : List Decl) (d : Decl) (rest : List Decl) → (declared (before ++ d ∷ rest)).1 ≡ Ok tt → (x : Decl-F Decl Block) → out-Decl d ≡ x
@@ -120,8 +120,8 @@ module _ (g : Gathers) where
 
   pub headings_agree : HeadingsAgree g
   headings_agree ends st first ds fresh ok =
-      let behind : Scope g.Told × List ℕ → Declared g.Told = λ m. (let c : Course g.Told = fold (with_decl g ends) (m.0, st.1, first) ds in (c.0, c.1, m.1)) in
+      let behind : Scope g.Reported × List ℕ → Declared g.Reported = λ m. (let c : Course g.Reported = fold (with_decl g ends) (m.0, st.1, first) ds in (c.0, c.1, m.1)) in
       let is : declared_block g ends st first ds ≡ behind (marked st.0 ds, counts st.0 ds) = ap behind (marks_are ds st.0 []) in
-      subst (λ (d : Declared g.Told). d.1 ≡ Ok tt → DeclsAgree g d.0 d.2 0 ds) (sym is) (λ k.
-      (subst (λ (r : Result (Unit {0}) g.Told). (fold (with_decl g ends) (marked st.0 ds, r, first) ds).1 ≡ Ok tt → DeclsAgree g (fold (with_decl g ends) (marked st.0 ds, r, first) ds).0 (counts st.0 ds) 0 ds)
-      (sym (all_told ends ds (marked st.0 ds, st.1, first) k)) (λ q. all_from ends st.0 first fresh.withs ds q [] ds refl 0 refl)) k) ok
+      subst (λ (d : Declared g.Reported). d.1 ≡ Ok tt → DeclsAgree g d.0 d.2 0 ds) (sym is) (λ k.
+      (subst (λ (r : Result (Unit {0}) g.Reported). (fold (with_decl g ends) (marked st.0 ds, r, first) ds).1 ≡ Ok tt → DeclsAgree g (fold (with_decl g ends) (marked st.0 ds, r, first) ds).0 (counts st.0 ds) 0 ds)
+      (sym (all_reported ends ds (marked st.0 ds, st.1, first) k)) (λ q. all_from ends st.0 first fresh.withs ds q [] ds refl 0 refl)) k) ok

@@ -10,11 +10,11 @@ use Rattle.m2_typed.specs.declared.known_types.Types.{Types}
 use Rattle.m2_typed.specs.declared.meaning.Meaning.TheVariants as meaning
 use Rattle.m2_typed.specs.declared.shape.Formal.{Formal}
 use Rattle.m2_typed.specs.Names.{same_name, found, entered}
-use Rattle.m2_judged.specs.Judged.{Gathers}
-use Rattle.m2_judged.specs.declared.known.Known.{Known}
-use Rattle.m2_judged.specs.declared.known.Known.TheVariants.{Declared}
-use Rattle.m2_judged.specs.declared.known.Origin.TheVariants.{Here}
-use Rattle.m2_judged.specs.declared.scope.Scope.{Scope}
+use Rattle.m2_scopes.specs.Elaborated.{Gathers}
+use Rattle.m2_scopes.specs.declared.known.Known.{Known}
+use Rattle.m2_scopes.specs.declared.known.Known.TheVariants.{Declared}
+use Rattle.m2_scopes.specs.declared.known.Origin.TheVariants.{Here}
+use Rattle.m2_scopes.specs.declared.scope.Scope.{Scope}
 use Rattle.m2_made.specs.Headings.{formal_of}
 use Rattle.m2_blocks.specs.Inner.{inwards, formal_kind, formal_meaning, Formals, with_formal, with_section, formals_in, entered_procedure}
 use Rattle.m2_formed.specs.Formed.{fine}
@@ -66,22 +66,22 @@ module _ {T : Type 0} where
       })
 
 module _ (g : Gathers) where
-  sections_so : (s : Scope g.Told) (xs : List Section) (so : Formals g.Told) (fs : List Formal) → SoFar so fs → SoFar (fold (with_section g s) so xs) (fold (with_formals_of g s) fs xs)
+  sections_so : (s : Scope g.Reported) (xs : List Section) (so : Formals g.Reported) (fs : List Formal) → SoFar so fs → SoFar (fold (with_section g s) so xs) (fold (with_formals_of g s) fs xs)
   sections_so s [] so fs h = h
   sections_so s (x ∷ xs) so fs h = sections_so s xs (with_section g s so x) (with_formals_of g s fs x) (names_so s.level (formal_of g s x.is_var x.of) x.names so fs h)
 
-  formals_so : (s : Scope g.Told) (xs : List Section) → SoFar (formals_in g s xs) (all_formals g s xs)
+  formals_so : (s : Scope g.Reported) (xs : List Section) → SoFar (formals_in g s xs) (all_formals g s xs)
   formals_so s xs = sections_so s xs ([], []) [] (record { locals = tt; count = refl })
 
-  pub entered_locals : (s : Scope g.Told) (seen : ℕ) (h : Heading) → NamesLocal (entered_procedure g s seen h).0.own
+  pub entered_locals : (s : Scope g.Reported) (seen : ℕ) (h : Heading) → NamesLocal (entered_procedure g s seen h).0.own
   entered_locals s seen h = (formals_so (inwards s seen) h.formals).locals
 
-  pub entered_fresh : (s : Scope g.Told) (seen : ℕ) (h : Heading) → s.withs ≡ [] → IsFresh (entered_procedure g s seen h).0
+  pub entered_fresh : (s : Scope g.Reported) (seen : ℕ) (h : Heading) → s.withs ≡ [] → IsFresh (entered_procedure g s seen h).0
   entered_fresh s seen h e = record { withs = e }
 
   -- as many variables stand there as formals
-  pub entered_count : (s : Scope g.Told) (seen : ℕ) (h : Heading) → length (entered_procedure g s seen h).0.variables ≡ length (all_formals g (inwards s seen) h.formals)
+  pub entered_count : (s : Scope g.Reported) (seen : ℕ) (h : Heading) → length (entered_procedure g s seen h).0.variables ≡ length (all_formals g (inwards s seen) h.formals)
   entered_count s seen h = (formals_so (inwards s seen) h.formals).count
 
-  pub entered_known : (base : Types) → WordsStay g → (s : Scope g.Told) (seen : ℕ) (h : Heading) → ScopeKnown base s → ScopeKnown base (entered_procedure g s seen h).0
+  pub entered_known : (base : Types) → WordsStay g → (s : Scope g.Reported) (seen : ℕ) (h : Heading) → ScopeKnown base s → ScopeKnown base (entered_procedure g s seen h).0
   entered_known base words s seen h p = record { ranged = entered_ranged g s seen h p.ranged; ordered = entered_ordered base g s seen h p.ordered; words = words.entered s seen h p.words }

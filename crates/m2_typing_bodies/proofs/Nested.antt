@@ -14,9 +14,9 @@ use Rattle.m2_typed.specs.declared.typed_module.Which.TheVariants as which
 use Rattle.m2_typed.specs.declared.types.TypeNo.{TypeNo}
 use Rattle.m2_typed.specs.Names.{found}
 use Rattle.m2_typed.specs.Types.{integer}
-use Rattle.m2_judged.specs.Judged.{Gathers}
-use Rattle.m2_judged.specs.declared.known.Known.{Known}
-use Rattle.m2_judged.specs.declared.known.Known.TheVariants.{Headed}
+use Rattle.m2_scopes.specs.Elaborated.{Gathers}
+use Rattle.m2_scopes.specs.declared.known.Known.{Known}
+use Rattle.m2_scopes.specs.declared.known.Known.TheVariants.{Headed}
 use Rattle.m2_layout.specs.Frames.{formals_of}
 use Rattle.m2_layout.specs.Shapes.{tree}
 use Rattle.m2_blocks.specs.Inner.{inwards}
@@ -24,7 +24,7 @@ use Rattle.m2_modules.specs.declared.routine.Bodies.{Bodies}
 use Rattle.m2_modules.specs.declared.routine.Numbered.{Numbered}
 use Rattle.m2_modules.specs.Routines.{numbered_known, unfilled, routine}
 use Rattle.m2_bodies.specs.declared.procedure.Walk.{Walk}
-use Rattle.m2_bodies.specs.Judging.{Judges}
+use Rattle.m2_bodies.specs.Elaborating.{Elaborates}
 use Rattle.m2_bodies.specs.Inside.{which_of, with_routine}
 use Rattle.m2_bodies.specs.Bodies.{ChecksBlock}
 use Rattle.m2_agree_calls.specs.Frames.{Kinds, Kept, formal_kind, kinds_of}
@@ -47,33 +47,33 @@ use Rattle.m2_typing_bodies.proofs.Shifting.{names_deeper, blocks_deeper}
 use Rattle.m2_typing_bodies.proofs.Scopes.{blocks_more}
 use Rattle.m2_typing_bodies.proofs.Entered.{entered_locals, entered_fresh, entered_count, entered_known}
 
-module _ (g : Gathers) (judges : Judges g.Told) (base : Types) (words : WordsStay g) (ends : List ℕ) (h : Heading) (block : ChecksBlock g.Told) (ks : List ℕ) (f : FormedBlock g ends block ks) (b : TypedBlock g base ends block ks)
-    (around : Option Which) (seen : ℕ) (w : Walk g.Told) where
-  abbrev first : Walk g.Told
-  first = (entry g judges ends h block ks f around seen w).0
+module _ (g : Gathers) (elaborates : Elaborates g.Reported) (base : Types) (words : WordsStay g) (ends : List ℕ) (h : Heading) (block : ChecksBlock g.Reported) (ks : List ℕ) (f : FormedBlock g ends block ks) (b : TypedBlock g base ends block ks)
+    (around : Option Which) (seen : ℕ) (w : Walk g.Reported) where
+  abbrev first : Walk g.Reported
+  first = (entry g elaborates ends h block ks f around seen w).0
 
-  abbrev last : Walk g.Told
-  last = (inner g judges ends h block ks f around seen w).0
+  abbrev last : Walk g.Reported
+  last = (inner g elaborates ends h block ks f around seen w).0
 
-  abbrev behind : Walk g.Told
-  behind = ended g judges ends h block ks f around seen w
+  abbrev behind : Walk g.Reported
+  behind = ended g elaborates ends h block ks f around seen w
 
   abbrev own : Option Which
-  own = which_of (entry g judges ends h block ks f around seen w).1.procedure
+  own = which_of (entry g elaborates ends h block ks f around seen w).1.procedure
 
-  abbrev returns : Option (Result TypeNo g.Told)
-  returns = (entry g judges ends h block ks f around seen w).1.returns
+  abbrev returns : Option (Result TypeNo g.Reported)
+  returns = (entry g elaborates ends h block ks f around seen w).1.returns
 
   abbrev fs : List Formal
   fs = all_formals g (inwards w.scope seen) h.formals
 
   stays : Keeps first.scope last.scope
-  stays = inside g judges ends h block ks f around seen w
+  stays = inside g elaborates ends h block ks f around seen w
 
   pub procedure_known : behind.so_far ≡ Ok tt → ScopeKnown base w.scope → ScopeKnown base behind.scope
   procedure_known ok k =
-      let e = b.known own returns first (inner_ok g judges ends h block ks f around seen w ok) (entered_known g base words w.scope seen h k) in
-      let o = (entry g judges ends h block ks f around seen w).1.outside in
+      let e = b.known own returns first (inner_ok g elaborates ends h block ks f around seen w ok) (entered_known g base words w.scope seen h k) in
+      let o = (entry g elaborates ends h block ks f around seen w).1.outside in
       record { ranged = left_ranged o last.scope e.ranged; ordered = left_ordered base o last.scope e.ordered; words = words.left o last.scope e.words }
 
   module _ (level : (w.scope.level == 0) ≡ false) (deep : 1 < length w.scope.outer) (is_deep : IsDeep w) (l : ℕ) (t : TypeNo)
@@ -86,7 +86,7 @@ module _ (g : Gathers) (judges : Judges g.Told) (base : Types) (words : WordsSta
     first_length = ap (λ (rs : List Routine). length rs) first_locals ∙ length-append w.bodies.locals (unfilled integer ∷ [])
 
     outer_length : length first.scope.outer ≡ length w.scope.outer + 1
-    outer_length = length-append w.scope.outer (around_it g judges ends h block ks f around seen w ∷ [])
+    outer_length = length-append w.scope.outer (around_it g elaborates ends h block ks f around seen w ∷ [])
 
     begins : Begins ends first ks
     begins = record {
@@ -100,16 +100,16 @@ module _ (g : Gathers) (judges : Judges g.Told) (base : Types) (words : WordsSta
     numbered = record { which = which.Local (length w.bodies.locals); heading = t }
 
     abbrev new : Routine
-    new = routine last.scope h.name numbered around (entry g judges ends h block ks f around seen w).1.formals (body_ok g judges ends h block ks f around seen w ok).0
+    new = routine last.scope h.name numbered around (entry g elaborates ends h block ks f around seen w).1.formals (body_ok g elaborates ends h block ks f around seen w ok).0
 
     own_is : own ≡ Some (which.Local (length w.bodies.locals))
-    own_is = ap (λ (o : Option (Known g.Told)). which_of (numbered_known o)) head
+    own_is = ap (λ (o : Option (Known g.Reported)). which_of (numbered_known o)) head
 
     locals_are : behind.bodies.locals ≡ slice_set last.bodies.locals (length w.bodies.locals) new
     locals_are =
         ap (λ (rs : Bodies). rs.locals)
-        (ap (λ (o : Option (Known g.Told)). with_routine last.scope h.name around (entry g judges ends h block ks f around seen w).1.formals (numbered_known o) (inner g judges ends h block ks f around seen w).1 last.bodies) head
-        ∙ ap (λ (r : Result (List TypedStmt) g.Told). with_routine last.scope h.name around (entry g judges ends h block ks f around seen w).1.formals (Some numbered) r last.bodies) (body_ok g judges ends h block ks f around seen w ok).1)
+        (ap (λ (o : Option (Known g.Reported)). with_routine last.scope h.name around (entry g elaborates ends h block ks f around seen w).1.formals (numbered_known o) (inner g elaborates ends h block ks f around seen w).1 last.bodies) head
+        ∙ ap (λ (r : Result (List TypedStmt) g.Reported). with_routine last.scope h.name around (entry g elaborates ends h block ks f around seen w).1.formals (Some numbered) r last.bodies) (body_ok g elaborates ends h block ks f around seen w ok).1)
 
     last_length : length last.bodies.locals ≡ length w.bodies.locals + 1 + length ks
     last_length =
@@ -118,7 +118,7 @@ module _ (g : Gathers) (judges : Judges g.Told) (base : Types) (words : WordsSta
         omega (arith, a, b)
 
     behind_length : length behind.bodies.locals ≡ length w.bodies.locals + length (length ks ∷ ks)
-    behind_length = nested_count g judges ends h block ks f around seen w level (omega (arith, deep))
+    behind_length = nested_count g elaborates ends h block ks f around seen w level (omega (arith, deep))
 
     get_new : slice_get behind.bodies.locals (length w.bodies.locals) ≡ Some new
     get_new =
@@ -140,7 +140,7 @@ module _ (g : Gathers) (judges : Judges g.Told) (base : Types) (words : WordsSta
       kss = kinds_around z.home (suc w.scope.level) around
 
       agreed : (formals_of types t ≡ fs) × AreReturned types returns (result_of types t)
-      agreed = agrees numbered (ap (λ (o : Option (Known g.Told)). numbered_known o) head) types (λ u y e. serves.types u y ((procedure_keeps g judges ends h block ks f around seen w).types u y e))
+      agreed = agrees numbered (ap (λ (o : Option (Known g.Reported)). numbered_known o) head) types (λ u y e. serves.types u y ((procedure_keeps g elaborates ends h block ks f around seen w).types u y e))
 
       home_new : slice_get z.home.locals (length w.bodies.locals) ≡ Some new
       home_new = serves.locals (length w.bodies.locals) (omega arith) (let e = behind_length in omega (arith, e)) ∙ get_new
@@ -164,7 +164,7 @@ module _ (g : Gathers) (judges : Judges g.Told) (base : Types) (words : WordsSta
         members = serves.members;
         outer = subst (λ (n : ℕ). BlocksThere (stands_in z first.scope.level own) z.opens n first.scope.outer) (sym is_deep)
             (subst (λ (k : List Kinds). BlocksThere (stands z k) z.opens (suc w.scope.level) first.scope.outer) (sym frames)
-            (blocks_more (stands z (kinds_of types new ∷ kss)) z.opens (suc w.scope.level) w.scope.outer (around_it g judges ends h block ks f around seen w)
+            (blocks_more (stands z (kinds_of types new ∷ kss)) z.opens (suc w.scope.level) w.scope.outer (around_it g elaborates ends h block ks f around seen w)
             (blocks_deeper z (kinds_of types new) kss z.opens w.scope.level w.scope.outer serves.outer) (names_deeper z (kinds_of types new) kss z.opens w.scope.level w.scope.own names)));
         withs = serves.withs;
       }
@@ -188,14 +188,14 @@ module _ (g : Gathers) (judges : Judges g.Told) (base : Types) (words : WordsSta
         formed = λ m opens. formals_formed m opens g (inwards w.scope seen) h.formals;
       }
 
-      inner_typed : AddsTyped g z first last × Holds (StmtsTyped (stands_in z first.scope.level own) (result_of types t) [] false) (inner g judges ends h block ks f around seen w).1
-      inner_typed = b.typed fs own returns first enters (inner_ok g judges ends h block ks f around seen w ok) z staged inner_serves frame (result_of types t) agreed.1
+      inner_typed : AddsTyped g z first last × Holds (StmtsTyped (stands_in z first.scope.level own) (result_of types t) [] false) (inner g elaborates ends h block ks f around seen w).1
+      inner_typed = b.typed fs own returns first enters (inner_ok g elaborates ends h block ks f around seen w ok) z staged inner_serves frame (result_of types t) agreed.1
 
       new_typed : BodyTyped z new
       new_typed =
-          subst (λ (k : List Kinds). StmtsTyped (stands z k) (result_of types t) [] false (body_ok g judges ends h block ks f around seen w ok).0)
+          subst (λ (k : List Kinds). StmtsTyped (stands z k) (result_of types t) [] false (body_ok g elaborates ends h block ks f around seen w ok).0)
           (frames ∙ ap (λ (n : ℕ). kinds_of types new ∷ kinds_around z.home n around) (sym new_level))
-          (holds_at (inner g judges ends h block ks f around seen w).1 inner_typed.1 (body_ok g judges ends h block ks f around seen w ok).0 (body_ok g judges ends h block ks f around seen w ok).1)
+          (holds_at (inner g elaborates ends h block ks f around seen w).1 inner_typed.1 (body_ok g elaborates ends h block ks f around seen w ok).0 (body_ok g elaborates ends h block ks f around seen w ok).1)
 
       typed_at : (k : ℕ) (r : Routine) → slice_get behind.bodies.locals k ≡ Some r → Placed (length w.bodies.locals) k → BodyTyped z r
       typed_at k r e (there q) = subst (λ (x : Routine). BodyTyped z x) (same_Some new r (sym get_new ∙ ap (λ (n : ℕ). slice_get behind.bodies.locals n) (sym q) ∙ e)) new_typed

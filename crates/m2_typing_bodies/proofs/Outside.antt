@@ -2,8 +2,8 @@
 use Rattle.std.proofs.Common.{ℕ, Bool, List, [], ◌∷◌, arith}
 use Rattle.m2_typed.specs.declared.meaning.Meaning.{Meaning}
 use Rattle.m2_typed.specs.declared.meaning.Meaning.TheVariants as meaning
-use Rattle.m2_judged.specs.declared.known.Known.{Known}
-use Rattle.m2_judged.specs.declared.known.Known.TheVariants.{Later, Ahead, Begun, Headed, Declared}
+use Rattle.m2_scopes.specs.declared.known.Known.{Known}
+use Rattle.m2_scopes.specs.declared.known.Known.TheVariants.{Later, Ahead, Begun, Headed, Declared}
 use Rattle.m2_formed.proofs.Basics.{holds_weaker}
 use Rattle.m2_typing.specs.Scopes.{MeaningIn, KnownIn, NamesIn}
 use Rattle.m2_typing_bodies.specs.TypingBodies.{Stage, stands, MeaningThere, KnownThere, NamesThere}

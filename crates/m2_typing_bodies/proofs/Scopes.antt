@@ -19,18 +19,18 @@ use Rattle.m2_typed.specs.declared.types.Home.TheVariants as home
 use Rattle.m2_typed.specs.declared.types.TypeNo.{TypeNo}
 use Rattle.m2_typed.specs.Known.{made_at}
 use Rattle.m2_typed.specs.Names.{same_name, found, place_of}
-use Rattle.m2_judged.specs.Judged.{Gathers, told}
-use Rattle.m2_judged.specs.Scopes.{or_outside, Sight, seen_at, in_block, nearer, known_outside, or_around, known, means_seen, means_as, opened, means_or}
-use Rattle.m2_judged.specs.declared.known.Known.{Known}
-use Rattle.m2_judged.specs.declared.known.Known.TheVariants.{Later, Ahead, Begun, Headed, Declared}
-use Rattle.m2_judged.specs.declared.scope.Block.{Block}
-use Rattle.m2_judged.specs.declared.scope.OpenedRecord.{OpenedRecord}
-use Rattle.m2_judged.specs.declared.scope.Scope.{Scope}
+use Rattle.m2_scopes.specs.Elaborated.{Gathers, reported}
+use Rattle.m2_scopes.specs.Scopes.{or_outside, Sight, seen_at, in_block, nearer, known_outside, or_around, known, means_seen, means_as, opened, means_or}
+use Rattle.m2_scopes.specs.declared.known.Known.{Known}
+use Rattle.m2_scopes.specs.declared.known.Known.TheVariants.{Later, Ahead, Begun, Headed, Declared}
+use Rattle.m2_scopes.specs.declared.scope.Block.{Block}
+use Rattle.m2_scopes.specs.declared.scope.OpenedRecord.{OpenedRecord}
+use Rattle.m2_scopes.specs.declared.scope.Scope.{Scope}
 use Rattle.m2_constants.specs.Denote.{member}
 use Rattle.m2_computed.specs.Classes.{signature_shape, signature_made, signature_at}
 use Rattle.m2_agree_trees.specs.Typed.{Context}
 use Rattle.m2_formed.specs.Formed.{Holds, fine}
-use Rattle.m2_formed.proofs.Basics.{holds_weaker, told_holds}
+use Rattle.m2_formed.proofs.Basics.{holds_weaker, reported_holds}
 use Rattle.m2_formed_types.specs.Ordered.{named_by, result_named, AreKnown, AreOrdered}
 use Rattle.m2_formed_types.specs.Ordered as ordered
 use Rattle.m2_formed_types.proofs.Shaped.{named_known}
@@ -107,26 +107,26 @@ module _ (x : Context) (opens : ℕ → Bool) (level : ℕ) {T : Type 0} where
 
 module _ (x : Context) (opens : ℕ → Bool) (g : Gathers) where
   module _ (level : ℕ) where
-    abbrev Means_ : Result Meaning g.Told → Type 0
+    abbrev Means_ : Result Meaning g.Reported → Type 0
     Means_ r = Holds (MeaningTyped x [] opens level) r
 
-    declared_means : (at : Pos) (seen : Bool) (r : Result Meaning g.Told) → Means_ r → Means_ (cond seen r (told g at 30))
+    declared_means : (at : Pos) (seen : Bool) (r : Result Meaning g.Reported) → Means_ r → Means_ (cond seen r (reported g at 30))
     declared_means at true r p = p
-    declared_means at false r p = told_holds g at 30
+    declared_means at false r p = reported_holds g at 30
 
-    seen_means : (at : Pos) (k : Known g.Told) (seen : Bool) → KnownThere x opens level k → Means_ (means_seen g at k seen)
-    seen_means at Later seen p = told_holds g at 30
+    seen_means : (at : Pos) (k : Known g.Reported) (seen : Bool) → KnownThere x opens level k → Means_ (means_seen g at k seen)
+    seen_means at Later seen p = reported_holds g at 30
     seen_means at Ahead seen p = fine meaning.Ahead tt
-    seen_means at Begun seen p = told_holds g at 30
+    seen_means at Begun seen p = reported_holds g at 30
     seen_means at (Headed r) seen p = holds_weaker (λ m q. q.0) p
     seen_means at (Declared o r) seen p = declared_means at seen r (holds_weaker (λ m q. q.0) p)
 
-    means_there : (at : Pos) (o : Sight g.Told) → ThereSight x opens level o → Means_ (means_as g at o)
-    means_there at None p = told_holds g at 30
+    means_there : (at : Pos) (o : Sight g.Reported) → ThereSight x opens level o → Means_ (means_as g at o)
+    means_there at None p = reported_holds g at 30
     means_there at (Some k) p = seen_means at k.0 k.1 p
 
   -- types that are the module's, names that are there, and modules that are open
-  pub scope_typed : (s : Scope g.Told) → TypesTyped x.home.types → length x.characters ≤ 2 ^ 32 → ((t : TypeNo) (y : Made) → made_at s.types t ≡ Some y → made_at x.home.types t ≡ Some y) → AreOrdered s.types
+  pub scope_typed : (s : Scope g.Reported) → TypesTyped x.home.types → length x.characters ≤ 2 ^ 32 → ((t : TypeNo) (y : Made) → made_at s.types t ≡ Some y → made_at x.home.types t ≡ Some y) → AreOrdered s.types
       → NamesThere x opens s.level s.own → BlocksThere x opens s.level s.outer → s.withs ≡ []
       → ((k : ℕ) (name : Ident) → opens k ≡ true → Holds (MeaningThere x opens s.level) (member g s.tables k name)) → IsTyped g x [] opens s
   scope_typed s all room types order own outer withs members = record {

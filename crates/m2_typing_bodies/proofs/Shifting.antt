@@ -6,9 +6,9 @@ use Rattle.m2_typed.specs.declared.meaning.Meaning.TheVariants as meaning
 use Rattle.m2_typed.specs.declared.meaning.Procedure.{Procedure}
 use Rattle.m2_typed.specs.declared.meaning.Variable.{Variable}
 use Rattle.m2_typed.specs.declared.types.TypeNo.{TypeNo}
-use Rattle.m2_judged.specs.declared.known.Known.{Known}
-use Rattle.m2_judged.specs.declared.known.Known.TheVariants.{Later, Ahead, Begun, Headed, Declared}
-use Rattle.m2_judged.specs.declared.scope.Block.{Block}
+use Rattle.m2_scopes.specs.declared.known.Known.{Known}
+use Rattle.m2_scopes.specs.declared.known.Known.TheVariants.{Later, Ahead, Begun, Headed, Declared}
+use Rattle.m2_scopes.specs.declared.scope.Block.{Block}
 use Rattle.m2_layout.specs.Types.{Ty}
 use Rattle.m2_agree_calls.specs.Frames.{Kinds, kind_at}
 use Rattle.m2_agree_trees.specs.Typed.{Context, IsVariable, IsNamed, IsInner}

@@ -23,12 +23,12 @@ use Rattle.m2_typed.specs.declared.typed_module.Which.TheVariants as which
 use Rattle.m2_typed.specs.declared.types.TypeNo.{TypeNo}
 use Rattle.m2_typed.specs.Known.{made_at}
 use Rattle.m2_typed.specs.Names.{found}
-use Rattle.m2_judged.specs.Judged.{Gathers}
-use Rattle.m2_judged.specs.Scopes.{State}
-use Rattle.m2_judged.specs.declared.known.Known.{Known}
-use Rattle.m2_judged.specs.declared.known.Known.TheVariants.{Later, Ahead, Begun, Headed, Declared}
-use Rattle.m2_judged.specs.declared.scope.Block.{Block as Around}
-use Rattle.m2_judged.specs.declared.scope.Scope.{Scope}
+use Rattle.m2_scopes.specs.Elaborated.{Gathers}
+use Rattle.m2_scopes.specs.Scopes.{State}
+use Rattle.m2_scopes.specs.declared.known.Known.{Known}
+use Rattle.m2_scopes.specs.declared.known.Known.TheVariants.{Later, Ahead, Begun, Headed, Declared}
+use Rattle.m2_scopes.specs.declared.scope.Block.{Block as Around}
+use Rattle.m2_scopes.specs.declared.scope.Scope.{Scope}
 use Rattle.m2_constants.specs.Denote.{member}
 use Rattle.m2_layout.specs.Types.{Ty}
 use Rattle.m2_layout.specs.Frames.{formals_of}
@@ -47,11 +47,11 @@ use Rattle.m2_blocks.specs.Inner.{inwards, entered_procedure}
 use Rattle.m2_modules.specs.declared.routine.Numbered.{Numbered}
 use Rattle.m2_modules.specs.Routines.{numbered_known, procedure_named}
 use Rattle.m2_bodies.specs.declared.procedure.Walk.{Walk}
-use Rattle.m2_bodies.specs.Judging.{Judges}
+use Rattle.m2_bodies.specs.Elaborating.{Elaborates}
 use Rattle.m2_bodies.specs.Inside.{returns_of}
 use Rattle.m2_bodies.specs.Bodies.{ChecksBlock, checks_block}
 use Rattle.m2_bodies.specs.Checked.{walked}
-use Rattle.m2_check.specs.Checks.{judged}
+use Rattle.m2_check.specs.Checks.{elaborated}
 use Rattle.m2_agree_calls.specs.Frames.{Kinds, Kept, formal_kind, kinds_of}
 use Rattle.m2_agree_calls.specs.Passing.{Result as Gives, result_of}
 use Rattle.m2_agree_trees.specs.Typed.{Context, kinds_around}
@@ -116,11 +116,11 @@ pub record StageTyped (z : Stage) : Type 0 where
 abbrev pub BodyTyped : Stage → Routine → Type 0
 BodyTyped z r = StmtsTyped (stands z (kinds_of z.home.types r ∷ around_of z.home r)) (result_of z.home.types r.heading) [] false r.body
 
--- what statements are judged to be is typed, where names mean what is there
-abbrev pub TypesStatements : (g : Gathers) → Judges g.Told → Type 0
-TypesStatements g judges = (x : Context) (opens : ℕ → Bool) (s : Scope g.Told) → IsTyped g x [] opens s → ScopeRanged s → s.withs ≡ []
-    → (returns : Option (Result TypeNo g.Told)) (result : Gives) → AreReturned x.home.types returns result
-    → (body : List Stmt) → list_all fits_stmt body ≡ true → Holds (StmtsTyped x result [] false) (judges s returns body)
+-- what statements are elaborated to be is typed, where names mean what is there
+abbrev pub TypesStatements : (g : Gathers) → Elaborates g.Reported → Type 0
+TypesStatements g elaborates = (x : Context) (opens : ℕ → Bool) (s : Scope g.Reported) → IsTyped g x [] opens s → ScopeRanged s → s.withs ≡ []
+    → (returns : Option (Result TypeNo g.Reported)) (result : Gives) → AreReturned x.home.types returns result
+    → (body : List Stmt) → list_all fits_stmt body ≡ true → Holds (StmtsTyped x result [] false) (elaborates s returns body)
 
 -- ---- names that mean what is there
 
@@ -183,7 +183,7 @@ NamesLocal (e ∷ es) = KnownLocal e.1 × NamesLocal es
 
 -- the declarations of a procedure's block keep to such names
 abbrev pub LocalsStay : Gathers → Type 0
-LocalsStay g = (ends : List ℕ) (st : State (Unit {0}) g.Told) (first : ℕ) (ds : List Decl) → (st.0.level == 0) ≡ false → NamesLocal st.0.own
+LocalsStay g = (ends : List ℕ) (st : State (Unit {0}) g.Reported) (first : ℕ) (ds : List Decl) → (st.0.level == 0) ≡ false → NamesLocal st.0.own
     → NamesLocal (declared_block g ends st first ds).0.own
 
 -- ---- headings
@@ -195,27 +195,27 @@ pub record IsFresh {T : Type 0} (s : Scope T) : Type 0 where
 module _ (g : Gathers) where
   -- In this scope, and in all later types, the heading's type has the formals that are computed where its block is entered,
   -- and the same result.
-  abbrev pub HeadingAgrees : Scope g.Told → (seen : ℕ) → Heading → Type 0
+  abbrev pub HeadingAgrees : Scope g.Reported → (seen : ℕ) → Heading → Type 0
   HeadingAgrees s seen h = (q : Numbered) → procedure_named s h.name ≡ Some q
       → (types : Types) → ((t : TypeNo) (x : Made) → made_at s.types t ≡ Some x → made_at types t ≡ Some x)
       → (formals_of types q.heading ≡ all_formals g (inwards s seen) h.formals)
       × AreReturned types (returns_of (entered_procedure g s seen h).1) (result_of types q.heading)
 
   -- so it is, if the declaration is a procedure, in each scope that has the same names and all types of this one
-  abbrev pub DeclAgrees : {A B : Type 0} → Scope g.Told → (seen : ℕ) → Decl-F A B → Type 0
+  abbrev pub DeclAgrees : {A B : Type 0} → Scope g.Reported → (seen : ℕ) → Decl-F A B → Type 0
   DeclAgrees a seen (layer.Constants cs) = Unit {0}
   DeclAgrees a seen (layer.Types ts) = Unit {0}
   DeclAgrees a seen (layer.Variables vs) = Unit {0}
-  DeclAgrees a seen (layer.Procedure h b) = (s : Scope g.Told) → Keeps a s → s.own ≡ a.own → s.withs ≡ [] → HeadingAgrees s seen h
+  DeclAgrees a seen (layer.Procedure h b) = (s : Scope g.Reported) → Keeps a s → s.own ≡ a.own → s.withs ≡ [] → HeadingAgrees s seen h
 
   -- of all declarations, with how many names stand before each, from the i-th on
-  abbrev pub DeclsAgree : Scope g.Told → List ℕ → (i : ℕ) → List Decl → Type 0
+  abbrev pub DeclsAgree : Scope g.Reported → List ℕ → (i : ℕ) → List Decl → Type 0
   DeclsAgree a seen i [] = Unit {0}
   DeclsAgree a seen i (d ∷ ds) = DeclAgrees a (unwrap_or (slice_get seen i) 0) (out-Decl d) × DeclsAgree a seen (i + 1) ds
 
 -- So it is of all procedures of a block, at its end, where its declarations break no rule.
 abbrev pub HeadingsAgree : Gathers → Type 0
-HeadingsAgree g = (ends : List ℕ) (st : State (Unit {0}) g.Told) (first : ℕ) (ds : List Decl) → IsFresh st.0
+HeadingsAgree g = (ends : List ℕ) (st : State (Unit {0}) g.Reported) (first : ℕ) (ds : List Decl) → IsFresh st.0
     → (declared_block g ends st first ds).1 ≡ Ok tt
     → DeclsAgree g (declared_block g ends st first ds).0 (declared_block g ends st first ds).2 0 ds
 
@@ -235,7 +235,7 @@ IsDeep w = length w.scope.outer ≡ suc w.scope.level
 
 module _ (g : Gathers) (z : Stage) where
   -- the module has what is added from one walk to the other, in the block of this procedure
-  pub record Serves (around : Option Which) (w w' : Walk g.Told) : Type 0 where
+  pub record Serves (around : Option Which) (w w' : Walk g.Reported) : Type 0 where
     pub home : w.scope.types.home ≡ z.home.types.home
     pub types : (t : TypeNo) (x : Made) → made_at w'.scope.types t ≡ Some x → made_at z.home.types t ≡ Some x
     pub locals : (n : ℕ) → length w.bodies.locals ≤ n → n < length w'.bodies.locals
@@ -246,7 +246,7 @@ module _ (g : Gathers) (z : Stage) where
     pub withs : w.scope.withs ≡ []
 
   -- the procedures that are added have typed bodies
-  abbrev pub AddsTyped : Walk g.Told → Walk g.Told → Type 0
+  abbrev pub AddsTyped : Walk g.Reported → Walk g.Reported → Type 0
   AddsTyped w w' = (n : ℕ) (r : Routine) → length w.bodies.locals ≤ n → slice_get w'.bodies.locals n ≡ Some r → BodyTyped z r
 
 -- the frame of the block has its formals, and behind them its variables
@@ -266,10 +266,10 @@ pub record Enters {T : Type 0} (base : Types) (ends : List ℕ) (fs : List Forma
   pub formed : (m : TypedModule) (opens : ℕ → Bool) → AreFormedNames m opens w.scope.own
 
 -- the block of a procedure, with so many procedures within each of those in it
-pub record TypedBlock (g : Gathers) (base : Types) (ends : List ℕ) (block : ChecksBlock g.Told) (ks : List ℕ) : Type 0 where
-  pub known : (around : Option Which) (returns : Option (Result TypeNo g.Told)) (w : Walk g.Told)
+pub record TypedBlock (g : Gathers) (base : Types) (ends : List ℕ) (block : ChecksBlock g.Reported) (ks : List ℕ) : Type 0 where
+  pub known : (around : Option Which) (returns : Option (Result TypeNo g.Reported)) (w : Walk g.Reported)
       → (block around returns w).0.so_far ≡ Ok tt → ScopeKnown base w.scope → ScopeKnown base (block around returns w).0.scope
-  pub typed : (fs : List Formal) (around : Option Which) (returns : Option (Result TypeNo g.Told)) (w : Walk g.Told)
+  pub typed : (fs : List Formal) (around : Option Which) (returns : Option (Result TypeNo g.Reported)) (w : Walk g.Reported)
       → Enters base ends fs w ks → (block around returns w).0.so_far ≡ Ok tt
       → (z : Stage) → StageTyped z → Serves g z around w (block around returns w).0
       → HasFrame z w.scope.level around fs (block around returns w).0.scope.variables
@@ -280,7 +280,7 @@ pub record TypedBlock (g : Gathers) (base : Types) (ends : List ℕ) (block : Ch
 -- the bodies of the procedures in a procedure's block are typed, and so is its own
 abbrev pub BlocksAreTyped : Gathers → Type 0
 BlocksAreTyped g = (base : Types) (ends : List ℕ) (b : Block) → fits_whole_block b ≡ true
-    → TypedBlock g base ends (checks_block g (judged g) ends b) (within b)
+    → TypedBlock g base ends (checks_block g (elaborated g) ends b) (within b)
 
 -- ---- modules
 
@@ -327,7 +327,7 @@ pub record ModuleBegins {T : Type 0} (s : Scope T) : Type 0 where
 
 -- The names of a module, of what stands around it, and of its open modules mean what is there, and it has what the walk over
 -- its bodies leads to.
-pub record HasModule (g : Gathers) (base : Types) (z : Stage) (d : Scope g.Told) (w : Walk g.Told) : Type 0 where
+pub record HasModule (g : Gathers) (base : Types) (z : Stage) (d : Scope g.Reported) (w : Walk g.Reported) : Type 0 where
   pub types : w.scope.types ≡ z.home.types
   pub procedures : w.bodies.procedures ≡ z.home.procedures
   pub locals : w.bodies.locals ≡ z.home.locals
@@ -343,9 +343,9 @@ pub record AreBodiesTyped (z : Stage) (ss : List TypedStmt) : Type 0 where
 
 -- The bodies of a module are typed, where its declarations and bodies break no rule.
 abbrev pub ModulesAreTyped : Gathers → Type 0
-ModulesAreTyped g = (base : Types) (modules : List (List ℕ × ℕ)) (s : Scope g.Told) (m : Module) (b : Block) → fits_whole_block b ≡ true
+ModulesAreTyped g = (base : Types) (modules : List (List ℕ × ℕ)) (s : Scope g.Reported) (m : Module) (b : Block) → fits_whole_block b ≡ true
     → ModuleBegins (fold (with_import g modules) (s, Ok tt) m.imports).0
     → let ds = (out-Block b).decls in
     let d = declared_module g modules (procedure_ends ds) s m ds in
-    let w = walked g (judged g) modules (procedure_ends ds) s m b in
+    let w = walked g (elaborated g) modules (procedure_ends ds) s m b in
     w.0.so_far ≡ Ok tt → (z : Stage) → StageTyped z → HasModule g base z d.0 w.0 → (body : List TypedStmt) → w.1 ≡ Ok body → AreBodiesTyped z body

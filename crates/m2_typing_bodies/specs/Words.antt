@@ -2,9 +2,9 @@
 use Rattle.std.specs.Prelude.{ℕ, List}
 use Rattle.m2_tree.specs.declared.decl.Decl.{Decl}
 use Rattle.m2_tree.specs.declared.decl.Heading.{Heading}
-use Rattle.m2_judged.specs.Judged.{Gathers}
-use Rattle.m2_judged.specs.Scopes.{State}
-use Rattle.m2_judged.specs.declared.scope.Scope.{Scope}
+use Rattle.m2_scopes.specs.Elaborated.{Gathers}
+use Rattle.m2_scopes.specs.Scopes.{State}
+use Rattle.m2_scopes.specs.declared.scope.Scope.{Scope}
 use Rattle.m2_blocks.specs.Declarations.{declared_block}
 use Rattle.m2_blocks.specs.declared.inner.Outside.{Outside}
 use Rattle.m2_blocks.specs.Inner.{entered_procedure, left_procedure}
@@ -12,6 +12,6 @@ use Rattle.m2_typing.specs.Carried.{ScopeWords}
 
 -- The declarations of a block lead from such a scope to such a scope, and so do the ways into a procedure and back.
 pub record WordsStay (g : Gathers) : Type 0 where
-  pub blocks : (ends : List ℕ) (st : State (Unit {0}) g.Told) (first : ℕ) (ds : List Decl) → ScopeWords st.0 → ScopeWords (declared_block g ends st first ds).0
-  pub entered : (s : Scope g.Told) (seen : ℕ) (h : Heading) → ScopeWords s → ScopeWords (entered_procedure g s seen h).0
-  pub left : (o : Outside) (s : Scope g.Told) → ScopeWords s → ScopeWords (left_procedure o s)
+  pub blocks : (ends : List ℕ) (st : State (Unit {0}) g.Reported) (first : ℕ) (ds : List Decl) → ScopeWords st.0 → ScopeWords (declared_block g ends st first ds).0
+  pub entered : (s : Scope g.Reported) (seen : ℕ) (h : Heading) → ScopeWords s → ScopeWords (entered_procedure g s seen h).0
+  pub left : (o : Outside) (s : Scope g.Reported) → ScopeWords s → ScopeWords (left_procedure o s)

@@ -13,7 +13,7 @@
 //!   whole modules.
 #![tactic(auto)]
 
-ghost use Rattle.m2_judged.specs.Judged.{least, every};
+ghost use Rattle.m2_scopes.specs.Elaborated.{least, every};
 ghost use Rattle.m2_typing_bodies.specs.TypingBodies.{BlocksAreTyped, ModulesAreTyped};
 
 /// The bodies of the procedures in a procedure's block are typed, and so is its own. So are those of a module.

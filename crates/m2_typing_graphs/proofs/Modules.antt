@@ -8,8 +8,8 @@ use Rattle.m2_graph.specs.Files.{numbered}
 use Rattle.m2_graph.specs.Graph.{IsGraph, CompileEach}
 use Rattle.m2_typed.specs.declared.table.Table.{Table}
 use Rattle.m2_typed.specs.declared.typed_module.TypedModule.{TypedModule}
-use Rattle.m2_judged.specs.declared.scope.Scope.{Scope}
-use Rattle.m2_judged.specs.Judged.{least}
+use Rattle.m2_scopes.specs.declared.scope.Scope.{Scope}
+use Rattle.m2_scopes.specs.Elaborated.{least}
 use Rattle.m2_layout.specs.Texts.{characters, module_texts}
 use Rattle.m2_scheme.specs.Modules.{all_characters}
 use Rattle.m2_links.specs.Linked.{Program, bytes_in}
@@ -23,7 +23,7 @@ use Rattle.m2_formed_coherent.proofs.Graphs.{graphs_whole}
 use Rattle.m2_formed_graphs.specs.FormedGraphs.{IsFit}
 use Rattle.m2_compile.specs.Own.{own_table, tables_behind}
 use Rattle.m2_compile.specs.Compiling.{tables_of, typed_body}
-use Rattle.m2_jobs.specs.Spelled.{needed_of}
+use Rattle.m2_jobs.specs.Encoded.{needed_of}
 use Rattle.m2_agree_trees.specs.Typed.{Context}
 use Rattle.m2_agree_linked.specs.Modules.{AreTypedModules}
 use Rattle.m2_typing.specs.Carried.{NamesPlaced, NamesSlots}
@@ -80,7 +80,7 @@ texts_room p pages place m e room most =
 
 -- ---- where a body begins
 
-block_fits : (m : Module) (job : ℕ) (ts : List Table) (s : Scope least.Told) (b : Block) → BeginsIn m job ts s b → fits_contents m.contents ≡ true → fits_whole_block b ≡ true
+block_fits : (m : Module) (job : ℕ) (ts : List Table) (s : Scope least.Reported) (b : Block) → BeginsIn m job ts s b → fits_contents m.contents ≡ true → fits_whole_block b ≡ true
 block_fits m job ts _ _ (program b e) h = ap fits_contents (sym e) ∙ h
 block_fits m job ts _ _ (implementation own b o e) h = ap fits_contents (sym e) ∙ h
 
@@ -97,7 +97,7 @@ module _ (p : Program) (pages place : ℕ) (m : TypedModule) (there : slice_get 
   z = placed p pages place m opens
 
   module _ (own : HasInstance x) (stand : NamesStand x opens st.scope tree st.block) (fits : fits_contents tree.contents ≡ true) where
-    abbrev behind : Scope least.Told
+    abbrev behind : Scope least.Reported
     behind = (declared_in st.scope tree st.block).0
 
     fits_block : fits_whole_block st.block ≡ true
@@ -122,7 +122,7 @@ module _ (p : Program) (pages place : ℕ) (m : TypedModule) (there : slice_get 
 
     pub bodies_typed : length (all_characters (module_texts m)) ≤ 2 ^ 32 → AreBodiesTyped z m.body
     bodies_typed room =
-        modules_typed least st.base (modules_in st.scope) st.scope tree st.block fits_block st.begins st.told z
+        modules_typed least st.base (modules_in st.scope) st.scope tree st.block fits_block st.begins st.reported z
         (record { there = there; all = st.typed; room = room }) has m.body st.body
 
 -- ---- the modules of a graph
@@ -143,7 +143,7 @@ module _ (fs : List (List ℕ × Module)) (files : List ℕ) (jobs : List (List 
         let ts : List Table = tables o in
         held AreOrdered (typed_body o.tree o.job ts) m (bodies_ordered least o.job o.tree (own_table o.tree ts) (tables_behind (own_table o.tree ts) ts)) o.typed
 
-    names_begun : (m : TypedModule) (o : Body m) {x : Context} → BodyNamed (trees_of fs) files jobs o x → (s : Scope least.Told) (b : Block) → BeginsIn o.tree o.job (tables o) s b → NamesStand x (is_open (tables_by o.tree (tables o)) m.imports) s o.tree b
+    names_begun : (m : TypedModule) (o : Body m) {x : Context} → BodyNamed (trees_of fs) files jobs o x → (s : Scope least.Reported) (b : Block) → BeginsIn o.tree o.job (tables o) s b → NamesStand x (is_open (tables_by o.tree (tables o)) m.imports) s o.tree b
     names_begun m o named _ _ (program b e) = named.program b e
     names_begun m o named _ _ (implementation own b k e) = named.implementation own b k e
 
@@ -154,6 +154,6 @@ module _ (fs : List (List ℕ × Module)) (files : List ℕ) (jobs : List (List 
         let st : BodyStands o.tree o.job (tables o) m = bodies_stand fs files jobs starts graph fit o.tree o.job m o.is_tree o.typed in
         let stand : NamesStand (placed_at p pages place m) (is_open (tables_by o.tree (tables o)) m.imports) st.scope o.tree st.block = names_begun m o named st.scope st.block st.begun in
         let typed = bodies_typed p pages place m e o.tree o.job (tables o) st named.own stand (passes_at (λ (t : Module). fits_contents t.contents) (trees_of fs) whole (slice_index_or files o.job 0) o.tree o.is_tree) (texts_room p pages place m e room most) in
-        let bytes = texts_are_bytes m (each_at IsFit p fits place m e).spelled in
+        let bytes = texts_are_bytes m (each_at IsFit p fits place m e).encoded in
         module_typed p pages place m (opens p pages place m e o.tree o.job (tables o) st) typed
         (bodies_provided (placed p pages place m (opens p pages place m e o.tree o.job (tables o) st)) (ordered m o) bytes)

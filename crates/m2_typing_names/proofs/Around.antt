@@ -8,9 +8,9 @@ use Rattle.m2_typed.specs.declared.meaning.Standard.TheVariants.{Abs, Cap, Chr, 
 use Rattle.m2_typed.specs.Known.{range}
 use Rattle.m2_typed.specs.Types.{integer, cardinal, boolean, char, bitset}
 use Rattle.m2_typed.specs.Names.{same_name, entered}
-use Rattle.m2_judged.specs.declared.known.Known.{Known}
-use Rattle.m2_judged.specs.declared.known.Known.TheVariants.{Declared}
-use Rattle.m2_judged.specs.declared.known.Origin.TheVariants.{Here}
+use Rattle.m2_scopes.specs.declared.known.Known.{Known}
+use Rattle.m2_scopes.specs.declared.known.Known.TheVariants.{Declared}
+use Rattle.m2_scopes.specs.declared.known.Origin.TheVariants.{Here}
 use Rattle.m2_types.specs.Predeclared.{predeclared_as, with_types, truth, with_truth, with_functions, with_bounds, with_procedures, predeclared, predeclared_block}
 use Rattle.m2_agree_trees.specs.Typed.{Context}
 use Rattle.m2_formed.specs.Formed.{fine}

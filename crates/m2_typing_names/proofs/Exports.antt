@@ -17,7 +17,7 @@ use Rattle.m2_typed.specs.declared.typed_module.Routine.{Routine}
 use Rattle.m2_typed.specs.declared.typed_module.TypedModule.{TypedModule}
 use Rattle.m2_typed.specs.declared.typed_module.Which.{Which}
 use Rattle.m2_typed.specs.Names.{same_name}
-use Rattle.m2_judged.specs.Judged.{least}
+use Rattle.m2_scopes.specs.Elaborated.{least}
 use Rattle.m2_layout.specs.Types.{Ty, Hidden, row, component}
 use Rattle.m2_layout.specs.Frames.{module_row}
 use Rattle.m2_layout.specs.Shapes.{tree}
@@ -42,7 +42,7 @@ use Rattle.m2_formed_tables.proofs.Definitions.{tables_number}
 use Rattle.m2_formed_modules.specs.FormedModules.{IsTable}
 use Rattle.m2_formed_known.specs.FormedKnown.{fits_module, HasReached, TableFormed}
 use Rattle.m2_compile.specs.Compiling.{tables_of}
-use Rattle.m2_jobs.specs.Spelled.{needed_of}
+use Rattle.m2_jobs.specs.Encoded.{needed_of}
 use Rattle.m2_formed_reach.proofs.Reach.{tables_same}
 use Rattle.m2_formed_coherent.specs.FormedCoherent.{trees_of, IsBodyOf, AreBodiesIn}
 use Rattle.m2_formed_coherent.proofs.Imports.{IsImportOf}

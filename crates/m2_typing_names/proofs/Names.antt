@@ -21,14 +21,14 @@ use Rattle.m2_typed.specs.declared.typed_module.Imported.{Imported}
 use Rattle.m2_typed.specs.declared.typed_module.Routine.{Routine}
 use Rattle.m2_typed.specs.declared.typed_module.TypedModule.{TypedModule}
 use Rattle.m2_typed.specs.Names.{same_name, found}
-use Rattle.m2_judged.specs.declared.fault.Fault.{Fault}
-use Rattle.m2_judged.specs.declared.known.Known.{Known}
-use Rattle.m2_judged.specs.declared.known.Known.TheVariants.{Later, Ahead, Begun, Headed, Declared}
-use Rattle.m2_judged.specs.declared.known.Origin.{Origin}
-use Rattle.m2_judged.specs.declared.known.Origin.TheVariants.{Here, Module, Export}
-use Rattle.m2_judged.specs.declared.scope.Block.{Block as Around}
-use Rattle.m2_judged.specs.declared.scope.Scope.{Scope}
-use Rattle.m2_judged.specs.Judged.{least}
+use Rattle.m2_scopes.specs.declared.fault.Fault.{Fault}
+use Rattle.m2_scopes.specs.declared.known.Known.{Known}
+use Rattle.m2_scopes.specs.declared.known.Known.TheVariants.{Later, Ahead, Begun, Headed, Declared}
+use Rattle.m2_scopes.specs.declared.known.Origin.{Origin}
+use Rattle.m2_scopes.specs.declared.known.Origin.TheVariants.{Here, Module, Export}
+use Rattle.m2_scopes.specs.declared.scope.Block.{Block as Around}
+use Rattle.m2_scopes.specs.declared.scope.Scope.{Scope}
+use Rattle.m2_scopes.specs.Elaborated.{least}
 use Rattle.m2_constants.specs.Denote.{exported_by, exported, member}
 use Rattle.m2_layout.specs.Types.{Hidden}
 use Rattle.m2_layout.specs.Texts.{characters, module_texts}
@@ -36,7 +36,7 @@ use Rattle.m2_types.specs.Predeclared.{console, first_scope}
 use Rattle.m2_types.specs.Importing.{numbered_modules, exports_of}
 use Rattle.m2_blocks.specs.Nesting.{procedure_ends}
 use Rattle.m2_modules.specs.Own.{implementation_scope}
-use Rattle.m2_check.specs.Checks.{judged}
+use Rattle.m2_check.specs.Checks.{elaborated}
 use Rattle.m2_meaning.specs.Around.{module_place}
 use Rattle.m2_valid.specs.WellFormed.{IsProcedure}
 use Rattle.m2_links.specs.Linked.{Program}
@@ -48,11 +48,11 @@ use Rattle.m2_agree_linked.specs.Knows.{IsCoherent}
 use Rattle.m2_agree_linked.proofs.Globals.{each_at}
 use Rattle.m2_valid.proofs.Numbers.{mapped_at}
 use Rattle.m2_formed.specs.Formed.{Holds, fine, broken}
-use Rattle.m2_formed.proofs.Basics.{told_holds}
+use Rattle.m2_formed.proofs.Basics.{reported_holds}
 use Rattle.m2_formed_scopes.specs.FormedScopes.{FormedOwn, FormedFrom, FormedKnown, AreFormedNames}
 use Rattle.m2_formed_scopes.proofs.Declarations.{same_home}
 use Rattle.m2_formed_scopes.proofs.Imports.{OpensAll}
-use Rattle.m2_formed_bodies.proofs.Induction.{judged_formed}
+use Rattle.m2_formed_bodies.proofs.Induction.{elaborated_formed}
 use Rattle.m2_formed_modules.specs.FormedModules.{IsTable, AreTables, AreForOwn, AreFor}
 use Rattle.m2_formed_modules.proofs.Opens.{open_in}
 use Rattle.m2_formed_known.specs.FormedKnown.{fits_module}
@@ -178,7 +178,7 @@ module _ (fs : List (List ℕ × Tree)) (files : List ℕ) (jobs : List (List �
   all_else (e ∷ es) h = (h.0.1, all_else es h.1)
 
   -- the tables of its imports are those of other modules
-  tables_by : (c : Contents) → AreFor b.job own imported c → BegunAt least (judged least) (judged_formed least) b.job b.tree own ts m c → AreTables m.types.home imported
+  tables_by : (c : Contents) → AreFor b.job own imported c → BegunAt least (elaborated least) (elaborated_formed least) b.job b.tree own ts m c → AreTables m.types.home imported
   tables_by (contents.Definition defs) k h = absurd h
   tables_by (contents.Program block) k h = subst (λ (n : ℕ). AreTables n imported) h.home k
   tables_by (contents.Implementation block) k h =
@@ -207,11 +207,11 @@ module _ (fs : List (List ℕ × Tree)) (files : List ℕ) (jobs : List (List �
   found_by at false v o h k = k
 
   found_there : (at : Pos) (name : List ℕ) (es : List (List ℕ × Meaning)) → AllStand es → Holds (MeaningThere x opens 0) (exported least at (found name es))
-  found_there at name [] k = told_holds least at 32
+  found_there at name [] k = reported_holds least at 32
   found_there at name (e ∷ es) k = found_by at (same_name name e.0) e.1 (found name es) k.0.0 (found_there at name es k.1)
 
   member_by : (name : Ident) (o : Option Table) → AllStand (exports_of o) → Holds (MeaningThere x opens 0) (exported least name.pos (exported_by name.name o))
-  member_by name None k = told_holds least name.pos 32
+  member_by name None k = reported_holds least name.pos 32
   member_by name (Some u) k = found_there name.pos name.name u.exported k
 
   member_there : (k : ℕ) (name : Ident) → opens k ≡ true → Holds (MeaningThere x opens 0) (member least ts k name)
@@ -246,12 +246,12 @@ module _ (fs : List (List ℕ × Tree)) (files : List ℕ) (jobs : List (List �
   program_named : (block : Block) → b.tree.contents ≡ contents.Program block → NamesStand x opens (first_scope b.job ts) b.tree block
   program_named block e =
       let h : HasBegun least (first_scope b.job ts) b.tree block [] m
-      = subst (λ (c : Contents). BegunAt least (judged least) (judged_formed least) b.job b.tree own ts m c) e (begun fs files jobs starts graph each fit m b) in
+      = subst (λ (c : Contents). BegunAt least (elaborated least) (elaborated_formed least) b.job b.tree own ts m c) e (begun fs files jobs starts graph each fit m b) in
       names_stand (first_scope b.job ts) block [] refl (record { tables_are = refl; outermost = refl; names = tt }) h
 
   implementation_named : (o : Table) (block : Block) → own ≡ Some o → b.tree.contents ≡ contents.Implementation block → NamesStand x opens (implementation_scope o ts) b.tree block
   implementation_named o block q e =
-      let found = subst (λ (c : Contents). BegunAt least (judged least) (judged_formed least) b.job b.tree own ts m c) e (begun fs files jobs starts graph each fit m b) in
+      let found = subst (λ (c : Contents). BegunAt least (elaborated least) (elaborated_formed least) b.job b.tree own ts m c) e (begun fs files jobs starts graph each fit m b) in
       let h : HasBegun least (implementation_scope o ts) b.tree block o.exported m
       = subst (λ (u : Table). HasBegun least (implementation_scope u ts) b.tree block u.exported m) (same_Some found.0 o (sym found.1 ∙ q)) found.2 in
       let k : AreForOwn (Some o) imported

@@ -20,13 +20,13 @@ use Rattle.m2_typed.specs.declared.meaning.Meaning.{Meaning}
 use Rattle.m2_typed.specs.declared.meaning.Meaning.TheVariants as meaning
 use Rattle.m2_typed.specs.declared.meaning.LocalKind.TheVariants as kind
 use Rattle.m2_typed.specs.Names.{found}
-use Rattle.m2_judged.specs.Judged.{Gathers, ◌▷◌}
-use Rattle.m2_judged.specs.Scopes.{State, with_known, begun, finished, unless_marked, marked}
-use Rattle.m2_judged.specs.declared.known.Known.{Known}
-use Rattle.m2_judged.specs.declared.known.Known.TheVariants.{Later, Ahead, Begun, Headed, Declared}
-use Rattle.m2_judged.specs.declared.known.Origin.{Origin}
-use Rattle.m2_judged.specs.declared.known.Origin.TheVariants.{Here, Module, Export}
-use Rattle.m2_judged.specs.declared.scope.Scope.{Scope}
+use Rattle.m2_scopes.specs.Elaborated.{Gathers, ◌▷◌}
+use Rattle.m2_scopes.specs.Scopes.{State, with_known, begun, finished, unless_marked, marked}
+use Rattle.m2_scopes.specs.declared.known.Known.{Known}
+use Rattle.m2_scopes.specs.declared.known.Known.TheVariants.{Later, Ahead, Begun, Headed, Declared}
+use Rattle.m2_scopes.specs.declared.known.Origin.{Origin}
+use Rattle.m2_scopes.specs.declared.known.Origin.TheVariants.{Here, Module, Export}
+use Rattle.m2_scopes.specs.declared.scope.Scope.{Scope}
 use Rattle.m2_constants.specs.Parts.{part, constant}
 use Rattle.m2_made.specs.declared.field.Fields.{Fields}
 use Rattle.m2_made.specs.Fields.{no_fields}
@@ -82,33 +82,33 @@ outer_by : {A T : Type 0} (r : Result A T) (f : A → Meaning) → ((x : A) → 
 outer_by (Ok x) f k = fine (f x) (k x)
 outer_by (Err e) f k = broken e
 
-module _ (g : Gathers) (P : Scope g.Told → Type 0) (named : (s : Scope g.Told) (name : List ℕ) (k : Known g.Told) → IsPlain k → P s → P (with_known name k s)) (outermost : (s : Scope g.Told) → P s → (s.level == 0) ≡ true) where
+module _ (g : Gathers) (P : Scope g.Reported → Type 0) (named : (s : Scope g.Reported) (name : List ℕ) (k : Known g.Reported) → IsPlain k → P s → P (with_known name k s)) (outermost : (s : Scope g.Reported) → P s → (s.level == 0) ≡ true) where
   -- ---- marks
 
-  marked_by : (s : Scope g.Told) (name : List ℕ) (k : Known g.Told) (o : Option (Known g.Told)) → IsPlain k → P s → P (unless_marked name k s o)
+  marked_by : (s : Scope g.Reported) (name : List ℕ) (k : Known g.Reported) (o : Option (Known g.Reported)) → IsPlain k → P s → P (unless_marked name k s o)
   marked_by s name k (Some x) q h = h
   marked_by s name k None q h = named s name k q h
 
-  marked_keeps : (s : Scope g.Told) (name : Ident) (k : Known g.Told) → IsPlain k → P s → P (marked name k s)
+  marked_keeps : (s : Scope g.Reported) (name : Ident) (k : Known g.Reported) → IsPlain k → P s → P (marked name k s)
   marked_keeps s name k q h = marked_by s name.name k (found name.name s.own) q h
 
-  later_all : (names : List Ident) (s : Scope g.Told) → P s → P (fold marked_later s names)
+  later_all : (names : List Ident) (s : Scope g.Reported) → P s → P (fold marked_later s names)
   later_all [] s h = h
   later_all (x ∷ xs) s h = later_all xs (marked_later s x) (marked_keeps s x Later tt h)
 
-  simple_marks : (t : Simple) (s : Scope g.Told) → P s → P (marked_simple t s)
+  simple_marks : (t : Simple) (s : Scope g.Reported) → P s → P (marked_simple t s)
   simple_marks (simple.Named q) s h = h
   simple_marks (simple.Enumeration at names) s h = later_all names s h
   simple_marks (simple.Subrange o at low high) s h = h
 
-  abbrev KeepingMarks : Marks g.Told → Type 0
-  KeepingMarks f = (s : Scope g.Told) → P s → P (f s)
+  abbrev KeepingMarks : Marks g.Reported → Type 0
+  KeepingMarks f = (s : Scope g.Reported) → P s → P (f s)
 
   abbrev PM : TypeExpr → Type 0
-  PM t = KeepingMarks (marked_in {T = g.Told} t)
+  PM t = KeepingMarks (marked_in {T = g.Reported} t)
 
   abbrev PMF : Field → Type 0
-  PMF t = KeepingMarks (marked_field {T = g.Told} t)
+  PMF t = KeepingMarks (marked_field {T = g.Reported} t)
 
   abbrev SM : Type 0
   SM = (t : TypeExpr) × PM t
@@ -116,19 +116,19 @@ module _ (g : Gathers) (P : Scope g.Told → Type 0) (named : (s : Scope g.Told)
   abbrev SMF : Type 0
   SMF = (t : Field) × PMF t
 
-  abbrev marks_opened : TypeExpr-F TypeExpr Field → TypeExpr-F (Marks g.Told) (Marks g.Told)
-  marks_opened x = map-TypeExpr TypeExpr Field (Marks g.Told) (Marks g.Told) marked_in marked_field x
+  abbrev marks_opened : TypeExpr-F TypeExpr Field → TypeExpr-F (Marks g.Reported) (Marks g.Reported)
+  marks_opened x = map-TypeExpr TypeExpr Field (Marks g.Reported) (Marks g.Reported) marked_in marked_field x
 
-  abbrev marks_opened_field : Field-F TypeExpr Field → Field-F (Marks g.Told) (Marks g.Told)
-  marks_opened_field x = map-Field TypeExpr Field (Marks g.Told) (Marks g.Told) marked_in marked_field x
+  abbrev marks_opened_field : Field-F TypeExpr Field → Field-F (Marks g.Reported) (Marks g.Reported)
+  marks_opened_field x = map-Field TypeExpr Field (Marks g.Reported) (Marks g.Reported) marked_in marked_field x
 
-  marks_at : (t : TypeExpr) (x : TypeExpr-F TypeExpr Field) → out-TypeExpr t ≡ x → marked_in {T = g.Told} t ≡ marking.type_layer (marks_opened x)
+  marks_at : (t : TypeExpr) (x : TypeExpr-F TypeExpr Field) → out-TypeExpr t ≡ x → marked_in {T = g.Reported} t ≡ marking.type_layer (marks_opened x)
   unfolding marked_in marked_field
-  marks_at t x h = fold_out-TypeExpr (Marks g.Told) (Marks g.Told) marking.type_layer marking.field_layer t ∙ ap (λ (y : TypeExpr-F TypeExpr Field). marking.type_layer (marks_opened y)) h
+  marks_at t x h = fold_out-TypeExpr (Marks g.Reported) (Marks g.Reported) marking.type_layer marking.field_layer t ∙ ap (λ (y : TypeExpr-F TypeExpr Field). marking.type_layer (marks_opened y)) h
 
-  marks_at_field : (f : Field) (x : Field-F TypeExpr Field) → out-Field f ≡ x → marked_field {T = g.Told} f ≡ marking.field_layer (marks_opened_field x)
+  marks_at_field : (f : Field) (x : Field-F TypeExpr Field) → out-Field f ≡ x → marked_field {T = g.Reported} f ≡ marking.field_layer (marks_opened_field x)
   unfolding marked_in marked_field
-  marks_at_field f x h = fold_out-Field (Marks g.Told) (Marks g.Told) marking.type_layer marking.field_layer f ∙ ap (λ (y : Field-F TypeExpr Field). marking.field_layer (marks_opened_field y)) h
+  marks_at_field f x h = fold_out-Field (Marks g.Reported) (Marks g.Reported) marking.type_layer marking.field_layer f ∙ ap (λ (y : Field-F TypeExpr Field). marking.field_layer (marks_opened_field y)) h
 
   abbrev marks_bare : TypeExpr-F SM SMF → TypeExpr-F TypeExpr Field
   marks_bare x = map-TypeExpr SM SMF TypeExpr Field (λ t. t.0) (λ f. f.0) x
@@ -136,7 +136,7 @@ module _ (g : Gathers) (P : Scope g.Told → Type 0) (named : (s : Scope g.Told)
   abbrev marks_bare_field : Field-F SM SMF → Field-F TypeExpr Field
   marks_bare_field x = map-Field SM SMF TypeExpr Field (λ t. t.0) (λ f. f.0) x
 
-  field_marks : (fs : List SMF) (s : Scope g.Told) → P s → P (fold then_marks s (map (marked_field {T = g.Told}) (map (λ (f : SMF). f.0) fs)))
+  field_marks : (fs : List SMF) (s : Scope g.Reported) → P s → P (fold then_marks s (map (marked_field {T = g.Reported}) (map (λ (f : SMF). f.0) fs)))
   field_marks [] s h = h
   field_marks (f ∷ fs) s h = field_marks fs (marked_field f.0 s) (f.1 s h)
 
@@ -155,52 +155,52 @@ module _ (g : Gathers) (P : Scope g.Told → Type 0) (named : (s : Scope g.Told)
   marked_in_keeps : (t : TypeExpr) → PM t
   marked_in_keeps = ind-TypeExpr PM PMF step_marks step_marks_field
 
-  constant_marks : (cs : List Constant) (s : Scope g.Told) → P s → P (fold marked_constant s cs)
+  constant_marks : (cs : List Constant) (s : Scope g.Reported) → P s → P (fold marked_constant s cs)
   constant_marks [] s h = h
   constant_marks (c ∷ cs) s h = constant_marks cs (marked_constant s c) (marked_keeps s c.name Later tt h)
 
-  types_marks : (ts : List TypeDecl) (s : Scope g.Told) → P s → P (fold marked_type s ts)
+  types_marks : (ts : List TypeDecl) (s : Scope g.Reported) → P s → P (fold marked_type s ts)
   types_marks [] s h = h
   types_marks (t ∷ ts) s h = types_marks ts (marked_type s t) (marked_in_keeps t.of _ (marked_keeps s t.name Later tt h))
 
-  variables_marks : (vs : List Variables) (s : Scope g.Told) → P s → P (fold marked_variables s vs)
+  variables_marks : (vs : List Variables) (s : Scope g.Reported) → P s → P (fold marked_variables s vs)
   variables_marks [] s h = h
   variables_marks (v ∷ vs) s h = variables_marks vs (marked_variables s v) (marked_in_keeps v.of _ (later_all v.names s h))
 
-  layer_marks : {A B : Type 0} (y : Decl-F A B) (s : Scope g.Told) → P s → P (marked_layer s y)
+  layer_marks : {A B : Type 0} (y : Decl-F A B) (s : Scope g.Reported) → P s → P (marked_layer s y)
   layer_marks (dlayer.Constants cs) s h = constant_marks cs s h
   layer_marks (dlayer.Types ts) s h = types_marks ts s h
   layer_marks (dlayer.Variables vs) s h = variables_marks vs s h
   layer_marks (dlayer.Procedure x b) s h = marked_keeps s x.name Ahead tt h
 
-  decls_marks : (ds : List Decl) (st : Scope g.Told × List ℕ) → P st.0 → P (fold (with_marks marked_decl) st ds).0
+  decls_marks : (ds : List Decl) (st : Scope g.Reported × List ℕ) → P st.0 → P (fold (with_marks marked_decl) st ds).0
   decls_marks [] st h = h
   decls_marks (d ∷ ds) st h = decls_marks ds (with_marks marked_decl st d) (layer_marks (out-Decl d) st.0 h)
 
   -- ---- types
 
-  module _ (shaped : (s : Scope g.Told) (m : Made) → P s → P (with_shape s m)) where
-    made_keeps : (s : Scope g.Told) (r : Result Made g.Told) → P s → P (with_made s r).0
+  module _ (shaped : (s : Scope g.Reported) (m : Made) → P s → P (with_shape s m)) where
+    made_keeps : (s : Scope g.Reported) (r : Result Made g.Reported) → P s → P (with_made s r).0
     made_keeps s (Ok m) h = shaped s m h
     made_keeps s (Err e) h = h
 
-    listed_all : (t : TypeNo) (names : List Ident) (l : Scope g.Told × ℕ × Result (Unit {0}) g.Told) → P l.0 → P (fold (listed g t) l names).0
+    listed_all : (t : TypeNo) (names : List Ident) (l : Scope g.Reported × ℕ × Result (Unit {0}) g.Reported) → P l.0 → P (fold (listed g t) l names).0
     listed_all t [] l h = h
     listed_all t (x ∷ xs) l h =
-        let m : Known g.Told = Declared Here (Ok (enumeration_constant t (pos l.1))) in
+        let m : Known g.Reported = Declared Here (Ok (enumeration_constant t (pos l.1))) in
         listed_all t xs (listed g t l x) (unless_as g P l.0 x m h (named l.0 x.name m (fine (enumeration_constant t (pos l.1)) tt) h))
 
-    simple_keeps : (s : Scope g.Told) (t : Simple) → P s → P (simple_type g s t).0
+    simple_keeps : (s : Scope g.Reported) (t : Simple) → P s → P (simple_type g s t).0
     simple_keeps s (simple.Named q) h = h
     simple_keeps s (simple.Enumeration at names) h =
         let x : Made = enumeration_scalar (next_type s) names in listed_all (next_type s) names (with_shape s x, 0, too_many g names) (shaped s x h)
     simple_keeps s (simple.Subrange of at low high) h = made_keeps s _ h
 
     abbrev KeepingMakes : Makes g → Type 0
-    KeepingMakes f = (s : Scope g.Told) → P s → P (f s).0
+    KeepingMakes f = (s : Scope g.Reported) → P s → P (f s).0
 
     abbrev KeepingFields : MakesFields g → Type 0
-    KeepingFields f = (st : Scope g.Told × Fields × Result (Unit {0}) g.Told) → P st.0 → P (f st).0
+    KeepingFields f = (st : Scope g.Reported × Fields × Result (Unit {0}) g.Reported) → P st.0 → P (f st).0
 
     abbrev PT : TypeExpr → Type 0
     PT t = KeepingMakes (type_of g t)
@@ -234,7 +234,7 @@ module _ (g : Gathers) (P : Scope g.Told → Type 0) (named : (s : Scope g.Told)
     abbrev bare_field : Field-F ST SF → Field-F TypeExpr Field
     bare_field x = map-Field ST SF TypeExpr Field (λ t. t.0) (λ f. f.0) x
 
-    fields_all : (fs : List SF) (st : Scope g.Told × Fields × Result (Unit {0}) g.Told) → P st.0 → P (fold (then_fields g) st (map (field_list g) (map (λ (f : SF). f.0) fs))).0
+    fields_all : (fs : List SF) (st : Scope g.Reported × Fields × Result (Unit {0}) g.Reported) → P st.0 → P (fold (then_fields g) st (map (field_list g) (map (λ (f : SF). f.0) fs))).0
     fields_all [] st h = h
     fields_all (f ∷ fs) st h = fields_all fs (field_list g f.0 st) (f.1 st h)
 
@@ -258,78 +258,78 @@ module _ (g : Gathers) (P : Scope g.Told → Type 0) (named : (s : Scope g.Told)
 
     -- ---- declarations
 
-    module _ (varied : (s : Scope g.Told) (t : Result TypeNo g.Told) → P s → P (with_variable_type s t)) (headed_keeps : (s : Scope g.Told) (t : Result TypeNo g.Told) → P s → P (with_procedure_type s t)) where
-      finished_keeps : (s : Scope g.Told) (name : Ident) (m : Result Meaning g.Told) → Holds IsOuter m → P s → P (finished s name m)
+    module _ (varied : (s : Scope g.Reported) (t : Result TypeNo g.Reported) → P s → P (with_variable_type s t)) (headed_keeps : (s : Scope g.Reported) (t : Result TypeNo g.Reported) → P s → P (with_procedure_type s t)) where
+      finished_keeps : (s : Scope g.Reported) (name : Ident) (m : Result Meaning g.Reported) → Holds IsOuter m → P s → P (finished s name m)
       finished_keeps s name m q h = finished_as P s name m h (named s name.name (Declared Here m) q h)
 
-      begun_keeps : (s : Scope g.Told) (name : Ident) → P s → P (begun g s name).0
+      begun_keeps : (s : Scope g.Reported) (name : Ident) → P s → P (begun g s name).0
       begun_keeps s name h = unless_as g P s name Begun h (named s name.name Begun tt h)
 
-      begun_all : (names : List Ident) (st : State (Unit {0}) g.Told) → P st.0 → P (fold (begun_name g) st names).0
+      begun_all : (names : List Ident) (st : State (Unit {0}) g.Reported) → P st.0 → P (fold (begun_name g) st names).0
       begun_all [] st h = h
       begun_all (x ∷ xs) st h = begun_all xs (begun_name g st x) (begun_keeps st.0 x h)
 
-      constants_keep : (cs : List Constant) (st : State (Unit {0}) g.Told) → P st.0 → P (fold (with_constant g) st cs).0
+      constants_keep : (cs : List Constant) (st : State (Unit {0}) g.Reported) → P st.0 → P (fold (with_constant g) st cs).0
       constants_keep [] st h = h
       constants_keep (c ∷ cs) st h =
-          let b : State (Unit {0}) g.Told = begun g st.0 c.name in
+          let b : State (Unit {0}) g.Reported = begun g st.0 c.name in
           constants_keep cs (with_constant g st c) (finished_keeps b.0 c.name (constant_meaning (constant g b.0 (part g c.value))) (outer_by (constant g b.0 (part g c.value)) (λ v. meaning.Constant v) (λ v. tt)) (begun_keeps st.0 c.name h))
 
-      types_keep : (ts : List TypeDecl) (st : State (Unit {0}) g.Told) → P st.0 → P (fold (with_type g) st ts).0
+      types_keep : (ts : List TypeDecl) (st : State (Unit {0}) g.Reported) → P st.0 → P (fold (with_type g) st ts).0
       types_keep [] st h = h
       types_keep (d ∷ ts) st h =
-          let b : State (Unit {0}) g.Told = begun g st.0 d.name in
-          let t : State TypeNo g.Told = type_of g d.of b.0 in
+          let b : State (Unit {0}) g.Reported = begun g st.0 d.name in
+          let t : State TypeNo g.Reported = type_of g d.of b.0 in
           types_keep ts (with_type g st d) (finished_keeps t.0 d.name (type_meaning t.1 (brings_with d.of)) (outer_by t.1 (λ v. meaning.Type v (brings_with d.of)) (λ v. tt)) (type_of_keeps d.of b.0 (begun_keeps st.0 d.name h)))
 
-      variables_named : (t : Result TypeNo g.Told) (names : List Ident) (s : Scope g.Told) → P s → P (fold (finished_variable t) s names)
+      variables_named : (t : Result TypeNo g.Reported) (names : List Ident) (s : Scope g.Reported) → P s → P (fold (finished_variable t) s names)
       variables_named t [] s h = h
       variables_named t (x ∷ xs) s h =
           variables_named t xs (finished_variable t s x) (finished_keeps (with_variable_type s t) x (variable_meaning s.types.home (length s.variables) t) (outer_by t (λ v. meaning.Variable (record { home = s.types.home; number = length s.variables; of = v })) (λ v. tt)) (varied s t h))
 
-      locals_named : (t : Result TypeNo g.Told) (names : List Ident) (s : Scope g.Told) → P s → P (fold (finished_local t) s names)
+      locals_named : (t : Result TypeNo g.Reported) (names : List Ident) (s : Scope g.Reported) → P s → P (fold (finished_local t) s names)
       locals_named t [] s h = h
       locals_named t (x ∷ xs) s h = locals_named t xs (finished_local t s x) (finished_keeps (with_variable_type s t) x (local_meaning s.level (length s.variables) t) (outer_by t (λ v. meaning.Local (record { level = s.level; number = length s.variables; kind = kind.Variable; of = v })) (λ v. tt)) (varied s t h))
 
-      variables_keep : (vs : List Variables) (st : State (Unit {0}) g.Told) → P st.0 → P (fold (with_variables g) st vs).0
+      variables_keep : (vs : List Variables) (st : State (Unit {0}) g.Reported) → P st.0 → P (fold (with_variables g) st vs).0
       variables_keep [] st h = h
       variables_keep (v ∷ vs) st h =
-          let b : State (Unit {0}) g.Told = fold (begun_name g) st v.names in
-          let t : State TypeNo g.Told = type_of g v.of b.0 in
+          let b : State (Unit {0}) g.Reported = fold (begun_name g) st v.names in
+          let t : State TypeNo g.Reported = type_of g v.of b.0 in
           variables_keep vs (with_variables g st v) (variables_named t.1 v.names t.0 (type_of_keeps v.of b.0 (begun_all v.names st h)))
 
-      locals_keep : (vs : List Variables) (st : State (Unit {0}) g.Told) → P st.0 → P (fold (with_locals g) st vs).0
+      locals_keep : (vs : List Variables) (st : State (Unit {0}) g.Reported) → P st.0 → P (fold (with_locals g) st vs).0
       locals_keep [] st h = h
       locals_keep (v ∷ vs) st h =
-          let b : State (Unit {0}) g.Told = fold (begun_name g) st v.names in
-          let t : State TypeNo g.Told = type_of g v.of b.0 in
+          let b : State (Unit {0}) g.Reported = fold (begun_name g) st v.names in
+          let t : State TypeNo g.Reported = type_of g v.of b.0 in
           locals_keep vs (with_locals g st v) (locals_named t.1 v.names t.0 (type_of_keeps v.of b.0 (begun_all v.names st h)))
 
-      variables_by : (b : Bool) (st : State (Unit {0}) g.Told) (vs : List Variables) → P st.0 → P (cond {A = State (Unit {0}) g.Told} b (fold (with_variables g) st vs) (fold (with_locals g) st vs)).0
+      variables_by : (b : Bool) (st : State (Unit {0}) g.Reported) (vs : List Variables) → P st.0 → P (cond {A = State (Unit {0}) g.Reported} b (fold (with_variables g) st vs) (fold (with_locals g) st vs)).0
       variables_by true st vs h = variables_keep vs st h
       variables_by false st vs h = locals_keep vs st h
 
-      new_by : (b : Bool) (s : Scope g.Told) (name : List ℕ) (n : ℕ) (t : Result TypeNo g.Told) → b ≡ true → P s → P (cond b (module_procedure s name t) (headed name (nested_meaning s.level n t) s))
+      new_by : (b : Bool) (s : Scope g.Reported) (name : List ℕ) (n : ℕ) (t : Result TypeNo g.Reported) → b ≡ true → P s → P (cond b (module_procedure s name t) (headed name (nested_meaning s.level n t) s))
       new_by true s name n t e h = named (with_procedure_type s t) name (Headed (procedure_meaning s.types.home (length s.procedures) t)) (outer_by t (λ v. meaning.Procedure (record { home = s.types.home; number = length s.procedures; heading = v })) (λ v. tt)) (headed_keeps s t h)
       new_by false s name n t e h = absurd cc
 
-      heading_by : (s : Scope g.Told) (h : Heading) (n : ℕ) (o : Standing) → P s → P (headed_as g s h n (heading_of g s h) o).0
+      heading_by : (s : Scope g.Reported) (h : Heading) (n : ℕ) (o : Standing) → P s → P (headed_as g s h n (heading_of g s h) o).0
       heading_by s h n Free k =
-          let t : State TypeNo g.Told = with_made s (heading_of g s h) in
+          let t : State TypeNo g.Reported = with_made s (heading_of g s h) in
           let kept : P t.0 = made_keeps s (heading_of g s h) k in
           new_by (t.0.level == 0) t.0 h.name.name n t.1 (outermost t.0 kept) kept
       heading_by s h n (Awaited p) k = named s h.name.name (Headed (Ok (meaning.Procedure p))) (fine (meaning.Procedure p) tt) k
       heading_by s h n Taken k = k
 
-      layer_keeps : {A B : Type 0} (ends : List ℕ) (c : Course g.Told) (y : Decl-F A B) → P c.0 → P (decl_layer g ends c y).0
+      layer_keeps : {A B : Type 0} (ends : List ℕ) (c : Course g.Reported) (y : Decl-F A B) → P c.0 → P (decl_layer g ends c y).0
       layer_keeps ends c (dlayer.Constants cs) h = constants_keep cs (c.0, c.1) h
       layer_keeps ends c (dlayer.Types ts) h = types_keep ts (c.0, c.1) h
       layer_keeps ends c (dlayer.Variables vs) h = variables_by (c.0.level == 0) (c.0, c.1) vs h
       layer_keeps ends c (dlayer.Procedure x b) h = heading_by c.0 x c.2 (name_standing (found x.name.name c.0.own)) h
 
-      decls_keep : (ends : List ℕ) (ds : List Decl) (c : Course g.Told) → P c.0 → P (fold (with_decl g ends) c ds).0
+      decls_keep : (ends : List ℕ) (ds : List Decl) (c : Course g.Reported) → P c.0 → P (fold (with_decl g ends) c ds).0
       decls_keep ends [] c h = h
       decls_keep ends (d ∷ ds) c h = decls_keep ends ds (with_decl g ends c d) (layer_keeps ends c (out-Decl d) h)
 
-      pub block_keeps : (ends : List ℕ) (st : State (Unit {0}) g.Told) (first : ℕ) (ds : List Decl) → P st.0 → P (declared_block g ends st first ds).0
+      pub block_keeps : (ends : List ℕ) (st : State (Unit {0}) g.Reported) (first : ℕ) (ds : List Decl) → P st.0 → P (declared_block g ends st first ds).0
       block_keeps ends st first ds h = decls_keep ends ds ((all_marked marked_decl st.0 ds).0, st.1, first) (decls_marks ds (st.0, []) h)

@@ -15,9 +15,9 @@ use Rattle.m2_typed.specs.declared.table.Table.{Table}
 use Rattle.m2_typed.specs.declared.types.TypeNo.{TypeNo}
 use Rattle.m2_typed.specs.declared.typed_module.Imported.{Imported}
 use Rattle.m2_typed.specs.declared.typed_module.TypedModule.{TypedModule}
-use Rattle.m2_judged.specs.Judged.{Gathers, least}
-use Rattle.m2_judged.specs.Scopes.{State}
-use Rattle.m2_judged.specs.declared.scope.Scope.{Scope}
+use Rattle.m2_scopes.specs.Elaborated.{Gathers, least}
+use Rattle.m2_scopes.specs.Scopes.{State}
+use Rattle.m2_scopes.specs.declared.scope.Scope.{Scope}
 use Rattle.m2_types.specs.Predeclared.{console, first_scope}
 use Rattle.m2_types.specs.Importing.{numbered_modules, with_import}
 use Rattle.m2_types.specs.Marking.{marked_def}
@@ -26,17 +26,17 @@ use Rattle.m2_types.specs.Export.{imported_modules}
 use Rattle.m2_types.specs.Compiled as types
 use Rattle.m2_modules.specs.Imports.{all_imports}
 use Rattle.m2_modules.specs.Own.{exported_headings}
-use Rattle.m2_check.specs.Checks.{judged}
+use Rattle.m2_check.specs.Checks.{elaborated}
 use Rattle.m2_meaning.specs.Around.{module_place}
 use Rattle.m2_valid.specs.WellFormed.{IsRoutine}
 use Rattle.m2_links.specs.Linked.{Program}
 use Rattle.m2_agree_linked.specs.Knows.{IsCoherent}
 use Rattle.m2_formed.specs.Formed.{Holds, fine}
-use Rattle.m2_formed.proofs.Basics.{then_holds, any_holds, told_holds}
+use Rattle.m2_formed.proofs.Basics.{then_holds, any_holds, reported_holds}
 use Rattle.m2_formed_imports.proofs.Lists.{same_refl}
 use Rattle.m2_formed_imports.proofs.Tables.{fold_keeps, def_marks, def_keeps, import_keeps}
 use Rattle.m2_formed_types.specs.Ordered.{AreOrdered}
-use Rattle.m2_formed_bodies.proofs.Induction.{judged_formed}
+use Rattle.m2_formed_bodies.proofs.Induction.{elaborated_formed}
 use Rattle.m2_formed_frames.specs.FormedFrames.{AreNested}
 use Rattle.m2_formed_frames.proofs.Modules.{modules_nested}
 use Rattle.m2_formed_modules.specs.FormedModules.{AreFor}
@@ -46,7 +46,7 @@ use Rattle.m2_compile.specs.declared.outcome.Compiled.{Compiled}
 use Rattle.m2_compile.specs.declared.outcome.Compiled.TheVariants.{Defined}
 use Rattle.m2_compile.specs.Own.{tables_behind}
 use Rattle.m2_compile.specs.Compiling.{tables_of}
-use Rattle.m2_jobs.specs.Spelled.{needed_of}
+use Rattle.m2_jobs.specs.Encoded.{needed_of}
 use Rattle.m2_formed_programs.proofs.Programs.{tables_for as for_body}
 use Rattle.m2_formed_reach.specs.FormedReach.{result_of, types_of}
 use Rattle.m2_formed_reach.proofs.Reach.{tree_fits, IsNeeded, own_formed, behind_formed, known_below, tables_needed}
@@ -69,24 +69,24 @@ got F (y ∷ xs) h (suc k) x e = got F xs h.1 k x e
 -- ---- the table of a definition
 
 module _ (g : Gathers) (m : Module) where
-  tables_stay : (modules : List (List ℕ × ℕ)) (s : Scope g.Told) (defs : List Def) → (types.declared_in g m modules s defs).0.tables ≡ s.tables
+  tables_stay : (modules : List (List ℕ × ℕ)) (s : Scope g.Reported) (defs : List Def) → (types.declared_in g m modules s defs).0.tables ≡ s.tables
   tables_stay modules s defs =
       let t = fold marked_def s defs in
       ap (λ (k : List Table × ℕ). k.0)
-      (fold_keeps (λ (st : State (Unit {0}) g.Told). st.0) (with_def g) (def_keeps g) defs (fold (with_import g modules) (t, Ok tt) m.imports)
-      ∙ (import_keeps g modules m.imports (t, Ok tt) ∙ fold_keeps (λ (s : Scope g.Told). s) marked_def (def_marks g.Told) defs s))
+      (fold_keeps (λ (st : State (Unit {0}) g.Reported). st.0) (with_def g) (def_keeps g) defs (fold (with_import g modules) (t, Ok tt) m.imports)
+      ∙ (import_keeps g modules m.imports (t, Ok tt) ∙ fold_keeps (λ (s : Scope g.Reported). s) marked_def (def_marks g.Reported) defs s))
 
   module _ (IsMade : Table → Type 0) (home : ℕ) where
     definition_listed : (tables : List Table) → AreMade IsMade tables → (defs : List Def) → Holds (λ t. AreListed IsMade t.imports) (types.of_definition g home m tables defs)
     definition_listed tables made defs =
         let modules : List (List ℕ × ℕ) = (numbered_modules tables).0 in
-        let st : State (Unit {0}) g.Told = types.declared_in g m modules (first_scope home tables) defs in
+        let st : State (Unit {0}) g.Reported = types.declared_in g m modules (first_scope home tables) defs in
         then_holds (any_holds st.1) (λ x k. fine _ (subst (λ (ts : List Table). AreListed IsMade (imported_modules modules ts m.imports)) (sym (tables_stay modules (first_scope home tables) defs)) (table_imports IsMade tables made m.imports)))
 
     contents_listed : (tables : List Table) → AreMade IsMade tables → (c : Contents) → Holds (λ t. AreListed IsMade t.imports) (types.of_contents g home m tables c)
     contents_listed tables made (contents.Definition defs) = definition_listed tables made defs
-    contents_listed tables made (contents.Implementation b) = told_holds g m.name.pos 24
-    contents_listed tables made (contents.Program b) = told_holds g m.name.pos 24
+    contents_listed tables made (contents.Implementation b) = reported_holds g m.name.pos 24
+    contents_listed tables made (contents.Program b) = reported_holds g m.name.pos 24
 
 module _ (fs : List (List ℕ × Module)) (files : List ℕ) (jobs : List (List ℕ)) (starts : List ℕ) (graph : IsGraph (numbered 0 fs) files jobs starts) (each : CompileEach (numbered 0 fs) files) (fit : list_all fits_module (trees_of fs) ≡ true) where
   abbrev trees : List Module
@@ -165,12 +165,12 @@ module _ (fs : List (List ℕ × Module)) (files : List ℕ) (jobs : List (List 
     pub for_it : AreFor b.job own imported b.tree.contents
     for_it = for_body fs files jobs starts graph b.tree b.job
 
-    pub begun : BegunAt least (judged least) (judged_formed least) b.job b.tree own ts t b.tree.contents
-    begun = holds_ok (module_begun least (judged least) (judged_formed least) b.job b.tree imported own for_it) t b.typed
+    pub begun : BegunAt least (elaborated least) (elaborated_formed least) b.job b.tree own ts t b.tree.contents
+    begun = holds_ok (module_begun least (elaborated least) (elaborated_formed least) b.job b.tree imported own for_it) t b.typed
 
     known : IsKnown b.tree own b.job ts t b.tree.contents
     known =
-        holds_ok (module_known least (judged least) its_types b.job b.tree own imported (tree_fits trees fit (slice_index_or files b.job 0) b.tree b.is_tree)
+        holds_ok (module_known least (elaborated least) its_types b.job b.tree own imported (tree_fits trees fit (slice_index_or files b.job 0) b.tree b.is_tree)
         (own_formed trees files jobs fit b.job (known_below trees files jobs fit b.job) b.tree (needed b.job) (tables_needed trees files jobs fit b.job)) (behind_formed trees files jobs fit b.job (known_below trees files jobs fit b.job) own (needed b.job) (tables_needed trees files jobs fit b.job))) t b.typed
 
     nested : AreNested t
@@ -191,7 +191,7 @@ module _ (fs : List (List ℕ × Module)) (files : List ℕ) (jobs : List (List 
       kind = kind;
     }
 
-    part_by : (c : Contents) → b.tree.contents ≡ c → IsKnown b.tree own b.job ts t c → BegunAt least (judged least) (judged_formed least) b.job b.tree own ts t c → IsPart t b.tree b.job ts
+    part_by : (c : Contents) → b.tree.contents ≡ c → IsKnown b.tree own b.job ts t c → BegunAt least (elaborated least) (elaborated_formed least) b.job b.tree own ts t c → IsPart t b.tree b.job ts
     part_by (contents.Definition defs) is k h = absurd k
     part_by (contents.Program body) is k h = part_from None b.job tt k (inl (ap is_program_part is, k.home_is))
     part_by (contents.Implementation body) is k h =

@@ -11,9 +11,9 @@ use Rattle.m2_typed.specs.declared.table.Table.{Table}
 use Rattle.m2_typed.specs.declared.typed_module.Imported.{Imported}
 use Rattle.m2_typed.specs.declared.typed_module.TypedModule.{TypedModule}
 use Rattle.m2_typed.specs.Names.{same_name}
-use Rattle.m2_judged.specs.declared.fault.Fault.{Fault}
-use Rattle.m2_judged.specs.declared.scope.Scope.{Scope}
-use Rattle.m2_judged.specs.Judged.{least}
+use Rattle.m2_scopes.specs.declared.fault.Fault.{Fault}
+use Rattle.m2_scopes.specs.declared.scope.Scope.{Scope}
+use Rattle.m2_scopes.specs.Elaborated.{least}
 use Rattle.m2_constants.specs.Denote.{member}
 use Rattle.m2_types.specs.Predeclared.{console, first_scope}
 use Rattle.m2_types.specs.Importing.{numbered_modules}
@@ -28,7 +28,7 @@ use Rattle.m2_formed.specs.Formed.{Holds}
 use Rattle.m2_formed_known.specs.FormedKnown.{fits_module}
 use Rattle.m2_compile.specs.Own.{own_table, tables_behind}
 use Rattle.m2_compile.specs.Compiling.{tables_of}
-use Rattle.m2_jobs.specs.Spelled.{needed_of}
+use Rattle.m2_jobs.specs.Encoded.{needed_of}
 use Rattle.m2_formed_coherent.specs.FormedCoherent.{trees_of, IsBodyOf, AreBodiesIn}
 use Rattle.m2_typing.specs.Names.{HasInstance, NamesElse}
 use Rattle.m2_typing_bodies.specs.TypingBodies.{MeaningThere, BlocksThere}

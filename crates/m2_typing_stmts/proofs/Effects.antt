@@ -24,8 +24,8 @@ use Rattle.m2_typed.specs.declared.statement.TypedStmt.TheVariants as step
 use Rattle.m2_typed.specs.declared.types.TypeNo.{TypeNo}
 use Rattle.m2_typed.specs.Known.{scalar_at}
 use Rattle.m2_typed.specs.Types.{are_same, is_numeric, cardinal, char, bitset}
-use Rattle.m2_judged.specs.Judged.{Gathers, told_where, ◌▷◌}
-use Rattle.m2_judged.specs.declared.scope.Scope.{Scope}
+use Rattle.m2_scopes.specs.Elaborated.{Gathers, reported_where, ◌▷◌}
+use Rattle.m2_scopes.specs.declared.scope.Scope.{Scope}
 use Rattle.m2_values.specs.declared.operand.Operand.{Operand}
 use Rattle.m2_values.specs.declared.operand.Operand.TheVariants as operand
 use Rattle.m2_values.specs.declared.operand.Ordinal.{Ordinal}
@@ -60,7 +60,7 @@ use Rattle.m2_agree_trees.specs.Typed.{Context}
 use Rattle.m2_agree_types.proofs.Plain.{tree_plain}
 use Rattle.m2_agree_types.proofs.Cells.{set_tree_is, set_is}
 use Rattle.m2_formed.specs.Formed.{Holds, fine}
-use Rattle.m2_formed.proofs.Basics.{then_holds, told_holds, both_holds}
+use Rattle.m2_formed.proofs.Basics.{then_holds, reported_holds, both_holds}
 use Rattle.m2_formed_ranges.proofs.Types.{same_types, both_left, both_right}
 use Rattle.m2_formed_ranges.proofs.Subranges.{SortRanged, OperandRanged, operand_ranged}
 use Rattle.m2_typing.specs.Typing.{HasBase, PlaceTyped, CallTyped, GivenTyped, ValueTyped, DesignatedTyped, IsTyped}
@@ -79,17 +79,17 @@ text_length low high n e = by (unsigned_abs (high -ℤ low)) e where
   by : (k : ℕ) → not (nat_lt k (n - 1)) ≡ true → n ≤ k + 1
   by k f = grind (arith, f)
 
-module _ (g : Gathers) (x : Context) (ws : List Ty) (opens : ℕ → Bool) (s : Scope g.Told) (h : IsTyped g x ws opens s) (result : Gives) (looped : Bool) where
+module _ (g : Gathers) (x : Context) (ws : List Ty) (opens : ℕ → Bool) (s : Scope g.Reported) (h : IsTyped g x ws opens s) (result : Gives) (looped : Bool) where
   abbrev types : Types
   types = x.home.types
 
-  abbrev Stmt_ : Result TypedStmt g.Told → Type 0
+  abbrev Stmt_ : Result TypedStmt g.Reported → Type 0
   Stmt_ r = Holds (StmtTyped x result ws looped) r
 
-  abbrev Value_ : Result Computed g.Told → Type 0
+  abbrev Value_ : Result Computed g.Reported → Type 0
   Value_ r = Holds (ValueTyped x ws) r
 
-  abbrev Designated_ : Result Designated g.Told → Type 0
+  abbrev Designated_ : Result Designated g.Reported → Type 0
   Designated_ r = Holds (DesignatedTyped x ws opens) r
 
   abbrev Some_ : TypedExpr → Type 0
@@ -107,12 +107,12 @@ module _ (g : Gathers) (x : Context) (ws : List Ty) (opens : ℕ → Bool) (s : 
   target_of_typed : (at : Pos) (d : Designated) → DesignatedTyped x ws opens d → Holds TargetTyped (target_of g at d)
   target_of_typed at (designated.Variable t d) p = fine (target.Variable t d) p
   target_of_typed at (designated.Open t slot) p = fine target.Open tt
-  target_of_typed at (designated.Value v) p = told_holds g at 40
-  target_of_typed at (designated.Type t) p = told_holds g at 40
-  target_of_typed at (designated.Procedure f) p = told_holds g at 40
-  target_of_typed at (designated.Nested f) p = told_holds g at 40
-  target_of_typed at (designated.Standard f) p = told_holds g at 40
-  target_of_typed at (designated.Module k) p = told_holds g at 40
+  target_of_typed at (designated.Value v) p = reported_holds g at 40
+  target_of_typed at (designated.Type t) p = reported_holds g at 40
+  target_of_typed at (designated.Procedure f) p = reported_holds g at 40
+  target_of_typed at (designated.Nested f) p = reported_holds g at 40
+  target_of_typed at (designated.Standard f) p = reported_holds g at 40
+  target_of_typed at (designated.Module k) p = reported_holds g at 40
 
   -- an array of characters with room for a text
   record HasPlace (t : TypeNo) (text : List ℕ) : Type 0 where
@@ -145,19 +145,19 @@ module _ (g : Gathers) (x : Context) (ws : List Ty) (opens : ℕ → Bool) (s : 
       }
 
   text_accepted : (number : ℕ) (t : TypeNo) (at : Pos) (v : Value) → Holds (AcceptedTyped t) (text_suited g number s.types t at v)
-  text_accepted number t at (constant.Number n) = told_holds g at number
-  text_accepted number t at (constant.Scalar n) = told_holds g at number
-  text_accepted number t at (constant.Set bits) = told_holds g at number
+  text_accepted number t at (constant.Number n) = reported_holds g at number
+  text_accepted number t at (constant.Scalar n) = reported_holds g at number
+  text_accepted number t at (constant.Set bits) = reported_holds g at number
   text_accepted number t at (constant.Text text) = where_not g (text_fits s.types t (length text)) at number (λ k. fine (accepted.Text text) (place_by t text (array_at s.types t) refl k))
 
   whole_accepted : (number : ℕ) (t : TypeNo) (at : Pos) (v : Computed) → ValueTyped x ws v → Holds (AcceptedTyped t) (whole_suited g number s.types t at v)
   whole_accepted number t at (value.Constant v) p = text_accepted number t at v
   whole_accepted number t at (value.Whole u d) p = where_not g (are_same u t) at number (λ k. fine (accepted.Whole d) (subst (λ (z : TypeNo). PlaceTyped x ws d (tree types z)) (same_types u t k) p))
-  whole_accepted number t at (value.Scalar u b e) p = told_holds g at number
-  whole_accepted number t at (value.Set e) p = told_holds g at number
-  whole_accepted number t at (value.Routine u e) p = told_holds g at number
-  whole_accepted number t at (value.Procedure f) p = told_holds g at number
-  whole_accepted number t at value.Untaken p = told_holds g at number
+  whole_accepted number t at (value.Scalar u b e) p = reported_holds g at number
+  whole_accepted number t at (value.Set e) p = reported_holds g at number
+  whole_accepted number t at (value.Routine u e) p = reported_holds g at number
+  whole_accepted number t at (value.Procedure f) p = reported_holds g at number
+  whole_accepted number t at value.Untaken p = reported_holds g at number
 
   given : (number : ℕ) (t : TypeNo) (at : Pos) (v : Computed) → ValueTyped x ws v → Holds (λ e. GivenTyped x ws e t) (value_suited g number s.types t at v)
   given number t at v p = suited_typed x ws h.all g s.types h.types number t at v p
@@ -179,10 +179,10 @@ module _ (g : Gathers) (x : Context) (ws : List Ty) (opens : ℕ → Bool) (s : 
   stored_typed t d (accepted.Text text) p q = copy_text_typed x result ws looped d t q.count text q.is q.room p
 
   assigned_to_typed : (a : Target) (at : Pos) (v : Computed) → TargetTyped a → ValueTyped x ws v → Stmt_ (assigned_to g s.types a at v)
-  assigned_to_typed target.Open at v p q = told_holds g at 41
+  assigned_to_typed target.Open at v p q = reported_holds g at 41
   assigned_to_typed (target.Variable t d) at v p q = then_holds (accepted_in 41 t at v (class_at s.types t) (class_of t) q) (λ a k. fine (stored t d a) (stored_typed t d a p k))
 
-  pub assignment_typed : (d : Meant g.Told) (at : Pos) (y : Meant g.Told) → FM g x ws opens s h d → FM g x ws opens s h y → Stmt_ (assigned g s.types (target_at g d.fixed.at (d.means s)) at (value_of g s y))
+  pub assignment_typed : (d : Meant g.Reported) (at : Pos) (y : Meant g.Reported) → FM g x ws opens s h d → FM g x ws opens s h y → Stmt_ (assigned g s.types (target_at g d.fixed.at (d.means s)) at (value_of g s y))
   assignment_typed d at y p q =
       then_holds (both_holds g (then_holds p (λ e k. target_of_typed d.fixed.at e k)) (value_typed g x ws opens s h y q)) (λ v k. assigned_to_typed v.0 at v.1 k.0 k.1)
 
@@ -196,40 +196,40 @@ module _ (g : Gathers) (x : Context) (ws : List Ty) (opens : ℕ → Bool) (s : 
 
   changed_as_typed : (at : Pos) (t : TypeNo) (d : Place) (c : Class) → ClassIs types t c → PlaceTyped x ws d (tree types t) → Holds VariableTyped (changed_as g at t d c)
   changed_as_typed at t d (class.Scalar r) k p = fine (t, d) (record { range = r; at = k; place = p })
-  changed_as_typed at t d class.Set k p = told_holds g at 44
-  changed_as_typed at t d class.Procedure k p = told_holds g at 44
-  changed_as_typed at t d class.Whole k p = told_holds g at 44
+  changed_as_typed at t d class.Set k p = reported_holds g at 44
+  changed_as_typed at t d class.Procedure k p = reported_holds g at 44
+  changed_as_typed at t d class.Whole k p = reported_holds g at 44
 
   changed_typed : (at : Pos) (d : Designated) → DesignatedTyped x ws opens d → Holds VariableTyped (changed g s.types at d)
   changed_typed at (designated.Variable t d) p = changed_as_typed at t d (class_at s.types t) (class_of t) p
-  changed_typed at (designated.Value v) p = told_holds g at 44
-  changed_typed at (designated.Open t slot) p = told_holds g at 44
-  changed_typed at (designated.Type t) p = told_holds g at 44
-  changed_typed at (designated.Procedure f) p = told_holds g at 44
-  changed_typed at (designated.Nested f) p = told_holds g at 44
-  changed_typed at (designated.Standard f) p = told_holds g at 44
-  changed_typed at (designated.Module k) p = told_holds g at 44
+  changed_typed at (designated.Value v) p = reported_holds g at 44
+  changed_typed at (designated.Open t slot) p = reported_holds g at 44
+  changed_typed at (designated.Type t) p = reported_holds g at 44
+  changed_typed at (designated.Procedure f) p = reported_holds g at 44
+  changed_typed at (designated.Nested f) p = reported_holds g at 44
+  changed_typed at (designated.Standard f) p = reported_holds g at 44
+  changed_typed at (designated.Module k) p = reported_holds g at 44
 
   untyped_typed : (a : Ordinal) → SortRanged types a.sort a.number → Some_ (expr.Constant (untyped a.number a.sort) a.number)
   untyped_typed a p = record { of = untyped a.number a.sort; typed = made.constant_typed x ws (untyped a.number a.sort) a.number (untyped_value types a.sort a.number p) }
 
   known_if : (at : Pos) (a : Ordinal) (b : Bool) → SortRanged types a.sort a.number → Holds Some_ (known_amount g at (cond b (Some a) None))
   known_if at a true p = fine (expr.Constant (untyped a.number a.sort) a.number) (untyped_typed a p)
-  known_if at a false p = told_holds g at 43
+  known_if at a false p = reported_holds g at 43
 
   known_typed : (at : Pos) (o : Option Operand) → OperandRanged types o → Holds Some_ (known_amount g at (if_number (scalar_part o)))
-  known_typed at None p = told_holds g at 43
-  known_typed at (Some (operand.Set bits)) p = told_holds g at 43
+  known_typed at None p = reported_holds g at 43
+  known_typed at (Some (operand.Set bits)) p = reported_holds g at 43
   known_typed at (Some (operand.Scalar a)) p = known_if at a (is_number a.sort) p
 
   amount_typed : (at : Pos) (v : Computed) → ValueTyped x ws v → Holds Some_ (amount g at v)
   amount_typed at (value.Constant v) p = known_typed at (operand_of v) (operand_ranged types v p.0)
   amount_typed at (value.Scalar t b e) p = where_not g (is_numeric b) at 43 (λ k. fine e (record { of = t; typed = p.typed }))
-  amount_typed at (value.Set e) p = told_holds g at 43
-  amount_typed at (value.Routine t e) p = told_holds g at 43
-  amount_typed at (value.Procedure f) p = told_holds g at 43
-  amount_typed at (value.Whole t d) p = told_holds g at 43
-  amount_typed at value.Untaken p = told_holds g at 43
+  amount_typed at (value.Set e) p = reported_holds g at 43
+  amount_typed at (value.Routine t e) p = reported_holds g at 43
+  amount_typed at (value.Procedure f) p = reported_holds g at 43
+  amount_typed at (value.Whole t d) p = reported_holds g at 43
+  amount_typed at value.Untaken p = reported_holds g at 43
 
   changed_of : (o : Change) (v : TypeNo × Place) (e : TypedExpr) → VariableTyped v → Some_ e → StmtTyped x result ws looped (step.Change o v.1 v.0 e)
   changed_of o v e k p =
@@ -239,26 +239,26 @@ module _ (g : Gathers) (x : Context) (ws : List Ty) (opens : ℕ → Bool) (s : 
       change_typed x result ws looped o v.1 v.0 p.of c.cell e c.is (λ z. has_range types v.0 k.range.base b z) (λ z. let w : None ≡ Some b.based.low.range = sym z ∙ based in cc w)
       (subst (λ (u : Ty). PlaceTyped x ws v.1 u) c.is.is k.place) p.typed
 
-  change_by_typed : (o : Change) {v : Result (TypeNo × Place) g.Told} {e : Result TypedExpr g.Told} → Holds VariableTyped v → Holds Some_ e → Stmt_ (change_by g o v e)
+  change_by_typed : (o : Change) {v : Result (TypeNo × Place) g.Reported} {e : Result TypedExpr g.Reported} → Holds VariableTyped v → Holds Some_ e → Stmt_ (change_by g o v e)
   change_by_typed o p q = then_holds (both_holds g p q) (λ v k. fine (step.Change o v.0.1 v.0.0 v.1) (changed_of o v.0 v.1 k.0 k.1))
 
-  abbrev Known_ : Meant g.Told → Type 0
+  abbrev Known_ : Meant g.Reported → Type 0
   Known_ y = FM g x ws opens s h y
 
-  abbrev AllKnown : List (Meant g.Told) → Type 0
+  abbrev AllKnown : List (Meant g.Reported) → Type 0
   AllKnown ys = AllM g x ws opens s h ys
 
-  value_of_typed : (y : Meant g.Told) → Known_ y → Value_ (value_of g s y)
+  value_of_typed : (y : Meant g.Reported) → Known_ y → Value_ (value_of g s y)
   value_of_typed y p = value_typed g x ws opens s h y p
 
   one_typed : Some_ (expr.Constant cardinal (pos 1))
   one_typed = record { of = cardinal; typed = made.constant_typed x ws cardinal (pos 1) (omega (arith, ints), omega (arith, ints)) }
 
-  changed_by_typed : (at : Pos) (o : Change) (args : List (Meant g.Told)) → AllKnown args → Stmt_ (changed_by g s at o args)
-  changed_by_typed at o [] all = told_holds g at 42
+  changed_by_typed : (at : Pos) (o : Change) (args : List (Meant g.Reported)) → AllKnown args → Stmt_ (changed_by g s at o args)
+  changed_by_typed at o [] all = reported_holds g at 42
   changed_by_typed at o (v ∷ []) all = change_by_typed o (then_holds all.0 (λ d k. changed_typed v.fixed.at d k)) (fine (expr.Constant cardinal (pos 1)) one_typed)
   changed_by_typed at o (v ∷ n ∷ []) all = change_by_typed o (then_holds all.0 (λ d k. changed_typed v.fixed.at d k)) (then_holds (value_of_typed n all.1.0) (λ y k. amount_typed n.fixed.at y k))
-  changed_by_typed at o (v ∷ n ∷ y ∷ ys) all = told_holds g at 42
+  changed_by_typed at o (v ∷ n ∷ y ∷ ys) all = reported_holds g at 42
 
   -- ---- INCL and EXCL
 
@@ -267,71 +267,71 @@ module _ (g : Gathers) (x : Context) (ws : List Ty) (opens : ℕ → Bool) (s : 
 
   set_as_typed : (at : Pos) (t : TypeNo) (d : Place) (c : Class) → ClassIs types t c → PlaceTyped x ws d (tree types t) → Holds SetTyped (set_as g at d c)
   set_as_typed at t d class.Set k p = fine d (subst (λ (u : Ty). PlaceTyped x ws d u) (set_tree_is types t k.none k.result k.headless) p)
-  set_as_typed at t d (class.Scalar r) k p = told_holds g at 44
-  set_as_typed at t d class.Procedure k p = told_holds g at 44
-  set_as_typed at t d class.Whole k p = told_holds g at 44
+  set_as_typed at t d (class.Scalar r) k p = reported_holds g at 44
+  set_as_typed at t d class.Procedure k p = reported_holds g at 44
+  set_as_typed at t d class.Whole k p = reported_holds g at 44
 
   set_typed : (at : Pos) (d : Designated) → DesignatedTyped x ws opens d → Holds SetTyped (set_variable g s.types at d)
   set_typed at (designated.Variable t d) p = set_as_typed at t d (class_at s.types t) (class_of t) p
-  set_typed at (designated.Value v) p = told_holds g at 44
-  set_typed at (designated.Open t slot) p = told_holds g at 44
-  set_typed at (designated.Type t) p = told_holds g at 44
-  set_typed at (designated.Procedure f) p = told_holds g at 44
-  set_typed at (designated.Nested f) p = told_holds g at 44
-  set_typed at (designated.Standard f) p = told_holds g at 44
-  set_typed at (designated.Module k) p = told_holds g at 44
+  set_typed at (designated.Value v) p = reported_holds g at 44
+  set_typed at (designated.Open t slot) p = reported_holds g at 44
+  set_typed at (designated.Type t) p = reported_holds g at 44
+  set_typed at (designated.Procedure f) p = reported_holds g at 44
+  set_typed at (designated.Nested f) p = reported_holds g at 44
+  set_typed at (designated.Standard f) p = reported_holds g at 44
+  set_typed at (designated.Module k) p = reported_holds g at 44
 
   element_if : (at : Pos) (a : Ordinal) (b : Bool) → SortRanged types a.sort a.number → Holds Some_ (element_known g at (cond b (Some a) None))
   element_if at a true p = where_not g (is_between (pos 0) a.number (pos 31)) at 52 (λ k. fine (expr.Constant (untyped a.number a.sort) a.number) (untyped_typed a p))
-  element_if at a false p = told_holds g at 43
+  element_if at a false p = reported_holds g at 43
 
   element_part : (at : Pos) (o : Option Operand) → OperandRanged types o → Holds Some_ (element_known g at (if_number (scalar_part o)))
-  element_part at None p = told_holds g at 43
-  element_part at (Some (operand.Set bits)) p = told_holds g at 43
+  element_part at None p = reported_holds g at 43
+  element_part at (Some (operand.Set bits)) p = reported_holds g at 43
   element_part at (Some (operand.Scalar a)) p = element_if at a (is_number a.sort) p
 
   element_typed : (at : Pos) (v : Computed) → ValueTyped x ws v → Holds Some_ (element g at v)
   element_typed at (value.Constant v) p = element_part at (operand_of v) (operand_ranged types v p.0)
   element_typed at (value.Scalar t b e) p = where_not g (is_numeric b) at 43 (λ k. fine e (record { of = t; typed = p.typed }))
-  element_typed at (value.Set e) p = told_holds g at 43
-  element_typed at (value.Routine t e) p = told_holds g at 43
-  element_typed at (value.Procedure f) p = told_holds g at 43
-  element_typed at (value.Whole t d) p = told_holds g at 43
-  element_typed at value.Untaken p = told_holds g at 43
+  element_typed at (value.Set e) p = reported_holds g at 43
+  element_typed at (value.Routine t e) p = reported_holds g at 43
+  element_typed at (value.Procedure f) p = reported_holds g at 43
+  element_typed at (value.Whole t d) p = reported_holds g at 43
+  element_typed at value.Untaken p = reported_holds g at 43
 
   bitset_cell : IsCell types bitset (Natural 4294967295)
   bitset_cell = set_is types bitset refl refl refl
 
-  membership_typed : (o : Membership) {d : Result Place g.Told} {e : Result TypedExpr g.Told} → Holds SetTyped d → Holds Some_ e → Stmt_ (membership_of g o d e)
+  membership_typed : (o : Membership) {d : Result Place g.Reported} {e : Result TypedExpr g.Reported} → Holds SetTyped d → Holds Some_ e → Stmt_ (membership_of g o d e)
   membership_typed o p q = then_holds (both_holds g p q) (λ v k. fine (step.Membership o v.0 v.1) (member_typed x result ws looped o v.0 k.1.of (Natural 4294967295) v.1 bitset_cell k.0 k.1.typed))
 
-  member_by_typed : (at : Pos) (o : Membership) (args : List (Meant g.Told)) → AllKnown args → Stmt_ (member_by g s at o args)
-  member_by_typed at o [] all = told_holds g at 42
-  member_by_typed at o (v ∷ []) all = told_holds g at 42
+  member_by_typed : (at : Pos) (o : Membership) (args : List (Meant g.Reported)) → AllKnown args → Stmt_ (member_by g s at o args)
+  member_by_typed at o [] all = reported_holds g at 42
+  member_by_typed at o (v ∷ []) all = reported_holds g at 42
   member_by_typed at o (v ∷ n ∷ []) all = membership_typed o (then_holds all.0 (λ d k. set_typed v.fixed.at d k)) (then_holds (value_of_typed n all.1.0) (λ y k. element_typed n.fixed.at y k))
-  member_by_typed at o (v ∷ n ∷ y ∷ ys) all = told_holds g at 42
+  member_by_typed at o (v ∷ n ∷ y ∷ ys) all = reported_holds g at 42
 
   -- ---- HALT and Put
 
-  halted_typed : (at : Pos) (args : List (Meant g.Told)) → Stmt_ (halted g at args)
+  halted_typed : (at : Pos) (args : List (Meant g.Reported)) → Stmt_ (halted g at args)
   halted_typed at [] = fine step.Halt (halt_typed x result ws looped)
-  halted_typed at (y ∷ ys) = told_holds g at 42
+  halted_typed at (y ∷ ys) = reported_holds g at 42
 
-  put_by_typed : (at : Pos) (args : List (Meant g.Told)) → AllKnown args → Stmt_ (put_by g s at args)
-  put_by_typed at [] all = told_holds g at 42
+  put_by_typed : (at : Pos) (args : List (Meant g.Reported)) → AllKnown args → Stmt_ (put_by g s at args)
+  put_by_typed at [] all = reported_holds g at 42
   put_by_typed at (y ∷ []) all = then_holds (value_of_typed y all.0) (λ v k. then_holds (given 43 char y.fixed.at v k) (λ e q. fine (step.Put e) (put_typed x result ws looped e q)))
-  put_by_typed at (y ∷ z ∷ zs) all = told_holds g at 42
+  put_by_typed at (y ∷ z ∷ zs) all = reported_holds g at 42
 
-  standard_typed : (at : Pos) (args : List (Meant g.Told)) (f : Standard) → AllKnown args → Stmt_ (standard_done g s at args f)
-  standard_typed at args Abs all = told_holds g at 40
-  standard_typed at args Cap all = told_holds g at 40
-  standard_typed at args Chr all = told_holds g at 40
-  standard_typed at args High all = told_holds g at 40
-  standard_typed at args Max all = told_holds g at 40
-  standard_typed at args Min all = told_holds g at 40
-  standard_typed at args Odd all = told_holds g at 40
-  standard_typed at args Ord all = told_holds g at 40
-  standard_typed at args Val all = told_holds g at 40
+  standard_typed : (at : Pos) (args : List (Meant g.Reported)) (f : Standard) → AllKnown args → Stmt_ (standard_done g s at args f)
+  standard_typed at args Abs all = reported_holds g at 40
+  standard_typed at args Cap all = reported_holds g at 40
+  standard_typed at args Chr all = reported_holds g at 40
+  standard_typed at args High all = reported_holds g at 40
+  standard_typed at args Max all = reported_holds g at 40
+  standard_typed at args Min all = reported_holds g at 40
+  standard_typed at args Odd all = reported_holds g at 40
+  standard_typed at args Ord all = reported_holds g at 40
+  standard_typed at args Val all = reported_holds g at 40
   standard_typed at args Inc all = changed_by_typed at Increase args all
   standard_typed at args Dec all = changed_by_typed at Decrease args all
   standard_typed at args Incl all = member_by_typed at Include args all
@@ -341,7 +341,7 @@ module _ (g : Gathers) (x : Context) (ws : List Ty) (opens : ℕ → Bool) (s : 
 
   -- ---- calls
 
-  module _ (at : Pos) (t : TypeNo) (c : Callee) (args : List (Meant g.Told)) (there : CalleeTyped x ws h.all g opens s.types h.types t c) (all : AllKnown args) where
+  module _ (at : Pos) (t : TypeNo) (c : Callee) (args : List (Meant g.Reported)) (there : CalleeTyped x ws h.all g opens s.types h.types t c) (all : AllKnown args) where
     proper_call : (k : Signature) → signature_at s.types t ≡ Some k → k.result ≡ None → length k.formals ≡ length args → Stmt_ (call_done c (actuals g s k.formals args))
     proper_call k e q count =
         then_holds (actuals_typed g x ws opens s h args k.formals count (h.formals t k e) all) (λ gs p.
@@ -349,25 +349,25 @@ module _ (g : Gathers) (x : Context) (ws : List Ty) (opens : ℕ → Bool) (s : 
         (call_typed x result ws looped (call_by gs c) (subst (λ (r : Gives). CallTyped x ws (call_by gs c) r) (ap (λ (o : Option TypeNo). option_map (tree types) o) q) (call_made g x ws opens s h at t c args there all k e gs p))))
 
     by_count : (k : Signature) (q : Bool) → (length k.formals == length args) ≡ q → signature_at s.types t ≡ Some k → k.result ≡ None
-        → Stmt_ (told_where g {A = Unit {0}} (not q) at 42 (Ok (tt {0})) ▷ λ fine. call_done c (actuals g s k.formals args))
+        → Stmt_ (reported_where g {A = Unit {0}} (not q) at 42 (Ok (tt {0})) ▷ λ fine. call_done c (actuals g s k.formals args))
     by_count k true count e q = proper_call k e q (eqb-true (length k.formals) (length args) count)
-    by_count k false count e q = told_holds g at 42
+    by_count k false count e q = reported_holds g at 42
 
     by_result : (k : Signature) (o : Option TypeNo) → k.result ≡ o → signature_at s.types t ≡ Some k
         → Stmt_ (proper_with g at (length k.formals) (length args) o ▷ λ fine. call_done c (actuals g s k.formals args))
     by_result k None q e = by_count k (length k.formals == length args) refl e q
-    by_result k (Some r) q e = told_holds g at 40
+    by_result k (Some r) q e = reported_holds g at 40
 
     by_signature : (o : Option Signature) → signature_at s.types t ≡ o → Stmt_ (proper_of g at o (length args) ▷ λ fine. call_done c (actuals g s (formals_of o) args))
-    by_signature None e = told_holds g at 40
+    by_signature None e = reported_holds g at 40
     by_signature (Some k) e = by_result k k.result refl e
 
     routine_typed : Stmt_ (routine_done g s at t c args)
     routine_typed = by_signature (signature_at s.types t) refl
 
-  done_as_typed : (at : Pos) (args : List (Meant g.Told)) (y : Called) → CalledTyped x ws h.all g opens s.types h.types y → AllKnown args → Stmt_ (done_as g s at args y)
+  done_as_typed : (at : Pos) (args : List (Meant g.Reported)) (y : Called) → CalledTyped x ws h.all g opens s.types h.types y → AllKnown args → Stmt_ (done_as g s at args y)
   done_as_typed at args (called.Routine t c) p all = routine_typed at t c args p all
   done_as_typed at args (called.Standard f) p all = standard_typed at args f all
 
-  pub done_typed : (d : Meant g.Told) (args : List (Meant g.Told)) → Known_ d → AllKnown args → Stmt_ (done_by g s d args)
+  pub done_typed : (d : Meant g.Reported) (args : List (Meant g.Reported)) → Known_ d → AllKnown args → Stmt_ (done_by g s d args)
   done_typed d args p all = then_holds (then_holds p (λ e k. callee_typed x ws h.all g opens s.types h.types d.fixed.at e k)) (λ y k. done_as_typed d.fixed.at args y k all)

@@ -9,7 +9,7 @@ use Rattle.m2_tree.specs.declared.expr.Expr.TheOpen as layer
 use Rattle.m2_tree.specs.declared.expr.Selector.{Selector, Selector-F, out-Selector, roll-Selector, out-roll-Selector, map-Selector, fold_out-Selector}
 use Rattle.m2_tree.specs.declared.expr.Designator.{Designator, Designator-F, out-Designator, roll-Designator, out-roll-Designator, map-Designator, fold_out-Designator}
 use Rattle.m2_tree.specs.declared.expr.Item.{Item, Item-F, out-Item, roll-Item, out-roll-Item, map-Item, fold_out-Item}
-use Rattle.m2_judged.specs.Judged.{Gathers}
+use Rattle.m2_scopes.specs.Elaborated.{Gathers}
 use Rattle.m2_constants.specs.Parts.{Part, Pick, Adds}
 use Rattle.m2_constants.specs.Parts as constants
 use Rattle.m2_exprs.specs.Meanings.{Meant, Picks, expr_layer, selector_layer, designator_layer, item_layer, expr_fixed, selector_fixed, designator_fixed, meant, picks, head, item}
@@ -45,63 +45,63 @@ module _ (g : Gathers) where
 
   -- ---- a layer, each part of which has its meaning
 
-  abbrev opened : Expr-F Expr Selector Designator Item → Expr-F (Meant g.Told) (Picks g.Told) (Meant g.Told) (Adds g.Told)
-  opened x = map-Expr Expr Selector Designator Item (Meant g.Told) (Picks g.Told) (Meant g.Told) (Adds g.Told) (meant g) (picks g) (head g) (item g) x
+  abbrev opened : Expr-F Expr Selector Designator Item → Expr-F (Meant g.Reported) (Picks g.Reported) (Meant g.Reported) (Adds g.Reported)
+  opened x = map-Expr Expr Selector Designator Item (Meant g.Reported) (Picks g.Reported) (Meant g.Reported) (Adds g.Reported) (meant g) (picks g) (head g) (item g) x
 
-  abbrev opened_selector : Selector-F Expr Selector Designator Item → Selector-F (Meant g.Told) (Picks g.Told) (Meant g.Told) (Adds g.Told)
-  opened_selector x = map-Selector Expr Selector Designator Item (Meant g.Told) (Picks g.Told) (Meant g.Told) (Adds g.Told) (meant g) (picks g) (head g) (item g) x
+  abbrev opened_selector : Selector-F Expr Selector Designator Item → Selector-F (Meant g.Reported) (Picks g.Reported) (Meant g.Reported) (Adds g.Reported)
+  opened_selector x = map-Selector Expr Selector Designator Item (Meant g.Reported) (Picks g.Reported) (Meant g.Reported) (Adds g.Reported) (meant g) (picks g) (head g) (item g) x
 
-  abbrev opened_designator : Designator-F Expr Selector Designator Item → Designator-F (Meant g.Told) (Picks g.Told) (Meant g.Told) (Adds g.Told)
-  opened_designator x = map-Designator Expr Selector Designator Item (Meant g.Told) (Picks g.Told) (Meant g.Told) (Adds g.Told) (meant g) (picks g) (head g) (item g) x
+  abbrev opened_designator : Designator-F Expr Selector Designator Item → Designator-F (Meant g.Reported) (Picks g.Reported) (Meant g.Reported) (Adds g.Reported)
+  opened_designator x = map-Designator Expr Selector Designator Item (Meant g.Reported) (Picks g.Reported) (Meant g.Reported) (Adds g.Reported) (meant g) (picks g) (head g) (item g) x
 
-  abbrev opened_item : Item-F Expr Selector Designator Item → Item-F (Meant g.Told) (Picks g.Told) (Meant g.Told) (Adds g.Told)
-  opened_item x = map-Item Expr Selector Designator Item (Meant g.Told) (Picks g.Told) (Meant g.Told) (Adds g.Told) (meant g) (picks g) (head g) (item g) x
+  abbrev opened_item : Item-F Expr Selector Designator Item → Item-F (Meant g.Reported) (Picks g.Reported) (Meant g.Reported) (Adds g.Reported)
+  opened_item x = map-Item Expr Selector Designator Item (Meant g.Reported) (Picks g.Reported) (Meant g.Reported) (Adds g.Reported) (meant g) (picks g) (head g) (item g) x
 
   at : (e : Expr) (x : Expr-F Expr Selector Designator Item) → out-Expr e ≡ x → meant g e ≡ expr_layer g (opened x)
   unfolding meant picks head item
-  at e x h = fold_out-Expr (Meant g.Told) (Picks g.Told) (Meant g.Told) (Adds g.Told) (expr_layer g) (selector_layer g) (designator_layer g) (item_layer g) e ∙ ap (λ (y : Expr-F Expr Selector Designator Item). expr_layer g (opened y)) h
+  at e x h = fold_out-Expr (Meant g.Reported) (Picks g.Reported) (Meant g.Reported) (Adds g.Reported) (expr_layer g) (selector_layer g) (designator_layer g) (item_layer g) e ∙ ap (λ (y : Expr-F Expr Selector Designator Item). expr_layer g (opened y)) h
 
   at_selector : (e : Selector) (x : Selector-F Expr Selector Designator Item) → out-Selector e ≡ x → picks g e ≡ selector_layer g (opened_selector x)
   unfolding meant picks head item
-  at_selector e x h = fold_out-Selector (Meant g.Told) (Picks g.Told) (Meant g.Told) (Adds g.Told) (expr_layer g) (selector_layer g) (designator_layer g) (item_layer g) e ∙ ap (λ (y : Selector-F Expr Selector Designator Item). selector_layer g (opened_selector y)) h
+  at_selector e x h = fold_out-Selector (Meant g.Reported) (Picks g.Reported) (Meant g.Reported) (Adds g.Reported) (expr_layer g) (selector_layer g) (designator_layer g) (item_layer g) e ∙ ap (λ (y : Selector-F Expr Selector Designator Item). selector_layer g (opened_selector y)) h
 
   at_designator : (e : Designator) (x : Designator-F Expr Selector Designator Item) → out-Designator e ≡ x → head g e ≡ designator_layer g (opened_designator x)
   unfolding meant picks head item
-  at_designator e x h = fold_out-Designator (Meant g.Told) (Picks g.Told) (Meant g.Told) (Adds g.Told) (expr_layer g) (selector_layer g) (designator_layer g) (item_layer g) e ∙ ap (λ (y : Designator-F Expr Selector Designator Item). designator_layer g (opened_designator y)) h
+  at_designator e x h = fold_out-Designator (Meant g.Reported) (Picks g.Reported) (Meant g.Reported) (Adds g.Reported) (expr_layer g) (selector_layer g) (designator_layer g) (item_layer g) e ∙ ap (λ (y : Designator-F Expr Selector Designator Item). designator_layer g (opened_designator y)) h
 
   at_item : (e : Item) (x : Item-F Expr Selector Designator Item) → out-Item e ≡ x → item g e ≡ item_layer g (opened_item x)
   unfolding meant picks head item
-  at_item e x h = fold_out-Item (Meant g.Told) (Picks g.Told) (Meant g.Told) (Adds g.Told) (expr_layer g) (selector_layer g) (designator_layer g) (item_layer g) e ∙ ap (λ (y : Item-F Expr Selector Designator Item). item_layer g (opened_item y)) h
+  at_item e x h = fold_out-Item (Meant g.Reported) (Picks g.Reported) (Meant g.Reported) (Adds g.Reported) (expr_layer g) (selector_layer g) (designator_layer g) (item_layer g) e ∙ ap (λ (y : Item-F Expr Selector Designator Item). item_layer g (opened_item y)) h
 
   -- ---- the same of constant expressions
 
-  abbrev fixed_opened : Expr-F Expr Selector Designator Item → Expr-F (Part g.Told) (Pick g.Told) (Part g.Told) (Adds g.Told)
-  fixed_opened x = map-Expr Expr Selector Designator Item (Part g.Told) (Pick g.Told) (Part g.Told) (Adds g.Told) (constants.part g) (constants.pick g) (constants.head g) (constants.item g) x
+  abbrev fixed_opened : Expr-F Expr Selector Designator Item → Expr-F (Part g.Reported) (Pick g.Reported) (Part g.Reported) (Adds g.Reported)
+  fixed_opened x = map-Expr Expr Selector Designator Item (Part g.Reported) (Pick g.Reported) (Part g.Reported) (Adds g.Reported) (constants.part g) (constants.pick g) (constants.head g) (constants.item g) x
 
-  abbrev fixed_opened_selector : Selector-F Expr Selector Designator Item → Selector-F (Part g.Told) (Pick g.Told) (Part g.Told) (Adds g.Told)
-  fixed_opened_selector x = map-Selector Expr Selector Designator Item (Part g.Told) (Pick g.Told) (Part g.Told) (Adds g.Told) (constants.part g) (constants.pick g) (constants.head g) (constants.item g) x
+  abbrev fixed_opened_selector : Selector-F Expr Selector Designator Item → Selector-F (Part g.Reported) (Pick g.Reported) (Part g.Reported) (Adds g.Reported)
+  fixed_opened_selector x = map-Selector Expr Selector Designator Item (Part g.Reported) (Pick g.Reported) (Part g.Reported) (Adds g.Reported) (constants.part g) (constants.pick g) (constants.head g) (constants.item g) x
 
-  abbrev fixed_opened_designator : Designator-F Expr Selector Designator Item → Designator-F (Part g.Told) (Pick g.Told) (Part g.Told) (Adds g.Told)
-  fixed_opened_designator x = map-Designator Expr Selector Designator Item (Part g.Told) (Pick g.Told) (Part g.Told) (Adds g.Told) (constants.part g) (constants.pick g) (constants.head g) (constants.item g) x
+  abbrev fixed_opened_designator : Designator-F Expr Selector Designator Item → Designator-F (Part g.Reported) (Pick g.Reported) (Part g.Reported) (Adds g.Reported)
+  fixed_opened_designator x = map-Designator Expr Selector Designator Item (Part g.Reported) (Pick g.Reported) (Part g.Reported) (Adds g.Reported) (constants.part g) (constants.pick g) (constants.head g) (constants.item g) x
 
-  abbrev fixed_opened_item : Item-F Expr Selector Designator Item → Item-F (Part g.Told) (Pick g.Told) (Part g.Told) (Adds g.Told)
-  fixed_opened_item x = map-Item Expr Selector Designator Item (Part g.Told) (Pick g.Told) (Part g.Told) (Adds g.Told) (constants.part g) (constants.pick g) (constants.head g) (constants.item g) x
+  abbrev fixed_opened_item : Item-F Expr Selector Designator Item → Item-F (Part g.Reported) (Pick g.Reported) (Part g.Reported) (Adds g.Reported)
+  fixed_opened_item x = map-Item Expr Selector Designator Item (Part g.Reported) (Pick g.Reported) (Part g.Reported) (Adds g.Reported) (constants.part g) (constants.pick g) (constants.head g) (constants.item g) x
 
   fixed_at : (e : Expr) (x : Expr-F Expr Selector Designator Item) → out-Expr e ≡ x → constants.part g e ≡ constants.expr_layer g (fixed_opened x)
   unfolding constants.part constants.pick constants.head constants.item
-  fixed_at e x h = fold_out-Expr (Part g.Told) (Pick g.Told) (Part g.Told) (Adds g.Told) (constants.expr_layer g) (constants.selector_layer g) (constants.designator_layer g) (constants.item_layer g) e ∙ ap (λ (y : Expr-F Expr Selector Designator Item). constants.expr_layer g (fixed_opened y)) h
+  fixed_at e x h = fold_out-Expr (Part g.Reported) (Pick g.Reported) (Part g.Reported) (Adds g.Reported) (constants.expr_layer g) (constants.selector_layer g) (constants.designator_layer g) (constants.item_layer g) e ∙ ap (λ (y : Expr-F Expr Selector Designator Item). constants.expr_layer g (fixed_opened y)) h
 
   fixed_at_selector : (e : Selector) (x : Selector-F Expr Selector Designator Item) → out-Selector e ≡ x → constants.pick g e ≡ constants.selector_layer g (fixed_opened_selector x)
   unfolding constants.part constants.pick constants.head constants.item
-  fixed_at_selector e x h = fold_out-Selector (Part g.Told) (Pick g.Told) (Part g.Told) (Adds g.Told) (constants.expr_layer g) (constants.selector_layer g) (constants.designator_layer g) (constants.item_layer g) e ∙ ap (λ (y : Selector-F Expr Selector Designator Item). constants.selector_layer g (fixed_opened_selector y)) h
+  fixed_at_selector e x h = fold_out-Selector (Part g.Reported) (Pick g.Reported) (Part g.Reported) (Adds g.Reported) (constants.expr_layer g) (constants.selector_layer g) (constants.designator_layer g) (constants.item_layer g) e ∙ ap (λ (y : Selector-F Expr Selector Designator Item). constants.selector_layer g (fixed_opened_selector y)) h
 
   fixed_at_designator : (e : Designator) (x : Designator-F Expr Selector Designator Item) → out-Designator e ≡ x → constants.head g e ≡ constants.designator_layer g (fixed_opened_designator x)
   unfolding constants.part constants.pick constants.head constants.item
-  fixed_at_designator e x h = fold_out-Designator (Part g.Told) (Pick g.Told) (Part g.Told) (Adds g.Told) (constants.expr_layer g) (constants.selector_layer g) (constants.designator_layer g) (constants.item_layer g) e ∙ ap (λ (y : Designator-F Expr Selector Designator Item). constants.designator_layer g (fixed_opened_designator y)) h
+  fixed_at_designator e x h = fold_out-Designator (Part g.Reported) (Pick g.Reported) (Part g.Reported) (Adds g.Reported) (constants.expr_layer g) (constants.selector_layer g) (constants.designator_layer g) (constants.item_layer g) e ∙ ap (λ (y : Designator-F Expr Selector Designator Item). constants.designator_layer g (fixed_opened_designator y)) h
 
   fixed_at_item : (e : Item) (x : Item-F Expr Selector Designator Item) → out-Item e ≡ x → constants.item g e ≡ constants.item_layer g (fixed_opened_item x)
   unfolding constants.part constants.pick constants.head constants.item
-  fixed_at_item e x h = fold_out-Item (Part g.Told) (Pick g.Told) (Part g.Told) (Adds g.Told) (constants.expr_layer g) (constants.selector_layer g) (constants.designator_layer g) (constants.item_layer g) e ∙ ap (λ (y : Item-F Expr Selector Designator Item). constants.item_layer g (fixed_opened_item y)) h
+  fixed_at_item e x h = fold_out-Item (Part g.Reported) (Pick g.Reported) (Part g.Reported) (Adds g.Reported) (constants.expr_layer g) (constants.selector_layer g) (constants.designator_layer g) (constants.item_layer g) e ∙ ap (λ (y : Item-F Expr Selector Designator Item). constants.item_layer g (fixed_opened_item y)) h
 
   -- ---- a layer of parts for which it is known
 
@@ -120,68 +120,68 @@ module _ (g : Gathers) where
   abbrev bared : {O : Type 0} → Operator O × SE → Operator O × Expr
   bared a = (a.0, a.1.0)
 
-  abbrev judged : {O : Type 0} → Operator O × Expr → Operator O × Meant g.Told
-  judged x = (x.0, meant g x.1)
+  abbrev elaborated : {O : Type 0} → Operator O × Expr → Operator O × Meant g.Reported
+  elaborated x = (x.0, meant g x.1)
 
-  abbrev fixed_part : {O : Type 0} → Operator O × Meant g.Told → Operator O × Part g.Told
+  abbrev fixed_part : {O : Type 0} → Operator O × Meant g.Reported → Operator O × Part g.Reported
   fixed_part x = (x.0, x.1.fixed)
 
-  abbrev alone : {O : Type 0} → Operator O × Expr → Operator O × Part g.Told
+  abbrev alone : {O : Type 0} → Operator O × Expr → Operator O × Part g.Reported
   alone x = (x.0, constants.part g x.1)
 
-  operands : {O : Type 0} (xs : List (Operator O × SE)) → map (fixed_part {O = O}) (map (judged {O = O}) (map (bared {O = O}) xs)) ≡ map (alone {O = O}) (map (bared {O = O}) xs)
-  operands {O = O} xs = maps (bared {O = O}) (judged {O = O}) (fixed_part {O = O}) (alone {O = O}) (λ a. ap {A = Part g.Told} {B = Operator O × Part g.Told} (λ q. (a.0, q)) a.1.1) xs
+  operands : {O : Type 0} (xs : List (Operator O × SE)) → map (fixed_part {O = O}) (map (elaborated {O = O}) (map (bared {O = O}) xs)) ≡ map (alone {O = O}) (map (bared {O = O}) xs)
+  operands {O = O} xs = maps (bared {O = O}) (elaborated {O = O}) (fixed_part {O = O}) (alone {O = O}) (λ a. ap {A = Part g.Reported} {B = Operator O × Part g.Reported} (λ q. (a.0, q)) a.1.1) xs
 
-  exprs : (xs : List SE) → map (λ (x : Meant g.Told). x.fixed) (map (meant g) (map (λ (a : SE). a.0) xs)) ≡ map (constants.part g) (map (λ (a : SE). a.0) xs)
-  exprs xs = maps (λ (a : SE). a.0) (meant g) (λ (x : Meant g.Told). x.fixed) (constants.part g) (λ a. a.1) xs
+  exprs : (xs : List SE) → map (λ (x : Meant g.Reported). x.fixed) (map (meant g) (map (λ (a : SE). a.0) xs)) ≡ map (constants.part g) (map (λ (a : SE). a.0) xs)
+  exprs xs = maps (λ (a : SE). a.0) (meant g) (λ (x : Meant g.Reported). x.fixed) (constants.part g) (λ a. a.1) xs
 
-  selectors : (xs : List SS) → map (λ (x : Picks g.Told). x.fixed) (map (picks g) (map (λ (a : SS). a.0) xs)) ≡ map (constants.pick g) (map (λ (a : SS). a.0) xs)
-  selectors xs = maps (λ (a : SS). a.0) (picks g) (λ (x : Picks g.Told). x.fixed) (constants.pick g) (λ a. a.1) xs
+  selectors : (xs : List SS) → map (λ (x : Picks g.Reported). x.fixed) (map (picks g) (map (λ (a : SS). a.0) xs)) ≡ map (constants.pick g) (map (λ (a : SS). a.0) xs)
+  selectors xs = maps (λ (a : SS). a.0) (picks g) (λ (x : Picks g.Reported). x.fixed) (constants.pick g) (λ a. a.1) xs
 
-  items : (xs : List SI) → map (λ (x : Adds g.Told). x) (map (item g) (map (λ (a : SI). a.0) xs)) ≡ map (constants.item g) (map (λ (a : SI). a.0) xs)
-  items xs = maps (λ (a : SI). a.0) (item g) (λ (x : Adds g.Told). x) (constants.item g) (λ a. a.1) xs
+  items : (xs : List SI) → map (λ (x : Adds g.Reported). x) (map (item g) (map (λ (a : SI). a.0) xs)) ≡ map (constants.item g) (map (λ (a : SI). a.0) xs)
+  items xs = maps (λ (a : SI). a.0) (item g) (λ (x : Adds g.Reported). x) (constants.item g) (λ a. a.1) xs
 
-  abbrev L : Expr-F (Part g.Told) (Pick g.Told) (Part g.Told) (Adds g.Told) → Part g.Told
+  abbrev L : Expr-F (Part g.Reported) (Pick g.Reported) (Part g.Reported) (Adds g.Reported) → Part g.Reported
   L = constants.expr_layer g
 
   expr_beside : (y : Expr-F SE SS SD SI) → expr_fixed g (opened (bare y)) ≡ L (fixed_opened (bare y))
   expr_beside (layer.Number p n) = refl
   expr_beside (layer.Char p n) = refl
   expr_beside (layer.Text p t) = refl
-  expr_beside (layer.Set q p xs) = ap (λ (ys : List (Adds g.Told)). L (layer.Set q p ys)) (items xs)
-  expr_beside (layer.Not p e) = ap (λ (x : Part g.Told). L (layer.Not p x)) e.1
-  expr_beside (layer.Bracketed p e) = ap (λ (x : Part g.Told). L (layer.Bracketed p x)) e.1
-  expr_beside (layer.Use d None) = ap (λ (x : Part g.Told). L (layer.Use x None)) d.1
-  expr_beside (layer.Use d (Some es)) = ap (λ (x : Part g.Told). L (layer.Use x (Some (map (λ (x : Meant g.Told). x.fixed) (map (meant g) (map (λ (a : SE). a.0) es)))))) d.1
-      ∙ ap (λ (ys : List (Part g.Told)). L (layer.Use (constants.head g d.0) (Some ys))) (exprs es)
-  expr_beside (layer.Term e xs) = ap (λ (x : Part g.Told). L (layer.Term x (map fixed_part (map judged (map bared xs))))) e.1
-      ∙ ap (λ (ys : List (Operator MulOp × Part g.Told)). L (layer.Term (constants.part g e.0) ys)) (operands xs)
-  expr_beside (layer.Sum o e xs) = ap (λ (x : Part g.Told). L (layer.Sum o x (map fixed_part (map judged (map bared xs))))) e.1
-      ∙ ap (λ (ys : List (Operator AddOp × Part g.Told)). L (layer.Sum o (constants.part g e.0) ys)) (operands xs)
-  expr_beside (layer.Relation a o b) = ap (λ (x : Part g.Told). L (layer.Relation x o (meant g b.0).fixed)) a.1 ∙ ap (λ (x : Part g.Told). L (layer.Relation (constants.part g a.0) o x)) b.1
+  expr_beside (layer.Set q p xs) = ap (λ (ys : List (Adds g.Reported)). L (layer.Set q p ys)) (items xs)
+  expr_beside (layer.Not p e) = ap (λ (x : Part g.Reported). L (layer.Not p x)) e.1
+  expr_beside (layer.Bracketed p e) = ap (λ (x : Part g.Reported). L (layer.Bracketed p x)) e.1
+  expr_beside (layer.Use d None) = ap (λ (x : Part g.Reported). L (layer.Use x None)) d.1
+  expr_beside (layer.Use d (Some es)) = ap (λ (x : Part g.Reported). L (layer.Use x (Some (map (λ (x : Meant g.Reported). x.fixed) (map (meant g) (map (λ (a : SE). a.0) es)))))) d.1
+      ∙ ap (λ (ys : List (Part g.Reported)). L (layer.Use (constants.head g d.0) (Some ys))) (exprs es)
+  expr_beside (layer.Term e xs) = ap (λ (x : Part g.Reported). L (layer.Term x (map fixed_part (map elaborated (map bared xs))))) e.1
+      ∙ ap (λ (ys : List (Operator MulOp × Part g.Reported)). L (layer.Term (constants.part g e.0) ys)) (operands xs)
+  expr_beside (layer.Sum o e xs) = ap (λ (x : Part g.Reported). L (layer.Sum o x (map fixed_part (map elaborated (map bared xs))))) e.1
+      ∙ ap (λ (ys : List (Operator AddOp × Part g.Reported)). L (layer.Sum o (constants.part g e.0) ys)) (operands xs)
+  expr_beside (layer.Relation a o b) = ap (λ (x : Part g.Reported). L (layer.Relation x o (meant g b.0).fixed)) a.1 ∙ ap (λ (x : Part g.Reported). L (layer.Relation (constants.part g a.0) o x)) b.1
 
   selector_beside : (y : Selector-F SE SS SD SI) → selector_fixed g (opened_selector (bare_selector y)) ≡ constants.selector_layer g (fixed_opened_selector (bare_selector y))
   selector_beside (layer.Field p name) = refl
   selector_beside (layer.Index p e) = refl
 
   designator_beside : (y : Designator-F SE SS SD SI) → designator_fixed g (opened_designator (bare_designator y)) ≡ constants.designator_layer g (fixed_opened_designator (bare_designator y))
-  designator_beside y = ap (λ (ys : List (Pick g.Told)). constants.designator_layer g (record { name = y.name; selectors = ys })) (selectors y.selectors)
+  designator_beside y = ap (λ (ys : List (Pick g.Reported)). constants.designator_layer g (record { name = y.name; selectors = ys })) (selectors y.selectors)
 
   item_beside : (low : SE) (high : Option SE) → item_layer g (opened_item (bare_item (record { low = low; high = high }))) ≡ constants.item_layer g (fixed_opened_item (bare_item (record { low = low; high = high })))
-  item_beside low None = ap (λ (x : Part g.Told). constants.item_layer g (record { low = x; high = None })) low.1
-  item_beside low (Some high) = ap (λ (x : Part g.Told). constants.item_layer g (record { low = x; high = Some (meant g high.0).fixed })) low.1
-      ∙ ap (λ (x : Part g.Told). constants.item_layer g (record { low = constants.part g low.0; high = Some x })) high.1
+  item_beside low None = ap (λ (x : Part g.Reported). constants.item_layer g (record { low = x; high = None })) low.1
+  item_beside low (Some high) = ap (λ (x : Part g.Reported). constants.item_layer g (record { low = x; high = Some (meant g high.0).fixed })) low.1
+      ∙ ap (λ (x : Part g.Reported). constants.item_layer g (record { low = constants.part g low.0; high = Some x })) high.1
 
   -- ---- the induction
 
   step_expr : (x : Expr-F Expr Selector Designator Item) (y : Expr-F SE SS SD SI) → bare y ≡ x → PE (roll-Expr x)
-  step_expr x y q = ap (λ (m : Meant g.Told). m.fixed) (at (roll-Expr x) (bare y) (out-roll-Expr x ∙ sym q)) ∙ expr_beside y ∙ sym (fixed_at (roll-Expr x) (bare y) (out-roll-Expr x ∙ sym q))
+  step_expr x y q = ap (λ (m : Meant g.Reported). m.fixed) (at (roll-Expr x) (bare y) (out-roll-Expr x ∙ sym q)) ∙ expr_beside y ∙ sym (fixed_at (roll-Expr x) (bare y) (out-roll-Expr x ∙ sym q))
 
   step_selector : (x : Selector-F Expr Selector Designator Item) (y : Selector-F SE SS SD SI) → bare_selector y ≡ x → PS (roll-Selector x)
-  step_selector x y q = ap (λ (m : Picks g.Told). m.fixed) (at_selector (roll-Selector x) (bare_selector y) (out-roll-Selector x ∙ sym q)) ∙ selector_beside y ∙ sym (fixed_at_selector (roll-Selector x) (bare_selector y) (out-roll-Selector x ∙ sym q))
+  step_selector x y q = ap (λ (m : Picks g.Reported). m.fixed) (at_selector (roll-Selector x) (bare_selector y) (out-roll-Selector x ∙ sym q)) ∙ selector_beside y ∙ sym (fixed_at_selector (roll-Selector x) (bare_selector y) (out-roll-Selector x ∙ sym q))
 
   step_designator : (x : Designator-F Expr Selector Designator Item) (y : Designator-F SE SS SD SI) → bare_designator y ≡ x → PD (roll-Designator x)
-  step_designator x y q = ap (λ (m : Meant g.Told). m.fixed) (at_designator (roll-Designator x) (bare_designator y) (out-roll-Designator x ∙ sym q)) ∙ designator_beside y ∙ sym (fixed_at_designator (roll-Designator x) (bare_designator y) (out-roll-Designator x ∙ sym q))
+  step_designator x y q = ap (λ (m : Meant g.Reported). m.fixed) (at_designator (roll-Designator x) (bare_designator y) (out-roll-Designator x ∙ sym q)) ∙ designator_beside y ∙ sym (fixed_at_designator (roll-Designator x) (bare_designator y) (out-roll-Designator x ∙ sym q))
 
   step_item : (x : Item-F Expr Selector Designator Item) (y : Item-F SE SS SD SI) → bare_item y ≡ x → PI (roll-Item x)
   step_item x y q = at_item (roll-Item x) (bare_item y) (out-roll-Item x ∙ sym q) ∙ item_beside y.low y.high ∙ sym (fixed_at_item (roll-Item x) (bare_item y) (out-roll-Item x ∙ sym q))

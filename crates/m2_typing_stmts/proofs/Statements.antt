@@ -15,8 +15,8 @@ use Rattle.m2_typed.specs.declared.statement.TypedArm.{TypedArm}
 use Rattle.m2_typed.specs.declared.statement.TypedStmt.{TypedStmt}
 use Rattle.m2_typed.specs.declared.statement.TypedStmt.TheVariants as step
 use Rattle.m2_typed.specs.declared.types.TypeNo.{TypeNo}
-use Rattle.m2_judged.specs.Judged.{Gathers}
-use Rattle.m2_judged.specs.declared.scope.Scope.{Scope}
+use Rattle.m2_scopes.specs.Elaborated.{Gathers}
+use Rattle.m2_scopes.specs.declared.scope.Scope.{Scope}
 use Rattle.m2_exprs.specs.Meanings.{meant, head, value_of}
 use Rattle.m2_layout.specs.Types.{Ty}
 use Rattle.m2_layout.specs.Shapes.{tree}
@@ -33,7 +33,7 @@ use Rattle.m2_typing.proofs.Meanings.{AllM, value_typed}
 use Rattle.m2_steps.specs.declared.around.Around.{Around}
 use Rattle.m2_steps.specs.Lists.{with_next, chosen, chosen_else, cased, armed, repeated_while, repeated_until, looped, within}
 use Rattle.m2_steps.specs.Simple.{condition, meant_if, in_loop, opened}
-use Rattle.m2_stmts.specs.Statements.{Judges, JudgesRest, JudgesArm, Arms, args_meant, with_stmt, all_of, all_if, with_arm, arms_of, stmt_layer, rest_layer, arm_layer, stmt, rest, arm, with_written, statements}
+use Rattle.m2_stmts.specs.Statements.{Elaborates, ElaboratesRest, ElaboratesArm, Arms, args_meant, with_stmt, all_of, all_if, with_arm, arms_of, stmt_layer, rest_layer, arm_layer, stmt, rest, arm, with_written, statements}
 use Rattle.m2_typing_stmts.specs.TypingStmts.{fits_if, all_fit, fits_step, fits_label, fits_stmt_layer, fits_rest_layer, fits_arm_layer, fits_rest, fits_stmt, fits_arm, StmtTyped, StmtsTyped, AreReturned, StatementsAreTyped}
 use Rattle.m2_typing_stmts.proofs.Constructs.{TestTyped, EachTyped, each_more, all_typed, ArmTyped, ArmsTyped, arms_more, if_typed, if_else_typed, case_typed, case_else_typed, while_typed, repeat_typed, loop_typed, with_typed}
 use Rattle.m2_typing_stmts.proofs.Within.{within_typed, within_count, within_ranged}
@@ -42,7 +42,7 @@ use Rattle.m2_typing_stmts.proofs.Labels.{labels_typed}
 use Rattle.m2_typing_stmts.proofs.Effects.{assignment_typed, done_typed}
 
 -- what is known of a scope within WITHs of records of these types
-pub record InScope (g : Gathers) (x : Context) (opens : ℕ → Bool) (ws : List Ty) (s : Scope g.Told) : Type 0 where
+pub record InScope (g : Gathers) (x : Context) (opens : ℕ → Bool) (ws : List Ty) (s : Scope g.Reported) : Type 0 where
   pub typed : IsTyped g x ws opens s
   pub ranged : ScopeRanged s
   pub count : length ws ≡ length s.withs
@@ -51,104 +51,104 @@ module _ (g : Gathers) (exprs : ExpressionsAreTyped g) (heads : DesignatorsAreTy
   abbrev types : Types
   types = x.home.types
 
-  abbrev In : List Ty → Scope g.Told → Type 0
+  abbrev In : List Ty → Scope g.Reported → Type 0
   In ws s = InScope g x opens ws s
 
-  abbrev Stmt_ : List Ty → Around g.Told → Result TypedStmt g.Told → Type 0
+  abbrev Stmt_ : List Ty → Around g.Reported → Result TypedStmt g.Reported → Type 0
   Stmt_ ws a r = Holds (StmtTyped x result ws a.in_loop) r
 
-  abbrev Stmts_ : List Ty → Around g.Told → Result (List TypedStmt) g.Told → Type 0
+  abbrev Stmts_ : List Ty → Around g.Reported → Result (List TypedStmt) g.Reported → Type 0
   Stmts_ ws a r = Holds (EachTyped x result ws a.in_loop) r
 
   abbrev OthersTyped : List Ty → Bool → Option (List TypedStmt) → Type 0
   OthersTyped ws l None = Unit {0}
   OthersTyped ws l (Some ss) = EachTyped x result ws l ss
 
-  abbrev Others_ : List Ty → Around g.Told → Result (Option (List TypedStmt)) g.Told → Type 0
+  abbrev Others_ : List Ty → Around g.Reported → Result (Option (List TypedStmt)) g.Reported → Type 0
   Others_ ws a r = Holds (OthersTyped ws a.in_loop) r
 
-  abbrev Arms_ : List Ty → Around g.Told → Result (List TypedArm) g.Told → Type 0
+  abbrev Arms_ : List Ty → Around g.Reported → Result (List TypedArm) g.Reported → Type 0
   Arms_ ws a r = Holds (ArmsTyped x result ws a.in_loop) r
 
-  abbrev Arm_ : List Ty → Around g.Told → Result TypedArm g.Told → Type 0
+  abbrev Arm_ : List Ty → Around g.Reported → Result TypedArm g.Reported → Type 0
   Arm_ ws a r = Holds (ArmTyped x result ws a.in_loop) r
 
-  abbrev Returned : Around g.Told → Type 0
+  abbrev Returned : Around g.Reported → Type 0
   Returned a = AreReturned types a.gives result
 
-  abbrev TypedJudges : Judges g.Told → Type 0
-  TypedJudges f = (ws : List Ty) (s : Scope g.Told) → In ws s → (a : Around g.Told) → Returned a → Stmt_ ws a (f s a)
+  abbrev TypedElaborates : Elaborates g.Reported → Type 0
+  TypedElaborates f = (ws : List Ty) (s : Scope g.Reported) → In ws s → (a : Around g.Reported) → Returned a → Stmt_ ws a (f s a)
 
-  abbrev TypedRest : JudgesRest g.Told → Type 0
-  TypedRest f = (ws : List Ty) (s : Scope g.Told) → In ws s → (a : Around g.Told) → Returned a → Others_ ws a (f s a)
+  abbrev TypedRest : ElaboratesRest g.Reported → Type 0
+  TypedRest f = (ws : List Ty) (s : Scope g.Reported) → In ws s → (a : Around g.Reported) → Returned a → Others_ ws a (f s a)
 
-  abbrev TypedArms : JudgesArm g.Told → Type 0
-  TypedArms f = (ws : List Ty) (s : Scope g.Told) → In ws s → (a : Around g.Told) → Returned a → (base : TypeNo) (ranges : List (ℤ × ℤ)) → Arm_ ws a (f s a base ranges).1
+  abbrev TypedArms : ElaboratesArm g.Reported → Type 0
+  TypedArms f = (ws : List Ty) (s : Scope g.Reported) → In ws s → (a : Around g.Reported) → Returned a → (base : TypeNo) (ranges : List (ℤ × ℤ)) → Arm_ ws a (f s a base ranges).1
 
-  abbrev AllJ : List (Judges g.Told) → Type 0
+  abbrev AllJ : List (Elaborates g.Reported) → Type 0
   AllJ [] = Unit {0}
-  AllJ (y ∷ ys) = TypedJudges y × AllJ ys
+  AllJ (y ∷ ys) = TypedElaborates y × AllJ ys
 
-  abbrev AllA : List (JudgesArm g.Told) → Type 0
+  abbrev AllA : List (ElaboratesArm g.Reported) → Type 0
   AllA [] = Unit {0}
   AllA (y ∷ ys) = TypedArms y × AllA ys
 
-  module _ (ws : List Ty) (s : Scope g.Told) (h : In ws s) (a : Around g.Told) (e : Returned a) where
-    next_stmt : {so : Result (List TypedStmt) g.Told} {r : Result TypedStmt g.Told} → Stmts_ ws a so → Stmt_ ws a r → Stmts_ ws a (with_next g so r)
+  module _ (ws : List Ty) (s : Scope g.Reported) (h : In ws s) (a : Around g.Reported) (e : Returned a) where
+    next_stmt : {so : Result (List TypedStmt) g.Reported} {r : Result TypedStmt g.Reported} → Stmts_ ws a so → Stmt_ ws a r → Stmts_ ws a (with_next g so r)
     next_stmt p q = then_holds (both_holds g p q) (λ v k. fine (v.0 ++ v.1 ∷ []) (each_more x result ws a.in_loop v.0 v.1 k.0 k.1))
 
-    next_arm : {so : Result (List TypedArm) g.Told} {r : Result TypedArm g.Told} → Arms_ ws a so → Arm_ ws a r → Arms_ ws a (with_next g so r)
+    next_arm : {so : Result (List TypedArm) g.Reported} {r : Result TypedArm g.Reported} → Arms_ ws a so → Arm_ ws a r → Arms_ ws a (with_next g so r)
     next_arm p q = then_holds (both_holds g p q) (λ v k. fine (v.0 ++ v.1 ∷ []) (arms_more x result ws a.in_loop v.0 v.1 k.0 k.1))
 
-    from_stmts : (ys : List (Judges g.Told)) (so : Result (List TypedStmt) g.Told) → Stmts_ ws a so → AllJ ys → Stmts_ ws a (fold (with_stmt g s a) so ys)
+    from_stmts : (ys : List (Elaborates g.Reported)) (so : Result (List TypedStmt) g.Reported) → Stmts_ ws a so → AllJ ys → Stmts_ ws a (fold (with_stmt g s a) so ys)
     from_stmts [] so p all = p
     from_stmts (y ∷ ys) so p all = from_stmts ys (with_stmt g s a so y) (next_stmt p (all.0 ws s h a e)) all.1
 
-    all_stmts : (ys : List (Judges g.Told)) → AllJ ys → Stmts_ ws a (all_of g s a ys)
+    all_stmts : (ys : List (Elaborates g.Reported)) → AllJ ys → Stmts_ ws a (all_of g s a ys)
     all_stmts ys all = from_stmts ys (Ok []) (fine [] tt) all
 
-    standing_typed : (ys : List (Judges g.Told)) → AllJ ys → Others_ ws a (all_if g s a (Some ys))
+    standing_typed : (ys : List (Elaborates g.Reported)) → AllJ ys → Others_ ws a (all_if g s a (Some ys))
     standing_typed ys all = then_holds (all_stmts ys all) (λ v k. fine (Some v) k)
 
-    from_arms : (base : TypeNo) (ys : List (JudgesArm g.Told)) (st : Arms g.Told) → Arms_ ws a st.1 → AllA ys → Arms_ ws a (fold (with_arm g s a base) st ys).1
+    from_arms : (base : TypeNo) (ys : List (ElaboratesArm g.Reported)) (st : Arms g.Reported) → Arms_ ws a st.1 → AllA ys → Arms_ ws a (fold (with_arm g s a base) st ys).1
     from_arms base [] st p all = p
     from_arms base (y ∷ ys) st p all = from_arms base ys (with_arm g s a base st y) (next_arm p (all.0 ws s h a e base st.0)) all.1
 
-    all_arms : (base : TypeNo) (ys : List (JudgesArm g.Told)) → AllA ys → Arms_ ws a (arms_of g s a base ys)
+    all_arms : (base : TypeNo) (ys : List (ElaboratesArm g.Reported)) → AllA ys → Arms_ ws a (arms_of g s a base ys)
     all_arms base ys all = from_arms base ys ([], Ok []) (fine [] tt) all
 
     -- ---- statements around others
 
-    abbrev Test_ : Result TypedExpr g.Told → Type 0
+    abbrev Test_ : Result TypedExpr g.Reported → Type 0
     Test_ r = Holds (λ y. TestTyped x ws y) r
 
     chosen_as : (c : TypedExpr) (body : List TypedStmt) (o : Option (List TypedStmt)) → TestTyped x ws c → EachTyped x result ws a.in_loop body → OthersTyped ws a.in_loop o → StmtTyped x result ws a.in_loop (step.If c body o)
     chosen_as c body None p q r = if_typed x result ws a.in_loop c body p q
     chosen_as c body (Some others) p q r = if_else_typed x result ws a.in_loop c body others p q r
 
-    chosen_typed : {c : Result TypedExpr g.Told} {body : Result (List TypedStmt) g.Told} {follow : Result (Option (List TypedStmt)) g.Told} → Test_ c → Stmts_ ws a body → Others_ ws a follow → Stmt_ ws a (chosen g c body follow)
+    chosen_typed : {c : Result TypedExpr g.Reported} {body : Result (List TypedStmt) g.Reported} {follow : Result (Option (List TypedStmt)) g.Reported} → Test_ c → Stmts_ ws a body → Others_ ws a follow → Stmt_ ws a (chosen g c body follow)
     chosen_typed p q r = then_holds (both_holds g p (both_holds g q r)) (λ v k. fine (step.If v.0 v.1.0 v.1.1) (chosen_as v.0 v.1.0 v.1.1 k.0 k.1.0 k.1.1))
 
-    chosen_else_typed : {r : Result TypedStmt g.Told} → Stmt_ ws a r → Others_ ws a (chosen_else r)
+    chosen_else_typed : {r : Result TypedStmt g.Reported} → Stmt_ ws a r → Others_ ws a (chosen_else r)
     chosen_else_typed p = then_holds p (λ v k. fine (Some (v ∷ [])) (k, tt))
 
     cased_as : (c : TypedExpr) (arms : List TypedArm) (o : Option (List TypedStmt)) → SomeTyped x ws h.typed.all c → ArmsTyped x result ws a.in_loop arms → OthersTyped ws a.in_loop o → StmtTyped x result ws a.in_loop (step.Case c arms o)
     cased_as c arms None p q r = case_typed x result ws a.in_loop p.of c arms p.typed q
     cased_as c arms (Some others) p q r = case_else_typed x result ws a.in_loop p.of c arms others p.typed q r
 
-    cased_typed : (c : TypedExpr) {arms : Result (List TypedArm) g.Told} {otherwise : Result (Option (List TypedStmt)) g.Told} → SomeTyped x ws h.typed.all c → Arms_ ws a arms → Others_ ws a otherwise → Stmt_ ws a (cased g c arms otherwise)
+    cased_typed : (c : TypedExpr) {arms : Result (List TypedArm) g.Reported} {otherwise : Result (Option (List TypedStmt)) g.Reported} → SomeTyped x ws h.typed.all c → Arms_ ws a arms → Others_ ws a otherwise → Stmt_ ws a (cased g c arms otherwise)
     cased_typed c p q r = then_holds (both_holds g q r) (λ v k. fine (step.Case c v.0 v.1) (cased_as c v.0 v.1 p k.0 k.1))
 
-    while_all : {c : Result TypedExpr g.Told} {body : Result (List TypedStmt) g.Told} → Test_ c → Stmts_ ws a body → Stmt_ ws a (repeated_while g c body)
+    while_all : {c : Result TypedExpr g.Reported} {body : Result (List TypedStmt) g.Reported} → Test_ c → Stmts_ ws a body → Stmt_ ws a (repeated_while g c body)
     while_all p q = then_holds (both_holds g p q) (λ v k. fine (step.While v.0 v.1) (while_typed x result ws a.in_loop v.0 v.1 k.0 k.1))
 
-    until_all : {c : Result TypedExpr g.Told} {body : Result (List TypedStmt) g.Told} → Stmts_ ws a body → Test_ c → Stmt_ ws a (repeated_until g body c)
+    until_all : {c : Result TypedExpr g.Reported} {body : Result (List TypedStmt) g.Reported} → Stmts_ ws a body → Test_ c → Stmt_ ws a (repeated_until g body c)
     until_all q p = then_holds (both_holds g q p) (λ v k. fine (step.Repeat v.0 v.1) (repeat_typed x result ws a.in_loop v.0 v.1 k.0 k.1))
 
-    looped_typed : {body : Result (List TypedStmt) g.Told} → Stmts_ ws (in_loop a) body → Stmt_ ws a (looped body)
+    looped_typed : {body : Result (List TypedStmt) g.Reported} → Stmts_ ws (in_loop a) body → Stmt_ ws a (looped body)
     looped_typed p = then_holds p (λ v k. fine (step.Loop v) (loop_typed x result ws a.in_loop v k))
 
-    within_all : (t : Ty) (d : Place) {body : Result (List TypedStmt) g.Told} → PlaceTyped x ws d t → Stmts_ (ws ++ t ∷ []) a body → Stmt_ ws a (within d body)
+    within_all : (t : Ty) (d : Place) {body : Result (List TypedStmt) g.Reported} → PlaceTyped x ws d t → Stmts_ (ws ++ t ∷ []) a body → Stmt_ ws a (within d body)
     within_all t d q p = then_holds p (λ v k. fine (step.With d v) (with_typed x result ws a.in_loop t d v q k))
 
     -- ---- parts
@@ -168,7 +168,7 @@ module _ (g : Gathers) (exprs : ExpressionsAreTyped g) (heads : DesignatorsAreTy
     test_typed : (y : Expr) → fits_whole y ≡ true → Test_ (condition g s (meant g y))
     test_typed y f = condition_typed g x ws opens s h.typed (meant g y).fixed.at (value_typed g x ws opens s h.typed (meant g y) (exprs x ws opens s h.typed y f))
 
-  inner_scope : (ws : List Ty) (s : Scope g.Told) (t : TypeNo) → In ws s → In (ws ++ tree types t ∷ []) (opened s t)
+  inner_scope : (ws : List Ty) (s : Scope g.Reported) (t : TypeNo) → In ws s → In (ws ++ tree types t ∷ []) (opened s t)
   inner_scope ws s t h = record {
     typed = within_typed g x ws opens s h.typed h.count t;
     ranged = within_ranged s t h.ranged;
@@ -181,7 +181,7 @@ module _ (g : Gathers) (exprs : ExpressionsAreTyped g) (heads : DesignatorsAreTy
   PR y = fits_rest y ≡ true → TypedRest (rest g y)
 
   abbrev PS : Stmt → Type 0
-  PS y = fits_stmt y ≡ true → TypedJudges (stmt g y)
+  PS y = fits_stmt y ≡ true → TypedElaborates (stmt g y)
 
   abbrev PA : Arm → Type 0
   PA y = fits_arm y ≡ true → TypedArms (arm g y)
@@ -195,26 +195,26 @@ module _ (g : Gathers) (exprs : ExpressionsAreTyped g) (heads : DesignatorsAreTy
   abbrev SA : Type 0
   SA = (y : Arm) × PA y
 
-  abbrev opened_stmt : Stmt-F Rest Stmt Arm → Stmt-F (JudgesRest g.Told) (Judges g.Told) (JudgesArm g.Told)
-  opened_stmt y = map-Stmt Rest Stmt Arm (JudgesRest g.Told) (Judges g.Told) (JudgesArm g.Told) (rest g) (stmt g) (arm g) y
+  abbrev opened_stmt : Stmt-F Rest Stmt Arm → Stmt-F (ElaboratesRest g.Reported) (Elaborates g.Reported) (ElaboratesArm g.Reported)
+  opened_stmt y = map-Stmt Rest Stmt Arm (ElaboratesRest g.Reported) (Elaborates g.Reported) (ElaboratesArm g.Reported) (rest g) (stmt g) (arm g) y
 
-  abbrev opened_rest : Rest-F Rest Stmt Arm → Rest-F (JudgesRest g.Told) (Judges g.Told) (JudgesArm g.Told)
-  opened_rest y = map-Rest Rest Stmt Arm (JudgesRest g.Told) (Judges g.Told) (JudgesArm g.Told) (rest g) (stmt g) (arm g) y
+  abbrev opened_rest : Rest-F Rest Stmt Arm → Rest-F (ElaboratesRest g.Reported) (Elaborates g.Reported) (ElaboratesArm g.Reported)
+  opened_rest y = map-Rest Rest Stmt Arm (ElaboratesRest g.Reported) (Elaborates g.Reported) (ElaboratesArm g.Reported) (rest g) (stmt g) (arm g) y
 
-  abbrev opened_arm : Arm-F Rest Stmt Arm → Arm-F (JudgesRest g.Told) (Judges g.Told) (JudgesArm g.Told)
-  opened_arm y = map-Arm Rest Stmt Arm (JudgesRest g.Told) (Judges g.Told) (JudgesArm g.Told) (rest g) (stmt g) (arm g) y
+  abbrev opened_arm : Arm-F Rest Stmt Arm → Arm-F (ElaboratesRest g.Reported) (Elaborates g.Reported) (ElaboratesArm g.Reported)
+  opened_arm y = map-Arm Rest Stmt Arm (ElaboratesRest g.Reported) (Elaborates g.Reported) (ElaboratesArm g.Reported) (rest g) (stmt g) (arm g) y
 
   at_stmt : (e : Stmt) (y : Stmt-F Rest Stmt Arm) → out-Stmt e ≡ y → stmt g e ≡ stmt_layer g (opened_stmt y)
   unfolding stmt rest arm
-  at_stmt e y h = fold_out-Stmt (JudgesRest g.Told) (Judges g.Told) (JudgesArm g.Told) (rest_layer g) (stmt_layer g) (arm_layer g) e ∙ ap (λ (z : Stmt-F Rest Stmt Arm). stmt_layer g (opened_stmt z)) h
+  at_stmt e y h = fold_out-Stmt (ElaboratesRest g.Reported) (Elaborates g.Reported) (ElaboratesArm g.Reported) (rest_layer g) (stmt_layer g) (arm_layer g) e ∙ ap (λ (z : Stmt-F Rest Stmt Arm). stmt_layer g (opened_stmt z)) h
 
   at_rest : (e : Rest) (y : Rest-F Rest Stmt Arm) → out-Rest e ≡ y → rest g e ≡ rest_layer g (opened_rest y)
   unfolding stmt rest arm
-  at_rest e y h = fold_out-Rest (JudgesRest g.Told) (Judges g.Told) (JudgesArm g.Told) (rest_layer g) (stmt_layer g) (arm_layer g) e ∙ ap (λ (z : Rest-F Rest Stmt Arm). rest_layer g (opened_rest z)) h
+  at_rest e y h = fold_out-Rest (ElaboratesRest g.Reported) (Elaborates g.Reported) (ElaboratesArm g.Reported) (rest_layer g) (stmt_layer g) (arm_layer g) e ∙ ap (λ (z : Rest-F Rest Stmt Arm). rest_layer g (opened_rest z)) h
 
   at_arm : (e : Arm) (y : Arm-F Rest Stmt Arm) → out-Arm e ≡ y → arm g e ≡ arm_layer g (opened_arm y)
   unfolding stmt rest arm
-  at_arm e y h = fold_out-Arm (JudgesRest g.Told) (Judges g.Told) (JudgesArm g.Told) (rest_layer g) (stmt_layer g) (arm_layer g) e ∙ ap (λ (z : Arm-F Rest Stmt Arm). arm_layer g (opened_arm z)) h
+  at_arm e y h = fold_out-Arm (ElaboratesRest g.Reported) (Elaborates g.Reported) (ElaboratesArm g.Reported) (rest_layer g) (stmt_layer g) (arm_layer g) e ∙ ap (λ (z : Arm-F Rest Stmt Arm). arm_layer g (opened_arm z)) h
 
   -- ---- the same of what fits
 
@@ -250,36 +250,36 @@ module _ (g : Gathers) (exprs : ExpressionsAreTyped g) (heads : DesignatorsAreTy
   abbrev bare_arm : Arm-F SR SS SA → Arm-F Rest Stmt Arm
   bare_arm y = map-Arm SR SS SA Rest Stmt Arm (λ e. e.0) (λ e. e.0) (λ e. e.0) y
 
-  abbrev judges_of : List SS → List (Judges g.Told)
-  judges_of ys = map (stmt g) (map (λ (e : SS). e.0) ys)
+  abbrev elaborates_of : List SS → List (Elaborates g.Reported)
+  elaborates_of ys = map (stmt g) (map (λ (e : SS). e.0) ys)
 
   abbrev fits_of : List SS → List Bool
   fits_of ys = map fits_stmt (map (λ (e : SS). e.0) ys)
 
-  abbrev arms_judged : List SA → List (JudgesArm g.Told)
-  arms_judged ys = map (arm g) (map (λ (e : SA). e.0) ys)
+  abbrev arms_elaborated : List SA → List (ElaboratesArm g.Reported)
+  arms_elaborated ys = map (arm g) (map (λ (e : SA). e.0) ys)
 
   abbrev arms_fit : List SA → List Bool
   arms_fit ys = map fits_arm (map (λ (e : SA). e.0) ys)
 
-  judged : (ys : List SS) → list_all itself (fits_of ys) ≡ true → AllJ (judges_of ys)
-  judged [] f = tt
-  judged (y ∷ ys) f = (y.1 (both_left (fits_stmt y.0) (list_all itself (fits_of ys)) f), judged ys (both_right (fits_stmt y.0) (list_all itself (fits_of ys)) f))
+  elaborated : (ys : List SS) → list_all itself (fits_of ys) ≡ true → AllJ (elaborates_of ys)
+  elaborated [] f = tt
+  elaborated (y ∷ ys) f = (y.1 (both_left (fits_stmt y.0) (list_all itself (fits_of ys)) f), elaborated ys (both_right (fits_stmt y.0) (list_all itself (fits_of ys)) f))
 
-  armed_all : (ys : List SA) → list_all itself (arms_fit ys) ≡ true → AllA (arms_judged ys)
+  armed_all : (ys : List SA) → list_all itself (arms_fit ys) ≡ true → AllA (arms_elaborated ys)
   armed_all [] f = tt
   armed_all (y ∷ ys) f = (y.1 (both_left (fits_arm y.0) (list_all itself (arms_fit ys)) f), armed_all ys (both_right (fits_arm y.0) (list_all itself (arms_fit ys)) f))
 
-  body_typed : (ys : List SS) → list_all itself (fits_of ys) ≡ true → (ws : List Ty) (s : Scope g.Told) → In ws s → (a : Around g.Told) → Returned a → Stmts_ ws a (all_of g s a (judges_of ys))
-  body_typed ys f ws s h a e = all_stmts ws s h a e (judges_of ys) (judged ys f)
+  body_typed : (ys : List SS) → list_all itself (fits_of ys) ≡ true → (ws : List Ty) (s : Scope g.Reported) → In ws s → (a : Around g.Reported) → Returned a → Stmts_ ws a (all_of g s a (elaborates_of ys))
+  body_typed ys f ws s h a e = all_stmts ws s h a e (elaborates_of ys) (elaborated ys f)
 
   abbrev FitsLayer : Stmt-F SR SS SA → Type 0
   FitsLayer y = fits_stmt_layer (fit_stmt (bare_stmt y)) ≡ true
 
-  value_typed_of : (ws : List Ty) (s : Scope g.Told) (h : In ws s) (y : Expr) → fits_whole y ≡ true → Holds (ValueTyped x ws) (value_of g s (meant g y))
+  value_typed_of : (ws : List Ty) (s : Scope g.Reported) (h : In ws s) (y : Expr) → fits_whole y ≡ true → Holds (ValueTyped x ws) (value_of g s (meant g y))
   value_typed_of ws s h y f = value_typed g x ws opens s h.typed (meant g y) (exprs x ws opens s h.typed y f)
 
-  stmt_layer_typed : (y : Stmt-F SR SS SA) → FitsLayer y → TypedJudges (stmt_layer g (opened_stmt (bare_stmt y)))
+  stmt_layer_typed : (y : Stmt-F SR SS SA) → FitsLayer y → TypedElaborates (stmt_layer g (opened_stmt (bare_stmt y)))
   stmt_layer_typed (layer.Assign d e) f = λ ws s h a r.
       assignment_typed g x ws opens s h.typed result a.in_loop (head g d) (meant g e).fixed.at (meant g e) (heads x ws opens s h.typed d (both_left (fits_head d) (fits_whole e) f)) (exprs x ws opens s h.typed e (both_right (fits_head d) (fits_whole e) f))
   stmt_layer_typed (layer.Call d args) f = λ ws s h a r.
@@ -291,12 +291,12 @@ module _ (g : Gathers) (exprs : ExpressionsAreTyped g) (heads : DesignatorsAreTy
   stmt_layer_typed (layer.Case e arms None) f = λ ws s h a r.
       let k = both_right (fits_whole e) (list_all itself (arms_fit arms) && true) f in
       then_holds (selected_typed g x ws opens s h.typed (meant g e) (value_typed_of ws s h e (both_left (fits_whole e) (list_all itself (arms_fit arms) && true) f))) (λ z j.
-      cased_typed ws s h a r z.1 j (all_arms ws s h a r z.0 (arms_judged arms) (armed_all arms (both_left (list_all itself (arms_fit arms)) true k))) (fine None tt))
+      cased_typed ws s h a r z.1 j (all_arms ws s h a r z.0 (arms_elaborated arms) (armed_all arms (both_left (list_all itself (arms_fit arms)) true k))) (fine None tt))
   stmt_layer_typed (layer.Case e arms (Some body)) f = λ ws s h a r.
       let k = both_right (fits_whole e) (list_all itself (arms_fit arms) && list_all itself (fits_of body)) f in
       then_holds (selected_typed g x ws opens s h.typed (meant g e) (value_typed_of ws s h e (both_left (fits_whole e) (list_all itself (arms_fit arms) && list_all itself (fits_of body)) f))) (λ z j.
-      cased_typed ws s h a r z.1 j (all_arms ws s h a r z.0 (arms_judged arms) (armed_all arms (both_left (list_all itself (arms_fit arms)) (list_all itself (fits_of body)) k)))
-      (standing_typed ws s h a r (judges_of body) (judged body (both_right (list_all itself (arms_fit arms)) (list_all itself (fits_of body)) k))))
+      cased_typed ws s h a r z.1 j (all_arms ws s h a r z.0 (arms_elaborated arms) (armed_all arms (both_left (list_all itself (arms_fit arms)) (list_all itself (fits_of body)) k)))
+      (standing_typed ws s h a r (elaborates_of body) (elaborated body (both_right (list_all itself (arms_fit arms)) (list_all itself (fits_of body)) k))))
   stmt_layer_typed (layer.While c body) f = λ ws s h a r.
       while_all ws s h a r (test_typed ws s h a r c (both_left (fits_whole c) (list_all itself (fits_of body)) f)) (body_typed body (both_right (fits_whole c) (list_all itself (fits_of body)) f) ws s h a r)
   stmt_layer_typed (layer.Repeat body c) f = λ ws s h a r.
@@ -322,9 +322,9 @@ module _ (g : Gathers) (exprs : ExpressionsAreTyped g) (heads : DesignatorsAreTy
       (chosen_typed ws s h a r (test_typed ws s h a r c (both_left (fits_whole c) (list_all itself (fits_of body) && fits_rest follow.0) f)) (body_typed body (both_left (list_all itself (fits_of body)) (fits_rest follow.0) k) ws s h a r)
       (follow.1 (both_right (list_all itself (fits_of body)) (fits_rest follow.0) k) ws s h a r))
   rest_layer_typed (layer.Else None) f = λ ws s h a r. fine None tt
-  rest_layer_typed (layer.Else (Some body)) f = λ ws s h a r. standing_typed ws s h a r (judges_of body) (judged body f)
+  rest_layer_typed (layer.Else (Some body)) f = λ ws s h a r. standing_typed ws s h a r (elaborates_of body) (elaborated body f)
 
-  armed_typed : (ws : List Ty) (a : Around g.Told) {labels : Result (List Label) g.Told} {body : Result (List TypedStmt) g.Told} → Holds AreLabels labels → Stmts_ ws a body → Arm_ ws a (armed g labels body)
+  armed_typed : (ws : List Ty) (a : Around g.Reported) {labels : Result (List Label) g.Reported} {body : Result (List TypedStmt) g.Reported} → Holds AreLabels labels → Stmts_ ws a body → Arm_ ws a (armed g labels body)
   armed_typed ws a p q = then_holds (both_holds g p q) (λ v k. fine (record { labels = v.0; body = v.1 }) (record { labels = k.0; body = k.1 }))
 
   arm_layer_typed : (y : Arm-F SR SS SA) → fits_arm_layer (fit_arm (bare_arm y)) ≡ true → TypedArms (arm_layer g (opened_arm (bare_arm y)))
@@ -342,7 +342,7 @@ module _ (g : Gathers) (exprs : ExpressionsAreTyped g) (heads : DesignatorsAreTy
   step_stmt : (y : Stmt-F Rest Stmt Arm) (z : Stmt-F SR SS SA) → bare_stmt z ≡ y → PS (roll-Stmt y)
   step_stmt y z q =
       let is : out-Stmt (roll-Stmt y) ≡ bare_stmt z = out-roll-Stmt y ∙ sym q in λ e.
-      subst TypedJudges (sym (at_stmt (roll-Stmt y) (bare_stmt z) is)) (stmt_layer_typed z (sym (fit_stmt_at (roll-Stmt y) (bare_stmt z) is) ∙ e))
+      subst TypedElaborates (sym (at_stmt (roll-Stmt y) (bare_stmt z) is)) (stmt_layer_typed z (sym (fit_stmt_at (roll-Stmt y) (bare_stmt z) is) ∙ e))
 
   step_arm : (y : Arm-F Rest Stmt Arm) (z : Arm-F SR SS SA) → bare_arm z ≡ y → PA (roll-Arm y)
   step_arm y z q =
@@ -352,8 +352,8 @@ module _ (g : Gathers) (exprs : ExpressionsAreTyped g) (heads : DesignatorsAreTy
   pub stmt_typed : (y : Stmt) → PS y
   stmt_typed = ind-Stmt PR PS PA step_rest step_stmt step_arm
 
-  module _ (ws : List Ty) (s : Scope g.Told) (h : In ws s) (a : Around g.Told) (r : Returned a) where
-    from_written : (ys : List Stmt) (so : Result (List TypedStmt) g.Told) → list_all fits_stmt ys ≡ true → Stmts_ ws a so → Stmts_ ws a (fold (with_written g s a) so ys)
+  module _ (ws : List Ty) (s : Scope g.Reported) (h : In ws s) (a : Around g.Reported) (r : Returned a) where
+    from_written : (ys : List Stmt) (so : Result (List TypedStmt) g.Reported) → list_all fits_stmt ys ≡ true → Stmts_ ws a so → Stmts_ ws a (fold (with_written g s a) so ys)
     from_written [] so f p = p
     from_written (y ∷ ys) so f p =
         from_written ys (with_written g s a so y) (both_right (fits_stmt y) (list_all fits_stmt ys) f)
@@ -361,7 +361,7 @@ module _ (g : Gathers) (exprs : ExpressionsAreTyped g) (heads : DesignatorsAreTy
 
     pub written_typed : (ys : List Stmt) → list_all fits_stmt ys ≡ true → Holds (StmtsTyped x result ws a.in_loop) (statements g s a ys)
     written_typed ys f = then_weaker (from_written ys (Ok []) f (fine [] tt)) where
-      then_weaker : {so : Result (List TypedStmt) g.Told} → Stmts_ ws a so → Holds (StmtsTyped x result ws a.in_loop) so
+      then_weaker : {so : Result (List TypedStmt) g.Reported} → Stmts_ ws a so → Holds (StmtsTyped x result ws a.in_loop) so
       then_weaker p = holds_weaker (λ ss k. all_typed x result ws a.in_loop ss k) p
 
 pub statements_typed : (g : Gathers) → ExpressionsAreTyped g → DesignatorsAreTyped g → StatementsAreTyped g

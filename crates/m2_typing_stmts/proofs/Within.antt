@@ -9,10 +9,10 @@ use Rattle.m2_typed.specs.declared.meaning.Meaning.TheVariants as meaning
 use Rattle.m2_typed.specs.declared.meaning.OpenedField.{OpenedField}
 use Rattle.m2_typed.specs.declared.types.TypeNo.{TypeNo}
 use Rattle.m2_typed.specs.Names.{place_of}
-use Rattle.m2_judged.specs.Judged.{Gathers}
-use Rattle.m2_judged.specs.Scopes.{or_outside, fields_at, field_of, field_numbered, field_in, opened as opened_fields, means_or, means_as, known}
-use Rattle.m2_judged.specs.declared.scope.OpenedRecord.{OpenedRecord}
-use Rattle.m2_judged.specs.declared.scope.Scope.{Scope}
+use Rattle.m2_scopes.specs.Elaborated.{Gathers}
+use Rattle.m2_scopes.specs.Scopes.{or_outside, fields_at, field_of, field_numbered, field_in, opened as opened_fields, means_or, means_as, known}
+use Rattle.m2_scopes.specs.declared.scope.OpenedRecord.{OpenedRecord}
+use Rattle.m2_scopes.specs.declared.scope.Scope.{Scope}
 use Rattle.m2_layout.specs.Types.{Ty, row, component}
 use Rattle.m2_layout.specs.Shapes.{tree}
 use Rattle.m2_agree_trees.specs.Typed.{Context}
@@ -72,7 +72,7 @@ module _ (x : Context) (ws : List Ty) (opens : ℕ → Bool) (level : ℕ) where
 
 -- ---- fields of the record
 
-module _ (g : Gathers) (x : Context) (ws : List Ty) (opens : ℕ → Bool) (s : Scope g.Told) (h : IsTyped g x ws opens s) (count : length ws ≡ length s.withs) (t : TypeNo) where
+module _ (g : Gathers) (x : Context) (ws : List Ty) (opens : ℕ → Bool) (s : Scope g.Reported) (h : IsTyped g x ws opens s) (count : length ws ≡ length s.withs) (t : TypeNo) where
   abbrev r : OpenedRecord
   r = record { number = length s.withs; of = t }
 
@@ -102,7 +102,7 @@ module _ (g : Gathers) (x : Context) (ws : List Ty) (opens : ℕ → Bool) (s : 
   fields_typed name None e = tt
   fields_typed name (Some fs) e = field_at fs (place_of name fs) e
 
-  name_typed : (o far : Option OpenedField) (m : Result Meaning g.Told) → IfTyped o → Holds (MeaningTyped x ws opens s.level) (means_or far m) → Holds (MeaningTyped x inner opens s.level) (means_or (or_outside o far) m)
+  name_typed : (o far : Option OpenedField) (m : Result Meaning g.Reported) → IfTyped o → Holds (MeaningTyped x ws opens s.level) (means_or far m) → Holds (MeaningTyped x inner opens s.level) (means_or (or_outside o far) m)
   name_typed None far m p q = holds_weaker (meaning_within x ws opens s.level (tree x.home.types t)) q
   name_typed (Some f) far m p q = fine (meaning.Field f) p
 

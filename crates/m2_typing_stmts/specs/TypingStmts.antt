@@ -10,8 +10,8 @@ use Rattle.m2_tree.specs.declared.stmt.Arm.{Arm, Arm-F, fold-Arm}
 use Rattle.m2_typed.specs.declared.known_types.Types.{Types}
 use Rattle.m2_typed.specs.declared.statement.TypedStmt.{TypedStmt}
 use Rattle.m2_typed.specs.declared.types.TypeNo.{TypeNo}
-use Rattle.m2_judged.specs.Judged.{Gathers}
-use Rattle.m2_judged.specs.declared.scope.Scope.{Scope}
+use Rattle.m2_scopes.specs.Elaborated.{Gathers}
+use Rattle.m2_scopes.specs.declared.scope.Scope.{Scope}
 use Rattle.m2_layout.specs.Shapes.{tree}
 use Rattle.m2_layout.specs.Types.{Ty}
 use Rattle.m2_layout.specs.Texts.{characters, texts_in, body_texts}
@@ -94,8 +94,8 @@ AreReturned types (Some (Err e)) result = Unit {0}
 
 -- Statements of a body are typed, within as many WITHs as the scope has open.
 abbrev pub StatementsAreTyped : Gathers → Type 0
-StatementsAreTyped g = (x : Context) (ws : List Ty) (opens : ℕ → Bool) (s : Scope g.Told)
+StatementsAreTyped g = (x : Context) (ws : List Ty) (opens : ℕ → Bool) (s : Scope g.Reported)
     → IsTyped g x ws opens s → ScopeRanged s → length ws ≡ length s.withs
-    → (a : Around g.Told) (result : Gives) → AreReturned x.home.types a.gives result
+    → (a : Around g.Reported) (result : Gives) → AreReturned x.home.types a.gives result
     → (xs : List Stmt) → list_all fits_stmt xs ≡ true
     → Holds (StmtsTyped x result ws a.in_loop) (statements g s a xs)

@@ -6,7 +6,7 @@
 //!   `proofs/Labels` the labels of CASE, `proofs/Effects` assignments and calls, and `proofs/Statements` the induction.
 #![tactic(auto)]
 
-ghost use Rattle.m2_judged.specs.Judged.{least, every};
+ghost use Rattle.m2_scopes.specs.Elaborated.{least, every};
 ghost use Rattle.m2_typing_stmts.specs.TypingStmts.{StatementsAreTyped};
 
 /// What the checker makes of statements is typed.

@@ -10,15 +10,15 @@ use Rattle.m2_typed.specs.declared.meaning.Meaning.TheVariants as meaning
 use Rattle.m2_typed.specs.declared.meaning.Procedure.{Procedure}
 use Rattle.m2_typed.specs.declared.types.TypeNo.{TypeNo}
 use Rattle.m2_typed.specs.Names.{same_name, found, entered, place_of}
-use Rattle.m2_judged.specs.Judged.{Gathers, told}
-use Rattle.m2_judged.specs.Scopes.{State, is_free, with_known, is_again, imported}
-use Rattle.m2_judged.specs.declared.known.Origin.{Origin}
-use Rattle.m2_judged.specs.declared.known.Origin.TheVariants.{Here, Module, Export}
-use Rattle.m2_judged.specs.declared.known.Known.{Known}
-use Rattle.m2_judged.specs.declared.known.Known.TheVariants.{Declared}
-use Rattle.m2_judged.specs.declared.scope.Block.{Block as Around}
-use Rattle.m2_judged.specs.declared.scope.Scope.{Scope}
-use Rattle.m2_types.specs.Importing.{module_named, with_module_as, with_module_name, with_entry, brings_in, told_of_taken, unless_taken, from_place, with_from, exports_of, from_module, with_imports, with_import}
+use Rattle.m2_scopes.specs.Elaborated.{Gathers, reported}
+use Rattle.m2_scopes.specs.Scopes.{State, is_free, with_known, is_again, imported}
+use Rattle.m2_scopes.specs.declared.known.Origin.{Origin}
+use Rattle.m2_scopes.specs.declared.known.Origin.TheVariants.{Here, Module, Export}
+use Rattle.m2_scopes.specs.declared.known.Known.{Known}
+use Rattle.m2_scopes.specs.declared.known.Known.TheVariants.{Declared}
+use Rattle.m2_scopes.specs.declared.scope.Block.{Block as Around}
+use Rattle.m2_scopes.specs.declared.scope.Scope.{Scope}
+use Rattle.m2_types.specs.Importing.{module_named, with_module_as, with_module_name, with_entry, brings_in, reported_of_taken, unless_taken, from_place, with_from, exports_of, from_module, with_imports, with_import}
 use Rattle.m2_types.specs.Predeclared.{predeclared_block}
 use Rattle.m2_blocks.specs.declared.heading.Standing.TheVariants.{Awaited, Taken}
 use Rattle.m2_blocks.specs.Headings.{standing_of, standing_known, name_standing}
@@ -81,38 +81,38 @@ module _ {T : Type 0} where
   state st = st.0
 
 module _ (g : Gathers) where
-  imported_stays : (s : Scope g.Told) (at : Pos) (name : List ℕ) (o : Origin) (m : Result Meaning g.Told) → standing_known (Declared o m) ≡ Taken → Stays s (imported g s at name o m).0
+  imported_stays : (s : Scope g.Reported) (at : Pos) (name : List ℕ) (o : Origin) (m : Result Meaning g.Reported) → standing_known (Declared o m) ≡ Taken → Stays s (imported g s at name o m).0
   imported_stays s at name o m t =
-      either s (is_again (found name s.own) o) (s, Ok tt) (cond (is_free (found name s.own)) (with_known name (Declared o m) s, Ok tt) (s, told g at 31)) (same_stays s)
-      (either s (is_free (found name s.own)) (with_known name (Declared o m) s, Ok tt) (s, told g at 31) (known_stays name (Declared o m) s t) (same_stays s))
+      either s (is_again (found name s.own) o) (s, Ok tt) (cond (is_free (found name s.own)) (with_known name (Declared o m) s, Ok tt) (s, reported g at 31)) (same_stays s)
+      (either s (is_free (found name s.own)) (with_known name (Declared o m) s, Ok tt) (s, reported g at 31) (known_stays name (Declared o m) s t) (same_stays s))
 
-  module_as_stays : (s : Scope g.Told) (name : Ident) (r : Result ℕ g.Told) → Stays s (with_module_as g s name r).0
+  module_as_stays : (s : Scope g.Reported) (name : Ident) (r : Result ℕ g.Reported) → Stays s (with_module_as g s name r).0
   module_as_stays s name (Ok k) = imported_stays s name.pos name.name (Module k) _ refl
   module_as_stays s name (Err e) = same_stays s
 
-  entry_stays : (at : Pos) (k : ℕ) (st : State (Unit {0}) g.Told) (e : List ℕ × Meaning) → Stays st.0 (with_entry g at k st e).0
+  entry_stays : (at : Pos) (k : ℕ) (st : State (Unit {0}) g.Reported) (e : List ℕ × Meaning) → Stays st.0 (with_entry g at k st e).0
   entry_stays at k st e = imported_stays st.0 at e.0 (Export k) (Ok e.1) refl
 
-  taken_stays : (s : Scope g.Told) (at : Pos) (k : ℕ) (es : List (List ℕ × Meaning)) (i : ℕ) (o : Option (Result (Unit {0}) g.Told)) → Stays s (unless_taken g s at k es i o).0
+  taken_stays : (s : Scope g.Reported) (at : Pos) (k : ℕ) (es : List (List ℕ × Meaning)) (i : ℕ) (o : Option (Result (Unit {0}) g.Reported)) → Stays s (unless_taken g s at k es i o).0
   taken_stays s at k es i (Some j) = same_stays s
   taken_stays s at k es i None = fold_stays state (with_entry g at k) (entry_stays at k) (take (brings_in (slice_get es i)) (drop i es)) (s, Ok tt)
 
-  place_stays : (s : Scope g.Told) (name : Ident) (k : ℕ) (es : List (List ℕ × Meaning)) (o : Option ℕ) → Stays s (from_place g s name k es o).0
+  place_stays : (s : Scope g.Reported) (name : Ident) (k : ℕ) (es : List (List ℕ × Meaning)) (o : Option ℕ) → Stays s (from_place g s name k es o).0
   place_stays s name k es None = same_stays s
-  place_stays s name k es (Some i) = taken_stays s name.pos k es i (told_of_taken g name.pos k (found name.name s.own))
+  place_stays s name k es (Some i) = taken_stays s name.pos k es i (reported_of_taken g name.pos k (found name.name s.own))
 
-  from_stays : (k : ℕ) (es : List (List ℕ × Meaning)) (st : State (Unit {0}) g.Told) (name : Ident) → Stays st.0 (with_from g k es st name).0
+  from_stays : (k : ℕ) (es : List (List ℕ × Meaning)) (st : State (Unit {0}) g.Reported) (name : Ident) → Stays st.0 (with_from g k es st name).0
   from_stays k es st name = place_stays st.0 name k es (place_of name.name es)
 
-  from_module_stays : (r : Result ℕ g.Told) (st : State (Unit {0}) g.Told) (names : List Ident) → Stays st.0 (from_module g r st names).0
+  from_module_stays : (r : Result ℕ g.Reported) (st : State (Unit {0}) g.Reported) (names : List Ident) → Stays st.0 (from_module g r st names).0
   from_module_stays (Ok k) st names = fold_stays state (with_from g k (exports_of (slice_get st.0.tables k))) (from_stays k (exports_of (slice_get st.0.tables k))) names st
   from_module_stays (Err e) st names = same_stays st.0
 
-  imports_stay : (modules : List (List ℕ × ℕ)) (st : State (Unit {0}) g.Told) (from : Option Ident) (names : List Ident) → Stays st.0 (with_imports g modules st from names).0
+  imports_stay : (modules : List (List ℕ × ℕ)) (st : State (Unit {0}) g.Reported) (from : Option Ident) (names : List Ident) → Stays st.0 (with_imports g modules st from names).0
   imports_stay modules st None names = fold_stays state (with_module_name g modules) (λ st x. module_as_stays st.0 x (module_named g modules x)) names st
   imports_stay modules st (Some m) names = from_module_stays (module_named g modules m) st names
 
-  pub import_stays : (modules : List (List ℕ × ℕ)) (is : List Import) (st : State (Unit {0}) g.Told) → Stays st.0 (fold (with_import g modules) st is).0
+  pub import_stays : (modules : List (List ℕ × ℕ)) (is : List Import) (st : State (Unit {0}) g.Reported) → Stays st.0 (fold (with_import g modules) st is).0
   import_stays modules is st = fold_stays state (with_import g modules) (λ st i. imports_stay modules st i.from i.names) is st
 
 -- ---- procedures of the definition
@@ -181,13 +181,13 @@ module _ {T : Type 0} (s : Scope T) (es : List (List ℕ × Meaning)) (h : Start
   start_apart : AwaitsApart s
   start_apart a b p q e f n = h.apart a b p q (start_found a p e) (start_found b q f) n
 
-pub module_begins : (g : Gathers) (modules : List (List ℕ × ℕ)) (is : List Import) (s : Scope g.Told) (es : List (List ℕ × Meaning)) → Starts s es → ModuleBegins (fold (with_import g modules) (s, Ok tt) is).0
+pub module_begins : (g : Gathers) (modules : List (List ℕ × ℕ)) (is : List Import) (s : Scope g.Reported) (es : List (List ℕ × Meaning)) → Starts s es → ModuleBegins (fold (with_import g modules) (s, Ok tt) is).0
 module_begins g modules is s es h =
-    let s' : Scope g.Told = (fold (with_import g modules) (s, Ok tt) is).0 in
+    let s' : Scope g.Reported = (fold (with_import g modules) (s, Ok tt) is).0 in
     let k : Stays s s' = import_stays g modules is (s, Ok tt) in
     record {
       level = ap (λ (n : ℕ). n == 0) (k.level ∙ h.level);
-      single = ap (λ (bs : List (Around g.Told)). length bs) (k.outer ∙ h.outer);
+      single = ap (λ (bs : List (Around g.Reported)). length bs) (k.outer ∙ h.outer);
       withs = k.withs ∙ h.withs;
       awaits = λ name p e.
           let a = start_awaits s es h name p (k.awaited name p e) in

@@ -20,18 +20,18 @@ use Rattle.m2_typed.specs.declared.typed_module.TypedModule.{TypedModule}
 use Rattle.m2_typed.specs.declared.types.TypeNo.{TypeNo}
 use Rattle.m2_typed.specs.Known.{in_list, made_in}
 use Rattle.m2_typed.specs.Names.{same_name as same_key, entered}
-use Rattle.m2_judged.specs.Judged.{least}
-use Rattle.m2_judged.specs.declared.known.Known.{Known}
-use Rattle.m2_judged.specs.declared.known.Known.TheVariants.{Declared}
-use Rattle.m2_judged.specs.declared.known.Origin.TheVariants.{Here}
-use Rattle.m2_judged.specs.declared.scope.Scope.{Scope}
+use Rattle.m2_scopes.specs.Elaborated.{least}
+use Rattle.m2_scopes.specs.declared.known.Known.{Known}
+use Rattle.m2_scopes.specs.declared.known.Known.TheVariants.{Declared}
+use Rattle.m2_scopes.specs.declared.known.Origin.TheVariants.{Here}
+use Rattle.m2_scopes.specs.declared.scope.Scope.{Scope}
 use Rattle.m2_types.specs.Predeclared.{console, first_scope}
 use Rattle.m2_modules.specs.Own.{with_own_name, exported_variables, implementation_scope}
 use Rattle.m2_bodies.specs.Checked.{of_implementation, of_contents}
-use Rattle.m2_check.specs.Checks.{judged}
+use Rattle.m2_check.specs.Checks.{elaborated}
 use Rattle.m2_compile.specs.Own.{own_table, tables_behind}
 use Rattle.m2_compile.specs.Compiling.{tables_of, typed_body}
-use Rattle.m2_jobs.specs.Spelled.{needed_of}
+use Rattle.m2_jobs.specs.Encoded.{needed_of}
 use Rattle.m2_formed.specs.Formed.{fine}
 use Rattle.m2_formed_scopes.proofs.Declarations.{same_home}
 use Rattle.m2_formed_bodies.proofs.Checks.{holds_at}
@@ -176,7 +176,7 @@ module _ (trees : List Module) (files : List ℕ) (jobs : List (List ℕ)) (fit 
       abbrev base : Types
       base = begun_types made_of job o all own.formed own.made all_formed
 
-      abbrev begun : Scope least.Told
+      abbrev begun : Scope least.Reported
       begun = implementation_scope o all
 
       begun_formed : ScopeFormed base begun
@@ -199,7 +199,7 @@ module _ (trees : List Module) (files : List ℕ) (jobs : List (List ℕ)) (fit 
         elsewhere = all_are_elsewhere o.number all (all_others o.number a);
         words = implementation_words o all own.own.exports.words (all_words o.number all (all_others o.number a));
         placed = own_placed o.number (exported_variables o.exported) o.exported [] own.own.exports.variables tt;
-        slots = implementation_slots least.Told o all own.own.exports.free;
+        slots = implementation_slots least.Reported o all own.own.exports.free;
       }
 
       begun_begins : TypesIndexed (implementation_types o all)
@@ -241,13 +241,13 @@ module _ (fs : List (List ℕ × Module)) (files : List ℕ) (jobs : List (List 
 
   module _ (t : TypedModule) (indexed : TypesIndexed t.types) where
     own_stands : (o : Option Table) → own_table m ts ≡ o → OwnNeeded trees files jobs fit job o → (b : Block) → m.contents ≡ contents.Implementation b → fits_contents (contents.Implementation b) ≡ true → AreForOwn o us
-        → of_implementation least (judged least) m o (us ++ console ∷ []) b ≡ Ok t → BodyStands m job ts t
+        → of_implementation least (elaborated least) m o (us ++ console ∷ []) b ≡ Ok t → BodyStands m job ts t
     unfolding OwnNeeded
     own_stands None q h b c e f r = absurd cc
     own_stands (Some o) q h b c e f r =
         body_stands (implementation_scope o (us ++ console ∷ [])) m b (base trees files jobs fit job us imports_needed o h f.1) o.exported (begun_ready trees files jobs fit job us imports_needed o h f.1) e job ts (Some o) t (implementation o b q c) r indexed
 
-    contents_stand : (c : Contents) → m.contents ≡ c → fits_contents c ≡ true → AreFor job (own_table m ts) us c → of_contents least (judged least) job m (own_table m ts) (us ++ console ∷ []) c ≡ Ok t → BodyStands m job ts t
+    contents_stand : (c : Contents) → m.contents ≡ c → fits_contents c ≡ true → AreFor job (own_table m ts) us c → of_contents least (elaborated least) job m (own_table m ts) (us ++ console ∷ []) c ≡ Ok t → BodyStands m job ts t
     contents_stand (contents.Definition ds) q e f r = absurd cc
     contents_stand (contents.Implementation b) q e f r = own_stands (own_table m ts) refl (own_needed trees files jobs fit job m ts they_are_needed) b q e f r
     contents_stand (contents.Program b) q e f r =
@@ -257,5 +257,5 @@ module _ (fs : List (List ℕ × Module)) (files : List ℕ) (jobs : List (List 
   bodies_stand t there r =
       let e : fits_module m ≡ true = tree_fits trees fit (slice_index_or files job 0) m there in
       let f : AreFor job (own_table m ts) us m.contents = tables_for fs files jobs starts graph m job in
-      let i : TypesIndexed t.types = holds_at (typed_body m job ts) (checked_indexed least (judged least) job m (own_table m ts) us (begins_with m.contents f)) t r in
+      let i : TypesIndexed t.types = holds_at (typed_body m job ts) (checked_indexed least (elaborated least) job m (own_table m ts) us (begins_with m.contents f)) t r in
       contents_stand t i m.contents refl e f r

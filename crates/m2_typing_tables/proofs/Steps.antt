@@ -19,19 +19,19 @@ use Rattle.m2_typed.specs.declared.meaning.Value.{Value}
 use Rattle.m2_typed.specs.declared.shape.Made.{Made}
 use Rattle.m2_typed.specs.declared.types.TypeNo.{TypeNo}
 use Rattle.m2_typed.specs.Names.{same_name, found, place_of}
-use Rattle.m2_judged.specs.Judged.{Gathers, told}
-use Rattle.m2_judged.specs.Scopes.{State, is_free, with_known, unless_declared, begun, is_begun, finished, is_again, imported, unless_marked, marked}
-use Rattle.m2_judged.specs.declared.known.Origin.{Origin}
-use Rattle.m2_judged.specs.declared.known.Origin.TheVariants.{Here, Module, Export}
-use Rattle.m2_judged.specs.declared.known.Known.{Known}
-use Rattle.m2_judged.specs.declared.known.Known.TheVariants.{Later, Ahead, Begun, Declared}
-use Rattle.m2_judged.specs.declared.scope.Scope.{Scope}
+use Rattle.m2_scopes.specs.Elaborated.{Gathers, reported}
+use Rattle.m2_scopes.specs.Scopes.{State, is_free, with_known, unless_declared, begun, is_begun, finished, is_again, imported, unless_marked, marked}
+use Rattle.m2_scopes.specs.declared.known.Origin.{Origin}
+use Rattle.m2_scopes.specs.declared.known.Origin.TheVariants.{Here, Module, Export}
+use Rattle.m2_scopes.specs.declared.known.Known.{Known}
+use Rattle.m2_scopes.specs.declared.known.Known.TheVariants.{Later, Ahead, Begun, Declared}
+use Rattle.m2_scopes.specs.declared.scope.Scope.{Scope}
 use Rattle.m2_constants.specs.Parts.{part, constant}
 use Rattle.m2_made.specs.declared.field.Fields.{Fields}
 use Rattle.m2_made.specs.Fields.{no_fields}
 use Rattle.m2_made.specs.Made.{next_type, with_shape, with_made, enumeration_scalar, too_many, listed, simple_type, index_type, Makes, MakesFields, then_fields, type_layer, type_of, field_list}
 use Rattle.m2_types.specs.Declare.{constant_meaning, with_constant, type_meaning, brings_with, with_type}
-use Rattle.m2_types.specs.Importing.{module_named, with_module_as, with_module_name, with_entry, brings_in, told_of_taken, unless_taken, from_place, with_from, exports_of, from_module, with_imports, with_import}
+use Rattle.m2_types.specs.Importing.{module_named, with_module_as, with_module_name, with_entry, brings_in, reported_of_taken, unless_taken, from_place, with_from, exports_of, from_module, with_imports, with_import}
 use Rattle.m2_types.specs.Marking.{Marks, marked_later, marked_simple, then_marks, marked_in, marked_field, marked_constant, marked_type, marked_variables, marked_def}
 use Rattle.m2_types.specs.Marking as marking
 use Rattle.m2_formed_imports.proofs.Lists.{same_is}
@@ -209,26 +209,26 @@ module _ (T : Type 0) where
   all_marks ds s = fold_stays [] same marked_def def_marks ds s
 
 module _ (g : Gathers) where
-  unless_stays : (s : Scope g.Told) (name : Ident) (k : Known g.Told) → counted_of k ≡ [] → is_begun (Some k) ≡ false → Stays [] s (unless_declared g s name k).0
-  unless_stays s name k n b = either [] s (is_free (found name.name s.own)) (with_known name.name k s, Ok tt) (s, told g name.pos 31) (λ e. free_stays name.name k s n b e) (same_stays [] s)
+  unless_stays : (s : Scope g.Reported) (name : Ident) (k : Known g.Reported) → counted_of k ≡ [] → is_begun (Some k) ≡ false → Stays [] s (unless_declared g s name k).0
+  unless_stays s name k n b = either [] s (is_free (found name.name s.own)) (with_known name.name k s, Ok tt) (s, reported g name.pos 31) (λ e. free_stays name.name k s n b e) (same_stays [] s)
 
-  pub begun_stays : (s : Scope g.Told) (name : Ident) → Stays (name.name ∷ []) s (begun g s name).0
+  pub begun_stays : (s : Scope g.Reported) (name : Ident) → Stays (name.name ∷ []) s (begun g s name).0
   begun_stays s name =
-      either (name.name ∷ []) s (is_free (found name.name s.own)) (with_known name.name Begun s, Ok tt) (s, told g name.pos 31) (λ e. own_stays name.name Begun s refl (free_unsettled (found name.name s.own) e)) (same_stays (name.name ∷ []) s)
+      either (name.name ∷ []) s (is_free (found name.name s.own)) (with_known name.name Begun s, Ok tt) (s, reported g name.pos 31) (λ e. own_stays name.name Begun s refl (free_unsettled (found name.name s.own) e)) (same_stays (name.name ∷ []) s)
 
-  listed_stays : (t : TypeNo) (l : Scope g.Told × ℕ × Result (Unit {0}) g.Told) (x : Ident) → Stays [] l.0 (listed g t l x).0
+  listed_stays : (t : TypeNo) (l : Scope g.Reported × ℕ × Result (Unit {0}) g.Reported) (x : Ident) → Stays [] l.0 (listed g t l x).0
   listed_stays t l x = unless_stays l.0 x _ refl refl
 
-  simple_stays : (s : Scope g.Told) (t : Simple) → Stays [] s (simple_type g s t).0
+  simple_stays : (s : Scope g.Reported) (t : Simple) → Stays [] s (simple_type g s t).0
   simple_stays s (simple.Named q) = same_stays [] s
-  simple_stays s (simple.Enumeration at names) = fold_stays [] (λ (l : Scope g.Told × ℕ × Result (Unit {0}) g.Told). l.0) (listed g (next_type s)) (listed_stays (next_type s)) names (with_shape s (enumeration_scalar (next_type s) names), 0, too_many g names) ⨾ shape_stays s (enumeration_scalar (next_type s) names)
+  simple_stays s (simple.Enumeration at names) = fold_stays [] (λ (l : Scope g.Reported × ℕ × Result (Unit {0}) g.Reported). l.0) (listed g (next_type s)) (listed_stays (next_type s)) names (with_shape s (enumeration_scalar (next_type s) names), 0, too_many g names) ⨾ shape_stays s (enumeration_scalar (next_type s) names)
   simple_stays s (simple.Subrange o at low high) = made_stays s _
 
   abbrev StayingMakes : Makes g → Type 0
-  StayingMakes f = (s : Scope g.Told) → Stays [] s (f s).0
+  StayingMakes f = (s : Scope g.Reported) → Stays [] s (f s).0
 
   abbrev StayingFields : MakesFields g → Type 0
-  StayingFields f = (st : Scope g.Told × Fields × Result (Unit {0}) g.Told) → Stays [] st.0 (f st).0
+  StayingFields f = (st : Scope g.Reported × Fields × Result (Unit {0}) g.Reported) → Stays [] st.0 (f st).0
 
   abbrev PT : TypeExpr → Type 0
   PT t = StayingMakes (type_of g t)
@@ -248,7 +248,7 @@ module _ (g : Gathers) where
   abbrev bare_field : Field-F ST SF → Field-F TypeExpr Field
   bare_field x = map-Field ST SF TypeExpr Field (λ t. t.0) (λ f. f.0) x
 
-  fields_stay : (fs : List SF) (st : Scope g.Told × Fields × Result (Unit {0}) g.Told) → Stays [] st.0 (fold (then_fields g) st (map (field_list g) (map (λ (f : SF). f.0) fs))).0
+  fields_stay : (fs : List SF) (st : Scope g.Reported × Fields × Result (Unit {0}) g.Reported) → Stays [] st.0 (fold (then_fields g) st (map (field_list g) (map (λ (f : SF). f.0) fs))).0
   fields_stay [] st = same_stays [] st.0
   fields_stay (f ∷ fs) st = fields_stay fs (field_list g f.0 st) ⨾ f.1 st
 
@@ -264,27 +264,27 @@ module _ (g : Gathers) where
   step_field : (x : Field-F TypeExpr Field) (y : Field-F ST SF) → bare_field y ≡ x → PF (roll-Field x)
   step_field x y q = subst StayingFields (sym (field_at g (roll-Field x) (bare_field y) (out-roll-Field x ∙ sym q))) (λ st. y.of.1 st.0)
 
-  pub type_of_stays : (t : TypeExpr) (s : Scope g.Told) → Stays [] s (type_of g t s).0
+  pub type_of_stays : (t : TypeExpr) (s : Scope g.Reported) → Stays [] s (type_of g t s).0
   type_of_stays t = type_all t where
     type_all : (t : TypeExpr) → PT t
     type_all = ind-TypeExpr PT PF step_type step_field
 
   -- ---- constants and types
 
-  constant_none : (v : Result Value g.Told) → counted_if (constant_meaning v) ≡ []
+  constant_none : (v : Result Value g.Reported) → counted_if (constant_meaning v) ≡ []
   constant_none (Ok v) = refl
   constant_none (Err e) = refl
 
-  type_none : (t : Result TypeNo g.Told) (n : ℕ) → counted_if (type_meaning t n) ≡ []
+  type_none : (t : Result TypeNo g.Reported) (n : ℕ) → counted_if (type_meaning t n) ≡ []
   type_none (Ok t) n = refl
   type_none (Err e) n = refl
 
-  constant_stays : (st : State (Unit {0}) g.Told) (c : Constant) → Stays (c.name.name ∷ []) st.0 (with_constant g st c).0
+  constant_stays : (st : State (Unit {0}) g.Reported) (c : Constant) → Stays (c.name.name ∷ []) st.0 (with_constant g st c).0
   constant_stays st c =
       let b = begun g st.0 c.name in
       finished_stays b.0 c.name (constant_meaning (constant g b.0 (part g c.value))) (constant_none (constant g b.0 (part g c.value))) ⨾ begun_stays st.0 c.name
 
-  type_decl_stays : (st : State (Unit {0}) g.Told) (d : TypeDecl) → Stays (d.name.name ∷ []) st.0 (with_type g st d).0
+  type_decl_stays : (st : State (Unit {0}) g.Reported) (d : TypeDecl) → Stays (d.name.name ∷ []) st.0 (with_type g st d).0
   type_decl_stays st d =
       let b = begun g st.0 d.name in
       let t = type_of g d.of b.0 in
@@ -295,27 +295,27 @@ module _ (g : Gathers) where
   abbrev pub NoneBegun : {T : Type 0} → Scope T → Type 0
   NoneBegun s = (y : List ℕ) → is_begun (found y s.own) ≡ false
 
-  none_again : (name : List ℕ) (s s' : Scope g.Told) → Stays (name ∷ []) s s' → is_begun (found name s'.own) ≡ false → NoneBegun s → NoneBegun s'
+  none_again : (name : List ℕ) (s s' : Scope g.Reported) → Stays (name ∷ []) s s' → is_begun (found name s'.own) ≡ false → NoneBegun s → NoneBegun s'
   none_again name s s' k e n y = by (same_name y name) refl where
     by : (b : Bool) → same_name y name ≡ b → is_begun (found y s'.own) ≡ false
     by true q = subst (λ (z : List ℕ). is_begun (found z s'.own) ≡ false) (sym (same_is y name q)) e
     by false q = k.begun y (ap (λ (b : Bool). b || false) q) ∙ n y
 
   -- a step after which none is left so, if none was before
-  pub record Ends (s s' : Scope g.Told) : Type 0 where
+  pub record Ends (s s' : Scope g.Reported) : Type 0 where
     pub variables : s'.variables ≡ s.variables
     pub procedures : s'.procedures ≡ s.procedures
     pub done_same : done s'.own ≡ done s.own
     pub front : InFront s.own → InFront s'.own
     pub none : NoneBegun s → NoneBegun s'
 
-  ends_by : (names : List (List ℕ)) (s s' : Scope g.Told) → Stays names s s' → (NoneBegun s → NoneBegun s') → Ends s s'
+  ends_by : (names : List (List ℕ)) (s s' : Scope g.Reported) → Stays names s s' → (NoneBegun s → NoneBegun s') → Ends s s'
   ends_by names s s' k n = record { variables = k.variables; procedures = k.procedures; done_same = k.done_same; front = k.front; none = n }
 
-  pub stays_end : (s s' : Scope g.Told) → Stays [] s s' → Ends s s'
+  pub stays_end : (s s' : Scope g.Reported) → Stays [] s s' → Ends s s'
   stays_end s s' k = ends_by [] s s' k (λ n y. k.begun y refl ∙ n y)
 
-  ends_then : (a b c : Scope g.Told) → Ends a b → Ends b c → Ends a c
+  ends_then : (a b c : Scope g.Reported) → Ends a b → Ends b c → Ends a c
   ends_then a b c p q = record {
     variables = q.variables ∙ p.variables;
     procedures = q.procedures ∙ p.procedures;
@@ -324,63 +324,63 @@ module _ (g : Gathers) where
     none = λ h. q.none (p.none h);
   }
 
-  constant_ends : (st : State (Unit {0}) g.Told) (c : Constant) → Ends st.0 (with_constant g st c).0
+  constant_ends : (st : State (Unit {0}) g.Reported) (c : Constant) → Ends st.0 (with_constant g st c).0
   constant_ends st c =
       let b = begun g st.0 c.name in
       let k = constant_stays st c in
       ends_by (c.name.name ∷ []) st.0 (with_constant g st c).0 k (none_again c.name.name st.0 (with_constant g st c).0 k (finished_ends b.0 c.name (constant_meaning (constant g b.0 (part g c.value)))))
 
-  type_decl_ends : (st : State (Unit {0}) g.Told) (d : TypeDecl) → Ends st.0 (with_type g st d).0
+  type_decl_ends : (st : State (Unit {0}) g.Reported) (d : TypeDecl) → Ends st.0 (with_type g st d).0
   type_decl_ends st d =
       let b = begun g st.0 d.name in
       let t = type_of g d.of b.0 in
       let k = type_decl_stays st d in
       ends_by (d.name.name ∷ []) st.0 (with_type g st d).0 k (none_again d.name.name st.0 (with_type g st d).0 k (finished_ends t.0 d.name (type_meaning t.1 (brings_with d.of))))
 
-  pub constants_end : (cs : List Constant) (st : State (Unit {0}) g.Told) → Ends st.0 (fold (with_constant g) st cs).0
+  pub constants_end : (cs : List Constant) (st : State (Unit {0}) g.Reported) → Ends st.0 (fold (with_constant g) st cs).0
   constants_end [] st = stays_end st.0 st.0 (same_stays [] st.0)
   constants_end (c ∷ cs) st = ends_then st.0 (with_constant g st c).0 _ (constant_ends st c) (constants_end cs (with_constant g st c))
 
-  pub types_end : (ds : List TypeDecl) (st : State (Unit {0}) g.Told) → Ends st.0 (fold (with_type g) st ds).0
+  pub types_end : (ds : List TypeDecl) (st : State (Unit {0}) g.Reported) → Ends st.0 (fold (with_type g) st ds).0
   types_end [] st = stays_end st.0 st.0 (same_stays [] st.0)
   types_end (d ∷ ds) st = ends_then st.0 (with_type g st d).0 _ (type_decl_ends st d) (types_end ds (with_type g st d))
 
   -- ---- imports
 
-  again_by : (s : Scope g.Told) (b : Bool) (st : State (Unit {0}) g.Told) → Stays [] s st.0 → Stays [] s (cond {A = State (Unit {0}) g.Told} b (s, Ok tt) st).0
+  again_by : (s : Scope g.Reported) (b : Bool) (st : State (Unit {0}) g.Reported) → Stays [] s st.0 → Stays [] s (cond {A = State (Unit {0}) g.Reported} b (s, Ok tt) st).0
   again_by s true st p = same_stays [] s
   again_by s false st p = p
 
-  imported_stays : (s : Scope g.Told) (at : Pos) (name : List ℕ) (o : Origin) (m : Result Meaning g.Told) → counted_of (Declared o m) ≡ [] → Stays [] s (imported g s at name o m).0
+  imported_stays : (s : Scope g.Reported) (at : Pos) (name : List ℕ) (o : Origin) (m : Result Meaning g.Reported) → counted_of (Declared o m) ≡ [] → Stays [] s (imported g s at name o m).0
   imported_stays s at name o m n =
       again_by s (is_again (found name s.own) o) _
-      (either [] s (is_free (found name s.own)) (with_known name (Declared o m) s, Ok tt) (s, told g at 31) (λ e. free_stays name (Declared o m) s n refl e) (same_stays [] s))
+      (either [] s (is_free (found name s.own)) (with_known name (Declared o m) s, Ok tt) (s, reported g at 31) (λ e. free_stays name (Declared o m) s n refl e) (same_stays [] s))
 
-  module_as_stays : (s : Scope g.Told) (name : Ident) (r : Result ℕ g.Told) → Stays [] s (with_module_as g s name r).0
+  module_as_stays : (s : Scope g.Reported) (name : Ident) (r : Result ℕ g.Reported) → Stays [] s (with_module_as g s name r).0
   module_as_stays s name (Ok k) = imported_stays s name.pos name.name (Module k) _ refl
   module_as_stays s name (Err e) = same_stays [] s
 
-  entry_stays : (at : Pos) (k : ℕ) (st : State (Unit {0}) g.Told) (e : List ℕ × Meaning) → Stays [] st.0 (with_entry g at k st e).0
+  entry_stays : (at : Pos) (k : ℕ) (st : State (Unit {0}) g.Reported) (e : List ℕ × Meaning) → Stays [] st.0 (with_entry g at k st e).0
   entry_stays at k st e = imported_stays st.0 at e.0 (Export k) (Ok e.1) refl
 
-  taken_stays : (s : Scope g.Told) (at : Pos) (k : ℕ) (es : List (List ℕ × Meaning)) (i : ℕ) (o : Option (Result (Unit {0}) g.Told)) → Stays [] s (unless_taken g s at k es i o).0
+  taken_stays : (s : Scope g.Reported) (at : Pos) (k : ℕ) (es : List (List ℕ × Meaning)) (i : ℕ) (o : Option (Result (Unit {0}) g.Reported)) → Stays [] s (unless_taken g s at k es i o).0
   taken_stays s at k es i (Some j) = same_stays [] s
   taken_stays s at k es i None = fold_stays [] state (with_entry g at k) (entry_stays at k) (take (brings_in (slice_get es i)) (drop i es)) (s, Ok tt)
 
-  place_stays : (s : Scope g.Told) (name : Ident) (k : ℕ) (es : List (List ℕ × Meaning)) (o : Option ℕ) → Stays [] s (from_place g s name k es o).0
+  place_stays : (s : Scope g.Reported) (name : Ident) (k : ℕ) (es : List (List ℕ × Meaning)) (o : Option ℕ) → Stays [] s (from_place g s name k es o).0
   place_stays s name k es None = same_stays [] s
-  place_stays s name k es (Some i) = taken_stays s name.pos k es i (told_of_taken g name.pos k (found name.name s.own))
+  place_stays s name k es (Some i) = taken_stays s name.pos k es i (reported_of_taken g name.pos k (found name.name s.own))
 
-  from_stays : (k : ℕ) (es : List (List ℕ × Meaning)) (st : State (Unit {0}) g.Told) (name : Ident) → Stays [] st.0 (with_from g k es st name).0
+  from_stays : (k : ℕ) (es : List (List ℕ × Meaning)) (st : State (Unit {0}) g.Reported) (name : Ident) → Stays [] st.0 (with_from g k es st name).0
   from_stays k es st name = place_stays st.0 name k es (place_of name.name es)
 
-  from_module_stays : (r : Result ℕ g.Told) (st : State (Unit {0}) g.Told) (names : List Ident) → Stays [] st.0 (from_module g r st names).0
+  from_module_stays : (r : Result ℕ g.Reported) (st : State (Unit {0}) g.Reported) (names : List Ident) → Stays [] st.0 (from_module g r st names).0
   from_module_stays (Ok k) st names = fold_stays [] state (with_from g k (exports_of (slice_get st.0.tables k))) (from_stays k (exports_of (slice_get st.0.tables k))) names st
   from_module_stays (Err e) st names = same_stays [] st.0
 
-  imports_stay : (modules : List (List ℕ × ℕ)) (st : State (Unit {0}) g.Told) (from : Option Ident) (names : List Ident) → Stays [] st.0 (with_imports g modules st from names).0
+  imports_stay : (modules : List (List ℕ × ℕ)) (st : State (Unit {0}) g.Reported) (from : Option Ident) (names : List Ident) → Stays [] st.0 (with_imports g modules st from names).0
   imports_stay modules st None names = fold_stays [] state (with_module_name g modules) (λ st x. module_as_stays st.0 x (module_named g modules x)) names st
   imports_stay modules st (Some m) names = from_module_stays (module_named g modules m) st names
 
-  pub import_stays : (modules : List (List ℕ × ℕ)) (is : List Import) (st : State (Unit {0}) g.Told) → Stays [] st.0 (fold (with_import g modules) st is).0
+  pub import_stays : (modules : List (List ℕ × ℕ)) (is : List Import) (st : State (Unit {0}) g.Reported) → Stays [] st.0 (fold (with_import g modules) st is).0
   import_stays modules is st = fold_stays [] state (with_import g modules) (λ st i. imports_stay modules st i.from i.names) is st

@@ -12,9 +12,9 @@ use Rattle.m2_typed.specs.declared.shape.Made.{Made}
 use Rattle.m2_typed.specs.declared.table.Table.{Table}
 use Rattle.m2_typed.specs.declared.typed_module.TypedModule.{TypedModule}
 use Rattle.m2_typed.specs.declared.types.TypeNo.{TypeNo}
-use Rattle.m2_judged.specs.declared.fault.Fault.{Fault}
-use Rattle.m2_judged.specs.declared.scope.Scope.{Scope}
-use Rattle.m2_judged.specs.Judged.{Gathers, least}
+use Rattle.m2_scopes.specs.declared.fault.Fault.{Fault}
+use Rattle.m2_scopes.specs.declared.scope.Scope.{Scope}
+use Rattle.m2_scopes.specs.Elaborated.{Gathers, least}
 use Rattle.m2_layout.specs.Layouts.{too_large}
 use Rattle.m2_types.specs.Compiled.{table_of, table_or, declared_in}
 use Rattle.m2_types.specs.Compiled as types
@@ -33,7 +33,7 @@ use Rattle.m2_compile.specs.declared.outcome.Compiled.{Compiled}
 use Rattle.m2_compile.specs.declared.outcome.Compiled.TheVariants.{Defined, Blocked}
 use Rattle.m2_compile.specs.Compiling.{is_sound, tables_of, of_definition, of_fit, of_checked, of_contents, typed_body, compiled}
 use Rattle.m2_jobs.specs.Jobs.{compiled_in}
-use Rattle.m2_jobs.specs.Spelled.{needed_of}
+use Rattle.m2_jobs.specs.Encoded.{needed_of}
 use Rattle.m2_formed_reach.specs.FormedReach.{result_of, types_of}
 use Rattle.m2_formed_reach.proofs.Reach.{IsNeeded, known_below, tables_needed}
 use Rattle.m2_typing.specs.Carried.{Carries}
@@ -48,7 +48,7 @@ use Rattle.m2_typing_tables.proofs.Reached.{all_stay, IsOther, other_of, console
 
 -- ---- a definition
 
-table_is : (g : Gathers) (m : Module) (modules : List (List ℕ × ℕ)) (s : Scope g.Told) (r : Result (Unit {0}) g.Told) (t : Table) → table_or m modules s r ≡ Ok t → (r ≡ Ok tt) × (table_of m modules s ≡ t)
+table_is : (g : Gathers) (m : Module) (modules : List (List ℕ × ℕ)) (s : Scope g.Reported) (r : Result (Unit {0}) g.Reported) (t : Table) → table_or m modules s r ≡ Ok t → (r ≡ Ok tt) × (table_of m modules s ≡ t)
 table_is g m modules s (Ok x) t e = (refl, cc)
 table_is g m modules s (Err f) t e = absurd cc
 
@@ -57,8 +57,8 @@ module _ (made_of : ℕ → List Made) (n : ℕ) (m : Module) (ts : List Table) 
       → TableStands n (table_of m (numbered_modules ts).0 s)
   definition_stands ds ok own numbered =
       let modules : List (List ℕ × ℕ) = (numbered_modules ts).0 in
-      let first : Scope least.Told = first_scope n ts in
-      let s : Scope least.Told = (declared_in least m modules first ds).0 in
+      let first : Scope least.Reported = first_scope n ts in
+      let s : Scope least.Reported = (declared_in least m modules first ds).0 in
       let k : Carries first s = definition_carries least m modules first ds (all_are_elsewhere n ts others) in
       let c = definition_counts least m n modules ts ds ok in
       let exported : AreExports s.types.home (exports s.own) = subst (λ (h : ℕ). AreExports h (exports s.own)) (sym k.home) own in

@@ -13,26 +13,26 @@ use Rattle.m2_typed.specs.declared.statement.TypedStmt.{TypedStmt}
 use Rattle.m2_typed.specs.declared.table.Table.{Table}
 use Rattle.m2_typed.specs.declared.typed_module.TypedModule.{TypedModule}
 use Rattle.m2_typed.specs.declared.typed_module.Which.{Which}
-use Rattle.m2_judged.specs.Judged.{Gathers, least, both, ◌▷◌}
-use Rattle.m2_judged.specs.Scopes.{State}
-use Rattle.m2_judged.specs.declared.scope.Scope.{Scope}
+use Rattle.m2_scopes.specs.Elaborated.{Gathers, least, both, ◌▷◌}
+use Rattle.m2_scopes.specs.Scopes.{State}
+use Rattle.m2_scopes.specs.declared.scope.Scope.{Scope}
 use Rattle.m2_types.specs.Importing.{with_import}
 use Rattle.m2_blocks.specs.Naming.{with_marks}
 use Rattle.m2_blocks.specs.Nesting.{procedure_ends}
 use Rattle.m2_blocks.specs.Declarations.{Declared, declared_block}
 use Rattle.m2_modules.specs.Routines.{no_bodies, typed_module}
 use Rattle.m2_bodies.specs.declared.procedure.Walk.{Walk}
-use Rattle.m2_bodies.specs.Judging.{Judges}
+use Rattle.m2_bodies.specs.Elaborating.{Elaborates}
 use Rattle.m2_bodies.specs.Bodies.{Checked, ChecksBlock, Steps, marked_by, with_body, begun_from, steps_layer, block_layer, steps, checks_block, checks_decl}
 use Rattle.m2_bodies.specs.Checked.{of_body}
-use Rattle.m2_check.specs.Checks.{judged}
+use Rattle.m2_check.specs.Checks.{elaborated}
 use Rattle.m2_formed_scopes.specs.FormedScopes.{Leads}
 use Rattle.m2_formed_imports.proofs.Walks.{walk_keeps}
 use Rattle.m2_formed_bodies.specs.FormedBodies.{Keeps}
 use Rattle.m2_formed_bodies.proofs.Parts.{AreSteps, nothing_at, no_home, nothing_open, all_marks, all_lead}
 use Rattle.m2_formed_bodies.proofs.Checks.{holds_at}
-use Rattle.m2_formed_bodies.proofs.Blocks.{all_keep, checked_told}
-use Rattle.m2_formed_bodies.proofs.Induction.{judged_formed}
+use Rattle.m2_formed_bodies.proofs.Blocks.{all_keep, checked_reported}
+use Rattle.m2_formed_bodies.proofs.Induction.{elaborated_formed}
 use Rattle.m2_formed_modules.proofs.Steps.{declared_is, bodies_are, total, are_steps}
 use Rattle.m2_formed_ranges.specs.FormedRanges.{itself, fits_decl, fits_decl_layer}
 use Rattle.m2_formed_ranges.proofs.Types.{both_left, both_right}
@@ -85,37 +85,37 @@ block_fits b e = decls_fit (out-Block b).decls (sym (fits_at_block b) ∙ e)
 
 -- ---- the bodies of procedures leave the variables of the module
 
-module _ (g : Gathers) (judges : Judges g.Told) (ends : List ℕ) where
-  abbrev opened : Decl-F Decl Block → Decl-F (Steps g.Told) (ChecksBlock g.Told)
-  opened x = map-Decl Decl Block (Steps g.Told) (ChecksBlock g.Told) (steps g judges ends) (checks_block g judges ends) x
+module _ (g : Gathers) (elaborates : Elaborates g.Reported) (ends : List ℕ) where
+  abbrev opened : Decl-F Decl Block → Decl-F (Steps g.Reported) (ChecksBlock g.Reported)
+  opened x = map-Decl Decl Block (Steps g.Reported) (ChecksBlock g.Reported) (steps g elaborates ends) (checks_block g elaborates ends) x
 
-  step_is : (d : Decl) → steps g judges ends d ≡ steps_layer g judges ends (opened (out-Decl d))
+  step_is : (d : Decl) → steps g elaborates ends d ≡ steps_layer g elaborates ends (opened (out-Decl d))
   unfolding steps checks_block
-  step_is d = fold_out-Decl (Steps g.Told) (ChecksBlock g.Told) (steps_layer g judges ends) (block_layer g judges ends) d
+  step_is d = fold_out-Decl (Steps g.Reported) (ChecksBlock g.Reported) (steps_layer g elaborates ends) (block_layer g elaborates ends) d
 
-  layer_variables : (x : Decl-F Decl Block) (around : Option Which) (seen : ℕ) (w : Walk g.Told) → ((steps_layer g judges ends (opened x)).checks around seen w).scope.variables ≡ w.scope.variables
+  layer_variables : (x : Decl-F Decl Block) (around : Option Which) (seen : ℕ) (w : Walk g.Reported) → ((steps_layer g elaborates ends (opened x)).checks around seen w).scope.variables ≡ w.scope.variables
   layer_variables (layer.Constants cs) around seen w = refl
   layer_variables (layer.Types ts) around seen w = refl
   layer_variables (layer.Variables vs) around seen w = refl
   layer_variables (layer.Procedure h b) around seen w = refl
 
-  decl_variables : (d : Decl) (around : Option Which) (seen : ℕ) (w : Walk g.Told) → (checks_decl g judges ends d around seen w).scope.variables ≡ w.scope.variables
-  decl_variables d around seen w = ap (λ (x : Steps g.Told). (x.checks around seen w).scope.variables) (step_is d) ∙ layer_variables (out-Decl d) around seen w
+  decl_variables : (d : Decl) (around : Option Which) (seen : ℕ) (w : Walk g.Reported) → (checks_decl g elaborates ends d around seen w).scope.variables ≡ w.scope.variables
+  decl_variables d around seen w = ap (λ (x : Steps g.Reported). (x.checks around seen w).scope.variables) (step_is d) ∙ layer_variables (out-Decl d) around seen w
 
-  bodies_variables : (seen : List ℕ) (ds : List Decl) (st : Walk g.Told × ℕ) → (fold (with_body (λ d. checks_decl g judges ends d None) seen) st ds).0.scope.variables ≡ st.0.scope.variables
+  bodies_variables : (seen : List ℕ) (ds : List Decl) (st : Walk g.Reported × ℕ) → (fold (with_body (λ d. checks_decl g elaborates ends d None) seen) st ds).0.scope.variables ≡ st.0.scope.variables
   bodies_variables seen [] st = refl
-  bodies_variables seen (d ∷ ds) st = bodies_variables seen ds (with_body (λ d. checks_decl g judges ends d None) seen st d) ∙ decl_variables d None (unwrap_or (slice_get seen st.1) 0) st.0
+  bodies_variables seen (d ∷ ds) st = bodies_variables seen ds (with_body (λ d. checks_decl g elaborates ends d None) seen st d) ∙ decl_variables d None (unwrap_or (slice_get seen st.1) 0) st.0
 
 -- ---- a walk over a module
 
-parts_of : (g : Gathers) (a : Result (Unit {0}) g.Told) (r : Result (List TypedStmt) g.Told) (f : List TypedStmt → TypedModule) (t : TypedModule) → (both g a r ▷ λ p. Ok (f p.1)) ≡ Ok t → (a ≡ Ok tt) × ((ys : List TypedStmt) × ((r ≡ Ok ys) × (f ys ≡ t)))
+parts_of : (g : Gathers) (a : Result (Unit {0}) g.Reported) (r : Result (List TypedStmt) g.Reported) (f : List TypedStmt → TypedModule) (t : TypedModule) → (both g a r ▷ λ p. Ok (f p.1)) ≡ Ok t → (a ≡ Ok tt) × ((ys : List TypedStmt) × ((r ≡ Ok ys) × (f ys ≡ t)))
 parts_of g (Ok u) (Ok ys) f t e = (refl, (ys, (refl, cc)))
 parts_of g (Ok u) (Err x) f t e = absurd cc
 parts_of g (Err x) (Ok ys) f t e = absurd cc
 parts_of g (Err x) (Err y) f t e = absurd cc
 
 -- what is known where a body begins
-pub record Ready (base : Types) (es : List (List ℕ × Meaning)) (s : Scope least.Told) : Type 0 where
+pub record Ready (base : Types) (es : List (List ℕ × Meaning)) (s : Scope least.Reported) : Type 0 where
   pub formed : ScopeFormed base s
   pub starts : Starts s es
   pub elsewhere : TablesElsewhere s.types.home s.tables
@@ -123,37 +123,37 @@ pub record Ready (base : Types) (es : List (List ℕ × Meaning)) (s : Scope lea
   pub placed : ScopePlaced s
   pub slots : ScopeSlots None s
 
-module _ (s : Scope least.Told) (m : Module) (b : Block) where
+module _ (s : Scope least.Reported) (m : Module) (b : Block) where
   abbrev ends : List ℕ
   ends = procedure_ends (decls_in b)
 
-  abbrev d : Declared least.Told
+  abbrev d : Declared least.Reported
   d = declared_in s m b
 
-  abbrev w : Checked least.Told
+  abbrev w : Checked least.Reported
   w = walked_in s m b
 
-  abbrev start : Walk least.Told
+  abbrev start : Walk least.Reported
   start = begun_from d (no_bodies d.0.procedures)
 
-  abbrev ps : AreSteps least (judged least) ends (map (steps least (judged least) ends) (decls_in b)) (total least (judged least) (judged_formed least) ends (decls_in b))
-  ps = are_steps least (judged least) (judged_formed least) ends (decls_in b)
+  abbrev ps : AreSteps least (elaborated least) ends (map (steps least (elaborated least) ends) (decls_in b)) (total least (elaborated least) (elaborated_formed least) ends (decls_in b))
+  ps = are_steps least (elaborated least) (elaborated_formed least) ends (decls_in b)
 
   declared_ok : w.0.so_far ≡ Ok tt → d.1 ≡ Ok tt
   declared_ok e =
-      checked_told least (judged least) ends None d.2 ps (start, 0) (sym (ap (λ (w : Walk least.Told). w.so_far) (bodies_are least (judged least) (judged_formed least) ends None d.2 start (decls_in b))) ∙ e)
+      checked_reported least (elaborated least) ends None d.2 ps (start, 0) (sym (ap (λ (w : Walk least.Reported). w.so_far) (bodies_are least (elaborated least) (elaborated_formed least) ends None d.2 start (decls_in b))) ∙ e)
 
   walk_grows : Keeps d.0 w.0.scope
   walk_grows =
-      subst (λ (w : Walk least.Told). Keeps d.0 w.scope) (sym (bodies_are least (judged least) (judged_formed least) ends None d.2 start (decls_in b))) (all_keep least (judged least) ends None d.2 ps (start, 0))
+      subst (λ (w : Walk least.Reported). Keeps d.0 w.scope) (sym (bodies_are least (elaborated least) (elaborated_formed least) ends None d.2 start (decls_in b))) (all_keep least (elaborated least) ends None d.2 ps (start, 0))
 
-  block_outer : (st : State (Unit {0}) least.Told) → (declared_block least ends st 0 (decls_in b)).0.outer ≡ st.0.outer
+  block_outer : (st : State (Unit {0}) least.Reported) → (declared_block least ends st 0 (decls_in b)).0.outer ≡ st.0.outer
   block_outer st =
-      let marks : Scope least.Told × List ℕ = fold (with_marks marked_by) (st.0, []) (map (steps least (judged least) ends) (decls_in b)) in
+      let marks : Scope least.Reported × List ℕ = fold (with_marks marked_by) (st.0, []) (map (steps least (elaborated least) ends) (decls_in b)) in
       let other : TypedModule = nothing_at marks.0.types.home in
-      let one : Leads other nothing_open st.0 marks.0 = all_marks least (judged least) ends other nothing_open ps (st.0, []) in
-      let two = all_lead least (judged least) ends other nothing_open ps (marks.0, st.1, 0) (no_home marks.0.types.home) in
-      ap (λ (d : Declared least.Told). d.0.outer) (declared_is least (judged least) (judged_formed least) ends st 0 (decls_in b)) ∙ (two.outer ∙ one.outer)
+      let one : Leads other nothing_open st.0 marks.0 = all_marks least (elaborated least) ends other nothing_open ps (st.0, []) in
+      let two = all_lead least (elaborated least) ends other nothing_open ps (marks.0, st.1, 0) (no_home marks.0.types.home) in
+      ap (λ (d : Declared least.Reported). d.0.outer) (declared_is least (elaborated least) (elaborated_formed least) ends st 0 (decls_in b)) ∙ (two.outer ∙ one.outer)
 
   module _ (base : Types) (es : List (List ℕ × Meaning)) (ready : Ready base es s) (fit : fits_block b ≡ true) where
     carried : Carries s d.0
@@ -163,7 +163,7 @@ module _ (s : Scope least.Told) (m : Module) (b : Block) where
     outer_is = let k : Stays s (imported_in s m) = import_stays least (modules_in s) m.imports (s, Ok tt) in block_outer (fold (with_import least (modules_in s)) (s, Ok tt) m.imports) ∙ k.outer
 
     walk_formed : w.0.so_far ≡ Ok tt → ScopeFormed base w.0.scope
-    walk_formed e = holds_at w.0.so_far (walked_formed least (judged least) ends base (modules_in s) s m b fit ready.formed) tt e
+    walk_formed e = holds_at w.0.so_far (walked_formed least (elaborated least) ends base (modules_in s) s m b fit ready.formed) tt e
 
     types_typed : w.0.so_far ≡ Ok tt → TypesIndexed w.0.scope.types → TypesTyped w.0.scope.types
     types_typed e i =
@@ -185,14 +185,14 @@ module _ (s : Scope least.Told) (m : Module) (b : Block) where
           base = base;
           begun = begun;
           begins = module_begins least (modules_in s) m.imports s es ready.starts;
-          told = e;
+          reported = e;
           body = q;
           types = refl;
-          variables = bodies_variables least (judged least) ends d.2 (decls_in b) (start, 0);
+          variables = bodies_variables least (elaborated least) ends d.2 (decls_in b) (start, 0);
           procedures = refl;
           locals = refl;
           order = refl;
-          home = ap (λ (p : List Table × ℕ). p.1) (walk_keeps least (judged least) ends (modules_in s) s m b);
+          home = ap (λ (p : List Table × ℕ). p.1) (walk_keeps least (elaborated least) ends (modules_in s) s m b);
           same_home = carried.home;
           grows = λ u x q. walk_grows.types u x q;
           level = carried.level ∙ ready.starts.level;
@@ -209,7 +209,7 @@ module _ (s : Scope least.Told) (m : Module) (b : Block) where
           typed = types_typed e i;
         }
 
-    pub body_stands : (job : ℕ) (ts : List Table) (own : Option Table) (t : TypedModule) → BeginsIn m job ts s b → of_body least (judged least) s own m b ≡ Ok t → TypesIndexed t.types → BodyStands m job ts t
+    pub body_stands : (job : ℕ) (ts : List Table) (own : Option Table) (t : TypedModule) → BeginsIn m job ts s b → of_body least (elaborated least) s own m b ≡ Ok t → TypesIndexed t.types → BodyStands m job ts t
     body_stands job ts own t begun e i =
         let k = parts_of least w.0.so_far w.1 (λ ys. typed_module w.0.scope (modules_in s) own m w.0.bodies ys) t e in
         subst (λ (t : TypedModule). BodyStands m job ts t) k.1.1.1

@@ -17,8 +17,8 @@ use Rattle.m2_typed.specs.declared.typed_module.TypedModule.{TypedModule}
 use Rattle.m2_typed.specs.declared.types.TypeNo.{TypeNo}
 use Rattle.m2_typed.specs.Known.{made_at}
 use Rattle.m2_typed.specs.Names.{found}
-use Rattle.m2_judged.specs.Judged.{least}
-use Rattle.m2_judged.specs.declared.scope.Scope.{Scope}
+use Rattle.m2_scopes.specs.Elaborated.{least}
+use Rattle.m2_scopes.specs.declared.scope.Scope.{Scope}
 use Rattle.m2_types.specs.Importing.{numbered_modules, with_import}
 use Rattle.m2_types.specs.Predeclared.{console, predeclared_block, first_scope}
 use Rattle.m2_blocks.specs.Nesting.{procedure_ends}
@@ -26,11 +26,11 @@ use Rattle.m2_blocks.specs.Declarations.{Declared, declared_module}
 use Rattle.m2_modules.specs.Own.{exported_variables, exported_headings, implementation_scope}
 use Rattle.m2_bodies.specs.Bodies.{Checked}
 use Rattle.m2_bodies.specs.Checked.{walked}
-use Rattle.m2_check.specs.Checks.{judged}
+use Rattle.m2_check.specs.Checks.{elaborated}
 use Rattle.m2_compile.specs.declared.outcome.Compiled.TheVariants.{Defined}
 use Rattle.m2_compile.specs.Own.{own_table, tables_behind}
 use Rattle.m2_compile.specs.Compiling.{tables_of, typed_body}
-use Rattle.m2_jobs.specs.Spelled.{needed_of}
+use Rattle.m2_jobs.specs.Encoded.{needed_of}
 use Rattle.m2_formed_tables.specs.FormedTables.{AreExports, AreNumberedBy}
 use Rattle.m2_formed_order.specs.FormedOrder.{StandOnce}
 use Rattle.m2_formed_known.specs.FormedKnown.{fits_module, HasReached}
@@ -86,37 +86,37 @@ abbrev pub tables_by : Module → List Table → List Table
 tables_by m ts = tables_behind (own_table m ts) ts ++ console ∷ []
 
 -- the body of a program or of an implementation begins in this scope, with this block
-pub data BeginsIn (m : Module) (job : ℕ) (ts : List Table) : Scope least.Told → Block → Type 0 where
+pub data BeginsIn (m : Module) (job : ℕ) (ts : List Table) : Scope least.Reported → Block → Type 0 where
   program : (b : Block) → m.contents ≡ contents.Program b → BeginsIn m job ts (first_scope job (tables_by m ts)) b
   implementation : (own : Table) (b : Block) → own_table m ts ≡ Some own → m.contents ≡ contents.Implementation b → BeginsIn m job ts (implementation_scope own (tables_by m ts)) b
 
-abbrev pub modules_in : Scope least.Told → List (List ℕ × ℕ)
+abbrev pub modules_in : Scope least.Reported → List (List ℕ × ℕ)
 modules_in s = (numbered_modules s.tables).0
 
 abbrev pub decls_in : Block → List Decl
 decls_in b = (out-Block b).decls
 
 -- the scope behind the imports,
-abbrev pub imported_in : Scope least.Told → Module → Scope least.Told
+abbrev pub imported_in : Scope least.Reported → Module → Scope least.Reported
 imported_in s m = (fold (with_import least (modules_in s)) (s, Ok tt) m.imports).0
 
 -- what the declarations of the block come to,
-abbrev pub declared_in : Scope least.Told → Module → Block → Declared least.Told
+abbrev pub declared_in : Scope least.Reported → Module → Block → Declared least.Reported
 declared_in s m b = declared_module least (modules_in s) (procedure_ends (decls_in b)) s m (decls_in b)
 
 -- and the bodies
-abbrev pub walked_in : Scope least.Told → Module → Block → Checked least.Told
-walked_in s m b = walked least (judged least) (modules_in s) (procedure_ends (decls_in b)) s m b
+abbrev pub walked_in : Scope least.Reported → Module → Block → Checked least.Reported
+walked_in s m b = walked least (elaborated least) (modules_in s) (procedure_ends (decls_in b)) s m b
 
 -- A body begins in this scope, with this block, and comes to this module. No rule is broken. The types of the block's end are
 -- those of the module. The block's names stand under their numbers, and the module's types are as the language has them.
 pub record BodyStands (m : Module) (job : ℕ) (ts : List Table) (t : TypedModule) : Type 0 where
-  pub scope : Scope least.Told
+  pub scope : Scope least.Reported
   pub block : Block
   pub base : Types
   pub begun : BeginsIn m job ts scope block
   pub begins : ModuleBegins (imported_in scope m)
-  pub told : (walked_in scope m block).0.so_far ≡ Ok tt
+  pub reported : (walked_in scope m block).0.so_far ≡ Ok tt
   pub body : (walked_in scope m block).1 ≡ Ok t.body
   pub types : t.types ≡ (walked_in scope m block).0.scope.types
   pub variables : t.variables ≡ (declared_in scope m block).0.variables

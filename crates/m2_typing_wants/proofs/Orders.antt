@@ -22,8 +22,8 @@ use Rattle.m2_typed.specs.declared.typed_module.Which.{Which}
 use Rattle.m2_typed.specs.declared.typed_module.Which.TheVariants as which
 use Rattle.m2_typed.specs.declared.types.TypeNo.{TypeNo}
 use Rattle.m2_typed.specs.Types.{integer}
-use Rattle.m2_judged.specs.Judged.{Gathers, both, ◌▷◌}
-use Rattle.m2_judged.specs.declared.scope.Scope.{Scope}
+use Rattle.m2_scopes.specs.Elaborated.{Gathers, both, ◌▷◌}
+use Rattle.m2_scopes.specs.declared.scope.Scope.{Scope}
 use Rattle.m2_layout.specs.Texts.{is_which}
 use Rattle.m2_types.specs.Predeclared.{console, first_scope}
 use Rattle.m2_types.specs.Importing.{numbered_modules}
@@ -33,13 +33,13 @@ use Rattle.m2_modules.specs.declared.routine.Numbered.{Numbered}
 use Rattle.m2_modules.specs.Own.{implementation_scope}
 use Rattle.m2_modules.specs.Routines.{unfilled, no_bodies, filled, routine, typed_module}
 use Rattle.m2_bodies.specs.declared.procedure.Walk.{Walk}
-use Rattle.m2_bodies.specs.Judging.{Judges}
+use Rattle.m2_bodies.specs.Elaborating.{Elaborates}
 use Rattle.m2_bodies.specs.Inside.{which_of, begun_procedure, with_routine}
 use Rattle.m2_bodies.specs.Bodies.{Checked, Checks, ChecksBlock, Steps, checked_by, with_body, procedure_checked, steps_layer, block_layer, steps, checks_block, checks_decl}
 use Rattle.m2_bodies.specs.Checked.{begun_module, module_or, walked, of_body, of_implementation, of_contents}
-use Rattle.m2_check.specs.Checks.{judged, checked}
+use Rattle.m2_check.specs.Checks.{elaborated, checked}
 use Rattle.m2_formed.specs.Formed.{Holds, fine, broken}
-use Rattle.m2_formed.proofs.Basics.{told_holds}
+use Rattle.m2_formed.proofs.Basics.{reported_holds}
 use Rattle.m2_formed_bodies.proofs.Places.{set_other}
 use Rattle.m2_typing_wants.specs.TypingWants.{AreOrdered}
 
@@ -131,19 +131,19 @@ module _ {T X : Type 0} (checks : X → Checks T) where
   fold_orders around seen (x ∷ xs) each st all =
       fold_orders around seen xs each.1 (with_body (λ (y : X). checks y around) seen st x) (each.0 around _ st.0 all)
 
-module _ (g : Gathers) (judges : Judges g.Told) (ends : List ℕ) where
-  procedure_orders : (h : Heading) (block : ChecksBlock g.Told) → OrdersBlock block → Orders (procedure_checked g judges ends h block)
+module _ (g : Gathers) (elaborates : Elaborates g.Reported) (ends : List ℕ) where
+  procedure_orders : (h : Heading) (block : ChecksBlock g.Reported) → OrdersBlock block → Orders (procedure_checked g elaborates ends h block)
   procedure_orders h block k around seen w all =
       let b = begun_procedure g w seen h in
       let e = block (which_of b.1.procedure) b.1.returns b.0 in
       routine_stands e.0.scope h.name around b.1.formals b.1.procedure e.1 e.0.bodies
       (k (which_of b.1.procedure) b.1.returns b.0 (begun_stand _ w.bodies all))
 
-  abbrev steps_of : Decl → Steps g.Told
-  steps_of = steps g judges ends
+  abbrev steps_of : Decl → Steps g.Reported
+  steps_of = steps g elaborates ends
 
-  abbrev block_of : Block → ChecksBlock g.Told
-  block_of = checks_block g judges ends
+  abbrev block_of : Block → ChecksBlock g.Reported
+  block_of = checks_block g elaborates ends
 
   abbrev PD : Decl → Type 0
   PD d = Orders (steps_of d).checks
@@ -163,49 +163,49 @@ module _ (g : Gathers) (judges : Judges g.Told) (ends : List ℕ) where
   abbrev bare_block : Block-F SD SB → Block-F Decl Block
   bare_block x = map-Block SD SB Decl Block (λ e. e.0) (λ e. e.0) x
 
-  abbrev opened : Decl-F Decl Block → Decl-F (Steps g.Told) (ChecksBlock g.Told)
-  opened x = map-Decl Decl Block (Steps g.Told) (ChecksBlock g.Told) steps_of block_of x
+  abbrev opened : Decl-F Decl Block → Decl-F (Steps g.Reported) (ChecksBlock g.Reported)
+  opened x = map-Decl Decl Block (Steps g.Reported) (ChecksBlock g.Reported) steps_of block_of x
 
-  abbrev opened_block : Block-F Decl Block → Block-F (Steps g.Told) (ChecksBlock g.Told)
-  opened_block x = map-Block Decl Block (Steps g.Told) (ChecksBlock g.Told) steps_of block_of x
+  abbrev opened_block : Block-F Decl Block → Block-F (Steps g.Reported) (ChecksBlock g.Reported)
+  opened_block x = map-Block Decl Block (Steps g.Reported) (ChecksBlock g.Reported) steps_of block_of x
 
-  at : (e : Decl) (x : Decl-F Decl Block) → out-Decl e ≡ x → steps_of e ≡ steps_layer g judges ends (opened x)
+  at : (e : Decl) (x : Decl-F Decl Block) → out-Decl e ≡ x → steps_of e ≡ steps_layer g elaborates ends (opened x)
   unfolding steps checks_block
-  at e x h = fold_out-Decl (Steps g.Told) (ChecksBlock g.Told) (steps_layer g judges ends) (block_layer g judges ends) e ∙ ap (λ (y : Decl-F Decl Block). steps_layer g judges ends (opened y)) h
+  at e x h = fold_out-Decl (Steps g.Reported) (ChecksBlock g.Reported) (steps_layer g elaborates ends) (block_layer g elaborates ends) e ∙ ap (λ (y : Decl-F Decl Block). steps_layer g elaborates ends (opened y)) h
 
-  at_block : (e : Block) (x : Block-F Decl Block) → out-Block e ≡ x → block_of e ≡ block_layer g judges ends (opened_block x)
+  at_block : (e : Block) (x : Block-F Decl Block) → out-Block e ≡ x → block_of e ≡ block_layer g elaborates ends (opened_block x)
   unfolding steps checks_block
-  at_block e x h = fold_out-Block (Steps g.Told) (ChecksBlock g.Told) (steps_layer g judges ends) (block_layer g judges ends) e ∙ ap (λ (y : Block-F Decl Block). block_layer g judges ends (opened_block y)) h
+  at_block e x h = fold_out-Block (Steps g.Reported) (ChecksBlock g.Reported) (steps_layer g elaborates ends) (block_layer g elaborates ends) e ∙ ap (λ (y : Block-F Decl Block). block_layer g elaborates ends (opened_block y)) h
 
   each_of : (xs : List SD) → EachOrders checked_by (map steps_of (map (λ (x : SD). x.0) xs))
   each_of [] = tt
   each_of (x ∷ xs) = (x.1, each_of xs)
 
-  step_at : (y : Decl-F SD SB) → Orders (steps_layer g judges ends (opened (bare y))).checks
+  step_at : (y : Decl-F SD SB) → Orders (steps_layer g elaborates ends (opened (bare y))).checks
   step_at (layer.Constants cs) = λ around seen w all. all
   step_at (layer.Types ts) = λ around seen w all. all
   step_at (layer.Variables vs) = λ around seen w all. all
   step_at (layer.Procedure h b) = procedure_orders h (block_of b.0) b.1
 
-  block_at : (xs : List SD) (body : Option (List Stmt)) → OrdersBlock (block_layer g judges ends (record { decls = map steps_of (map (λ (x : SD). x.0) xs); body = body }))
+  block_at : (xs : List SD) (body : Option (List Stmt)) → OrdersBlock (block_layer g elaborates ends (record { decls = map steps_of (map (λ (x : SD). x.0) xs); body = body }))
   block_at xs body around returns w all = fold_orders checked_by around _ (map steps_of (map (λ (x : SD). x.0) xs)) (each_of xs) _ all
 
   step_decl : (x : Decl-F Decl Block) (y : Decl-F SD SB) → bare y ≡ x → PD (roll-Decl x)
-  step_decl x y q = subst (λ (s : Steps g.Told). Orders s.checks) (sym (at (roll-Decl x) (bare y) (out-roll-Decl x ∙ sym q))) (step_at y)
+  step_decl x y q = subst (λ (s : Steps g.Reported). Orders s.checks) (sym (at (roll-Decl x) (bare y) (out-roll-Decl x ∙ sym q))) (step_at y)
 
   step_block : (x : Block-F Decl Block) (y : Block-F SD SB) → bare_block y ≡ x → PB (roll-Block x)
-  step_block x y q = subst (λ (c : ChecksBlock g.Told). OrdersBlock c) (sym (at_block (roll-Block x) (bare_block y) (out-roll-Block x ∙ sym q))) (block_at y.decls y.body)
+  step_block x y q = subst (λ (c : ChecksBlock g.Reported). OrdersBlock c) (sym (at_block (roll-Block x) (bare_block y) (out-roll-Block x ∙ sym q))) (block_at y.decls y.body)
 
   decls_order : (d : Decl) → PD d
   decls_order = ind-Decl PD PB step_decl step_block
 
-  each_decl : (ds : List Decl) → EachOrders (checks_decl g judges ends) ds
+  each_decl : (ds : List Decl) → EachOrders (checks_decl g elaborates ends) ds
   each_decl [] = tt
   each_decl (d ∷ ds) = (decls_order d, each_decl ds)
 
 -- ---- modules
 
-both_ordered : (g : Gathers) (a : Result (Unit {0}) g.Told) (r : Result (List TypedStmt) g.Told) (f : List TypedStmt → TypedModule) → ((ys : List TypedStmt) → AreOrdered (f ys)) → Holds AreOrdered (both g a r ▷ λ p. Ok (f p.1))
+both_ordered : (g : Gathers) (a : Result (Unit {0}) g.Reported) (r : Result (List TypedStmt) g.Reported) (f : List TypedStmt → TypedModule) → ((ys : List TypedStmt) → AreOrdered (f ys)) → Holds AreOrdered (both g a r ▷ λ p. Ok (f p.1))
 both_ordered g (Ok u) (Ok ys) f k = fine (f ys) (k ys)
 both_ordered g (Ok u) (Err e) f k = broken e
 both_ordered g (Err e) (Ok ys) f k = broken e
@@ -216,31 +216,31 @@ ordered_of : (m : TypedModule) (rs : Bodies) → m.procedures ≡ rs.procedures 
 ordered_of m rs p q o all (which.Module n) r e = subst (λ (vs : List Which). Stands vs (which.Module n) r) (sym o) (all.0 n r (ap (λ (xs : List Routine). slice_get xs n) (sym p) ∙ e))
 ordered_of m rs p q o all (which.Local n) r e = subst (λ (vs : List Which). Stands vs (which.Local n) r) (sym o) (all.1 n r (ap (λ (xs : List Routine). slice_get xs n) (sym q) ∙ e))
 
-module _ (g : Gathers) (judges : Judges g.Told) where
-  walk_ordered : (modules : List (List ℕ × ℕ)) (ends : List ℕ) (s : Scope g.Told) (m : Module) (b : Block) → BodiesStand (walked g judges modules ends s m b).0.bodies
+module _ (g : Gathers) (elaborates : Elaborates g.Reported) where
+  walk_ordered : (modules : List (List ℕ × ℕ)) (ends : List ℕ) (s : Scope g.Reported) (m : Module) (b : Block) → BodiesStand (walked g elaborates modules ends s m b).0.bodies
   walk_ordered modules ends s m b =
       let w = begun_module g modules ends s m (out-Block b).decls in
-      fold_orders (checks_decl g judges ends) None w.1 (out-Block b).decls (each_decl g judges ends (out-Block b).decls) (w.0, 0) (no_bodies_stand w.0.scope.procedures)
+      fold_orders (checks_decl g elaborates ends) None w.1 (out-Block b).decls (each_decl g elaborates ends (out-Block b).decls) (w.0, 0) (no_bodies_stand w.0.scope.procedures)
 
-  result_ordered : (modules : List (List ℕ × ℕ)) (own : Option Table) (m : Module) (c : Checked g.Told) → BodiesStand c.0.bodies → Holds AreOrdered (module_or g modules own m c)
+  result_ordered : (modules : List (List ℕ × ℕ)) (own : Option Table) (m : Module) (c : Checked g.Reported) → BodiesStand c.0.bodies → Holds AreOrdered (module_or g modules own m c)
   result_ordered modules own m c all =
       both_ordered g c.0.so_far c.1 (λ ys. typed_module c.0.scope modules own m c.0.bodies ys)
       (λ ys. ordered_of (typed_module c.0.scope modules own m c.0.bodies ys) c.0.bodies refl refl refl all)
 
-  body_ordered : (s : Scope g.Told) (own : Option Table) (m : Module) (b : Block) → Holds AreOrdered (of_body g judges s own m b)
+  body_ordered : (s : Scope g.Reported) (own : Option Table) (m : Module) (b : Block) → Holds AreOrdered (of_body g elaborates s own m b)
   body_ordered s own m b =
       let modules = (numbered_modules s.tables).0 in
       let ends = procedure_ends (out-Block b).decls in
-      result_ordered modules own m (walked g judges modules ends s m b) (walk_ordered modules ends s m b)
+      result_ordered modules own m (walked g elaborates modules ends s m b) (walk_ordered modules ends s m b)
 
-  implementation_ordered : (m : Module) (own : Option Table) (tables : List Table) (b : Block) → Holds AreOrdered (of_implementation g judges m own tables b)
-  implementation_ordered m None tables b = told_holds g m.name.pos 24
+  implementation_ordered : (m : Module) (own : Option Table) (tables : List Table) (b : Block) → Holds AreOrdered (of_implementation g elaborates m own tables b)
+  implementation_ordered m None tables b = reported_holds g m.name.pos 24
   implementation_ordered m (Some t) tables b = body_ordered (implementation_scope t tables) (Some t) m b
 
-  contents_ordered : (number : ℕ) (m : Module) (own : Option Table) (tables : List Table) (c : Contents) → Holds AreOrdered (of_contents g judges number m own tables c)
-  contents_ordered number m own tables (contents.Definition defs) = told_holds g m.name.pos 24
+  contents_ordered : (number : ℕ) (m : Module) (own : Option Table) (tables : List Table) (c : Contents) → Holds AreOrdered (of_contents g elaborates number m own tables c)
+  contents_ordered number m own tables (contents.Definition defs) = reported_holds g m.name.pos 24
   contents_ordered number m own tables (contents.Implementation b) = implementation_ordered m own tables b
   contents_ordered number m own tables (contents.Program b) = body_ordered (first_scope number tables) None m b
 
 pub bodies_ordered : (g : Gathers) (number : ℕ) (m : Module) (own : Option Table) (tables : List Table) → Holds AreOrdered (checked g number m own tables)
-bodies_ordered g number m own tables = contents_ordered g (judged g) number m own (tables ++ console ∷ []) m.contents
+bodies_ordered g number m own tables = contents_ordered g (elaborated g) number m own (tables ++ console ∷ []) m.contents

@@ -8,7 +8,7 @@ use Rattle.m2_typed.specs.declared.table.Table.{Table}
 use Rattle.m2_typed.specs.declared.typed_module.Routine.{Routine}
 use Rattle.m2_typed.specs.declared.typed_module.Which.{Which}
 use Rattle.m2_typed.specs.declared.typed_module.TypedModule.{TypedModule}
-use Rattle.m2_judged.specs.Judged.{Gathers}
+use Rattle.m2_scopes.specs.Elaborated.{Gathers}
 use Rattle.m2_layout.specs.Texts.{characters, routines_texts, is_which}
 use Rattle.m2_scheme.specs.Functions.{routine_of}
 use Rattle.m2_check.specs.Checks.{checked}

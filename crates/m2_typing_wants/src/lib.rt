@@ -6,7 +6,7 @@
 //!   bodies.
 #![tactic(auto)]
 
-ghost use Rattle.m2_judged.specs.Judged.{least, every};
+ghost use Rattle.m2_scopes.specs.Elaborated.{least, every};
 ghost use Rattle.m2_typing_wants.specs.TypingWants.{BodiesAreOrdered, BodiesAreProvided, BodiesMakeModules};
 
 /// In each module that the checker makes, what its bodies ask for is there.

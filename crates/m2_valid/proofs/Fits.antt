@@ -296,7 +296,7 @@ module _ {b : Body} {P : Type 0} {w : ℕ} {l : Bool} where
         (q.leads h (suc e) ws d ([] ∷ ls) (inside_one [] suits) room (omega (arith, f, few))) (done []);
   }
 
-  -- the same code within so many blocks, of which its setting is told
+  -- the same code within so many blocks, of which its setting knows
   pub fits_inside : (n : ℕ) {x : Coded} {k : ℕ} {s t : Stack} → Fits b P w l (λ e. e) 0 x k s t → Fits b P w l (λ e. e) n (within n (λ code. code) x) k s t
   fits_inside n {x = x} p = record {
     numbers = λ e ws c. p.numbers (e + n) ws c;

@@ -6,7 +6,7 @@ use Rattle.std.proofs.lemmas.Int.{ints, to_z-of_z}
 use Rattle.m2_tree.specs.declared.pos.Pos.{Pos}
 use Rattle.m2_typed.specs.declared.types.TypeNo.{TypeNo}
 use Rattle.m2_typed.specs.Types.{is_integer}
-use Rattle.m2_judged.specs.Judged.{least, told}
+use Rattle.m2_scopes.specs.Elaborated.{least, reported}
 use Rattle.m2_values.specs.Operands.{valued}
 use Rattle.m2_values.specs.Numbers.{fits, number_at}
 
@@ -35,5 +35,5 @@ pub no_fit : (E : ℤ → ℤ → ℤ) (x y : ℤ) → FitsSigned w64 x → Fits
 no_fit E x y p q h =
     subst (λ (n : ℤ). ¬ FitsSigned w64 (E n y)) (to_z-of_z w64 x p) (subst (λ (n : ℤ). ¬ FitsSigned w64 (E (to_z w64 (of_z w64 x)) n)) (to_z-of_z w64 y q) h)
 
-pub told_of : (at : Pos) (sort : Option TypeNo) (n : ℤ) → ¬ FitsSigned w64 n → number_at least at sort n ≡ told least at 52
-told_of at sort n none = ap (λ (b : Bool). cond (not b) (told least at 52) (Ok (valued sort n))) (unfit sort n none)
+pub reported_of : (at : Pos) (sort : Option TypeNo) (n : ℤ) → ¬ FitsSigned w64 n → number_at least at sort n ≡ reported least at 52
+reported_of at sort n none = ap (λ (b : Bool). cond (not b) (reported least at 52) (Ok (valued sort n))) (unfit sort n none)

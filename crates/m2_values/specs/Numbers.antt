@@ -5,7 +5,7 @@ use Rattle.m2_tree.specs.declared.pos.Pos.{Pos}
 use Rattle.m2_typed.specs.declared.types.TypeNo.{TypeNo}
 use Rattle.m2_typed.specs.declared.meaning.Value.{Value}
 use Rattle.m2_typed.specs.Types.{is_integer}
-use Rattle.m2_judged.specs.Judged.{Gathers, told_where}
+use Rattle.m2_scopes.specs.Elaborated.{Gathers, reported_where}
 use Rattle.m2_values.specs.declared.operator.BinaryOp.{BinaryOp}
 use Rattle.m2_values.specs.declared.operator.BinaryOp.TheVariants.{Plus, Minus, Times, Over, Div, Mod, And, Or, Relation}
 use Rattle.m2_values.specs.Operands.{valued}
@@ -18,8 +18,8 @@ abbrev pub fits : Option TypeNo → ℤ → Bool
 fits None n = is_between (negsuc 2147483647) n (pos 4294967295)
 fits (Some t) n = cond (is_integer t) (is_between (negsuc 2147483647) n (pos 2147483647)) (is_between (pos 0) n (pos 4294967295))
 
-abbrev pub number_at : (g : Gathers) → Pos → Option TypeNo → ℤ → Result Value g.Told
-number_at g at sort n = told_where g (not (fits sort n)) at 52 (Ok (valued sort n))
+abbrev pub number_at : (g : Gathers) → Pos → Option TypeNo → ℤ → Result Value g.Reported
+number_at g at sort n = reported_where g (not (fits sort n)) at 52 (Ok (valued sort n))
 
 abbrev pub evaluated : BinaryOp → ℤ → ℤ → ℤ
 evaluated Plus x y = x +ℤ y
@@ -32,7 +32,7 @@ evaluated And x y = pos 0
 evaluated Or x y = pos 0
 evaluated (Relation r) x y = pos 0
 
-abbrev pub evaluated_at : (g : Gathers) → Pos → Option TypeNo → BinaryOp → ℤ → ℤ → Result Value g.Told
+abbrev pub evaluated_at : (g : Gathers) → Pos → Option TypeNo → BinaryOp → ℤ → ℤ → Result Value g.Reported
 evaluated_at g at sort op x y = number_at g at sort (evaluated op x y)
 
 -- x = q * y + r with 0 <= r < y, where y is positive

@@ -8,7 +8,7 @@ use Rattle.m2_tree.specs.declared.expr.Sign.TheVariants as sign
 use Rattle.m2_typed.specs.declared.types.TypeNo.{TypeNo}
 use Rattle.m2_typed.specs.declared.meaning.Value.{Value}
 use Rattle.m2_typed.specs.Types.{is_integer}
-use Rattle.m2_judged.specs.Judged.{Gathers, told, told_where, both, beside, ◌▷◌}
+use Rattle.m2_scopes.specs.Elaborated.{Gathers, reported, reported_where, both, beside, ◌▷◌}
 use Rattle.m2_values.specs.declared.operand.Ordinal.{Ordinal}
 use Rattle.m2_values.specs.declared.operand.Operand.{Operand}
 use Rattle.m2_values.specs.declared.operand.Operand.TheVariants.{Scalar, Set}
@@ -42,19 +42,19 @@ compared Greater x y = int_lt y x
 compared AtLeast x y = int_le y x
 compared In x y = false
 
-abbrev pub applied : (g : Gathers) → BinaryOp → Pos → Option TypeNo → ℤ → ℤ → Result Value g.Told
+abbrev pub applied : (g : Gathers) → BinaryOp → Pos → Option TypeNo → ℤ → ℤ → Result Value g.Reported
 applied g Plus spot sort x y = evaluated_at g spot sort Plus x y
 applied g Minus spot sort x y = evaluated_at g spot sort Minus x y
 applied g Times spot sort x y = evaluated_at g spot sort Times x y
-applied g Over spot sort x y = told g spot 40
+applied g Over spot sort x y = reported g spot 40
 applied g Div spot sort x y = number_at g spot sort (quotient x y)
 applied g Mod spot sort x y = number_at g spot sort (remainder x y)
 applied g And spot sort x y = Ok (truth (int_lt (pos 0) x && int_lt (pos 0) y))
 applied g Or spot sort x y = Ok (truth (int_lt (pos 0) x || int_lt (pos 0) y))
 applied g (Relation r) spot sort x y = Ok (truth (compared r x y))
 
-abbrev pub divisor : (g : Gathers) → BinaryOp → Pos → ℤ → Result (Unit {0}) g.Told
-divisor g op spot y = told_where g (is_division op && int_lt y (pos 1)) spot 52 (Ok tt)
+abbrev pub divisor : (g : Gathers) → BinaryOp → Pos → ℤ → Result (Unit {0}) g.Reported
+divisor g op spot y = reported_where g (is_division op && int_lt y (pos 1)) spot 52 (Ok tt)
 
 -- a number without a type that the other's type does not have
 abbrev pub is_misfit : Option TypeNo → Option TypeNo → ℤ → Bool
@@ -62,29 +62,29 @@ is_misfit None sort n = false
 is_misfit (Some t) (Some u) n = false
 is_misfit (Some t) None n = not (fits (Some t) n)
 
-abbrev pub fitting : (g : Gathers) → Option TypeNo → Pos → Ordinal → Result (Unit {0}) g.Told
-fitting g sort at a = told_where g (is_misfit sort a.sort a.number) at 52 (Ok tt)
+abbrev pub fitting : (g : Gathers) → Option TypeNo → Pos → Ordinal → Result (Unit {0}) g.Reported
+fitting g sort at a = reported_where g (is_misfit sort a.sort a.number) at 52 (Ok tt)
 
-abbrev pub operated : (g : Gathers) → BinaryOp → Pos → Option TypeNo → Pos → Ordinal → Pos → Ordinal → Result Value g.Told
+abbrev pub operated : (g : Gathers) → BinaryOp → Pos → Option TypeNo → Pos → Ordinal → Pos → Ordinal → Result Value g.Reported
 operated g op spot sort at a at' b =
-    told_where g (not (takes op sort)) spot 40
+    reported_where g (not (takes op sort)) spot 40
     (beside g (divisor g op spot b.number) (beside g (fitting g sort at a) (fitting g sort at' b)) ▷ λ fine. applied g op spot sort a.number b.number)
 
-abbrev pub on_scalars : (g : Gathers) → BinaryOp → Pos → Pos → Ordinal → Pos → Ordinal → Option (Option TypeNo) → Result Value g.Told
-on_scalars g op spot at a at' b None = told g spot 40
+abbrev pub on_scalars : (g : Gathers) → BinaryOp → Pos → Pos → Ordinal → Pos → Ordinal → Option (Option TypeNo) → Result Value g.Reported
+on_scalars g op spot at a at' b None = reported g spot 40
 on_scalars g op spot at a at' b (Some sort) = operated g op spot sort at a at' b
 
-abbrev pub binary : (g : Gathers) → BinaryOp → Pos → Pos → Option Operand → Pos → Option Operand → Result Value g.Told
+abbrev pub binary : (g : Gathers) → BinaryOp → Pos → Pos → Option Operand → Pos → Option Operand → Result Value g.Reported
 binary g op spot at (Some (Scalar a)) at' (Some (Scalar b)) = on_scalars g op spot at a at' b (common a.sort b.sort)
 binary g op spot at (Some (Scalar a)) at' (Some (Set b)) = member g op spot at a b
-binary g op spot at (Some (Scalar a)) at' None = told g spot 40
-binary g op spot at (Some (Set a)) at' (Some (Scalar b)) = told g spot 40
+binary g op spot at (Some (Scalar a)) at' None = reported g spot 40
+binary g op spot at (Some (Set a)) at' (Some (Scalar b)) = reported g spot 40
 binary g op spot at (Some (Set a)) at' (Some (Set b)) = on_sets g op spot a b
-binary g op spot at (Some (Set a)) at' None = told g spot 40
-binary g op spot at None at' y = told g spot 40
+binary g op spot at (Some (Set a)) at' None = reported g spot 40
+binary g op spot at None at' y = reported g spot 40
 
 -- an operator at a place, between two parts at theirs
-abbrev pub combined : (g : Gathers) → BinaryOp → Pos → Pos → Result Value g.Told → Pos → Result Value g.Told → Result Value g.Told
+abbrev pub combined : (g : Gathers) → BinaryOp → Pos → Pos → Result Value g.Reported → Pos → Result Value g.Reported → Result Value g.Reported
 combined g op spot at x at' y = both g x y ▷ λ v. binary g op spot at (operand_of v.0) at' (operand_of v.1)
 
 -- ---- signs and NOT
@@ -94,22 +94,22 @@ abbrev pub is_signed : Option TypeNo → Bool
 is_signed None = true
 is_signed (Some t) = is_integer t
 
-abbrev pub signed_scalar : (g : Gathers) → Sign → Pos → Ordinal → Result Value g.Told
-signed_scalar g sign.Plus spot a = told_where g (not (is_number a.sort)) spot 40 (Ok (valued a.sort a.number))
-signed_scalar g sign.Minus spot a = told_where g (not (is_signed a.sort)) spot 40 (evaluated_at g spot a.sort Minus (pos 0) a.number)
+abbrev pub signed_scalar : (g : Gathers) → Sign → Pos → Ordinal → Result Value g.Reported
+signed_scalar g sign.Plus spot a = reported_where g (not (is_number a.sort)) spot 40 (Ok (valued a.sort a.number))
+signed_scalar g sign.Minus spot a = reported_where g (not (is_signed a.sort)) spot 40 (evaluated_at g spot a.sort Minus (pos 0) a.number)
 
-abbrev pub signed_value : (g : Gathers) → Sign → Pos → Option Operand → Result Value g.Told
-signed_value g o spot None = told g spot 40
-signed_value g o spot (Some (Set bits)) = told g spot 40
+abbrev pub signed_value : (g : Gathers) → Sign → Pos → Option Operand → Result Value g.Reported
+signed_value g o spot None = reported g spot 40
+signed_value g o spot (Some (Set bits)) = reported g spot 40
 signed_value g o spot (Some (Scalar a)) = signed_scalar g o spot a
 
-abbrev pub signed : (g : Gathers) → Sign → Pos → Result Value g.Told → Result Value g.Told
+abbrev pub signed : (g : Gathers) → Sign → Pos → Result Value g.Reported → Result Value g.Reported
 signed g o spot x = x ▷ λ v. signed_value g o spot (operand_of v)
 
-abbrev pub negated_value : (g : Gathers) → Pos → Option Operand → Result Value g.Told
-negated_value g spot None = told g spot 40
-negated_value g spot (Some (Set bits)) = told g spot 40
-negated_value g spot (Some (Scalar a)) = told_where g (not (is_truth a.sort)) spot 40 (Ok (truth (not (int_lt (pos 0) a.number))))
+abbrev pub negated_value : (g : Gathers) → Pos → Option Operand → Result Value g.Reported
+negated_value g spot None = reported g spot 40
+negated_value g spot (Some (Set bits)) = reported g spot 40
+negated_value g spot (Some (Scalar a)) = reported_where g (not (is_truth a.sort)) spot 40 (Ok (truth (not (int_lt (pos 0) a.number))))
 
-abbrev pub negated : (g : Gathers) → Pos → Result Value g.Told → Result Value g.Told
+abbrev pub negated : (g : Gathers) → Pos → Result Value g.Reported → Result Value g.Reported
 negated g spot x = x ▷ λ v. negated_value g spot (operand_of v)

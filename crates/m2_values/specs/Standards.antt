@@ -7,7 +7,7 @@ use Rattle.m2_typed.specs.declared.shape.Scalar.{Scalar}
 use Rattle.m2_typed.specs.declared.meaning.Value.{Value}
 use Rattle.m2_typed.specs.declared.meaning.Value.TheVariants as value
 use Rattle.m2_typed.specs.Types.{are_same, cardinal, char}
-use Rattle.m2_judged.specs.Judged.{Gathers, told, told_where}
+use Rattle.m2_scopes.specs.Elaborated.{Gathers, reported, reported_where}
 use Rattle.m2_values.specs.declared.operand.Ordinal.{Ordinal}
 use Rattle.m2_values.specs.declared.operand.Operand.{Operand}
 use Rattle.m2_values.specs.declared.operand.Operand.TheVariants as operands
@@ -29,11 +29,11 @@ abbrev pub whole_number : Value → Option Ordinal
 whole_number v = if_number (scalar_part (operand_of v))
 
 -- ABS
-abbrev pub absolute_part : (g : Gathers) → Pos → Option Ordinal → Result Value g.Told
-absolute_part g at None = told g at 43
+abbrev pub absolute_part : (g : Gathers) → Pos → Option Ordinal → Result Value g.Reported
+absolute_part g at None = reported g at 43
 absolute_part g at (Some a) = cond (int_lt a.number (pos 0)) (evaluated_at g at a.sort Minus (pos 0) a.number) (number_at g at a.sort a.number)
 
-abbrev pub absolute : (g : Gathers) → Pos → Value → Result Value g.Told
+abbrev pub absolute : (g : Gathers) → Pos → Value → Result Value g.Reported
 absolute g at v = absolute_part g at (whole_number v)
 
 -- CAP: a to z alone change
@@ -44,35 +44,35 @@ abbrev pub is_char : Option TypeNo → Bool
 is_char None = false
 is_char (Some t) = are_same t char
 
-abbrev pub capital_part : (g : Gathers) → Pos → Option Ordinal → Result Value g.Told
-capital_part g at None = told g at 43
-capital_part g at (Some a) = told_where g (not (is_char a.sort)) at 43 (Ok (valued (Some char) (upper a.number)))
+abbrev pub capital_part : (g : Gathers) → Pos → Option Ordinal → Result Value g.Reported
+capital_part g at None = reported g at 43
+capital_part g at (Some a) = reported_where g (not (is_char a.sort)) at 43 (Ok (valued (Some char) (upper a.number)))
 
-abbrev pub capital : (g : Gathers) → Pos → Value → Result Value g.Told
+abbrev pub capital : (g : Gathers) → Pos → Value → Result Value g.Reported
 capital g at v = capital_part g at (scalar_part (operand_of v))
 
 -- CHR
-abbrev pub character_part : (g : Gathers) → Pos → Option Ordinal → Result Value g.Told
-character_part g at None = told g at 43
-character_part g at (Some a) = told_where g (not (is_between (pos 0) a.number (pos 255))) at 52 (Ok (valued (Some char) a.number))
+abbrev pub character_part : (g : Gathers) → Pos → Option Ordinal → Result Value g.Reported
+character_part g at None = reported g at 43
+character_part g at (Some a) = reported_where g (not (is_between (pos 0) a.number (pos 255))) at 52 (Ok (valued (Some char) a.number))
 
-abbrev pub character : (g : Gathers) → Pos → Value → Result Value g.Told
+abbrev pub character : (g : Gathers) → Pos → Value → Result Value g.Reported
 character g at v = character_part g at (whole_number v)
 
 -- ODD
-abbrev pub odd_part : (g : Gathers) → Pos → Option Ordinal → Result Value g.Told
-odd_part g at None = told g at 43
+abbrev pub odd_part : (g : Gathers) → Pos → Option Ordinal → Result Value g.Reported
+odd_part g at None = reported g at 43
 odd_part g at (Some a) = Ok (truth (int_lt (pos 0) (int_rem_euclid a.number (pos 2))))
 
-abbrev pub is_odd : (g : Gathers) → Pos → Value → Result Value g.Told
+abbrev pub is_odd : (g : Gathers) → Pos → Value → Result Value g.Reported
 is_odd g at v = odd_part g at (whole_number v)
 
 -- ORD
-abbrev pub ordinal_part : (g : Gathers) → Pos → Option Ordinal → Result Value g.Told
-ordinal_part g at None = told g at 43
+abbrev pub ordinal_part : (g : Gathers) → Pos → Option Ordinal → Result Value g.Reported
+ordinal_part g at None = reported g at 43
 ordinal_part g at (Some a) = number_at g at (Some cardinal) a.number
 
-abbrev pub ordinal_of : (g : Gathers) → Pos → Value → Result Value g.Told
+abbrev pub ordinal_of : (g : Gathers) → Pos → Value → Result Value g.Reported
 ordinal_of g at v = ordinal_part g at (scalar_part (operand_of v))
 
 -- a constant of a scalar type: also MAX and MIN
@@ -80,9 +80,9 @@ abbrev pub bound_of : TypeNo → Scalar → ℤ → Value
 bound_of t s n = value.Scalar (record { of = t; base = s.base; number = n })
 
 -- VAL
-abbrev pub converted_part : (g : Gathers) → TypeNo → Scalar → Pos → Option Ordinal → Result Value g.Told
-converted_part g t s at None = told g at 43
-converted_part g t s at (Some a) = told_where g (not (is_between s.low a.number s.high)) at 52 (Ok (bound_of t s a.number))
+abbrev pub converted_part : (g : Gathers) → TypeNo → Scalar → Pos → Option Ordinal → Result Value g.Reported
+converted_part g t s at None = reported g at 43
+converted_part g t s at (Some a) = reported_where g (not (is_between s.low a.number s.high)) at 52 (Ok (bound_of t s a.number))
 
-abbrev pub converted : (g : Gathers) → TypeNo → Scalar → Pos → Value → Result Value g.Told
+abbrev pub converted : (g : Gathers) → TypeNo → Scalar → Pos → Value → Result Value g.Reported
 converted g t s at v = converted_part g t s at (whole_number v)

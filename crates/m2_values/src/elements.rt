@@ -1,44 +1,44 @@
 //! Elements of sets.
 
 ghost use Rattle.std.specs.Prelude.{◌≡◌};
-ghost use Rattle.m2_judged.specs.Judged.{least};
+ghost use Rattle.m2_scopes.specs.Elaborated.{least};
 ghost use Rattle.m2_values.specs.Sets.{numbered, element, is_element, single, is_unlike, ordered, in_set, related, related_bounds, spanned};
 
 use crate::operand::Ordinal;
 use crate::operate::common;
 use crate::sets::with_span;
 use crate::standard::whole_number;
-use m2_judged::{Judged, beside, both, told};
+use m2_scopes::{Elaborated, beside, both, reported};
 use m2_tree::Pos;
 use m2_typed::Value;
 
-fn numbered(at: Pos, x: Option<Ordinal>) -> Judged<Ordinal>
+fn numbered(at: Pos, x: Option<Ordinal>) -> Elaborated<Ordinal>
     ensures { result ≡ numbered least at x }
 {
     match x {
-        None => told(at, 40),
+        None => reported(at, 40),
         Some(a) => Ok(a),
     }
 }
 
 /// The number of an element, which is an INTEGER, a CARDINAL or a number without a type.
-pub fn element(at: Pos, value: &Value) -> Judged<Ordinal>
+pub fn element(at: Pos, value: &Value) -> Elaborated<Ordinal>
     ensures { result ≡ element least at value.now }
 {
     numbered(at, whole_number(value))
 }
 
-fn is_element(at: Pos, a: Ordinal) -> Judged<()>
+fn is_element(at: Pos, a: Ordinal) -> Elaborated<()>
     ensures { result ≡ is_element least at a }
 {
     if !(0 <= a.number && a.number <= 31) {
-        return told(at, 52);
+        return reported(at, 52);
     }
     Ok(())
 }
 
 /// The set of one element.
-pub fn single(at: Pos, value: &Value) -> Judged<u32>
+pub fn single(at: Pos, value: &Value) -> Elaborated<u32>
     ensures { result ≡ single least at value.now }
 {
     match element(at, value) {
@@ -60,16 +60,16 @@ fn is_unlike(a: Ordinal, b: Ordinal) -> bool
 }
 
 /// The bounds of a range, in order.
-fn ordered(at: Pos, low: i64, high: i64) -> Judged<()>
+fn ordered(at: Pos, low: i64, high: i64) -> Elaborated<()>
     ensures { result ≡ ordered least at low high }
 {
     if high < low {
-        return told(at, 35);
+        return reported(at, 35);
     }
     Ok(())
 }
 
-fn in_set(at: Pos, a: Judged<Ordinal>) -> Judged<()>
+fn in_set(at: Pos, a: Elaborated<Ordinal>) -> Elaborated<()>
     ensures { result ≡ in_set least at a }
 {
     match a {
@@ -78,16 +78,21 @@ fn in_set(at: Pos, a: Judged<Ordinal>) -> Judged<()>
     }
 }
 
-fn related(at: Pos, high_at: Pos, a: Ordinal, b: Ordinal) -> Judged<()>
+fn related(at: Pos, high_at: Pos, a: Ordinal, b: Ordinal) -> Elaborated<()>
     ensures { result ≡ related least at high_at a b }
 {
     if is_unlike(a, b) {
-        return told(high_at, 40);
+        return reported(high_at, 40);
     }
     ordered(at, a.number, b.number)
 }
 
-fn related_bounds(at: Pos, high_at: Pos, low: Judged<Ordinal>, high: Judged<Ordinal>) -> Judged<()>
+fn related_bounds(
+    at: Pos,
+    high_at: Pos,
+    low: Elaborated<Ordinal>,
+    high: Elaborated<Ordinal>,
+) -> Elaborated<()>
     ensures { result ≡ related_bounds least at high_at low high }
 {
     match both(low, high) {
@@ -97,7 +102,12 @@ fn related_bounds(at: Pos, high_at: Pos, low: Judged<Ordinal>, high: Judged<Ordi
 }
 
 /// The set of a range of elements.
-pub fn spanned(at: Pos, low: Judged<Ordinal>, high_at: Pos, high: Judged<Ordinal>) -> Judged<u32>
+pub fn spanned(
+    at: Pos,
+    low: Elaborated<Ordinal>,
+    high_at: Pos,
+    high: Elaborated<Ordinal>,
+) -> Elaborated<u32>
     ensures { result ≡ spanned least at low high_at high }
 {
     let within = beside(in_set(at, low), in_set(high_at, high));

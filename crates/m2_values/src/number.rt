@@ -2,12 +2,12 @@
 
 ghost use Rattle.std.specs.Prelude.{◌≡◌, FitsSigned, SomeIff};
 ghost use Rattle.std.specs.Int.{w64};
-ghost use Rattle.m2_judged.specs.Judged.{least};
+ghost use Rattle.m2_scopes.specs.Elaborated.{least};
 ghost use Rattle.m2_values.specs.Numbers.{fits, number_at, evaluated, evaluated_at, quotient, remainder};
 
 use crate::operand::valued;
 use crate::operator::BinaryOp;
-use m2_judged::{Judged, told};
+use m2_scopes::{Elaborated, reported};
 use m2_tree::Pos;
 use m2_typed::{TypeNo, Value, is_integer};
 
@@ -28,11 +28,11 @@ pub fn fits(sort: Option<TypeNo>, n: i64) -> bool
 }
 
 /// A number of this type, if the type has it; else the rule of ranges is broken.
-pub fn number_at(at: Pos, sort: Option<TypeNo>, n: i64) -> Judged<Value>
+pub fn number_at(at: Pos, sort: Option<TypeNo>, n: i64) -> Elaborated<Value>
     ensures { result ≡ number_at least at sort n }
 {
     if !fits(sort, n) {
-        return told(at, 52);
+        return reported(at, 52);
     }
     Ok(valued(sort, n))
 }
@@ -55,11 +55,17 @@ fn evaluated(op: BinaryOp, x: i64, y: i64) -> Option<i64>
 }
 
 /// The sum, the difference or the product as a number of this type.
-pub fn evaluated_at(at: Pos, sort: Option<TypeNo>, op: BinaryOp, x: i64, y: i64) -> Judged<Value>
+pub fn evaluated_at(
+    at: Pos,
+    sort: Option<TypeNo>,
+    op: BinaryOp,
+    x: i64,
+    y: i64,
+) -> Elaborated<Value>
     ensures { result ≡ evaluated_at least at sort op x y }
 {
     match evaluated(op, x, y) {
-        None => told(at, 52),
+        None => reported(at, 52),
         Some(n) => number_at(at, sort, n),
     }
 }

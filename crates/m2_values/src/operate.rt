@@ -1,7 +1,7 @@
 //! What operators make of constants.
 
 ghost use Rattle.std.specs.Prelude.{◌≡◌, Ok};
-ghost use Rattle.m2_judged.specs.Judged.{least, ◌▷◌};
+ghost use Rattle.m2_scopes.specs.Elaborated.{least, ◌▷◌};
 ghost use Rattle.m2_values.specs.Common.{common};
 ghost use Rattle.m2_values.specs.Operate.{takes, compared, applied, divisor, is_misfit, fitting, operated, on_scalars, binary, combined, is_signed, signed_scalar, signed_value, signed, negated_value, negated};
 
@@ -9,7 +9,7 @@ use crate::number::{evaluated_at, fits, number_at, quotient, remainder};
 use crate::operand::{Operand, Ordinal, is_number, is_truth, operand_of, truth, valued};
 use crate::operator::{BinaryOp, is_division};
 use crate::sets::{member, on_sets};
-use m2_judged::{Judged, beside, both, told};
+use m2_scopes::{Elaborated, beside, both, reported};
 use m2_tree::{Pos, RelOp, Sign};
 use m2_typed::{TypeNo, Value, are_same, is_integer, is_numeric};
 
@@ -62,12 +62,12 @@ fn compared(relation: RelOp, x: i64, y: i64) -> bool
 }
 
 /// What an operator makes of ordinal numbers of this type, which takes it.
-fn applied(op: BinaryOp, spot: Pos, sort: Option<TypeNo>, x: i64, y: i64) -> Judged<Value>
+fn applied(op: BinaryOp, spot: Pos, sort: Option<TypeNo>, x: i64, y: i64) -> Elaborated<Value>
     ensures { result ≡ applied least op spot sort x y }
 {
     match op {
         BinaryOp::Plus | BinaryOp::Minus | BinaryOp::Times => evaluated_at(spot, sort, op, x, y),
-        BinaryOp::Over => told(spot, 40),
+        BinaryOp::Over => reported(spot, 40),
         BinaryOp::Div => number_at(spot, sort, quotient(x, y)),
         BinaryOp::Mod => number_at(spot, sort, remainder(x, y)),
         BinaryOp::And => Ok(truth(x > 0 && y > 0)),
@@ -77,11 +77,11 @@ fn applied(op: BinaryOp, spot: Pos, sort: Option<TypeNo>, x: i64, y: i64) -> Jud
 }
 
 /// The rule that a constant divisor is positive.
-pub fn divisor(op: BinaryOp, spot: Pos, y: i64) -> Judged<()>
+pub fn divisor(op: BinaryOp, spot: Pos, y: i64) -> Elaborated<()>
     ensures { result ≡ divisor least op spot y }
 {
     if is_division(op) && y < 1 {
-        return told(spot, 52);
+        return reported(spot, 52);
     }
     Ok(())
 }
@@ -99,11 +99,11 @@ fn is_misfit(wanted: Option<TypeNo>, a: Ordinal) -> bool
 }
 
 /// The rule that a number without a type is one of the other operand's type.
-pub fn fitting(wanted: Option<TypeNo>, at: Pos, a: Ordinal) -> Judged<()>
+pub fn fitting(wanted: Option<TypeNo>, at: Pos, a: Ordinal) -> Elaborated<()>
     ensures { result ≡ fitting least wanted at a }
 {
     if is_misfit(wanted, a) {
-        return told(at, 52);
+        return reported(at, 52);
     }
     Ok(())
 }
@@ -116,11 +116,11 @@ fn operated(
     a: Ordinal,
     other_at: Pos,
     b: Ordinal,
-) -> Judged<Value>
+) -> Elaborated<Value>
     ensures { result ≡ operated least op spot sort at a other_at b }
 {
     if !takes(op, sort) {
-        return told(spot, 40);
+        return reported(spot, 40);
     }
     let fit = beside(fitting(sort, at, a), fitting(sort, other_at, b));
     match beside(divisor(op, spot, b.number), fit) {
@@ -136,11 +136,11 @@ fn on_scalars(
     a: Ordinal,
     other_at: Pos,
     b: Ordinal,
-) -> Judged<Value>
+) -> Elaborated<Value>
     ensures { result ≡ on_scalars least op spot at a other_at b (common a.sort b.sort) }
 {
     match common(a.sort, b.sort) {
-        None => told(spot, 40),
+        None => reported(spot, 40),
         Some(sort) => operated(op, spot, sort, at, a, other_at, b),
     }
 }
@@ -153,7 +153,7 @@ pub fn binary(
     x: Option<Operand>,
     other_at: Pos,
     y: Option<Operand>,
-) -> Judged<Value>
+) -> Elaborated<Value>
     ensures { result ≡ binary least op spot at x other_at y }
 {
     match (x, y) {
@@ -161,11 +161,11 @@ pub fn binary(
             on_scalars(op, spot, at, a, other_at, b)
         }
         (Some(Operand::Scalar(a)), Some(Operand::Set(b))) => member(op, spot, at, a, b),
-        (Some(Operand::Set(_)), Some(Operand::Scalar(_))) => told(spot, 40),
+        (Some(Operand::Set(_)), Some(Operand::Scalar(_))) => reported(spot, 40),
         (Some(Operand::Set(a)), Some(Operand::Set(b))) => on_sets(op, spot, a, b),
-        (Some(Operand::Scalar(_)), None) => told(spot, 40),
-        (Some(Operand::Set(_)), None) => told(spot, 40),
-        (None, _) => told(spot, 40),
+        (Some(Operand::Scalar(_)), None) => reported(spot, 40),
+        (Some(Operand::Set(_)), None) => reported(spot, 40),
+        (None, _) => reported(spot, 40),
     }
 }
 
@@ -174,10 +174,10 @@ pub fn combined(
     op: BinaryOp,
     spot: Pos,
     at: Pos,
-    x: Judged<Value>,
+    x: Elaborated<Value>,
     other_at: Pos,
-    y: Judged<Value>,
-) -> Judged<Value>
+    y: Elaborated<Value>,
+) -> Elaborated<Value>
     ensures { result ≡ combined least op spot at x other_at y }
 {
     match both(x, y) {
@@ -186,12 +186,12 @@ pub fn combined(
     }
 }
 
-fn signed_value(sign: Sign, spot: Pos, x: Option<Operand>) -> Judged<Value>
+fn signed_value(sign: Sign, spot: Pos, x: Option<Operand>) -> Elaborated<Value>
     ensures { result ≡ signed_value least sign spot x }
 {
     match x {
-        None => told(spot, 40),
-        Some(Operand::Set(_)) => told(spot, 40),
+        None => reported(spot, 40),
+        Some(Operand::Set(_)) => reported(spot, 40),
         Some(Operand::Scalar(a)) => signed_scalar(sign, spot, a),
     }
 }
@@ -205,19 +205,19 @@ fn is_signed(sort: Option<TypeNo>) -> bool
     }
 }
 
-fn signed_scalar(sign: Sign, spot: Pos, a: Ordinal) -> Judged<Value>
+fn signed_scalar(sign: Sign, spot: Pos, a: Ordinal) -> Elaborated<Value>
     ensures { result ≡ signed_scalar least sign spot a }
 {
     match sign {
         Sign::Plus => {
             if !is_number(a.sort) {
-                return told(spot, 40);
+                return reported(spot, 40);
             }
             Ok(valued(a.sort, a.number))
         }
         Sign::Minus => {
             if !is_signed(a.sort) {
-                return told(spot, 40);
+                return reported(spot, 40);
             }
             evaluated_at(spot, a.sort, BinaryOp::Minus, 0, a.number)
         }
@@ -225,7 +225,7 @@ fn signed_scalar(sign: Sign, spot: Pos, a: Ordinal) -> Judged<Value>
 }
 
 /// A sign at a place, before a term.
-pub fn signed(sign: Sign, spot: Pos, x: Judged<Value>) -> Judged<Value>
+pub fn signed(sign: Sign, spot: Pos, x: Elaborated<Value>) -> Elaborated<Value>
     ensures { result ≡ signed least sign spot x }
 {
     match x {
@@ -234,15 +234,15 @@ pub fn signed(sign: Sign, spot: Pos, x: Judged<Value>) -> Judged<Value>
     }
 }
 
-fn negated_value(spot: Pos, x: Option<Operand>) -> Judged<Value>
+fn negated_value(spot: Pos, x: Option<Operand>) -> Elaborated<Value>
     ensures { result ≡ negated_value least spot x }
 {
     match x {
-        None => told(spot, 40),
-        Some(Operand::Set(_)) => told(spot, 40),
+        None => reported(spot, 40),
+        Some(Operand::Set(_)) => reported(spot, 40),
         Some(Operand::Scalar(a)) => {
             if !is_truth(a.sort) {
-                return told(spot, 40);
+                return reported(spot, 40);
             }
             Ok(truth(!(a.number > 0)))
         }
@@ -250,7 +250,7 @@ fn negated_value(spot: Pos, x: Option<Operand>) -> Judged<Value>
 }
 
 /// NOT at a place.
-pub fn negated(spot: Pos, x: Judged<Value>) -> Judged<Value>
+pub fn negated(spot: Pos, x: Elaborated<Value>) -> Elaborated<Value>
     ensures { result ≡ negated least spot x }
 {
     match x {

@@ -1,12 +1,12 @@
 //! Operators on sets.
 
 ghost use Rattle.std.specs.Prelude.{◌≡◌, ◌<◌};
-ghost use Rattle.m2_judged.specs.Judged.{least};
+ghost use Rattle.m2_scopes.specs.Elaborated.{least};
 ghost use Rattle.m2_values.specs.Sets.{without, set_related, on_sets, place, has, up_to, with_span, member, member_of};
 
 use crate::operand::{Ordinal, is_number, truth};
 use crate::operator::BinaryOp;
-use m2_judged::{Judged, told};
+use m2_scopes::{Elaborated, reported};
 use m2_tree::{Pos, RelOp};
 use m2_typed::Value;
 
@@ -17,7 +17,7 @@ fn without(a: u32, b: u32) -> u32
     a & (b ^ 4_294_967_295)
 }
 
-fn set_related(spot: Pos, relation: RelOp, a: u32, b: u32) -> Judged<Value>
+fn set_related(spot: Pos, relation: RelOp, a: u32, b: u32) -> Elaborated<Value>
     ensures { result ≡ set_related least spot relation a b }
 {
     match relation {
@@ -25,12 +25,12 @@ fn set_related(spot: Pos, relation: RelOp, a: u32, b: u32) -> Judged<Value>
         RelOp::Unequal => Ok(truth(!(a == b))),
         RelOp::AtMost => Ok(truth(without(a, b) == 0)),
         RelOp::AtLeast => Ok(truth(without(b, a) == 0)),
-        RelOp::Less | RelOp::Greater | RelOp::In => told(spot, 40),
+        RelOp::Less | RelOp::Greater | RelOp::In => reported(spot, 40),
     }
 }
 
 /// An operator between two sets.
-pub fn on_sets(op: BinaryOp, spot: Pos, a: u32, b: u32) -> Judged<Value>
+pub fn on_sets(op: BinaryOp, spot: Pos, a: u32, b: u32) -> Elaborated<Value>
     ensures { result ≡ on_sets least op spot a b }
 {
     match op {
@@ -39,7 +39,7 @@ pub fn on_sets(op: BinaryOp, spot: Pos, a: u32, b: u32) -> Judged<Value>
         BinaryOp::Times => Ok(Value::Set(a & b)),
         BinaryOp::Over => Ok(Value::Set(a ^ b)),
         BinaryOp::Relation(relation) => set_related(spot, relation, a, b),
-        BinaryOp::Div | BinaryOp::Mod | BinaryOp::And | BinaryOp::Or => told(spot, 40),
+        BinaryOp::Div | BinaryOp::Mod | BinaryOp::And | BinaryOp::Or => reported(spot, 40),
     }
 }
 
@@ -76,7 +76,7 @@ pub fn with_span(bits: u32, low: i64, high: i64) -> u32
 }
 
 /// IN between a scalar and a set.
-pub fn member(op: BinaryOp, spot: Pos, at: Pos, x: Ordinal, bits: u32) -> Judged<Value>
+pub fn member(op: BinaryOp, spot: Pos, at: Pos, x: Ordinal, bits: u32) -> Elaborated<Value>
     ensures { result ≡ member least op spot at x bits }
 {
     match op {
@@ -89,18 +89,18 @@ pub fn member(op: BinaryOp, spot: Pos, at: Pos, x: Ordinal, bits: u32) -> Judged
         | BinaryOp::Div
         | BinaryOp::Mod
         | BinaryOp::And
-        | BinaryOp::Or => told(spot, 40),
+        | BinaryOp::Or => reported(spot, 40),
     }
 }
 
-fn member_of(spot: Pos, at: Pos, x: Ordinal, bits: u32) -> Judged<Value>
+fn member_of(spot: Pos, at: Pos, x: Ordinal, bits: u32) -> Elaborated<Value>
     ensures { result ≡ member_of least spot at x bits }
 {
     if !is_number(x.sort) {
-        return told(spot, 40);
+        return reported(spot, 40);
     }
     if !(0 <= x.number && x.number <= 31) {
-        return told(at, 52);
+        return reported(at, 52);
     }
     Ok(truth(has(bits, x.number)))
 }

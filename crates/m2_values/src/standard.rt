@@ -1,13 +1,13 @@
 //! Standard procedures of constants.
 
 ghost use Rattle.std.specs.Prelude.{◌≡◌};
-ghost use Rattle.m2_judged.specs.Judged.{least};
+ghost use Rattle.m2_scopes.specs.Elaborated.{least};
 ghost use Rattle.m2_values.specs.Standards.{scalar_part, whole_number, absolute_part, absolute, upper, is_char, capital_part, capital, character_part, character, odd_part, is_odd, ordinal_part, ordinal_of, converted_part, converted, bound_of};
 
 use crate::number::{evaluated_at, number_at};
 use crate::operand::{Operand, Ordinal, is_number, operand_of, truth, valued};
 use crate::operator::BinaryOp;
-use m2_judged::{Judged, told};
+use m2_scopes::{Elaborated, reported};
 use m2_tree::Pos;
 use m2_typed::{CARDINAL, CHAR, Scalar, ScalarValue, TypeNo, Value, are_same};
 
@@ -31,11 +31,11 @@ pub fn whole_number(value: &Value) -> Option<Ordinal>
     }
 }
 
-fn absolute_part(at: Pos, a: Option<Ordinal>) -> Judged<Value>
+fn absolute_part(at: Pos, a: Option<Ordinal>) -> Elaborated<Value>
     ensures { result ≡ absolute_part least at a }
 {
     match a {
-        None => told(at, 43),
+        None => reported(at, 43),
         Some(a) => {
             if a.number < 0 {
                 evaluated_at(at, a.sort, BinaryOp::Minus, 0, a.number)
@@ -47,7 +47,7 @@ fn absolute_part(at: Pos, a: Option<Ordinal>) -> Judged<Value>
 }
 
 /// ABS of a constant at a place.
-pub fn absolute(at: Pos, value: &Value) -> Judged<Value>
+pub fn absolute(at: Pos, value: &Value) -> Elaborated<Value>
     ensures { result ≡ absolute least at value.now }
 {
     absolute_part(at, whole_number(value))
@@ -73,14 +73,14 @@ pub fn is_char(sort: Option<TypeNo>) -> bool
     }
 }
 
-fn capital_part(at: Pos, a: Option<Ordinal>) -> Judged<Value>
+fn capital_part(at: Pos, a: Option<Ordinal>) -> Elaborated<Value>
     ensures { result ≡ capital_part least at a }
 {
     match a {
-        None => told(at, 43),
+        None => reported(at, 43),
         Some(a) => {
             if !is_char(a.sort) {
-                return told(at, 43);
+                return reported(at, 43);
             }
             Ok(valued(Some(CHAR), upper(a.number)))
         }
@@ -88,20 +88,20 @@ fn capital_part(at: Pos, a: Option<Ordinal>) -> Judged<Value>
 }
 
 /// CAP of a constant at a place.
-pub fn capital(at: Pos, value: &Value) -> Judged<Value>
+pub fn capital(at: Pos, value: &Value) -> Elaborated<Value>
     ensures { result ≡ capital least at value.now }
 {
     capital_part(at, scalar_part(operand_of(value)))
 }
 
-fn character_part(at: Pos, a: Option<Ordinal>) -> Judged<Value>
+fn character_part(at: Pos, a: Option<Ordinal>) -> Elaborated<Value>
     ensures { result ≡ character_part least at a }
 {
     match a {
-        None => told(at, 43),
+        None => reported(at, 43),
         Some(a) => {
             if !(0 <= a.number && a.number <= 255) {
-                return told(at, 52);
+                return reported(at, 52);
             }
             Ok(valued(Some(CHAR), a.number))
         }
@@ -109,52 +109,52 @@ fn character_part(at: Pos, a: Option<Ordinal>) -> Judged<Value>
 }
 
 /// CHR of a constant at a place.
-pub fn character(at: Pos, value: &Value) -> Judged<Value>
+pub fn character(at: Pos, value: &Value) -> Elaborated<Value>
     ensures { result ≡ character least at value.now }
 {
     character_part(at, whole_number(value))
 }
 
-fn odd_part(at: Pos, a: Option<Ordinal>) -> Judged<Value>
+fn odd_part(at: Pos, a: Option<Ordinal>) -> Elaborated<Value>
     ensures { result ≡ odd_part least at a }
 {
     match a {
-        None => told(at, 43),
+        None => reported(at, 43),
         Some(a) => Ok(truth(0 < a.number.rem_euclid(2))),
     }
 }
 
 /// ODD of a constant at a place.
-pub fn is_odd(at: Pos, value: &Value) -> Judged<Value>
+pub fn is_odd(at: Pos, value: &Value) -> Elaborated<Value>
     ensures { result ≡ is_odd least at value.now }
 {
     odd_part(at, whole_number(value))
 }
 
-fn ordinal_part(at: Pos, a: Option<Ordinal>) -> Judged<Value>
+fn ordinal_part(at: Pos, a: Option<Ordinal>) -> Elaborated<Value>
     ensures { result ≡ ordinal_part least at a }
 {
     match a {
-        None => told(at, 43),
+        None => reported(at, 43),
         Some(a) => number_at(at, Some(CARDINAL), a.number),
     }
 }
 
 /// ORD of a constant at a place.
-pub fn ordinal_of(at: Pos, value: &Value) -> Judged<Value>
+pub fn ordinal_of(at: Pos, value: &Value) -> Elaborated<Value>
     ensures { result ≡ ordinal_of least at value.now }
 {
     ordinal_part(at, scalar_part(operand_of(value)))
 }
 
-fn converted_part(t: TypeNo, to: Scalar, at: Pos, a: Option<Ordinal>) -> Judged<Value>
+fn converted_part(t: TypeNo, to: Scalar, at: Pos, a: Option<Ordinal>) -> Elaborated<Value>
     ensures { result ≡ converted_part least t to at a }
 {
     match a {
-        None => told(at, 43),
+        None => reported(at, 43),
         Some(a) => {
             if !(to.low <= a.number && a.number <= to.high) {
-                return told(at, 52);
+                return reported(at, 52);
             }
             Ok(bound_of(t, to, a.number))
         }
@@ -162,7 +162,7 @@ fn converted_part(t: TypeNo, to: Scalar, at: Pos, a: Option<Ordinal>) -> Judged<
 }
 
 /// VAL of a constant at a place, to a scalar type.
-pub fn converted(t: TypeNo, to: Scalar, at: Pos, value: &Value) -> Judged<Value>
+pub fn converted(t: TypeNo, to: Scalar, at: Pos, value: &Value) -> Elaborated<Value>
     ensures { result ≡ converted least t to at value.now }
 {
     converted_part(t, to, at, whole_number(value))

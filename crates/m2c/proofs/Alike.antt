@@ -2,15 +2,15 @@
 use Rattle.std.proofs.Common.{◌≡◌, inl, inr, ℕ, ◌*◌, ◌<◌, List, [], ◌∷◌, map, Result, Ok, refl, sym, ap, subst, ◌∙◌, arith}
 use Rattle.std.specs.Global.{Vec}
 use Rattle.std.proofs.lemmas.Option.{same_Some}
-use Rattle.m2_judged.specs.declared.fault.Fault.{Fault}
+use Rattle.m2_scopes.specs.declared.fault.Fault.{Fault}
 use Rattle.m2_compile.specs.Compiling.{tables_of, typed_body}
 use Rattle.m2_tree.specs.declared.refusal.Refusal.{Refusal}
 use Rattle.m2_tree.specs.declared.decl.Module.{Module}
-use Rattle.wasm_binary.specs.Binary.{module_spelling}
+use Rattle.wasm_binary.specs.Binary.{module_encoding}
 use Rattle.m2_graph.specs.declared.error.GraphError.TheVariants as graph_error
 use Rattle.m2_graph.specs.Files.{numbered}
 use Rattle.m2_graph.specs.Graph.{IsGraph, IsRefusal}
-use Rattle.m2_graph.specs.Told.{Told as Tale, told as tale}
+use Rattle.m2_graph.specs.Reported.{Reported as Tale, reported as tale}
 use Rattle.m2_graph_laws.proofs.Once.{one_graph, one_refusal, graph_or_refusal}
 use Rattle.m2_typed.specs.declared.typed_module.TypedModule.{TypedModule}
 use Rattle.m2_meaning.specs.Around.{Modules}
@@ -18,9 +18,9 @@ use Rattle.m2_scheme.specs.Modules.{typed_link}
 use Rattle.m2_read.specs.declared.file.SourceFile.{SourceFile}
 use Rattle.m2c.specs.declared.files.Outcome.{Outcome}
 use Rattle.m2c.specs.declared.files.Outcome.TheVariants as outcome
-use Rattle.m2_jobs.specs.Spelled.{needed_of}
+use Rattle.m2_jobs.specs.Encoded.{needed_of}
 use Rattle.m2c.specs.Modules.{IsTyped, AreTyped}
-use Rattle.m2c.specs.Build.{Told, told, told_at, AreTold, refused_of, refused_by, built_of, named, modules, data_and_stack, program_file, AreUnread, AreUngraphed, AreUncompiled, HaveGraph, IsTooLarge, IsProgram, IsBuilt, AreAlike}
+use Rattle.m2c.specs.Build.{Reported, reported, reported_at, AreReported, refused_of, refused_by, built_of, named, modules, data_and_stack, program_file, AreUnread, AreUngraphed, AreUncompiled, HaveGraph, IsTooLarge, IsProgram, IsBuilt, AreAlike}
 use Rattle.m2c.proofs.Same.{same_refused, one_trees, trees_or_refused}
 use Rattle.m2c.proofs.Ranks.{one_order}
 
@@ -60,8 +60,8 @@ module _ (files : List SourceFile) (t u : List (List ℕ × Module)) (n m : List
       let w = one_graph (numbered 0 u) n m j k s r (subst (λ (x : List (List ℕ × Module)). IsGraph (numbered 0 x) n j s) e h.is_graph) g.is_graph in
       record { trees = e; numbers = w.0; rows = w.1; starts = w.2 }
 
-  untold_same : HaveGraph files t n j s → HaveGraph files u m k r → refused_by t n j ≡ refused_by u m k
-  untold_same h g =
+  unreported_same : HaveGraph files t n j s → HaveGraph files u m k r → refused_by t n j ≡ refused_by u m k
+  unreported_same h g =
       let w = have_same h g in
       ap (λ (x : List (List ℕ × Module)). refused_by x n j) w.trees ∙ ap (λ (x : List ℕ). refused_by u x j) w.numbers ∙ ap (refused_by u m) w.rows
 
@@ -73,26 +73,26 @@ module _ (files : List SourceFile) (t u : List (List ℕ × Module)) (n m : List
       (subst (λ (x : List (List ℕ)). AreTyped (modules u) m x s p) w.rows (subst (λ (x : List ℕ). AreTyped (modules u) x j s p) w.numbers (subst (λ (x : List (List ℕ × Module)). AreTyped (modules x) n j s p) w.trees a)))) b
 
 -- a graph is there, or imports break rules
-graph_or_told : (files : List SourceFile) (t : List (List ℕ × Module)) (n : List ℕ) (j : List (List ℕ)) (s : List ℕ) (rs : Vec Refusal) → HaveGraph files t n j s → AreUngraphed files rs → ⊥
-graph_or_told files t n j s rs h (u, are, is) =
+graph_or_reported : (files : List SourceFile) (t : List (List ℕ × Module)) (n : List ℕ) (j : List (List ℕ)) (s : List ℕ) (rs : Vec Refusal) → HaveGraph files t n j s → AreUngraphed files rs → ⊥
+graph_or_reported files t n j s rs h (u, are, is) =
     graph_or_refusal (numbered 0 u) n j s rs (subst (λ (x : List (List ℕ × Module)). IsGraph (numbered 0 x) n j s) (one_trees files t u h.are_trees are) h.is_graph) is
 
 -- ---- refusals
 
-flat : Tale → Told
-flat t = told_at t.file t.pos.line t.pos.col t.number
+flat : Tale → Reported
+flat t = reported_at t.file t.pos.line t.pos.col t.number
 
-flat_all : (rs : List Refusal) → map told rs ≡ map flat (map tale rs)
+flat_all : (rs : List Refusal) → map reported rs ≡ map flat (map tale rs)
 unfolding flat
 flat_all [] = refl
-flat_all (r ∷ rs) = ap (λ xs. told r ∷ xs) (flat_all rs)
+flat_all (r ∷ rs) = ap (λ xs. reported r ∷ xs) (flat_all rs)
 
 module _ (files : List SourceFile) (pages : ℕ) where
   abbrev AreRefused : Vec Refusal → Type 0
   AreRefused rs = IsBuilt files pages (outcome.Refused rs)
 
-  both_refused : (rs qs : Vec Refusal) → AreRefused rs → AreRefused qs → map told rs.items ≡ map told qs.items
-  both_refused rs qs (inl a) (inl b) = one_order (refused_of files a.reads) rs.items qs.items a.told (subst (λ (all : List Told). AreTold all qs.items) (same_refused files b.reads a.reads b.are_read a.are_read) b.told)
+  both_refused : (rs qs : Vec Refusal) → AreRefused rs → AreRefused qs → map reported rs.items ≡ map reported qs.items
+  both_refused rs qs (inl a) (inl b) = one_order (refused_of files a.reads) rs.items qs.items a.reported (subst (λ (all : List Reported). AreReported all qs.items) (same_refused files b.reads a.reads b.are_read a.are_read) b.reported)
   both_refused rs qs (inl a) (inr (inl (u, are, is))) = absurd (trees_or_refused files u a.reads are a.are_read a.some)
   both_refused rs qs (inl a) (inr (inr (inl b))) = absurd (trees_or_refused files b.trees a.reads b.graph.are_trees a.are_read a.some)
   both_refused rs qs (inl a) (inr (inr (inr b))) = absurd (trees_or_refused files b.trees a.reads b.graph.are_trees a.are_read a.some)
@@ -101,25 +101,25 @@ module _ (files : List SourceFile) (pages : ℕ) where
       let e : t ≡ u = one_trees files t u are are' in
       let same = one_refusal (numbered 0 u) rs qs (subst (λ (x : List (List ℕ × Module)). IsRefusal (numbered 0 x) (graph_error.Refused rs)) e is) is' in
       flat_all rs.items ∙ ap (map flat) same ∙ sym (flat_all qs.items)
-  both_refused rs qs (inr (inl a)) (inr (inr (inl b))) = absurd (graph_or_told files b.trees b.numbers b.all_jobs b.starts rs b.graph a)
-  both_refused rs qs (inr (inl a)) (inr (inr (inr b))) = absurd (graph_or_told files b.trees b.numbers b.all_jobs b.starts rs b.graph a)
+  both_refused rs qs (inr (inl a)) (inr (inr (inl b))) = absurd (graph_or_reported files b.trees b.numbers b.all_jobs b.starts rs b.graph a)
+  both_refused rs qs (inr (inl a)) (inr (inr (inr b))) = absurd (graph_or_reported files b.trees b.numbers b.all_jobs b.starts rs b.graph a)
   both_refused rs qs (inr (inr (inl a))) (inl b) = absurd (trees_or_refused files a.trees b.reads a.graph.are_trees b.are_read b.some)
-  both_refused rs qs (inr (inr (inl a))) (inr (inl b)) = absurd (graph_or_told files a.trees a.numbers a.all_jobs a.starts qs a.graph b)
+  both_refused rs qs (inr (inr (inl a))) (inr (inl b)) = absurd (graph_or_reported files a.trees a.numbers a.all_jobs a.starts qs a.graph b)
   both_refused rs qs (inr (inr (inl a))) (inr (inr (inl b))) =
-      let same = untold_same files b.trees a.trees b.numbers a.numbers b.all_jobs a.all_jobs b.starts a.starts b.graph a.graph in
-      one_order (refused_by a.trees a.numbers a.all_jobs) rs.items qs.items a.told (subst (λ (all : List Told). AreTold all qs.items) same b.told)
-  both_refused rs qs (inr (inr (inl a))) (inr (inr (inr b))) = absurd (a.some (untold_same files a.trees b.trees a.numbers b.numbers a.all_jobs b.all_jobs a.starts b.starts a.graph b.graph ∙ b.none))
+      let same = unreported_same files b.trees a.trees b.numbers a.numbers b.all_jobs a.all_jobs b.starts a.starts b.graph a.graph in
+      one_order (refused_by a.trees a.numbers a.all_jobs) rs.items qs.items a.reported (subst (λ (all : List Reported). AreReported all qs.items) same b.reported)
+  both_refused rs qs (inr (inr (inl a))) (inr (inr (inr b))) = absurd (a.some (unreported_same files a.trees b.trees a.numbers b.numbers a.all_jobs b.all_jobs a.starts b.starts a.graph b.graph ∙ b.none))
   both_refused rs qs (inr (inr (inr a))) (inl b) = absurd (trees_or_refused files a.trees b.reads a.graph.are_trees b.are_read b.some)
-  both_refused rs qs (inr (inr (inr a))) (inr (inl b)) = absurd (graph_or_told files a.trees a.numbers a.all_jobs a.starts qs a.graph b)
-  both_refused rs qs (inr (inr (inr a))) (inr (inr (inl b))) = absurd (b.some (untold_same files b.trees a.trees b.numbers a.numbers b.all_jobs a.all_jobs b.starts a.starts b.graph a.graph ∙ a.none))
+  both_refused rs qs (inr (inr (inr a))) (inr (inl b)) = absurd (graph_or_reported files a.trees a.numbers a.all_jobs a.starts qs a.graph b)
+  both_refused rs qs (inr (inr (inr a))) (inr (inr (inl b))) = absurd (b.some (unreported_same files b.trees a.trees b.numbers a.numbers b.all_jobs a.all_jobs b.starts a.starts b.graph a.graph ∙ a.none))
   both_refused rs qs (inr (inr (inr a))) (inr (inr (inr b))) =
       let same : b.trees ≡ a.trees = one_trees files b.trees a.trees b.graph.are_trees a.graph.are_trees in
-      one_order (told_at (program_file a.trees) 1 1 61 ∷ []) rs.items qs.items a.told (subst (λ (t : List (List ℕ × Module)). AreTold (told_at (program_file t) 1 1 61 ∷ []) qs.items) same b.told)
+      one_order (reported_at (program_file a.trees) 1 1 61 ∷ []) rs.items qs.items a.reported (subst (λ (t : List (List ℕ × Module)). AreReported (reported_at (program_file t) 1 1 61 ∷ []) qs.items) same b.reported)
 
   never_both : (rs : Vec Refusal) (link : List ℕ) (built : List (List ℕ × List ℕ)) → AreRefused rs → IsProgram files pages link built → ⊥
   never_both rs link built (inl a) p = trees_or_refused files p.trees a.reads p.graph.are_trees a.are_read a.some
-  never_both rs link built (inr (inl a)) p = graph_or_told files p.trees p.numbers p.all_jobs p.starts rs p.graph a
-  never_both rs link built (inr (inr (inl a))) p = a.some (untold_same files a.trees p.trees a.numbers p.numbers a.all_jobs p.all_jobs a.starts p.starts a.graph p.graph ∙ p.none)
+  never_both rs link built (inr (inl a)) p = graph_or_reported files p.trees p.numbers p.all_jobs p.starts rs p.graph a
+  never_both rs link built (inr (inr (inl a))) p = a.some (unreported_same files a.trees p.trees a.numbers p.numbers a.all_jobs p.all_jobs a.starts p.starts a.graph p.graph ∙ p.none)
   never_both rs link built (inr (inr (inr a))) p =
       let same : a.program ≡ p.program = typed_same files a.trees p.trees a.numbers p.numbers a.all_jobs p.all_jobs a.starts p.starts a.graph p.graph a.program p.program a.typed p.typed in
       let more : 65536 * pages < data_and_stack p.program = subst (λ (q : Modules). 65536 * pages < data_and_stack q) same a.too_large in
@@ -130,7 +130,7 @@ module _ (files : List SourceFile) (pages : ℕ) where
   both_built : (link other : List ℕ) (built others : List (List ℕ × List ℕ)) → IsProgram files pages link built → IsProgram files pages other others → (link ≡ other) × (built ≡ others)
   both_built link other built others p q =
       let same : p.program ≡ q.program = typed_same files p.trees q.trees p.numbers q.numbers p.all_jobs q.all_jobs p.starts q.starts p.graph q.graph p.program q.program p.typed q.typed in
-      (p.code.link_spelled.spelling ∙ ap (λ (x : Modules). module_spelling (typed_link x pages)) same ∙ sym q.code.link_spelled.spelling, p.code.body_bytes ∙ ap (map built_of) same ∙ sym q.code.body_bytes)
+      (p.code.link_encoded.encoding ∙ ap (λ (x : Modules). module_encoding (typed_link x pages)) same ∙ sym q.code.link_encoded.encoding, p.code.body_bytes ∙ ap (map built_of) same ∙ sym q.code.body_bytes)
 
 pub one_built : (files : List SourceFile) (pages : ℕ) (o p : Outcome) → IsBuilt files pages o → IsBuilt files pages p → AreAlike o p
 one_built files pages (outcome.Refused rs) (outcome.Refused qs) a b = both_refused files pages rs qs a b

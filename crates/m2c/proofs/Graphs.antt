@@ -6,7 +6,7 @@ use Rattle.std.specs.Str.{bytes_eq}
 use Rattle.std.specs.Option.{option_and_then}
 use Rattle.std.specs.Borrow.{Bor}
 use Rattle.m2_tree.specs.declared.decl.Module.{Module}
-use Rattle.wasm_binary.specs.Binary.{module_spelling, Spells}
+use Rattle.wasm_binary.specs.Binary.{module_encoding, Encodes}
 use Rattle.m2_graph.specs.Jobs.{ArePlaces, place_of}
 use Rattle.m2_graph_laws.specs.Started.{AreStarted, at_places}
 use Rattle.m2_graph_laws.proofs.Started.{are_started}
@@ -26,9 +26,9 @@ use Rattle.m2_jobs.specs.Jobs.{all_compiled}
 use Rattle.m2_jobs.proofs.Rounds.{jobs_count}
 use Rattle.m2_jobs.specs.Borrowed.{borrowed, modules_borrowed}
 use Rattle.m2c.specs.Modules.{result_of, module_in, modules_at}
-use Rattle.m2c.specs.Build.{AreSpelled as BytesSpell}
-use Rattle.m2c.specs.Build.{Told, AreTold, told_at, built_of, named_bytes, modules, refusal_in, refused_from, refused_by, started, data_and_stack, program_file, HaveGraph, IsTooLarge, IsProgram}
-use Rattle.m2_jobs.specs.Spelled.{AreSpelled}
+use Rattle.m2c.specs.Build.{AreEncoded as BytesEncode}
+use Rattle.m2c.specs.Build.{Reported, AreReported, reported_at, built_of, named_bytes, modules, refusal_in, refused_from, refused_by, started, data_and_stack, program_file, HaveGraph, IsTooLarge, IsProgram}
+use Rattle.m2_jobs.specs.Encoded.{AreEncoded}
 use Rattle.m2_links.specs.Linked.{IsLinkable, imported_names}
 use Rattle.m2_agree_linked.specs.Modules.{AreModules, AreTypedModules}
 use Rattle.m2_agree_linked.proofs.Programs.{typed_behave}
@@ -43,22 +43,22 @@ use Rattle.m2c.proofs.Valid.{all_valid}
 use Rattle.m2c.proofs.Programs.{AreFit, AreBuilt, all_built, distinct_all, count_all}
 
 abbrev module_bytes : WModule → List ℕ
-module_bytes t = module_spelling t
+module_bytes t = module_encoding t
 
--- the bytes of modules that have spellings spell them
-pub all_spelled : (p : Modules) → AreFit p → BytesSpell (map module_bytes (map typed_module p)) (map typed_module p)
-all_spelled [] f = tt
-all_spelled (m ∷ ms) f = (record { fits = f.0; spelling = refl }, all_spelled ms f.1)
+-- the bytes of modules that have encodings encode them
+pub all_encoded : (p : Modules) → AreFit p → BytesEncode (map module_bytes (map typed_module p)) (map typed_module p)
+all_encoded [] f = tt
+all_encoded (m ∷ ms) f = (record { fits = f.0; encoding = refl }, all_encoded ms f.1)
 
 pub same_modules : (trees : List (Bor (List ℕ) × Bor Module)) → modules_borrowed trees ≡ modules (borrowed trees)
 same_modules [] = refl
 same_modules (t ∷ ts) = ap (λ (ms : List Module). t.1.now ∷ ms) (same_modules ts)
 
-pub spelled_borrowed : (trees : List (Bor (List ℕ) × Bor Module)) (numbers : List ℕ) (jobs : List (List ℕ)) → AreSpelled (modules_borrowed trees) numbers jobs → AreSpelled (modules (borrowed trees)) numbers jobs
-spelled_borrowed trees numbers jobs h = subst (λ (ms : List Module). AreSpelled ms numbers jobs) (same_modules trees) h
+pub encoded_borrowed : (trees : List (Bor (List ℕ) × Bor Module)) (numbers : List ℕ) (jobs : List (List ℕ)) → AreEncoded (modules_borrowed trees) numbers jobs → AreEncoded (modules (borrowed trees)) numbers jobs
+encoded_borrowed trees numbers jobs h = subst (λ (ms : List Module). AreEncoded ms numbers jobs) (same_modules trees) h
 
 abbrev bytes_of : TypedModule → List ℕ
-bytes_of m = module_spelling (typed_module m)
+bytes_of m = module_encoding (typed_module m)
 
 seconds : (p : Modules) → map (λ m. m.1) (map built_of p) ≡ map module_bytes (map typed_module p)
 seconds [] = refl
@@ -79,7 +79,7 @@ parts_emitted (m ∷ ms) = ap (λ (xs : List Part). part_of m ∷ xs) (parts_emi
 module _ (f g : ℕ → Option Compiled) (same : (k : ℕ) → f k ≡ g k) where
   same_refused : (n : ℕ) (fs : List (List ℕ × Module)) → refused_from f n fs ≡ refused_from g n fs
   same_refused n [] = refl
-  same_refused n (x ∷ xs) = ap (λ (o : Option Compiled). refusal_in x.0 o ++ refused_from f (n + 1) xs) (same n) ∙ ap (λ (ts : List Told). refusal_in x.0 (g n) ++ ts) (same_refused (n + 1) xs)
+  same_refused n (x ∷ xs) = ap (λ (o : Option Compiled). refusal_in x.0 o ++ refused_from f (n + 1) xs) (same n) ∙ ap (λ (ts : List Reported). refusal_in x.0 (g n) ++ ts) (same_refused (n + 1) xs)
 
   same_started : (starts : List ℕ) → modules_at f starts ≡ modules_at g starts
   same_started [] = refl
@@ -99,7 +99,7 @@ module _ (trees : List (Bor (List ℕ) × Bor Module)) (numbers : List ℕ) (job
   all_are : results ≡ all_compiled (modules (borrowed trees)) numbers jobs
   all_are = all ∙ ap (λ (ms : List Module). all_compiled ms numbers jobs) (same_modules trees)
 
-  pub refusals_are : (ts : List Told) → ts ≡ refused_from (λ k. option_and_then (slice_get results) (place_of places_now k)) 0 (borrowed trees) → ts ≡ refused_by (borrowed trees) numbers jobs
+  pub refusals_are : (ts : List Reported) → ts ≡ refused_from (λ k. option_and_then (slice_get results) (place_of places_now k)) 0 (borrowed trees) → ts ≡ refused_by (borrowed trees) numbers jobs
   refusals_are ts e =
       e ∙ ap (λ (ps : List (Option ℕ)). refused_from (λ k. option_and_then (slice_get results) (place_of ps k)) 0 (borrowed trees)) same
       ∙ placed_refused results numbers places are 0 (borrowed trees)
@@ -114,7 +114,7 @@ module _ (trees : List (Bor (List ℕ) × Bor Module)) (numbers : List ℕ) (job
 
 -- ---- the program
 
-module _ (files : List SourceFile) (fs : List (List ℕ × Module)) (numbers : List ℕ) (jobs : List (List ℕ)) (starts : List ℕ) (have : HaveGraph files fs numbers jobs starts) (none : refused_by fs numbers jobs ≡ []) (spelled : AreSpelled (modules fs) numbers jobs) where
+module _ (files : List SourceFile) (fs : List (List ℕ × Module)) (numbers : List ℕ) (jobs : List (List ℕ)) (starts : List ℕ) (have : HaveGraph files fs numbers jobs starts) (none : refused_by fs numbers jobs ≡ []) (encoded : AreEncoded (modules fs) numbers jobs) where
   pub as_many : length numbers ≡ length jobs
   as_many = jobs_count _ numbers jobs starts have.is_graph
 
@@ -124,27 +124,27 @@ module _ (files : List SourceFile) (fs : List (List ℕ × Module)) (numbers : L
   abbrev those : List ModuleBytes
   those = started fs numbers jobs starts
 
-  abbrev pub whole : AreBuilt fs numbers jobs have.each as_many none spelled starts
-  whole = all_built fs numbers jobs have.each as_many none spelled starts are
+  abbrev pub whole : AreBuilt fs numbers jobs have.each as_many none encoded starts
+  whole = all_built fs numbers jobs have.each as_many none encoded starts are
 
   pub program_count : length those ≤ 1024
-  program_count = omega (arith, count_all fs numbers jobs have.each as_many none spelled starts are, ap length whole.are, length-map whole.program emitted)
+  program_count = omega (arith, count_all fs numbers jobs have.each as_many none encoded starts are, ap length whole.are, length-map whole.program emitted)
 
   pub data_is : stack_begin (parts those) + 4096 ≡ data_and_stack whole.program
   data_is = ap (λ (ms : List ModuleBytes). stack_begin (parts ms) + 4096) whole.are ∙ ap (λ (ps : List Part). stack_begin ps + 4096) (parts_emitted whole.program)
 
   -- what is built is the program
   pub is_program : (pages : ℕ) → 1 ≤ pages → pages ≤ 1024 → stack_begin (parts those) + 4096 ≤ 65536 * pages → (link : List ℕ) (built : List (List ℕ × List ℕ))
-      → Spells link (link_of (parts those) pages) → built ≡ map named_bytes those → IsProgram files pages link built
+      → Encodes link (link_of (parts those) pages) → built ≡ map named_bytes those → IsProgram files pages link built
   is_program pages least most fits link built link_is built_are =
       let p : Modules = whole.program in
-      let link_spelled : Spells link (typed_link p pages) =
-      subst (λ (ps : List Part). Spells link (link_of ps pages)) (parts_emitted p) (subst (λ (ms : List ModuleBytes). Spells link (link_of (parts ms) pages)) whole.are link_is)
+      let link_encoded : Encodes link (typed_link p pages) =
+      subst (λ (ps : List Part). Encodes link (link_of ps pages)) (parts_emitted p) (subst (λ (ms : List ModuleBytes). Encodes link (link_of (parts ms) pages)) whole.are link_is)
       in
       let built_whole : built ≡ map built_of p = built_are ∙ ap (map named_bytes) whole.are ∙ named_emitted p in
       let fits_all : data_and_stack p ≤ 65536 * pages = subst (λ (n : ℕ). n ≤ 65536 * pages) data_is fits in
       let linkable : IsLinkable p pages = record {
-        distinct = distinct_all fs numbers jobs have.each as_many none spelled starts are;
+        distinct = distinct_all fs numbers jobs have.each as_many none encoded starts are;
         imports = subst (λ (ns : List (List ℕ)). All (λ m. All (λ n. list_any (λ other. bytes_eq other n) ns ≡ true) (imported_names m)) p) (sym whole.names)
             (all_modules fs numbers jobs starts have.is_graph (at_places (modules fs) starts) starts p whole.typed are.closed);
         memory = least;
@@ -168,21 +168,21 @@ module _ (files : List SourceFile) (fs : List (List ℕ × Module)) (numbers : L
         typed = whole.typed;
         fits = fits_all;
         code = record {
-          link_spelled = link_spelled;
+          link_encoded = link_encoded;
           body_bytes = built_whole;
-          spelled = subst (λ (bs : List (List ℕ)). BytesSpell bs (map typed_module p)) (sym codes) (all_spelled p whole.fit);
+          encoded = subst (λ (bs : List (List ℕ)). BytesEncode bs (map typed_module p)) (sym codes) (all_encoded p whole.fit);
         };
         links = (_, modules_link p pages linkable);
-        behaves = typed_behave p pages linkable fits_all most (slots_few p pages link_spelled.fits) modules_are typed_are;
+        behaves = typed_behave p pages linkable fits_all most (slots_few p pages link_encoded.fits) modules_are typed_are;
         strict = λ lacking n. strict_runs p pages modules_are typed_are lacking n;
         whole = λ lacking n above out e. nothing_lacks p pages modules_are typed_are lacking n above out e;
         valid = All-cons IsValid (typed_link p pages) (map typed_module p)
-            (link_valid p pages (omega (arith, most)) link_spelled.fits (distinct_all fs numbers jobs have.each as_many none spelled starts are))
+            (link_valid p pages (omega (arith, most)) link_encoded.fits (distinct_all fs numbers jobs have.each as_many none encoded starts are))
             (all_valid fs numbers jobs starts have.is_graph starts p whole.typed);
       }
 
-  pub is_too_large : (pages : ℕ) → 65536 * pages < stack_begin (parts those) + 4096 → (refusals : List Refusal) → AreTold (told_at (program_file fs) 1 1 61 ∷ []) refusals → IsTooLarge files pages refusals
-  is_too_large pages more refusals told = record {
+  pub is_too_large : (pages : ℕ) → 65536 * pages < stack_begin (parts those) + 4096 → (refusals : List Refusal) → AreReported (reported_at (program_file fs) 1 1 61 ∷ []) refusals → IsTooLarge files pages refusals
+  is_too_large pages more refusals reported = record {
     trees = fs;
     numbers = numbers;
     all_jobs = jobs;
@@ -192,5 +192,5 @@ module _ (files : List SourceFile) (fs : List (List ℕ × Module)) (numbers : L
     program = whole.program;
     typed = whole.typed;
     too_large = subst (λ (n : ℕ). 65536 * pages < n) data_is more;
-    told = told;
+    reported = reported;
   }

@@ -22,11 +22,11 @@ use Rattle.m2_typed.specs.declared.table.Table.{Table}
 use Rattle.m2_typed.specs.declared.typed_module.Imported.{Imported}
 use Rattle.m2_typed.specs.declared.typed_module.TypedModule.{TypedModule}
 use Rattle.m2_typed.specs.Names.{same_name}
-use Rattle.m2_judged.specs.declared.fault.Fault.{Fault}
-use Rattle.m2_judged.specs.Judged.{least}
+use Rattle.m2_scopes.specs.declared.fault.Fault.{Fault}
+use Rattle.m2_scopes.specs.Elaborated.{least}
 use Rattle.m2_layout.specs.Layouts.{too_large}
 use Rattle.m2_types.specs.Compiled as types
-use Rattle.m2_check.specs.Checks.{judged}
+use Rattle.m2_check.specs.Checks.{elaborated}
 use Rattle.m2_meaning.specs.Around.{Modules}
 use Rattle.m2_formed_imports.specs.FormedImports.{is_imported, is_imported_by, IsImport, NamesImports, StandsOnImports}
 use Rattle.m2_formed_imports.proofs.Imports.{tables_named, modules_stand}
@@ -36,7 +36,7 @@ use Rattle.m2_compile.specs.declared.outcome.Compiled.TheVariants.{Defined, Buil
 use Rattle.m2_compile.specs.Own.{own_table, tables_behind}
 use Rattle.m2_compile.specs.Compiling.{is_sound, table_in, tables_of, of_definition, of_fit, of_checked, of_contents, typed_body, compiled}
 use Rattle.m2_jobs.specs.Jobs.{compiled_in, compiled_at}
-use Rattle.m2_jobs.specs.Spelled.{needed_of}
+use Rattle.m2_jobs.specs.Encoded.{needed_of}
 use Rattle.m2c.specs.Modules.{IsTyped, AreTyped}
 use Rattle.m2c.specs.Build.{modules}
 use Rattle.m2c.proofs.Unrefused.{is_below}
@@ -198,7 +198,7 @@ module _ (fs : List (List ℕ × Module)) (numbers : List ℕ) (jobs : List (Lis
         let tables : List Table = tables_of (needed_of trees numbers jobs typed.job) in
         let own : Option Table = own_table m tables in
         let stands : StandsOnImports m own t =
-        subst (λ (r : Result TypedModule Fault). IfOk r (StandsOnImports m own)) typed.typed (modules_stand least (judged least) typed.job m own (tables_behind own tables))
+        subst (λ (r : Result TypedModule Fault). IfOk r (StandsOnImports m own)) typed.typed (modules_stand least (elaborated least) typed.job m own (tables_behind own tables))
         in
         all_imports m closed own (λ o e. own_known m tables o (needed_tables typed.job) e) t.imports stands.imports
 

@@ -21,9 +21,9 @@ use Rattle.m2_graph_laws.proofs.Lists.{some_at}
 use Rattle.m2_typed.specs.declared.table.Table.{Table}
 use Rattle.m2_typed.specs.declared.statement.TypedStmt.{TypedStmt}
 use Rattle.m2_typed.specs.declared.typed_module.TypedModule.{TypedModule}
-use Rattle.m2_judged.specs.declared.fault.Fault.{Fault}
-use Rattle.m2_judged.specs.declared.scope.Scope.{Scope}
-use Rattle.m2_judged.specs.Judged.{least, both, ◌▷◌}
+use Rattle.m2_scopes.specs.declared.fault.Fault.{Fault}
+use Rattle.m2_scopes.specs.declared.scope.Scope.{Scope}
+use Rattle.m2_scopes.specs.Elaborated.{least, both, ◌▷◌}
 use Rattle.m2_layout.specs.Layouts.{too_large}
 use Rattle.m2_emit.specs.declared.emitted.ModuleBytes.{ModuleBytes}
 use Rattle.m2_emit.specs.Emitted.{emitted}
@@ -37,14 +37,14 @@ use Rattle.m2_blocks.specs.Nesting.{procedure_ends}
 use Rattle.m2_bodies.specs.Checked as bodies
 use Rattle.m2_bodies.specs.Bodies.{Checked}
 use Rattle.m2_modules.specs.Routines as routines
-use Rattle.m2_check.specs.Checks.{judged}
+use Rattle.m2_check.specs.Checks.{elaborated}
 use Rattle.m2_compile.specs.declared.outcome.Compiled.{Compiled}
 use Rattle.m2_compile.specs.declared.outcome.Compiled.TheVariants.{Built}
 use Rattle.m2_compile.specs.Own.{own_table}
 use Rattle.m2_compile.specs.Compiling.{is_sound, tables_of, of_fit, of_checked, of_contents, typed_body, compiled}
-use Rattle.m2_compile.specs.Spelled.{IsSpelled, fit_spelled, checked_spelled, contents_spelled}
+use Rattle.m2_compile.specs.Encoded.{IsEncoded, fit_encoded, checked_encoded, contents_encoded}
 use Rattle.m2_jobs.specs.Jobs.{compiled_in}
-use Rattle.m2_jobs.specs.Spelled.{spelled_in, AreSpelled}
+use Rattle.m2_jobs.specs.Encoded.{encoded_in, AreEncoded}
 use Rattle.m2_formed_graphs.specs.FormedGraphs.{IsFit}
 use Rattle.m2c.specs.Modules.{module_in, modules_at, IsTyped, AreTyped}
 use Rattle.m2c.specs.Build.{modules, refused_by, result_at}
@@ -64,15 +64,15 @@ module_name ms own m c t e = by (both least c.0.so_far c.1) e
         named (Err f) = []
     by (Err f) e = absurd (cc e)
 
-contents_name : (n : ℕ) (m : Module) (own : Option Table) (ts : List Table) (c : Contents) (t : TypedModule) → bodies.of_contents least (judged least) n m own ts c ≡ Ok t → t.name ≡ m.name.name
+contents_name : (n : ℕ) (m : Module) (own : Option Table) (ts : List Table) (c : Contents) (t : TypedModule) → bodies.of_contents least (elaborated least) n m own ts c ≡ Ok t → t.name ≡ m.name.name
 contents_name n m own ts (contents.Definition ds) t e = absurd (cc e)
 contents_name n m None ts (contents.Implementation b) t e = absurd (cc e)
 contents_name n m (Some own) ts (contents.Implementation b) t e =
     let s : Scope Fault = implementation_scope own ts in
-    module_name (numbered_modules s.tables).0 (Some own) m (bodies.walked least (judged least) (numbered_modules s.tables).0 (procedure_ends (out-Block b).decls) s m b) t e
+    module_name (numbered_modules s.tables).0 (Some own) m (bodies.walked least (elaborated least) (numbered_modules s.tables).0 (procedure_ends (out-Block b).decls) s m b) t e
 contents_name n m own ts (contents.Program b) t e =
     let s : Scope Fault = first_scope n ts in
-    module_name (numbered_modules s.tables).0 None m (bodies.walked least (judged least) (numbered_modules s.tables).0 (procedure_ends (out-Block b).decls) s m b) t e
+    module_name (numbered_modules s.tables).0 None m (bodies.walked least (elaborated least) (numbered_modules s.tables).0 (procedure_ends (out-Block b).decls) s m b) t e
 
 pub typed_name : (n : ℕ) (m : Module) (ts : List Table) (t : TypedModule) → typed_body m n ts ≡ Ok t → t.name ≡ m.name.name
 typed_name n m ts t e = contents_name n m (own_table m ts) _ m.contents t e
@@ -86,32 +86,32 @@ record IsBody (m : Module) (n : ℕ) (ts : List Table) (c : Compiled) : Type 0 w
   fits : module_fits (typed_module typed) ≡ true
   becomes : c ≡ Built (emitted typed)
 
-from_fit : (m : Module) (n : ℕ) (ts : List Table) (t : TypedModule) → typed_body m n ts ≡ Ok t → (o : Option Pos) → too_large t ≡ o → fit_spelled t o → IsUnrefused (of_fit t o) → IsBody m n ts (of_fit t o)
+from_fit : (m : Module) (n : ℕ) (ts : List Table) (t : TypedModule) → typed_body m n ts ≡ Ok t → (o : Option Pos) → too_large t ≡ o → fit_encoded t o → IsUnrefused (of_fit t o) → IsBody m n ts (of_fit t o)
 from_fit m n ts t e None small s h = record { typed = t; is = e; small = small; fits = s; becomes = refl }
 from_fit m n ts t e (Some at) small s h = absurd (h _ refl)
 
-from_checked : (m : Module) (n : ℕ) (ts : List Table) (r : Result TypedModule Fault) → typed_body m n ts ≡ r → checked_spelled r → IsUnrefused (of_checked r) → IsBody m n ts (of_checked r)
+from_checked : (m : Module) (n : ℕ) (ts : List Table) (r : Result TypedModule Fault) → typed_body m n ts ≡ r → checked_encoded r → IsUnrefused (of_checked r) → IsBody m n ts (of_checked r)
 from_checked m n ts (Ok t) e s h = from_fit m n ts t e (too_large t) refl s h
 from_checked m n ts (Err f) e s h = absurd (h f refl)
 
-from_contents : (m : Module) (n : ℕ) (ts : List Table) (c : Contents) → is_definition_part c ≡ false → contents_spelled m n ts c → IsUnrefused (of_contents m n ts c) → IsBody m n ts (of_contents m n ts c)
+from_contents : (m : Module) (n : ℕ) (ts : List Table) (c : Contents) → is_definition_part c ≡ false → contents_encoded m n ts c → IsUnrefused (of_contents m n ts c) → IsBody m n ts (of_contents m n ts c)
 from_contents m n ts (contents.Definition ds) is s h = absurd (false≢true (sym is))
 from_contents m n ts (contents.Implementation b) is s h = from_checked m n ts (typed_body m n ts) refl s h
 from_contents m n ts (contents.Program b) is s h = from_checked m n ts (typed_body m n ts) refl s h
 
-body_of : (m : Module) (n : ℕ) (others : List Compiled) → is_definition m ≡ false → list_all is_sound others ≡ true → IsSpelled m n others → IsUnrefused (compiled m n others) → IsBody m n (tables_of others) (compiled m n others)
+body_of : (m : Module) (n : ℕ) (others : List Compiled) → is_definition m ≡ false → list_all is_sound others ≡ true → IsEncoded m n others → IsUnrefused (compiled m n others) → IsBody m n (tables_of others) (compiled m n others)
 body_of m n others is sound s h =
     let e = compiled_is m n others sound in
-    subst (IsBody m n (tables_of others)) (sym e) (from_contents m n (tables_of others) m.contents is (s.spelled sound) (subst IsUnrefused e h))
+    subst (IsBody m n (tables_of others)) (sym e) (from_contents m n (tables_of others) m.contents is (s.encoded sound) (subst IsUnrefused e h))
 
 -- ---- all that start
 
--- their modules have spellings
+-- their modules have encodings
 abbrev pub AreFit : Modules → Type 0
 AreFit [] = Unit {0}
 AreFit (t ∷ ts) = (module_fits (typed_module t) ≡ true) × AreFit ts
 
-module _ (fs : List (List ℕ × Module)) (numbers : List ℕ) (jobs : List (List ℕ)) (each : CompileEach (numbered 0 fs) numbers) (same : length numbers ≡ length jobs) (none : refused_by fs numbers jobs ≡ []) (spelled : AreSpelled (modules fs) numbers jobs) where
+module _ (fs : List (List ℕ × Module)) (numbers : List ℕ) (jobs : List (List ℕ)) (each : CompileEach (numbered 0 fs) numbers) (same : length numbers ≡ length jobs) (none : refused_by fs numbers jobs ≡ []) (encoded : AreEncoded (modules fs) numbers jobs) where
   within : (j k : ℕ) → slice_get numbers j ≡ Some k → k < length fs
   within j k e = subst (λ (n : ℕ). n < length fs) (get_or_from_slice_get numbers j k 0 e) (all_within fs numbers each j 0 (slice_get_within numbers j k e))
 
@@ -139,7 +139,7 @@ module _ (fs : List (List ℕ × Module)) (numbers : List ℕ) (jobs : List (Lis
       let its : one fs numbers jobs j.0 ≡ compiled m j.0 (needed fs numbers jobs j.0) = ap (λ (k : ℕ). compiled_in (slice_get (modules fs) k) j.0 (needed fs numbers jobs j.0)) place ∙ ap (λ (o : Option Module). compiled_in o j.0 (needed fs numbers jobs j.0)) is in
       let sound : list_all is_sound (needed fs numbers jobs j.0) ≡ true = all_sound fs numbers jobs each same none within there j.0 l in
       let fine : IsUnrefused (compiled m j.0 (needed fs numbers jobs j.0)) = subst IsUnrefused its (none_refused fs numbers jobs each same none within there j.0 l) in
-      let s' : IsSpelled m j.0 (needed fs numbers jobs j.0) = subst (λ (o : Option Module). spelled_in o j.0 (needed fs numbers jobs j.0)) (ap (slice_get (modules fs)) place ∙ is) (spelled.each j.0 l) in
+      let s' : IsEncoded m j.0 (needed fs numbers jobs j.0) = subst (λ (o : Option Module). encoded_in o j.0 (needed fs numbers jobs j.0)) (ap (slice_get (modules fs)) place ∙ is) (encoded.each j.0 l) in
       let b = body_of m j.0 (needed fs numbers jobs j.0) body sound s' fine in
       record {
         typed = b.typed;
@@ -174,7 +174,7 @@ module _ (fs : List (List ℕ × Module)) (numbers : List ℕ) (jobs : List (Lis
         program = b.typed ∷ rest.program;
         typed = (b.is, rest.typed);
         fit = (b.fits, rest.fit);
-        small = (record { small = b.small; spelled = b.fits }, rest.small);
+        small = (record { small = b.small; encoded = b.fits }, rest.small);
         names = ap (λ (n : List ℕ). n ∷ linked.names rest.program) b.name ∙ ap (λ (ns : List (List ℕ)). m.name.name ∷ ns) rest.names ∙ sym (ap (λ (ms : List Module). names_of ms) here);
         are = ap (λ (o : Option Compiled). module_in o ++ modules_at result ss) b.becomes ∙ ap (λ (ms : List ModuleBytes). emitted b.typed ∷ ms) rest.are;
       }
@@ -191,9 +191,9 @@ places_count trees (s ∷ ss) = by (slice_get trees s) refl (places_count trees 
     by None e le = rw e (omega (arith, le))
     by (Some m) e le = rw e (omega (arith, le))
 
-module _ (fs : List (List ℕ × Module)) (numbers : List ℕ) (jobs : List (List ℕ)) (each : CompileEach (numbered 0 fs) numbers) (same : length numbers ≡ length jobs) (none : refused_by fs numbers jobs ≡ []) (spelled : AreSpelled (modules fs) numbers jobs) (starts : List ℕ) (started : AreStarted (modules fs) starts) where
-  pub all_built : AreBuilt fs numbers jobs each same none spelled starts
-  all_built = built_all fs numbers jobs each same none spelled starts started.within started.bodies
+module _ (fs : List (List ℕ × Module)) (numbers : List ℕ) (jobs : List (List ℕ)) (each : CompileEach (numbered 0 fs) numbers) (same : length numbers ≡ length jobs) (none : refused_by fs numbers jobs ≡ []) (encoded : AreEncoded (modules fs) numbers jobs) (starts : List ℕ) (started : AreStarted (modules fs) starts) where
+  pub all_built : AreBuilt fs numbers jobs each same none encoded starts
+  all_built = built_all fs numbers jobs each same none encoded starts started.within started.bodies
 
   pub distinct_all : AreDistinct (linked.names all_built.program)
   distinct_all = subst AreDistinct (sym all_built.names) (apart_distinct (names_of (at_places (modules fs) starts)) started.distinct)

@@ -1,4 +1,4 @@
--- Refusals in order, as what is told.
+-- Refusals in order, as what is reported.
 use Rattle.std.proofs.Common.{◌≡◌, ℕ, ◌+◌, Bool, true, false, not, ◌&&◌, cond, List, [], ◌∷◌, length, refl, sym, ap, subst, ◌∙◌, arith}
 use Rattle.std.specs.Prelude.{map, slice_index_or}
 use Rattle.std.specs.List.{filter, list_any}
@@ -15,10 +15,10 @@ use Rattle.std.proofs.lemmas.List.Sorted.{list_any-IsPermutation}
 use Rattle.m2_tree.specs.declared.refusal.Refusal.{Refusal}
 use Rattle.m2_graph_laws.proofs.Sorting.{by_key, one_stable_sort}
 use Rattle.m2c.specs.Order.{AreInOrder}
-use Rattle.m2c.specs.Build.{Told, told, AreTold}
+use Rattle.m2c.specs.Build.{Reported, reported, AreReported}
 
 -- the file of the first is less
-abbrev pub ranks : Told → Told → Bool
+abbrev pub ranks : Reported → Reported → Bool
 ranks t u = is_lt (slice_cmp nat_cmp t.file u.file)
 
 filter_through : {X Y : Type 0} (p : Y → Bool) (f : X → Y) (xs : List X) → filter p (map f xs) ≡ map f (filter (λ x. p (f x)) xs)
@@ -47,10 +47,10 @@ not_true : (b : Bool) → not b ≡ true → b ≡ false
 not_true false e = refl
 not_true true e = absurd cc
 
-abbrev ties_with : List ℕ → Told → Bool
+abbrev ties_with : List ℕ → Reported → Bool
 ties_with name t = not (is_lt (slice_cmp nat_cmp name t.file)) && not (is_lt (slice_cmp nat_cmp t.file name))
 
-same_name : (name : List ℕ) (t : Told) → ties_with name t ≡ true → name ≡ t.file
+same_name : (name : List ℕ) (t : Reported) → ties_with name t ≡ true → name ≡ t.file
 same_name name t e = let w = both_true (not (is_lt (slice_cmp nat_cmp name t.file))) (not (is_lt (slice_cmp nat_cmp t.file name))) e in tie name t.file (not_true _ w.0) (not_true _ w.1)
 
 none_left : {X : Type 0} (p : X → Bool) (xs : List X) → list_any p xs ≡ false → filter p xs ≡ []
@@ -72,38 +72,38 @@ found_one {X = X} p (x ∷ xs) e = by (p x) refl (λ h. found_one p xs h)
 -- ---- refusals in order
 
 module _ (found refusals : List Refusal) (order : AreInOrder found refusals) where
-  ranked_stable : IsStableBy ranks (map told found) (map told refusals)
-  ranked_stable x = by (list_any (λ (r : Refusal). ties_with x.file (told r)) refusals) refl
+  ranked_stable : IsStableBy ranks (map reported found) (map reported refusals)
+  ranked_stable x = by (list_any (λ (r : Refusal). ties_with x.file (reported r)) refusals) refl
     where
-      by : (b : Bool) → list_any (λ (r : Refusal). ties_with x.file (told r)) refusals ≡ b → filter (ties ranks x) (map told refusals) ≡ filter (ties ranks x) (map told found)
+      by : (b : Bool) → list_any (λ (r : Refusal). ties_with x.file (reported r)) refusals ≡ b → filter (ties ranks x) (map reported refusals) ≡ filter (ties ranks x) (map reported found)
       by true is =
-          let one = found_one (λ (r : Refusal). ties_with x.file (told r)) refusals is in
-          let same : x.file ≡ (told one.0).file = same_name x.file (told one.0) one.1 in
-          filter_through (ties_with x.file) told refusals
-          ∙ ap (λ (name : List ℕ). map told (filter (λ (r : Refusal). ties_with name (told r)) refusals)) same
-          ∙ ap (map told) (order.stable one.0)
-          ∙ sym (ap (λ (name : List ℕ). map told (filter (λ (r : Refusal). ties_with name (told r)) found)) same)
-          ∙ sym (filter_through (ties_with x.file) told found)
+          let one = found_one (λ (r : Refusal). ties_with x.file (reported r)) refusals is in
+          let same : x.file ≡ (reported one.0).file = same_name x.file (reported one.0) one.1 in
+          filter_through (ties_with x.file) reported refusals
+          ∙ ap (λ (name : List ℕ). map reported (filter (λ (r : Refusal). ties_with name (reported r)) refusals)) same
+          ∙ ap (map reported) (order.stable one.0)
+          ∙ sym (ap (λ (name : List ℕ). map reported (filter (λ (r : Refusal). ties_with name (reported r)) found)) same)
+          ∙ sym (filter_through (ties_with x.file) reported found)
       by false is =
-          filter_through (ties_with x.file) told refusals
-          ∙ ap (map told) (none_left (λ (r : Refusal). ties_with x.file (told r)) refusals is)
-          ∙ sym (ap (map told) (none_left (λ (r : Refusal). ties_with x.file (told r)) found (list_any-IsPermutation (λ (r : Refusal). ties_with x.file (told r)) found refusals order.same ∙ is)))
-          ∙ sym (filter_through (ties_with x.file) told found)
+          filter_through (ties_with x.file) reported refusals
+          ∙ ap (map reported) (none_left (λ (r : Refusal). ties_with x.file (reported r)) refusals is)
+          ∙ sym (ap (map reported) (none_left (λ (r : Refusal). ties_with x.file (reported r)) found (list_any-IsPermutation (λ (r : Refusal). ties_with x.file (reported r)) found refusals order.same ∙ is)))
+          ∙ sym (filter_through (ties_with x.file) reported found)
 
-  ranked_sorted : IsSortedBy ranks (map told refusals)
+  ranked_sorted : IsSortedBy ranks (map reported refusals)
   ranked_sorted k d zero_le h = by refusals refl
     where
-      by : (rs : List Refusal) → refusals ≡ rs → ranks (slice_index_or (map told refusals) (k + 1) d) (slice_index_or (map told refusals) k d) ≡ false
-      by [] is = absurd (let none : length (map told refusals) ≡ 0 = ap (λ (ss : List Refusal). length (map told ss)) is in omega (arith, none, h))
+      by : (rs : List Refusal) → refusals ≡ rs → ranks (slice_index_or (map reported refusals) (k + 1) d) (slice_index_or (map reported refusals) k d) ≡ false
+      by [] is = absurd (let none : length (map reported refusals) ≡ 0 = ap (λ (ss : List Refusal). length (map reported ss)) is in omega (arith, none, h))
       by (r ∷ rs) is =
-          let many : length (map told refusals) ≡ length refusals = length-map refusals told in
-          let next : slice_index_or (map told refusals) (k + 1) d ≡ told (slice_index_or refusals (k + 1) r) = mapped_at told refusals (k + 1) r d (omega (arith, h, many)) in
-          let here : slice_index_or (map told refusals) k d ≡ told (slice_index_or refusals k r) = mapped_at told refusals k r d (omega (arith, h, many)) in
-          ap (λ (t : Told). ranks t (slice_index_or (map told refusals) k d)) next ∙ ap (ranks (told (slice_index_or refusals (k + 1) r))) here ∙ order.sorted k r zero_le (omega (arith, h, many))
+          let many : length (map reported refusals) ≡ length refusals = length-map refusals reported in
+          let next : slice_index_or (map reported refusals) (k + 1) d ≡ reported (slice_index_or refusals (k + 1) r) = mapped_at reported refusals (k + 1) r d (omega (arith, h, many)) in
+          let here : slice_index_or (map reported refusals) k d ≡ reported (slice_index_or refusals k r) = mapped_at reported refusals k r d (omega (arith, h, many)) in
+          ap (λ (t : Reported). ranks t (slice_index_or (map reported refusals) k d)) next ∙ ap (ranks (reported (slice_index_or refusals (k + 1) r))) here ∙ order.sorted k r zero_le (omega (arith, h, many))
 
--- what is told in order is one list
-pub one_order : (all : List Told) (rs qs : List Refusal) → AreTold all rs → AreTold all qs → map told rs ≡ map told qs
+-- what is reported in order is one list
+pub one_order : (all : List Reported) (rs qs : List Refusal) → AreReported all rs → AreReported all qs → map reported rs ≡ map reported qs
 one_order all rs qs h k =
-    one_stable_sort ranks (by_key (λ (t : Told). t.file)) all (map told rs) (map told qs)
-    (ranked_sorted h.0 rs h.2) (subst (λ (xs : List Told). IsStableBy ranks xs (map told rs)) h.1 (ranked_stable h.0 rs h.2))
-    (ranked_sorted k.0 qs k.2) (subst (λ (xs : List Told). IsStableBy ranks xs (map told qs)) k.1 (ranked_stable k.0 qs k.2))
+    one_stable_sort ranks (by_key (λ (t : Reported). t.file)) all (map reported rs) (map reported qs)
+    (ranked_sorted h.0 rs h.2) (subst (λ (xs : List Reported). IsStableBy ranks xs (map reported rs)) h.1 (ranked_stable h.0 rs h.2))
+    (ranked_sorted k.0 qs k.2) (subst (λ (xs : List Reported). IsStableBy ranks xs (map reported qs)) k.1 (ranked_stable k.0 qs k.2))

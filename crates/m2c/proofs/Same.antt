@@ -8,7 +8,7 @@ use Rattle.m2_read.specs.declared.reading.Read.{Read}
 use Rattle.m2_read.specs.declared.reading.Read.TheVariants.{Parsed, Refused}
 use Rattle.m2_read.specs.Reading.{AreRead, AreSame}
 use Rattle.m2_read.proofs.Once.{one_read}
-use Rattle.m2c.specs.Build.{told_at, refused_in, refused_of, tree_in, trees_of, each_two, AreTrees}
+use Rattle.m2c.specs.Build.{reported_at, refused_in, refused_of, tree_in, trees_of, each_two, AreTrees}
 
 -- ---- texts
 
@@ -27,14 +27,14 @@ all_same [] [] (b ∷ qs) h k = absurd k
 all_same (f ∷ fs) [] qs h k = absurd h
 all_same (f ∷ fs) (a ∷ rs) [] h k = absurd k
 
-told_place : (file : List ℕ) (p q : Pos) (n m : ℕ) → p ≡ q → n ≡ m → told_at file p.line p.col n ≡ told_at file q.line q.col m
-told_place file p q n m e i = ap (λ (x : Pos). told_at file x.line x.col n) e ∙ ap (told_at file q.line q.col) i
+reported_place : (file : List ℕ) (p q : Pos) (n m : ℕ) → p ≡ q → n ≡ m → reported_at file p.line p.col n ≡ reported_at file q.line q.col m
+reported_place file p q n m e i = ap (λ (x : Pos). reported_at file x.line x.col n) e ∙ ap (reported_at file q.line q.col) i
 
 one_refused : (file : List ℕ) (a b : Read) → AreSame a b → refused_in file a ≡ refused_in file b
 one_refused file (Parsed t) (Parsed u) h = refl
 one_refused file (Parsed t) (Refused q m) h = absurd h
 one_refused file (Refused p n) (Parsed u) h = absurd h
-one_refused file (Refused p n) (Refused q m) h = ap (λ x. x ∷ []) (told_place file p q n m h.0 h.1)
+one_refused file (Refused p n) (Refused q m) h = ap (λ x. x ∷ []) (reported_place file p q n m h.0 h.1)
 
 one_tree : (file : List ℕ) (a b : Read) → AreSame a b → tree_in file a ≡ tree_in file b
 one_tree file (Parsed t) (Parsed u) h = ap (λ (x : Module). (file, x) ∷ []) h

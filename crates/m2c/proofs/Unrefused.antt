@@ -15,12 +15,12 @@ use Rattle.m2_worker.proofs.Resulting.{results-length}
 use Rattle.m2_graph.specs.Files.{numbered}
 use Rattle.m2_graph.specs.Graph.{CompileEach}
 use Rattle.m2_typed.specs.declared.table.Table.{Table}
-use Rattle.m2_judged.specs.declared.fault.Fault.{Fault}
+use Rattle.m2_scopes.specs.declared.fault.Fault.{Fault}
 use Rattle.m2_layout.specs.Layouts.{too_large}
 use Rattle.m2_compile.specs.declared.outcome.Compiled.{Compiled}
 use Rattle.m2_compile.specs.declared.outcome.Compiled.TheVariants.{Refused, Blocked}
 use Rattle.m2_compile.specs.Compiling.{is_sound, tables_of, of_definition, of_fit, of_checked, of_contents, typed_body, compiled}
-use Rattle.m2_judged.specs.Judged.{least}
+use Rattle.m2_scopes.specs.Elaborated.{least}
 use Rattle.m2_types.specs.Compiled as types
 use Rattle.std.proofs.lemmas.List.{length-map}
 use Rattle.m2_graph_laws.proofs.Lists.{some_at}
@@ -83,7 +83,7 @@ picked_sound xs (p ∷ ps) h = by (slice_get xs p) refl (picked_sound xs ps h)
     by None e rest = rest
     by (Some x) e rest = rw (h p x e) rest
 
--- ---- what is told
+-- ---- what is reported
 
 some_refused : (name : List ℕ) (f : Fault) → refusal_in name (Some (Refused f)) ≡ [] → ⊥
 some_refused name f e = absurd cc
@@ -96,11 +96,11 @@ right_empty : {A : Type 0} (xs ys : List A) → xs ++ ys ≡ [] → ys ≡ []
 right_empty [] ys e = e
 right_empty (x ∷ xs) ys e = absurd cc
 
-untold : (result : ℕ → Option Compiled) (n : ℕ) (fs : List (List ℕ × Module)) → refused_from result n fs ≡ [] → (k : ℕ) → k < length fs → (name : List ℕ) × (refusal_in name (result (n + k)) ≡ [])
-untold result n [] e k l = absurd (omega (arith, l))
-untold result n (f ∷ fs) e zero l = let same : n ≡ n + 0 = omega arith in (f.0, ap (λ (m : ℕ). refusal_in f.0 (result m)) (sym same) ∙ left_empty (refusal_in f.0 (result n)) (refused_from result (n + 1) fs) e)
-untold result n (f ∷ fs) e (suc k) l =
-    let r = untold result (n + 1) fs (right_empty (refusal_in f.0 (result n)) (refused_from result (n + 1) fs) e) k (omega (arith, l)) in
+unreported : (result : ℕ → Option Compiled) (n : ℕ) (fs : List (List ℕ × Module)) → refused_from result n fs ≡ [] → (k : ℕ) → k < length fs → (name : List ℕ) × (refusal_in name (result (n + k)) ≡ [])
+unreported result n [] e k l = absurd (omega (arith, l))
+unreported result n (f ∷ fs) e zero l = let same : n ≡ n + 0 = omega arith in (f.0, ap (λ (m : ℕ). refusal_in f.0 (result m)) (sym same) ∙ left_empty (refusal_in f.0 (result n)) (refused_from result (n + 1) fs) e)
+unreported result n (f ∷ fs) e (suc k) l =
+    let r = unreported result (n + 1) fs (right_empty (refusal_in f.0 (result n)) (refused_from result (n + 1) fs) e) k (omega (arith, l)) in
     let same : (n + 1) + k ≡ n + suc k = omega arith in
     (r.0, ap (λ (m : ℕ). refusal_in r.0 (result m)) (sym same) ∙ r.1)
 
@@ -164,7 +164,7 @@ module _ (fs : List (List ℕ × Module)) (numbers : List ℕ) (jobs : List (Lis
       unrefused : (j : ℕ) → j < length jobs → IsUnrefused (one j)
       unrefused j l f e =
           let t = there j (omega (arith, l, same)) in
-          let u = untold (result_at fs numbers jobs) 0 fs none t.0 (within j t.0 t.1) in
+          let u = unreported (result_at fs numbers jobs) 0 fs none t.0 (within j t.0 t.1) in
           let zero_plus : 0 + t.0 ≡ t.0 = omega arith in
           some_refused u.0 f (ap (refusal_in u.0) (sym (ap (result_at fs numbers jobs) zero_plus ∙ result_is j t.0 t.1 ∙ ap (λ (c : Compiled). Some c) e)) ∙ u.1)
 

@@ -7,7 +7,7 @@ use Rattle.m2_tree.specs.declared.refusal.Refusal.{Refusal}
 use Rattle.m2_tree.specs.declared.decl.Contents.{Contents}
 use Rattle.m2_tree.specs.declared.decl.Contents.TheVariants as contents
 use Rattle.m2_tree.specs.declared.decl.Module.{Module}
-use Rattle.wasm_binary.specs.Binary.{module_spelling, Spells}
+use Rattle.wasm_binary.specs.Binary.{module_encoding, Encodes}
 use Rattle.wasm_tree.specs.declared.module.WModule.{WModule}
 use Rattle.wasm_tree.specs.Validity.{IsValid}
 use Rattle.wasm_tree.specs.Machine.{Config}
@@ -35,30 +35,30 @@ use Rattle.m2_read.specs.Reading.{AreRead}
 use Rattle.m2_jobs.specs.Jobs.{all_compiled}
 use Rattle.m2c.specs.Modules.{result_of, modules_at, AreTyped}
 
--- ---- what is told
+-- ---- what is reported
 
 -- a refusal without where it lies in memory
-pub record Told : Type 0 where
+pub record Reported : Type 0 where
   pub file : List ℕ
   pub line : ℕ
   pub column : ℕ
   pub number : ℕ
 
-abbrev pub told : Refusal → Told
-told r = record { file = string_bytes r.file; line = r.pos.line; column = r.pos.col; number = r.number }
+abbrev pub reported : Refusal → Reported
+reported r = record { file = string_bytes r.file; line = r.pos.line; column = r.pos.col; number = r.number }
 
-abbrev pub told_at : (file : List ℕ) (line column number : ℕ) → Told
-told_at file line column number = record { file = file; line = line; column = column; number = number }
+abbrev pub reported_at : (file : List ℕ) (line column number : ℕ) → Reported
+reported_at file line column number = record { file = file; line = line; column = column; number = number }
 
 -- the refusals are these, in order of the names of their files, and as they are found where these are equal
-abbrev pub AreTold : List Told → List Refusal → Type 0
-AreTold all refusals = (found : List Refusal) × (map told found ≡ all) × AreInOrder found refusals
+abbrev pub AreReported : List Reported → List Refusal → Type 0
+AreReported all refusals = (found : List Refusal) × (map reported found ≡ all) × AreInOrder found refusals
 
 -- ---- texts
 
 -- the rule that a text breaks
-abbrev pub refused_in : (file : List ℕ) → Read → List Told
-refused_in file (read.Refused pos number) = told_at file pos.line pos.col number ∷ []
+abbrev pub refused_in : (file : List ℕ) → Read → List Reported
+refused_in file (read.Refused pos number) = reported_at file pos.line pos.col number ∷ []
 refused_in file (read.Parsed tree) = []
 
 -- what each element of one list and that in the same place of another give
@@ -67,7 +67,7 @@ each_two f [] ys = []
 each_two f (x ∷ xs) [] = []
 each_two f (x ∷ xs) (y ∷ ys) = f x y ++ each_two f xs ys
 
-abbrev pub refused_of : List SourceFile → List Read → List Told
+abbrev pub refused_of : List SourceFile → List Read → List Reported
 refused_of files reads = each_two (λ f r. refused_in (string_bytes f.name) r) files reads
 
 -- the tree of a text, with the file's name
@@ -91,15 +91,15 @@ modules trees = map (λ f. f.1) trees
 -- ---- jobs
 
 -- the rule that a module breaks
-abbrev pub refusal_in : (file : List ℕ) → Option Compiled → List Told
-refusal_in file (Some (jobs.Refused f)) = told_at file f.pos.line f.pos.col f.number ∷ []
+abbrev pub refusal_in : (file : List ℕ) → Option Compiled → List Reported
+refusal_in file (Some (jobs.Refused f)) = reported_at file f.pos.line f.pos.col f.number ∷ []
 refusal_in file (Some (jobs.Defined t)) = []
 refusal_in file (Some (jobs.Built b)) = []
 refusal_in file (Some jobs.Blocked) = []
 refusal_in file None = []
 
 -- the rules that the modules of these files break, of which the first has this place
-abbrev pub refused_from : (result : ℕ → Option Compiled) → ℕ → List (List ℕ × Module) → List Told
+abbrev pub refused_from : (result : ℕ → Option Compiled) → ℕ → List (List ℕ × Module) → List Reported
 refused_from result n [] = []
 refused_from result n (f ∷ fs) = refusal_in f.0 (result n) ++ refused_from result (n + 1) fs
 
@@ -108,7 +108,7 @@ abbrev pub result_at : List (List ℕ × Module) → (files : List ℕ) → (job
 result_at trees files all_jobs = result_of files (all_compiled (modules trees) files all_jobs)
 
 -- the rules that modules break, in the order in which the files were given
-abbrev pub refused_by : List (List ℕ × Module) → (files : List ℕ) → (jobs : List (List ℕ)) → List Told
+abbrev pub refused_by : List (List ℕ × Module) → (files : List ℕ) → (jobs : List (List ℕ)) → List Reported
 refused_by trees files all_jobs = refused_from (result_at trees files all_jobs) 0 trees
 
 -- the modules that start
@@ -119,7 +119,7 @@ started trees files all_jobs starts = modules_at (result_at trees files all_jobs
 
 -- a module's name, and its bytes
 abbrev pub built_of : TypedModule → List ℕ × List ℕ
-built_of m = (m.name, module_spelling (typed_module m))
+built_of m = (m.name, module_encoding (typed_module m))
 
 -- the same of what a job built
 abbrev pub named_bytes : ModuleBytes → List ℕ × List ℕ
@@ -129,27 +129,27 @@ named_bytes m = (m.name, m.bytes)
 abbrev pub named : String Global × Vec ℕ → List ℕ × List ℕ
 named m = (string_bytes m.0, m.1.items)
 
--- each of the bytes spells the module in its place
-abbrev pub AreSpelled : List (List ℕ) → List WModule → Type 0
-AreSpelled [] [] = Unit {0}
-AreSpelled (b ∷ bs) (m ∷ ms) = Spells b m × AreSpelled bs ms
-AreSpelled [] (m ∷ ms) = ⊥
-AreSpelled (b ∷ bs) [] = ⊥
+-- each of the bytes encodes the module in its place
+abbrev pub AreEncoded : List (List ℕ) → List WModule → Type 0
+AreEncoded [] [] = Unit {0}
+AreEncoded (b ∷ bs) (m ∷ ms) = Encodes b m × AreEncoded bs ms
+AreEncoded [] (m ∷ ms) = ⊥
+AreEncoded (b ∷ bs) [] = ⊥
 
 -- the bytes of link, and in start order the name and the bytes of each module that is reached
 pub record IsCode (p : Modules) (pages : ℕ) (link : List ℕ) (built : List (List ℕ × List ℕ)) : Type 0 where
-  pub link_spelled : Spells link (typed_link p pages)
+  pub link_encoded : Encodes link (typed_link p pages)
   pub body_bytes : built ≡ map built_of p
-  pub spelled : AreSpelled (map (λ m. m.1) built) (map typed_module p)
+  pub encoded : AreEncoded (map (λ m. m.1) built) (map typed_module p)
 
 -- ---- the answer
 
--- texts break rules of tokens or of the grammar, and are told
+-- texts break rules of tokens or of the grammar, and are reported
 pub record AreUnread (files : List SourceFile) (refusals : List Refusal) : Type 0 where
   pub reads : List Read
   pub are_read : AreRead files reads
   pub some : refused_of files reads ≢ []
-  pub told : AreTold (refused_of files reads) refusals
+  pub reported : AreReported (refused_of files reads) refusals
 
 -- each text has a tree, and imports break rules
 abbrev pub AreUngraphed : List SourceFile → Vec Refusal → Type 0
@@ -169,7 +169,7 @@ pub record AreUncompiled (files : List SourceFile) (refusals : List Refusal) : T
   pub starts : List ℕ
   pub graph : HaveGraph files trees numbers all_jobs starts
   pub some : refused_by trees numbers all_jobs ≢ []
-  pub told : AreTold (refused_by trees numbers all_jobs) refusals
+  pub reported : AreReported (refused_by trees numbers all_jobs) refusals
 
 -- the bytes of the variables and texts of a program, and of the least stack that it may have
 abbrev pub data_and_stack : Modules → ℕ
@@ -196,7 +196,7 @@ pub record IsTooLarge (files : List SourceFile) (pages : ℕ) (refusals : List R
   pub program : Modules
   pub typed : AreTyped (modules trees) numbers all_jobs starts program
   pub too_large : 65536 * pages < data_and_stack program
-  pub told : AreTold (told_at (program_file trees) 1 1 61 ∷ []) refusals
+  pub reported : AreReported (reported_at (program_file trees) 1 1 61 ∷ []) refusals
 
 -- No module breaks a rule. Those that are reached are compiled to valid modules, which link and do what the program does by
 -- the language's definition: they print the same bytes and end with the same number, and they go on where it goes on. Nothing
@@ -224,9 +224,9 @@ abbrev pub IsBuilt : List SourceFile → (pages : ℕ) → Outcome → Type 0
 IsBuilt files pages (outcome.Refused refusals) = AreUnread files refusals.items ⊎ (AreUngraphed files refusals ⊎ (AreUncompiled files refusals.items ⊎ IsTooLarge files pages refusals.items))
 IsBuilt files pages (outcome.Built link built) = IsProgram files pages link.items (map named built.items)
 
--- the same is told, or the same modules are built
+-- the same is reported, or the same modules are built
 abbrev pub AreAlike : Outcome → Outcome → Type 0
-AreAlike (outcome.Refused rs) (outcome.Refused qs) = map told rs.items ≡ map told qs.items
+AreAlike (outcome.Refused rs) (outcome.Refused qs) = map reported rs.items ≡ map reported qs.items
 AreAlike (outcome.Refused rs) (outcome.Built link built) = ⊥
 AreAlike (outcome.Built link built) (outcome.Refused qs) = ⊥
 AreAlike (outcome.Built link built) (outcome.Built other others) = (link.items ≡ other.items) × (map named built.items ≡ map named others.items)

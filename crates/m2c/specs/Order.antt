@@ -1,4 +1,4 @@
--- The order in which refusals are told: by the names of their files, byte by byte, and as they are found where these are equal.
+-- The order in which refusals are reported: by the names of their files, byte by byte, and as they are found where these are equal.
 use Rattle.std.specs.Prelude.{List, Bool}
 use Rattle.std.specs.List.Sorted.{IsPermutation, IsSortedBy, IsStableBy}
 use Rattle.std.specs.Ordering.{nat_cmp, is_lt}
@@ -10,7 +10,7 @@ use Rattle.m2_tree.specs.declared.refusal.Refusal.{Refusal}
 abbrev pub is_before : Refusal → Refusal → Bool
 is_before r s = is_lt (slice_cmp nat_cmp (string_bytes r.file) (string_bytes s.file))
 
-pub record AreInOrder (found told : List Refusal) : Type 0 where
-  pub same : IsPermutation found told
-  pub sorted : IsSortedBy is_before told
-  pub stable : IsStableBy is_before found told
+pub record AreInOrder (found reported : List Refusal) : Type 0 where
+  pub same : IsPermutation found reported
+  pub sorted : IsSortedBy is_before reported
+  pub stable : IsStableBy is_before found reported

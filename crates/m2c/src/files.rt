@@ -56,7 +56,7 @@ pub enum BuildFault {
 impl BuildFault {
     ghost use Rattle.m2c.specs.FaultNumber.{number_of};
 
-    /// The number by which the fault is told.
+    /// The number by which the fault is reported.
     pub fn number(self) -> u32
         ensures { result ≡ number_of self }
     {
@@ -78,7 +78,7 @@ impl From<AllocError> for BuildFault {
     }
 }
 
-/// Compiles files. What is refused is told in order of the files' names by their bytes, files of equal names as they
+/// Compiles files. What is refused is reported in order of the files' names by their bytes, files of equal names as they
 /// are given:
 ///
 /// - the rule of tokens (1 to 7) or of the grammar (10 to 13) that a text breaks first, with its place;
@@ -86,11 +86,11 @@ impl From<AllocError> for BuildFault {
 ///   `m2_graph::Graph::of`);
 /// - if there is none of these either, the least rule that each module breaks (24, 30 to 38, 40 to 53), or 60 where its
 ///   variables and strings, or a frame, are too large, but nothing for a module that needs another of which something is
-///   told;
+///   reported;
 /// - if there is none of these either, 61 at the begin of the program module's file where the variables and strings of
 ///   all modules that are reached, and 4096 bytes, need more than so many pages.
 ///
-/// A program of which nothing is told is compiled to the module link and, in start order, the modules that are reached
+/// A program of which nothing is reported is compiled to the module link and, in start order, the modules that are reached
 /// from the program module. They are valid, they link, and they do what the program does: they print the same bytes and
 /// end with the same number, and they go on where it goes on. Nothing that its run asks for is missing.
 ///

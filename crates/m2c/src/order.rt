@@ -1,4 +1,4 @@
-//! The order in which refusals are told.
+//! The order in which refusals are reported.
 
 ghost use Rattle.std.specs.Prelude.{◌≡◌, IfOk};
 ghost use Rattle.m2c.specs.Order.{AreInOrder};
@@ -8,9 +8,9 @@ use std::alloc::AllocError;
 
 /// Refusals in order of the names of their files by their bytes, and as they are found where these are equal.
 pub fn in_order(found: Vec<Refusal>) -> Result<Vec<Refusal>, AllocError>
-    ensures { IfOk result (λ told. AreInOrder found.items told.items) }
+    ensures { IfOk result (λ reported. AreInOrder found.items reported.items) }
 {
-    let mut told = found;
-    told.sort_by(|r, s| r.file.as_bytes().cmp(&s.file.as_bytes()))?;
-    Ok(told)
+    let mut reported = found;
+    reported.sort_by(|r, s| r.file.as_bytes().cmp(&s.file.as_bytes()))?;
+    Ok(reported)
 }

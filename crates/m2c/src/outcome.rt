@@ -9,9 +9,9 @@ ghost use Rattle.m2_graph.specs.Jobs.{ArePlaces};
 ghost use Rattle.m2_graph.specs.Refused.{max_files};
 ghost use Rattle.m2_jobs.specs.Jobs.{all_compiled};
 ghost use Rattle.m2_jobs.specs.Borrowed.{borrowed, modules_borrowed};
-ghost use Rattle.m2_jobs.specs.Spelled.{AreSpelled};
+ghost use Rattle.m2_jobs.specs.Encoded.{AreEncoded};
 ghost use Rattle.m2_read.specs.Reading.{AreRead};
-ghost use Rattle.m2c.specs.Build.{is_program_part, program_file, refused_by, started, told, told_at, AreTrees, HaveGraph, IsBuilt};
+ghost use Rattle.m2c.specs.Build.{is_program_part, program_file, refused_by, started, reported, reported_at, AreTrees, HaveGraph, IsBuilt};
 
 use crate::files::Outcome;
 use crate::modules::{copies_of, data_size};
@@ -64,7 +64,7 @@ fn program_file<'a>(trees: &[(&'a str, &'a Module)]) -> &'a str
 /// 61 at the begin of the file of the program module.
 fn too_large(alloc: Global, trees: &[(&str, &Module)]) -> Result<Vec<Refusal>, AllocError>
     ensures { IfOk result (λ rs.
-        map told rs.items ≡ told_at (program_file (borrowed trees.now)) 1 1 61 ∷ []) }
+        map reported rs.items ≡ reported_at (program_file (borrowed trees.now)) 1 1 61 ∷ []) }
 {
     let mut refusals = Vec::new(alloc);
     let file = program_file(trees);
@@ -96,7 +96,7 @@ fn built(
         (map (λ j. j.items) graph.now.jobs.items) graph.now.starts.items }
     requires none { refused_by (borrowed trees.now) graph.now.files.items
         (map (λ j. j.items) graph.now.jobs.items) ≡ [] }
-    requires spelled { AreSpelled (modules_borrowed trees.now) graph.now.files.items
+    requires encoded { AreEncoded (modules_borrowed trees.now) graph.now.files.items
         (map (λ j. j.items) graph.now.jobs.items) }
     requires modules { map (λ m. m.now) modules.now
         ≡ started (borrowed trees.now) graph.now.files.items
@@ -124,7 +124,7 @@ fn program(
         (map (λ j. j.items) graph.now.jobs.items) graph.now.starts.items }
     requires none { refused_by (borrowed trees.now) graph.now.files.items
         (map (λ j. j.items) graph.now.jobs.items) ≡ [] }
-    requires spelled { AreSpelled (modules_borrowed trees.now) graph.now.files.items
+    requires encoded { AreEncoded (modules_borrowed trees.now) graph.now.files.items
         (map (λ j. j.items) graph.now.jobs.items) }
     requires modules { map (λ m. m.now) modules.now
         ≡ started (borrowed trees.now) graph.now.files.items
@@ -163,7 +163,7 @@ fn of_results(
     requires most { pages ≤ max_pages }
     requires graph { HaveGraph files.now (borrowed trees.now) graph.now.files.items
         (map (λ j. j.items) graph.now.jobs.items) graph.now.starts.items }
-    requires spelled { AreSpelled (modules_borrowed trees.now) graph.now.files.items
+    requires encoded { AreEncoded (modules_borrowed trees.now) graph.now.files.items
         (map (λ j. j.items) graph.now.jobs.items) }
     requires results { results.now ≡ all_compiled (modules_borrowed trees.now) graph.now.files.items
         (map (λ j. j.items) graph.now.jobs.items) }

@@ -5,7 +5,7 @@ ghost use Rattle.std.specs.Option.{option_and_then, option_copied};
 ghost use Rattle.m2_graph.specs.Jobs.{place_of, ArePlaces};
 ghost use Rattle.m2_graph.specs.Parts.{or_first};
 ghost use Rattle.m2_jobs.specs.Borrowed.{borrowed};
-ghost use Rattle.m2c.specs.Build.{refusal_in, refused_from, told};
+ghost use Rattle.m2c.specs.Build.{refusal_in, refused_from, reported};
 ghost use Rattle.m2c.specs.Modules.{module_in, modules_at};
 
 use crate::refusals::refusal;
@@ -82,16 +82,16 @@ fn add_refusal(
     became: Option<&Compiled>,
 ) -> Result<(), AllocError>
     ensures { OnOk result
-        (map told refusals.new.items
-        ≡ map told refusals.old.items ++ refusal_in file.now (option_copied became.entry)) }
+        (map reported refusals.new.items
+        ≡ map reported refusals.old.items ++ refusal_in file.now (option_copied became.entry)) }
 {
     match became {
         None => Ok(()),
         Some(compiled) => match compiled {
             Compiled::Defined(_) | Compiled::Built(_) | Compiled::Blocked => Ok(()),
             Compiled::Refused(fault) => {
-                let told = refusal(alloc, file, fault.pos, fault.number)?;
-                refusals.push(told)?;
+                let reported = refusal(alloc, file, fault.pos, fault.number)?;
+                refusals.push(reported)?;
                 Ok(())
             }
         },
@@ -106,7 +106,7 @@ pub fn refused_by(
     results: &[Compiled],
 ) -> Result<Vec<Refusal>, AllocError>
     ensures { IfOk result (λ rs.
-        map told rs.items
+        map reported rs.items
         ≡ refused_from
         (λ file. option_and_then (slice_get results.now) (place_of places.now file)) 0
         (borrowed trees.now)) }

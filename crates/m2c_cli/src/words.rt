@@ -28,10 +28,10 @@ pub struct Asked {
 pub enum Words {
     Asked(Asked),
     /// Nothing is to be compiled: the status.
-    Told(u8),
+    Reported(u8),
 }
 
-/// The number of an option; one that it cannot take is told.
+/// The number of an option; one that it cannot take is reported.
 fn number_of(rt: &impl Eprint, matches: &ArgMatches, option: &str, most: u64) -> Option<u64>
     ensures { IfSome result (λ n. n ≤ most) }
 {
@@ -83,14 +83,14 @@ fn read_words<R: Print + Eprint + AllocGlobal>(rt: &R, words: &[String]) -> Resu
         Err(error) => {
             error.print(rt)?;
             let status = if error.use_stderr() { COMMAND_LINE } else { 0 };
-            return Ok(Words::Told(status));
+            return Ok(Words::Reported(status));
         }
     };
     let Some(workers) = number_of(rt, &matches, "workers", MAX_WORKERS as u64) else {
-        return Ok(Words::Told(COMMAND_LINE));
+        return Ok(Words::Reported(COMMAND_LINE));
     };
     let Some(pages) = number_of(rt, &matches, "memory", u64::from(MAX_PAGES)) else {
-        return Ok(Words::Told(COMMAND_LINE));
+        return Ok(Words::Reported(COMMAND_LINE));
     };
     let mut files = Vec::new(alloc);
     for file in matches.get_strs("FILE").unwrap_or(&[]) {
@@ -112,7 +112,7 @@ pub fn read_command_line<R: Env + Print + Eprint + AllocGlobal>(rt: &R) -> Resul
         CommandLine::Words(words) => read_words(rt, &words),
         CommandLine::NoText(at) => {
             let _ = eprintln!(rt; "m2c: word {at} of the command line is no UTF-8 text");
-            Ok(Words::Told(COMMAND_LINE))
+            Ok(Words::Reported(COMMAND_LINE))
         }
     }
 }

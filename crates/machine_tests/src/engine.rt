@@ -19,7 +19,7 @@ pub struct Screen {
 impl Sink for Screen {
     ghost failed = { λ s. s.failures };
 
-    ghost told = { λ s. Some s.bytes.items };
+    ghost reported = { λ s. Some s.bytes.items };
 
     fn take(&mut self, byte: u8) -> bool {
         if self.bytes.len() >= self.room || self.bytes.push(byte).is_err() {

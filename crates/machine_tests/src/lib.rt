@@ -5,9 +5,9 @@
 #[cfg(test)]
 mod binary;
 #[cfg(test)]
-mod engine;
+mod encoded;
 #[cfg(test)]
-mod spelled;
+mod engine;
 #[cfg(test)]
 mod steps;
 #[cfg(test)]

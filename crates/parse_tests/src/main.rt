@@ -1,24 +1,24 @@
-//! Parses the deepest texts of each kind of nesting, and tells how many levels of each are accepted. Where it is given
+//! Parses the deepest texts of each kind of nesting, and reports how many levels of each are accepted. Where it is given
 //! a number, it parses a text of so many statements.
 #![tactic(auto)]
 
 #[cfg(test)]
 mod in_out;
+mod reported;
 mod samples;
 #[cfg(test)]
 mod tests;
-mod told;
 
 use anyhow::{Context, Result, bail};
+use reported::{Reported, outcome};
 use samples::{Nested, text_of};
 use std::alloc::Global;
 use std::env::{self, Env};
-use told::{Told, outcome};
 
 /// Whether the text with this many levels has a tree.
 fn is_accepted(alloc: Global, nested: &Nested, times: u32) -> Result<bool> {
     let text = text_of(alloc, nested, times)?;
-    Ok(outcome(alloc, text.as_slice()) == Told::Tree)
+    Ok(outcome(alloc, text.as_slice()) == Reported::Tree)
 }
 
 /// The number that the first argument gives, if there is one.

@@ -1,11 +1,11 @@
 use crate::in_out;
+use crate::reported::{Reported, outcome};
 use crate::samples::{self, text_of};
-use crate::told::{Told, outcome};
 use std::test::Fail;
 
-/// What is told of a text that is refused.
-fn refused(line: u32, col: u32, number: u32) -> Told {
-    Told::Refused { line, col, number }
+/// What is reported of a text that is refused.
+fn refused(line: u32, col: u32, number: u32) -> Reported {
+    Reported::Refused { line, col, number }
 }
 
 #[test]
@@ -82,7 +82,7 @@ fn accepts(rt: HostRuntime) -> Result<(), Fail> {
         b"MODULE M; TYPE T = ARRAY [0..1], B OF RECORD ; a, b: C.D; END; U = PROCEDURE (VAR ARRAY OF A, B): C; V = PROCEDURE; W = (a, b); X = B[1..2]; CONST c = 'a'; d = 12C; END M.",
     ];
     for text in texts.iter() {
-        assert_eq!(rt; outcome(rt.alloc(), text), Told::Tree);
+        assert_eq!(rt; outcome(rt.alloc(), text), Reported::Tree);
     }
     Ok(())
 }
@@ -100,7 +100,7 @@ fn counts_nesting(rt: HostRuntime) -> Result<(), Fail> {
     ];
     for (nested, most, col) in rows.iter() {
         let deepest = text_of(rt.alloc(), nested, *most)?;
-        assert_eq!(rt; outcome(rt.alloc(), deepest.as_slice()), Told::Tree);
+        assert_eq!(rt; outcome(rt.alloc(), deepest.as_slice()), Reported::Tree);
         let over = text_of(rt.alloc(), nested, *most + 1)?;
         assert_eq!(rt; outcome(rt.alloc(), over.as_slice()), refused(1, *col, 12));
     }
@@ -109,7 +109,7 @@ fn counts_nesting(rt: HostRuntime) -> Result<(), Fail> {
 
 #[test]
 fn parses_the_library(rt: HostRuntime) -> Result<(), Fail> {
-    assert_eq!(rt; outcome(rt.alloc(), in_out::DEFINITION), Told::Tree);
-    assert_eq!(rt; outcome(rt.alloc(), in_out::IMPLEMENTATION), Told::Tree);
+    assert_eq!(rt; outcome(rt.alloc(), in_out::DEFINITION), Reported::Tree);
+    assert_eq!(rt; outcome(rt.alloc(), in_out::IMPLEMENTATION), Reported::Tree);
     Ok(())
 }

@@ -43,7 +43,7 @@ fn each_job_is_had_once_and_each_wait_ends_once(rt: HostRuntime) -> Result<(), F
 }
 
 #[test]
-fn a_graph_tells_its_jobs(rt: HostRuntime) -> Result<(), Fail> {
+fn a_graph_reports_its_jobs(rt: HostRuntime) -> Result<(), Fail> {
     let rows = diamond(rt.alloc())?;
     let graph = JobGraph::of(rt.alloc(), rows.as_slice())?.copy(rt.alloc())?;
     assert!(rt; graph.jobs() == 4);
@@ -86,7 +86,7 @@ fn a_board_has_1_to_64_seats(rt: HostRuntime) -> Result<(), Fail> {
 }
 
 #[test]
-fn refusals_are_told_in_words(rt: HostRuntime) -> Result<(), Fail> {
+fn refusals_are_reported_in_words(rt: HostRuntime) -> Result<(), Fail> {
     for (refusal, number, words) in [
         (PoolRefusal::Workers, 70, "there are not 1 to 64 workers"),
         (

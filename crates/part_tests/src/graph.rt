@@ -113,8 +113,8 @@ fn is_refusal(refusal: &Refusal, file: &str, col: u32, number: u32) -> bool {
     refusal.file.as_str() == file && refusal.pos == Pos { line: 1, col } && refusal.number == number
 }
 
-/// Whether this alone is told.
-fn tells(alloc: Global, rows: &[Row<'_>], file: &str, col: u32, number: u32) -> bool {
+/// Whether this alone is reported.
+fn reports(alloc: Global, rows: &[Row<'_>], file: &str, col: u32, number: u32) -> bool {
     match graph_of(alloc, rows) {
         Err(GraphError::Refused(refusals)) => match refusals.as_slice() {
             [only] => is_refusal(only, file, col, number),
@@ -139,9 +139,9 @@ fn bodies_start_after_their_imports(rt: HostRuntime) -> Result<(), Fail> {
     Ok(())
 }
 
-/// Two definitions that import each other are told once.
+/// Two definitions that import each other are reported once.
 #[test]
-fn a_cycle_is_told_once(rt: HostRuntime) -> Result<(), Fail> {
+fn a_cycle_is_reported_once(rt: HostRuntime) -> Result<(), Fail> {
     let rows = [
         make_row("p.mod", Part::Body, "P", ""),
         make_row("A.mod", Part::Implementation, "A", ""),
@@ -149,7 +149,7 @@ fn a_cycle_is_told_once(rt: HostRuntime) -> Result<(), Fail> {
         make_row("B.def", Part::Definition, "B", "A"),
         make_row("A.def", Part::Definition, "A", "B"),
     ];
-    assert!(rt; tells(rt.alloc(), rows.as_slice(), "A.def", 20, 22));
+    assert!(rt; reports(rt.alloc(), rows.as_slice(), "A.def", 20, 22));
     Ok(())
 }
 
@@ -160,7 +160,7 @@ fn a_definition_that_imports_itself_is_a_cycle(rt: HostRuntime) -> Result<(), Fa
         make_row("A.mod", Part::Implementation, "A", ""),
         make_row("A.def", Part::Definition, "A", "A"),
     ];
-    assert!(rt; tells(rt.alloc(), rows.as_slice(), "A.def", 20, 22));
+    assert!(rt; reports(rt.alloc(), rows.as_slice(), "A.def", 20, 22));
     Ok(())
 }
 
@@ -171,13 +171,13 @@ fn a_body_may_not_import_its_own_module(rt: HostRuntime) -> Result<(), Fail> {
         make_row("A.mod", Part::Implementation, "A", "A"),
         make_row("A.def", Part::Definition, "A", ""),
     ];
-    assert!(rt; tells(rt.alloc(), rows.as_slice(), "A.mod", 20, 20));
+    assert!(rt; reports(rt.alloc(), rows.as_slice(), "A.mod", 20, 20));
     Ok(())
 }
 
 #[test]
 fn no_files_have_no_program(rt: HostRuntime) -> Result<(), Fail> {
-    assert!(rt; tells(rt.alloc(), [].as_slice(), "", 1, 23));
+    assert!(rt; reports(rt.alloc(), [].as_slice(), "", 1, 23));
     Ok(())
 }
 
@@ -187,20 +187,20 @@ fn one_program_is_enough(rt: HostRuntime) -> Result<(), Fail> {
         make_row("q.mod", Part::Body, "Q", ""),
         make_row("p.mod", Part::Body, "P", ""),
     ];
-    assert!(rt; tells(rt.alloc(), rows.as_slice(), "q.mod", 8, 23));
+    assert!(rt; reports(rt.alloc(), rows.as_slice(), "q.mod", 8, 23));
     Ok(())
 }
 
 #[test]
 fn built_in_names_are_taken(rt: HostRuntime) -> Result<(), Fail> {
     let console = [make_row("p.mod", Part::Body, "Console", "")];
-    assert!(rt; tells(rt.alloc(), console.as_slice(), "p.mod", 8, 21));
+    assert!(rt; reports(rt.alloc(), console.as_slice(), "p.mod", 8, 21));
     let link = [make_row("p.mod", Part::Body, "link", "Console")];
-    assert!(rt; tells(rt.alloc(), link.as_slice(), "p.mod", 8, 21));
+    assert!(rt; reports(rt.alloc(), link.as_slice(), "p.mod", 8, 21));
     Ok(())
 }
 
-/// Whether the last of so many files is told to be one too many.
+/// Whether the last of so many files is reported as one too many.
 fn is_one_too_many(alloc: Global, count: usize) -> Result<bool, AllocError> {
     let tree = tree_of(alloc, make_row("p.mod", Part::Body, "P", ""))?;
     let mut files = Vec::new(alloc);

@@ -14,12 +14,12 @@ use Rattle.plain_values.specs.declared.program.Around.{Around}
 use Rattle.plain_run.specs.declared.whole.Report.{Report}
 
 -- a fault or the end, or the bound, with what has been printed
-abbrev pub told_end : Stop → List ℕ → Course
-told_end (stop.Ended k) out = Stopped k out
-told_end stop.Running out = Unfinished out
+abbrev pub answered_end : Stop → List ℕ → Course
+answered_end (stop.Ended k) out = Stopped k out
+answered_end stop.Running out = Unfinished out
 
 abbrev pub reported : Report → Course
-reported x = told_end x.end x.out
+reported x = answered_end x.end x.out
 
 -- what stands around the body of a module
 pub record IsBodyAround (program : Program) (home : Prepared) (place left : ℕ) (a : Around) : Type 0 where

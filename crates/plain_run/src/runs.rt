@@ -3,9 +3,9 @@
 ghost use Rattle.std.specs.Prelude.{◌≡◌, suc, map, IfOk, MatchOption};
 ghost use Rattle.std.specs.Option.{option_map};
 ghost use Rattle.m2_meaning.specs.Calls.{runs, calling};
-ghost use Rattle.plain_store.specs.Seen.{seen, told, ended};
+ghost use Rattle.plain_store.specs.Seen.{seen, answered, ended};
 ghost use Rattle.plain_values.specs.Surroundings.{modules_of, callee_of, sent, value_in, located_in, called_in, linked_in, links_in, reached_in, components_in, given_in, all_given_in, does_in, steps_in};
-ghost use Rattle.plain_steps.specs.Parts.{told_sent, told_all, pair_in, in_in, target_in, ends_in, asked_in, while_in, repeat_in, loop_in, for_in, turns_in};
+ghost use Rattle.plain_steps.specs.Parts.{answered_sent, answered_all, pair_in, in_in, target_in, ends_in, asked_in, while_in, repeat_in, loop_in, for_in, turns_in};
 
 use m2_tree::Items;
 use m2_typed::{Argument, Call, Component, Link, Place, TypeNo, TypedExpr, TypedStmt};
@@ -38,7 +38,7 @@ pub fn value<'a>(
     e: &TypedExpr,
     st: &mut State,
 ) -> Result<Answer<i64>, RunFault>
-    ensures { IfOk result (λ j. told j st.new ≡ value_in around.now e.now (seen st.old)) }
+    ensures { IfOk result (λ j. answered j st.new ≡ value_in around.now e.now (seen st.old)) }
 {
     let room = deeper(room)?;
     match e {
@@ -80,7 +80,7 @@ fn operands<'a>(
     b: &TypedExpr,
     st: &mut State,
 ) -> Result<Answer<Operands>, RunFault>
-    ensures { IfOk result (λ j. told j st.new ≡ pair_in around.now a.now b.now (seen st.old)) }
+    ensures { IfOk result (λ j. answered j st.new ≡ pair_in around.now a.now b.now (seen st.old)) }
 {
     let room = deeper(room)?;
     match value(around, room, a, st)? {
@@ -102,7 +102,7 @@ fn in_value<'a>(
     b: &TypedExpr,
     st: &mut State,
 ) -> Result<Answer<i64>, RunFault>
-    ensures { IfOk result (λ j. told j st.new ≡ in_in around.now a.now b.now (seen st.old)) }
+    ensures { IfOk result (λ j. answered j st.new ≡ in_in around.now a.now b.now (seen st.old)) }
 {
     let room = deeper(room)?;
     match value(around, room, a, st)? {
@@ -124,7 +124,7 @@ fn links_value<'a>(
     first: i64,
     st: &mut State,
 ) -> Result<Answer<i64>, RunFault>
-    ensures { IfOk result (λ j. told j st.new ≡ links_in around.now links.now first (seen st.old)) }
+    ensures { IfOk result (λ j. answered j st.new ≡ links_in around.now links.now first (seen st.old)) }
 {
     let room = deeper(room)?;
     let mut x = first;
@@ -147,7 +147,7 @@ fn link_value<'a>(
     x: i64,
     st: &mut State,
 ) -> Result<Answer<i64>, RunFault>
-    ensures { IfOk result (λ j. told j st.new ≡ linked_in around.now link.now x (seen st.old)) }
+    ensures { IfOk result (λ j. answered j st.new ≡ linked_in around.now link.now x (seen st.old)) }
 {
     let room = deeper(room)?;
     match link {
@@ -181,7 +181,7 @@ pub fn located<'a>(
     d: &Place,
     st: &mut State,
 ) -> Result<Answer<Items<usize>>, RunFault>
-    ensures { IfOk result (λ j. told j st.new ≡ located_in around.now d.now (seen st.old)) }
+    ensures { IfOk result (λ j. answered j st.new ≡ located_in around.now d.now (seen st.old)) }
 {
     let room = deeper(room)?;
     let l = root_location(around, d.root)?;
@@ -199,7 +199,7 @@ fn reached_all<'a>(
     st: &mut State,
 ) -> Result<Answer<Items<usize>>, RunFault>
     ensures { let cs = components.now in
-        IfOk result (λ j. told j st.new ≡ components_in around.now cs first (seen st.old)) }
+        IfOk result (λ j. answered j st.new ≡ components_in around.now cs first (seen st.old)) }
 {
     let room = deeper(room)?;
     let mut l = first;
@@ -222,7 +222,7 @@ fn reached<'a>(
     l: Items<usize>,
     st: &mut State,
 ) -> Result<Answer<Items<usize>>, RunFault>
-    ensures { IfOk result (λ j. told j st.new ≡ reached_in around.now of.now l (seen st.old)) }
+    ensures { IfOk result (λ j. answered j st.new ≡ reached_in around.now of.now l (seen st.old)) }
 {
     let room = deeper(room)?;
     match of {
@@ -243,7 +243,7 @@ pub fn called<'a>(
     call: &Call,
     st: &mut State,
 ) -> Result<Answer<i64>, RunFault>
-    ensures { IfOk result (λ j. told j st.new ≡ called_in around.now call.now (seen st.old)) }
+    ensures { IfOk result (λ j. answered j st.new ≡ called_in around.now call.now (seen st.old)) }
 {
     let room = deeper(room)?;
     match call {
@@ -285,7 +285,7 @@ fn asked<'a>(
     st: &mut State,
 ) -> Result<Answer<i64>, RunFault>
     ensures { let c = option_map callee_of callee.entry in
-        IfOk result (λ j. told j st.new ≡ asked_in around.now c arguments.now (seen st.old)) }
+        IfOk result (λ j. answered j st.new ≡ asked_in around.now c arguments.now (seen st.old)) }
 {
     let room = deeper(room)?;
     match given_all(around, room, arguments, st)? {
@@ -318,7 +318,7 @@ fn given_all<'a>(
     st: &mut State,
 ) -> Result<Answer<Items<Passed>>, RunFault>
     ensures { let xs = arguments.now in
-        IfOk result (λ j. told_all j st.new ≡ all_given_in around.now xs (seen st.old)) }
+        IfOk result (λ j. answered_all j st.new ≡ all_given_in around.now xs (seen st.old)) }
 {
     let room = deeper(room)?;
     match arguments {
@@ -342,7 +342,7 @@ fn given<'a>(
     x: &Argument,
     st: &mut State,
 ) -> Result<Answer<Passed>, RunFault>
-    ensures { IfOk result (λ j. told_sent j st.new ≡ given_in around.now x.now (seen st.old)) }
+    ensures { IfOk result (λ j. answered_sent j st.new ≡ given_in around.now x.now (seen st.old)) }
 {
     let room = deeper(room)?;
     match x {
@@ -369,7 +369,7 @@ fn body_run<'a>(
     ensures { let p = modules_of program.now in let n = program.now.bound in
         let vs = map sent request.entry.passed in
         let c = callee_of request.entry.callee in
-        IfOk result (λ j. told j st.new
+        IfOk result (λ j. answered j st.new
         ≡ runs p n (calling p n depth) c vs request.entry.next request.entry.left (seen st.old)) }
 {
     let room = deeper(room)?;
@@ -505,7 +505,7 @@ fn target<'a>(
     e: &TypedExpr,
     st: &mut State,
 ) -> Result<Answer<Target>, RunFault>
-    ensures { IfOk result (λ j. told j st.new ≡ target_in around.now d.now e.now (seen st.old)) }
+    ensures { IfOk result (λ j. answered j st.new ≡ target_in around.now d.now e.now (seen st.old)) }
 {
     let room = deeper(room)?;
     match located(around, room, d, st)? {
@@ -527,7 +527,7 @@ fn ends<'a>(
     from: &Place,
     st: &mut State,
 ) -> Result<Answer<Ends>, RunFault>
-    ensures { IfOk result (λ j. told j st.new ≡ ends_in around.now to.now from.now (seen st.old)) }
+    ensures { IfOk result (λ j. answered j st.new ≡ ends_in around.now to.now from.now (seen st.old)) }
 {
     let room = deeper(room)?;
     match located(around, room, to, st)? {
@@ -642,7 +642,7 @@ fn turns<'a>(
     st: &mut State,
 ) -> Result<Answer<Turns>, RunFault>
     ensures { let a = around.now in
-        IfOk result (λ j. told j st.new ≡ turns_in a d.now t start.now limit.now (seen st.old)) }
+        IfOk result (λ j. answered j st.new ≡ turns_in a d.now t start.now limit.now (seen st.old)) }
 {
     let room = deeper(room)?;
     match located(around, room, d, st)? {

@@ -1,7 +1,7 @@
 //! The plain interpreter as a program: `plain_run [--memory PAGES] [--bound N] FILE...`.
 //!
 //! It runs a program by the definition of what programs do, and prints its bytes. The status is 0 where the program ended by
-//! itself or by HALT, 1 where it ended otherwise (told on standard error) or was refused (a refusal a line on standard
+//! itself or by HALT, 1 where it ended otherwise (reported on standard error) or was refused (a refusal a line on standard
 //! output), 2 for the command line, 3 where a file, memory or standard output failed, and 4 where it still runs at the bound.
 #![tactic(auto)]
 
@@ -81,8 +81,8 @@ fn end_word(number: u32) -> &'static str {
     }
 }
 
-/// Prints what a run printed, tells of a fault, and answers the status.
-fn tell<R: Print + Eprint>(rt: &R, report: &Report) -> Result<u8> {
+/// Prints what a run printed, reports a fault, and answers the status.
+fn write_report<R: Print + Eprint>(rt: &R, report: &Report) -> Result<u8> {
     rt.write_all(report.out.as_slice())
         .context("cannot write to standard output")?;
     match report.end {
@@ -106,11 +106,11 @@ fn run_files<R: Print + Eprint + AllocGlobal>(
     let program = typed_program(alloc, files)?;
     let pages = asked.pages as usize;
     let report = run_program(alloc, &program, pages, asked.bound, MAX_NESTING)?;
-    tell(rt, &report)
+    write_report(rt, &report)
 }
 
-/// Tells what m2c tells of files that break a rule, and runs all others.
-fn judge<R: Files + Print + Eprint + AllocGlobal + Threads + Sync>(
+/// Reports what m2c reports of files that break a rule, and runs all others.
+fn elaborate<R: Files + Print + Eprint + AllocGlobal + Threads + Sync>(
     rt: &R,
     asked: &Asked,
 ) -> Result<u8> {
@@ -131,8 +131,8 @@ fn judge<R: Files + Print + Eprint + AllocGlobal + Threads + Sync>(
 /// Does what the words ask for, and answers the status.
 fn run<R: Files + Env + Print + Eprint + AllocGlobal + Threads + Sync>(rt: &R) -> Result<u8> {
     match read_command_line(rt)? {
-        Words::Told(status) => Ok(status),
-        Words::Asked(asked) => judge(rt, &asked),
+        Words::Reported(status) => Ok(status),
+        Words::Asked(asked) => elaborate(rt, &asked),
     }
 }
 

@@ -88,13 +88,13 @@ fn typed_body(
     tree: &Module,
     tables: &[Shared<Table>],
 ) -> Result<TypedModule> {
-    let judged = match tables {
+    let elaborated = match tables {
         [first, rest @ ..] if is_own(tree, first.get()) => {
             check(alloc, number, tree, Some(first.get()), behind(alloc, rest)?)?
         }
         all => check(alloc, number, tree, None, behind(alloc, all)?)?,
     };
-    match judged {
+    match elaborated {
         Ok(typed) => Ok(typed),
         Err(_) => bail!("a body is refused"),
     }

@@ -13,7 +13,7 @@ use std::rt::Env;
 /// The status of a command line that asks for nothing that can be done.
 const COMMAND_LINE: u8 = 2;
 
-/// What --version tells.
+/// What --version prints.
 const VERSION: &str = "0.1.0";
 
 /// The greatest bound on turns and calls.
@@ -35,10 +35,10 @@ pub struct Asked {
 pub enum Words {
     Asked(Asked),
     /// Nothing is to be run: the status.
-    Told(u8),
+    Reported(u8),
 }
 
-/// The number of an option; one that it cannot take is told.
+/// The number of an option; one that it cannot take is reported.
 fn number_of(rt: &impl Eprint, matches: &ArgMatches, option: &str, most: u64) -> Option<u64>
     ensures { IfSome result (λ n. n ≤ most) }
 {
@@ -87,14 +87,14 @@ fn read_words<R: Print + Eprint + AllocGlobal>(rt: &R, words: &[String]) -> Resu
         Err(error) => {
             error.print(rt)?;
             let status = if error.use_stderr() { COMMAND_LINE } else { 0 };
-            return Ok(Words::Told(status));
+            return Ok(Words::Reported(status));
         }
     };
     let Some(pages) = number_of(rt, &matches, "memory", u64::from(MAX_PAGES)) else {
-        return Ok(Words::Told(COMMAND_LINE));
+        return Ok(Words::Reported(COMMAND_LINE));
     };
     let Some(bound) = number_of(rt, &matches, "bound", MAX_BOUND) else {
-        return Ok(Words::Told(COMMAND_LINE));
+        return Ok(Words::Reported(COMMAND_LINE));
     };
     let mut files = Vec::new(alloc);
     for file in matches.get_strs("FILE").unwrap_or(&[]) {
@@ -113,7 +113,7 @@ pub fn read_command_line<R: Env + Print + Eprint + AllocGlobal>(rt: &R) -> Resul
         CommandLine::Words(words) => read_words(rt, &words),
         CommandLine::NoText(at) => {
             let _ = eprintln!(rt; "plain_run: word {at} of the command line is no UTF-8 text");
-            Ok(Words::Told(COMMAND_LINE))
+            Ok(Words::Reported(COMMAND_LINE))
         }
     }
 }

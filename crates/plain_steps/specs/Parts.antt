@@ -33,13 +33,13 @@ use Rattle.plain_values.specs.Surroundings.{modules_of, asks_of, surroundings, s
 
 -- ---- arguments
 
-abbrev pub told_sent : Answer Passed → State → Given Sent
-told_sent (answer.Gave v) st = Gave (sent v) (seen st)
-told_sent (answer.Stopped s) st = stopped s st
+abbrev pub answered_sent : Answer Passed → State → Given Sent
+answered_sent (answer.Gave v) st = Gave (sent v) (seen st)
+answered_sent (answer.Stopped s) st = stopped s st
 
-abbrev pub told_all : Answer (List Passed) → State → Given (List Sent)
-told_all (answer.Gave vs) st = Gave (map sent vs) (seen st)
-told_all (answer.Stopped s) st = stopped s st
+abbrev pub answered_all : Answer (List Passed) → State → Given (List Sent)
+answered_all (answer.Gave vs) st = Gave (map sent vs) (seen st)
+answered_all (answer.Stopped s) st = stopped s st
 
 -- ---- two parts, one after the other
 

@@ -6,7 +6,7 @@ ghost use Rattle.m2_layout.specs.Texts.{passed};
 ghost use Rattle.m2_meaning.specs.Around.{Elements, Number, Variable, Array, Text};
 ghost use Rattle.m2_meaning.specs.Calls.{variable_at, with_passed, with_all, variables_from, entered, is_function, copies_size, copy_size, needed};
 ghost use Rattle.m2_meaning.specs.Calls.{result as end_of};
-ghost use Rattle.plain_store.specs.Seen.{seen, told, ended};
+ghost use Rattle.plain_store.specs.Seen.{seen, answered, ended};
 ghost use Rattle.plain_values.specs.Surroundings.{name_of, sent};
 ghost use Rattle.plain_steps.specs.Entering.{begun_of, names_of, IsBodyOf};
 ghost use Rattle.plain_steps.specs.Asked.{need_of, IsTooSmall, HasRoom};
@@ -266,7 +266,7 @@ fn is_function(types: &Types, routine: &Routine) -> bool
 /// What a body that ends so gives.
 #[tactic(auto, using(crate::proofs::Begins::results))]
 fn result_of(function: bool, o: Outcome) -> Answer<i64>
-    ensures { (st : State) → told result st ≡ end_of function (ended o st) }
+    ensures { (st : State) → answered result st ≡ end_of function (ended o st) }
 {
     match o {
         Outcome::Went => {
@@ -291,7 +291,7 @@ fn result_of(function: bool, o: Outcome) -> Answer<i64>
 /// What the body of a procedure gives.
 pub fn result(home: &Prepared<'_>, routine: &Routine, o: Outcome, st: &State) -> Answer<i64>
     ensures { let function = is_function home.now.body.now.types routine.now in
-        told result st.now ≡ end_of function (ended o st.now) }
+        answered result st.now ≡ end_of function (ended o st.now) }
 {
     result_of(is_function(&home.body.types, routine), o)
 }

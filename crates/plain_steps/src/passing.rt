@@ -4,9 +4,9 @@ ghost use Rattle.std.specs.Prelude.{◌≡◌, ◌∷◌, map, IfOk};
 ghost use Rattle.m2_meaning.specs.Answer.{Gave, then_give};
 ghost use Rattle.m2_meaning.specs.Around.{Number, Variable, Array, Text, location_of, high_of, named};
 ghost use Rattle.m2_meaning.specs.Expressions.{as_type, high_index};
-ghost use Rattle.plain_store.specs.Seen.{seen, told};
+ghost use Rattle.plain_store.specs.Seen.{seen, answered};
 ghost use Rattle.plain_values.specs.Surroundings.{surroundings, sent};
-ghost use Rattle.plain_steps.specs.Parts.{told_sent};
+ghost use Rattle.plain_steps.specs.Parts.{answered_sent};
 
 use m2_tree::Items;
 use m2_typed::{Slot, TypeNo};
@@ -19,7 +19,7 @@ use std::alloc::{AllocError, Global};
 /// The number at the location that is given.
 #[tactic(auto, using(plain_store::proofs::Threads::threads))]
 pub fn loaded(given: Answer<Items<usize>>, st: &State) -> Answer<i64>
-    ensures { told result st.now ≡ then_give (told given st.now) (λ l st. Gave (st.store l) st) }
+    ensures { answered result st.now ≡ then_give (answered given st.now) (λ l st. Gave (st.store l) st) }
 {
     match given {
         Answer::Gave(l) => Answer::Gave(load(l.as_slice(), st)),
@@ -36,7 +36,7 @@ pub fn number_passed(
     st: &State,
 ) -> Answer<Passed>
     ensures { let types = (surroundings around.now).types in
-        told_sent result st.now ≡ then_give (told given st.now)
+        answered_sent result st.now ≡ then_give (answered given st.now)
         (λ v st. then_give (as_type types t v st) (λ v st. Gave (Number v) st)) }
 {
     match given {
@@ -51,8 +51,8 @@ pub fn number_passed(
 /// A variable for a VAR formal, or what is copied for a value formal.
 #[tactic(auto, using(plain_store::proofs::Threads::threads))]
 pub fn variable_passed(given: Answer<Items<usize>>, st: &State) -> Answer<Passed>
-    ensures { told_sent result st.now
-        ≡ then_give (told given st.now) (λ l st. Gave (Variable l) st) }
+    ensures { answered_sent result st.now
+        ≡ then_give (answered given st.now) (λ l st. Gave (Variable l) st) }
 {
     match given {
         Answer::Gave(l) => Answer::Gave(Passed::Variable(l)),
@@ -69,8 +69,8 @@ pub fn array_passed(
     st: &State,
 ) -> Result<Answer<Passed>, RunFault>
     ensures { let high = high_index (surroundings around.now).types t in
-        IfOk result (λ j. told_sent j st.now
-        ≡ then_give (told given st.now) (λ l st. Gave (Array l high) st)) }
+        IfOk result (λ j. answered_sent j st.now
+        ≡ then_give (answered given st.now) (λ l st. Gave (Array l high) st)) }
 {
     match given {
         Answer::Gave(l) => Ok(Answer::Gave(Passed::Array(l, high_index(around, t)?))),

@@ -10,7 +10,7 @@ ghost use Rattle.m2_meaning.specs.Store.{copied};
 ghost use Rattle.m2_meaning.specs.Answer.{Went, Came, Gave, then_give, with_answer, range_fault};
 ghost use Rattle.m2_meaning.specs.Expressions.{as_type, within};
 ghost use Rattle.m2_meaning.specs.Statements.{stored, changed, rechecked, base_of, with_element, has_passed, is_labelled};
-ghost use Rattle.plain_store.specs.Seen.{seen, told, ended, with_store, with_byte};
+ghost use Rattle.plain_store.specs.Seen.{seen, answered, ended, with_store, with_byte};
 ghost use Rattle.plain_values.specs.Surroundings.{surroundings};
 ghost use Rattle.plain_steps.specs.Parts.{first_arm, text_put, stepped};
 
@@ -53,7 +53,7 @@ pub fn assign(
     st: &mut State,
 ) -> Result<Outcome, RunFault>
     ensures { let types = (surroundings around.now).types in
-        IfOk result (λ o. ended o st.new ≡ with_answer (told given st.old)
+        IfOk result (λ o. ended o st.new ≡ with_answer (answered given st.old)
         (λ x st. with_answer (as_type types t x.v st) (λ v st. Went (stored x.l v st)))) }
 {
     match given {
@@ -71,7 +71,7 @@ pub fn assign(
 /// Copies an array or a record.
 #[tactic(auto, using(plain_store::proofs::Threads::threads))]
 pub fn copy(around: &Around<'_>, given: Answer<Ends>, st: &mut State) -> Result<Outcome, RunFault>
-    ensures { IfOk result (λ o. ended o st.new ≡ with_answer (told given st.old)
+    ensures { IfOk result (λ o. ended o st.new ≡ with_answer (answered given st.old)
         (λ x st. Went (with_store (copied x.to x.from st.store) st))) }
 {
     match given {
@@ -91,7 +91,7 @@ pub fn copy_text(
     text: &[u8],
     st: &mut State,
 ) -> Result<Outcome, RunFault>
-    ensures { IfOk result (λ o. ended o st.new ≡ with_answer (told given st.old)
+    ensures { IfOk result (λ o. ended o st.new ≡ with_answer (answered given st.old)
         (text_put text.now)) }
 {
     match given {
@@ -106,7 +106,7 @@ pub fn copy_text(
 /// The end of a call as a statement.
 #[tactic(auto, using(plain_store::proofs::Threads::threads))]
 pub fn gone(given: Answer<i64>, st: &State) -> Outcome
-    ensures { ended result st.now ≡ with_answer (told given st.now) (λ v st. Went st) }
+    ensures { ended result st.now ≡ with_answer (answered given st.now) (λ v st. Went st) }
 {
     match given {
         Answer::Gave(_) => Outcome::Went,
@@ -118,7 +118,7 @@ pub fn gone(given: Answer<i64>, st: &State) -> Outcome
 #[tactic(auto, using(plain_store::proofs::Threads::threads))]
 pub fn put(around: &Around<'_>, given: Answer<i64>, st: &mut State) -> Result<Outcome, RunFault>
     ensures { let types = (surroundings around.now).types in
-        IfOk result (λ o. ended o st.new ≡ with_answer (told given st.old)
+        IfOk result (λ o. ended o st.new ≡ with_answer (answered given st.old)
         (λ v st. with_answer (as_type types char v st) (λ v st. Went (with_byte v st)))) }
 {
     match given {
@@ -154,7 +154,7 @@ fn base_of(t: TypeNo, scalar: Option<Scalar>) -> TypeNo
 /// A result as one of the base type, and then as one of the variable's.
 #[tactic(auto, using(plain_store::proofs::Threads::threads), unfolding(plain_values::specs::Surroundings::surroundings))]
 fn rechecked(around: &Around<'_>, t: TypeNo, v: i64, st: &State) -> Answer<i64>
-    ensures { told result st.now ≡ rechecked (surroundings around.now).types t v (seen st.now) }
+    ensures { answered result st.now ≡ rechecked (surroundings around.now).types t v (seen st.now) }
 {
     let base = base_of(t, scalar_of(&around.home.body.types, t));
     match in_base(around, base, v, st) {
@@ -173,7 +173,7 @@ pub fn change(
     st: &mut State,
 ) -> Result<Outcome, RunFault>
     ensures { let types = (surroundings around.now).types in
-        IfOk result (λ o. ended o st.new ≡ with_answer (told given st.old)
+        IfOk result (λ o. ended o st.new ≡ with_answer (answered given st.old)
         (λ x st. with_answer (rechecked types t (changed how (st.store x.l) x.v) st)
         (λ v st. Went (stored x.l v st)))) }
 {
@@ -200,7 +200,7 @@ pub fn membership(
     given: Answer<Target>,
     st: &mut State,
 ) -> Result<Outcome, RunFault>
-    ensures { IfOk result (λ o. ended o st.new ≡ with_answer (told given st.old)
+    ensures { IfOk result (λ o. ended o st.new ≡ with_answer (answered given st.old)
         (λ x st. with_answer (within (pos 0) (pos 31) range_fault x.v st)
         (λ v st. Went (stored x.l (with_element how (st.store x.l) v) st)))) }
 {
@@ -221,7 +221,7 @@ pub fn membership(
 #[tactic(auto, using(plain_store::proofs::Threads::threads))]
 pub fn give(around: &Around<'_>, t: TypeNo, given: Answer<i64>, st: &State) -> Outcome
     ensures { let types = (surroundings around.now).types in
-        ended result st.now ≡ with_answer (told given st.now)
+        ended result st.now ≡ with_answer (answered given st.now)
         (λ v st. with_answer (as_type types t v st) (λ v st. Came v st)) }
 {
     match given {
@@ -304,7 +304,7 @@ fn kept(
     st: &mut State,
 ) -> Result<Answer<bool>, RunFault>
     ensures { let types = (surroundings around.now).types in
-        IfOk result (λ j. told j st.new ≡ then_give (as_type types t next.now (seen st.old))
+        IfOk result (λ j. answered j st.new ≡ then_give (as_type types t next.now (seen st.old))
         (λ v st. Gave false (stored of.now.l v st))) }
 {
     match as_type(around, t, *next, st) {
@@ -333,7 +333,7 @@ pub fn next_turn(
     st: &mut State,
 ) -> Result<Answer<bool>, RunFault>
     ensures { let types = (surroundings around.now).types in
-        IfOk result (λ j. told j st.new
+        IfOk result (λ j. answered j st.new
         ≡ stepped types t of.now.l by.now of.now.last (seen st.old)) }
 {
     let next = stepped_on(of, by, st)?;

@@ -134,41 +134,41 @@ array_says n b t h = array_shown n b ∙ ap (λ (x : Says). array_of n x) h ∙ 
 
 -- ---- the types that stand before
 
-abbrev Told : Type 0
-Told = ℕ × List Says
+abbrev Answered : Type 0
+Answered = ℕ × List Says
 
-abbrev shown_kept : Kept → Told
+abbrev shown_kept : Kept → Answered
 shown_kept k = (k.home, map shown k.blanks)
 
-abbrev meant_module : ℕ × List Ty → Told
+abbrev meant_module : ℕ × List Ty → Answered
 meant_module e = (e.0, map meant e.1)
 
 abbrev Beside : List Kept → Trees → Type 0
 Beside known before = map shown_kept known ≡ map meant_module before
 
-abbrev told_of : ℕ → List Told → Option (List Says)
-told_of home [] = None
-told_of home (x ∷ xs) = cond (nat_eq home x.0) (Some x.1) (told_of home xs)
+abbrev answered_of : ℕ → List Answered → Option (List Says)
+answered_of home [] = None
+answered_of home (x ∷ xs) = cond (nat_eq home x.0) (Some x.1) (answered_of home xs)
 
 cond_map : {A B : Type 0} (f : A → B) (b : Bool) (x : A) (o : Option A) → option_map f (cond b (Some x) o) ≡ cond b (Some (f x)) (option_map f o)
 cond_map f true x o = refl
 cond_map f false x o = refl
 
-kept_told : (home : ℕ) (ks : List Kept) → option_map (map shown) (kept_of home ks) ≡ told_of home (map shown_kept ks)
-kept_told home [] = refl
-kept_told home (k ∷ ks) = cond_map (map shown) (nat_eq home k.home) k.blanks (kept_of home ks) ∙ ap (λ (o : Option (List Says)). cond (nat_eq home k.home) (Some (map shown k.blanks)) o) (kept_told home ks)
+kept_answered : (home : ℕ) (ks : List Kept) → option_map (map shown) (kept_of home ks) ≡ answered_of home (map shown_kept ks)
+kept_answered home [] = refl
+kept_answered home (k ∷ ks) = cond_map (map shown) (nat_eq home k.home) k.blanks (kept_of home ks) ∙ ap (λ (o : Option (List Says)). cond (nat_eq home k.home) (Some (map shown k.blanks)) o) (kept_answered home ks)
 
-trees_told : (home : ℕ) (es : Trees) → option_map (map meant) (lookup (nat_eq home) es) ≡ told_of home (map meant_module es)
-trees_told home [] = refl
-trees_told home (e ∷ es) = cond_map (map meant) (nat_eq home e.0) e.1 (lookup (nat_eq home) es) ∙ ap (λ (o : Option (List Says)). cond (nat_eq home e.0) (Some (map meant e.1)) o) (trees_told home es)
+trees_answered : (home : ℕ) (es : Trees) → option_map (map meant) (lookup (nat_eq home) es) ≡ answered_of home (map meant_module es)
+trees_answered home [] = refl
+trees_answered home (e ∷ es) = cond_map (map meant) (nat_eq home e.0) e.1 (lookup (nat_eq home) es) ∙ ap (λ (o : Option (List Says)). cond (nat_eq home e.0) (Some (map meant e.1)) o) (trees_answered home es)
 
 abbrev or_row : Option Says → Says
 or_row None = row_of []
 or_row (Some x) = x
 
-abbrev in_told : Option (List Says) → ℕ → Says
-in_told None n = row_of []
-in_told (Some xs) n = or_row (slice_get xs n)
+abbrev in_answered : Option (List Says) → ℕ → Says
+in_answered None n = row_of []
+in_answered (Some xs) n = or_row (slice_get xs n)
 
 some_shown : (bs : List Blank) (n : ℕ) → shown (or_none (slice_get bs n)) ≡ or_row (slice_get (map shown bs) n)
 some_shown [] n = row_shown []
@@ -180,11 +180,11 @@ some_meant [] n = sym (row_meant [])
 some_meant (t ∷ ts) zero = refl
 some_meant (t ∷ ts) (suc n) = some_meant ts n
 
-found_shown : (o : Option (List Blank)) (n : ℕ) → shown (or_none (among o n)) ≡ in_told (option_map (map shown) o) n
+found_shown : (o : Option (List Blank)) (n : ℕ) → shown (or_none (among o n)) ≡ in_answered (option_map (map shown) o) n
 found_shown None n = row_shown []
 found_shown (Some bs) n = some_shown bs n
 
-found_meant : (o : Option (List Ty)) (n : ℕ) → meant (in_module o n) ≡ in_told (option_map (map meant) o) n
+found_meant : (o : Option (List Ty)) (n : ℕ) → meant (in_module o n) ≡ in_answered (option_map (map meant) o) n
 found_meant None n = sym (row_meant [])
 found_meant (Some ts) n = some_meant ts n
 
@@ -196,7 +196,7 @@ from_says : (known : List Kept) (before : Trees) → Beside known before → (t 
 from_says known before p t Predeclared = scalar_says t (predeclared_scalar t.number)
 from_says known before p t (Module home) =
     found_shown (kept_of home known) t.number
-    ∙ ap (λ (o : Option (List Says)). in_told o t.number) (kept_told home known ∙ ap (λ (xs : List Told). told_of home xs) p ∙ sym (trees_told home before))
+    ∙ ap (λ (o : Option (List Says)). in_answered o t.number) (kept_answered home known ∙ ap (λ (xs : List Answered). answered_of home xs) p ∙ sym (trees_answered home before))
     ∙ sym (found_meant (lookup (nat_eq home) before) t.number)
 
 part_says : (known : List Kept) (before : Trees) → Beside known before → (t : TypeNo) → shown (blank_in known t) ≡ meant (tree_in before t)
@@ -218,7 +218,7 @@ shape_says types known before p t (shape.Open e) = row_says [] [] refl
 
 module _ (types : Types) (known : List Kept) (before : Trees) (p : Beside known before) (home : ℕ) where
   in_front : (bs : List Blank) (ts : List Ty) → map shown bs ≡ map meant ts → Beside (kept home bs ∷ known) ((home, ts) ∷ before)
-  in_front bs ts h = ap (λ (xs : List Says). (home, xs) ∷ map shown_kept known) h ∙ ap (λ (xs : List Told). (home, map meant ts) ∷ xs) p
+  in_front bs ts h = ap (λ (xs : List Says). (home, xs) ∷ map shown_kept known) h ∙ ap (λ (xs : List Answered). (home, map meant ts) ∷ xs) p
 
   same_length : (bs : List Blank) (ts : List Ty) → map shown bs ≡ map meant ts → length bs ≡ length ts
   same_length bs ts h = sym (length-map bs shown) ∙ ap (λ (xs : List Says). length xs) h ∙ length-map ts meant
@@ -243,7 +243,7 @@ module _ (types : Types) (known : List Kept) (before : Trees) (p : Beside known 
 next_says : (types : Types) (known : List Kept) (before : Trees) → Beside known before → (e : ℕ × List Made) → Beside (with_module types known e) (with_trees types before e)
 next_says types known before p e =
     map-append shown_kept known (kept e.0 (module_blanks types known e.0 e.1) ∷ [])
-    ∙ ap (λ (xs : List Told). xs ++ (e.0, map shown (module_blanks types known e.0 e.1)) ∷ []) p
+    ∙ ap (λ (xs : List Answered). xs ++ (e.0, map shown (module_blanks types known e.0 e.1)) ∷ []) p
     ∙ ap (λ (xs : List Says). map meant_module before ++ (e.0, xs) ∷ []) (module_says types known before p e.0 e.1)
     ∙ sym (map-append meant_module before ((e.0, module_trees types before e.0 e.1) ∷ []))
 

@@ -5,7 +5,7 @@ use Rattle.m2_meaning.specs.Answer.{Gave, Ended, Running, then_give, Went, Left,
 use Rattle.plain_store.specs.declared.state.State.{State}
 use Rattle.plain_store.specs.declared.state.Stop.{Stop}
 use Rattle.plain_store.specs.declared.state.Stop.TheVariants as stop
-use Rattle.plain_store.specs.Seen.{seen, stopped, told, halted, ended}
+use Rattle.plain_store.specs.Seen.{seen, stopped, answered, halted, ended}
 
 pub gave : {A B : Type 0} (r : Given A) (v : A) (st : Meant) (next : A → Meant → Given B) → r ≡ Gave v st → then_give r next ≡ next v st
 gave r v st next h = ap (λ (x : Given _). then_give x next) h

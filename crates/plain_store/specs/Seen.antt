@@ -29,9 +29,9 @@ stopped (stop.Ended k) st = Ended k st.out
 stopped stop.Running st = Running st.out
 
 -- what is given
-abbrev pub told : {A : Type 0} → Answer A → State → Given A
-told (answer.Gave v) st = Gave v (seen st)
-told (answer.Stopped s) st = stopped s st
+abbrev pub answered : {A : Type 0} → Answer A → State → Given A
+answered (answer.Gave v) st = Gave v (seen st)
+answered (answer.Stopped s) st = stopped s st
 
 -- the same for statements
 abbrev pub halted : Stop → State → Course

@@ -5,7 +5,7 @@ ghost use Rattle.m2_typed.specs.Types.{integer};
 ghost use Rattle.m2_meaning.specs.Answer.{Gave, then_give};
 ghost use Rattle.m2_meaning.specs.Operators.{truth, is_true, absolute, capital, odd, compared, included, has, combined};
 ghost use Rattle.m2_meaning.specs.Expressions.{within, within_range, as_type, in_base, operated, ordinal};
-ghost use Rattle.plain_store.specs.Seen.{seen, told};
+ghost use Rattle.plain_store.specs.Seen.{seen, answered};
 ghost use Rattle.plain_values.specs.Operated.{operated_on};
 ghost use Rattle.plain_values.specs.Surroundings.{surroundings};
 
@@ -28,7 +28,7 @@ pub struct Operands {
 
 /// The value, where it lies within these bounds, else this fault.
 pub fn within(low: i64, high: i64, fault: u32, v: i64, st: &State) -> Answer<i64>
-    ensures { told result st.now ≡ within low high fault v (seen st.now) }
+    ensures { answered result st.now ≡ within low high fault v (seen st.now) }
 {
     if is_between(low, v, high) {
         Answer::Gave(v)
@@ -38,7 +38,7 @@ pub fn within(low: i64, high: i64, fault: u32, v: i64, st: &State) -> Answer<i64
 }
 
 fn within_range(range: Option<Scalar>, fault: u32, v: i64, st: &State) -> Answer<i64>
-    ensures { told result st.now ≡ within_range range fault v (seen st.now) }
+    ensures { answered result st.now ≡ within_range range fault v (seen st.now) }
 {
     match range {
         None => Answer::Gave(v),
@@ -49,7 +49,7 @@ fn within_range(range: Option<Scalar>, fault: u32, v: i64, st: &State) -> Answer
 /// The value as one of a type.
 #[tactic(auto, unfolding(crate::specs::Surroundings::surroundings))]
 pub fn as_type(around: &Around<'_>, t: TypeNo, v: i64, st: &State) -> Answer<i64>
-    ensures { told result st.now ≡ as_type (surroundings around.now).types t v (seen st.now) }
+    ensures { answered result st.now ≡ as_type (surroundings around.now).types t v (seen st.now) }
 {
     within_range(scalar_of(&around.home.body.types, t), 1, v, st)
 }
@@ -57,7 +57,7 @@ pub fn as_type(around: &Around<'_>, t: TypeNo, v: i64, st: &State) -> Answer<i64
 /// The result of an operation in a base type.
 #[tactic(auto, unfolding(crate::specs::Surroundings::surroundings))]
 pub fn in_base(around: &Around<'_>, t: TypeNo, v: i64, st: &State) -> Answer<i64>
-    ensures { told result st.now ≡ in_base (surroundings around.now).types t v (seen st.now) }
+    ensures { answered result st.now ≡ in_base (surroundings around.now).types t v (seen st.now) }
 {
     within_range(scalar_of(&around.home.body.types, t), 2, v, st)
 }
@@ -72,7 +72,7 @@ pub fn operated(
     st: &State,
 ) -> Result<Answer<i64>, RunFault>
     ensures { let types = (surroundings around.now).types in
-        IfOk result (λ j. told j st.now ≡ operated types o t x y (seen st.now)) }
+        IfOk result (λ j. answered j st.now ≡ operated types o t x y (seen st.now)) }
 {
     match o {
         Arithmetic::Add => Ok(in_base(around, t, sum(x, y)?, st)),
@@ -106,8 +106,8 @@ pub fn operated_with(
     st: &State,
 ) -> Result<Answer<i64>, RunFault>
     ensures { let types = (surroundings around.now).types in
-        IfOk result (λ j. told j st.now
-        ≡ then_give (told given st.now) (operated_on types o t x)) }
+        IfOk result (λ j. answered j st.now
+        ≡ then_give (answered given st.now) (operated_on types o t x)) }
 {
     match given {
         Answer::Gave(y) => operated(around, o, t, x, y, st),
@@ -123,8 +123,8 @@ pub fn combined_with(
     given: Answer<i64>,
     st: &State,
 ) -> Result<Answer<i64>, RunFault>
-    ensures { IfOk result (λ j. told j st.now
-        ≡ then_give (told given st.now) (λ y st. Gave (combined o x y) st)) }
+    ensures { IfOk result (λ j. answered j st.now
+        ≡ then_give (answered given st.now) (λ y st. Gave (combined o x y) st)) }
 {
     match given {
         Answer::Gave(y) => Ok(Answer::Gave(operators::combined(o, x, y)?)),
@@ -136,8 +136,8 @@ pub fn combined_with(
 #[tactic(auto, using(plain_store::proofs::Threads::threads))]
 pub fn negated(around: &Around<'_>, given: Answer<i64>, st: &State) -> Result<Answer<i64>, RunFault>
     ensures { let types = (surroundings around.now).types in
-        IfOk result (λ j. told j st.now
-        ≡ then_give (told given st.now) (λ v st. in_base types integer (pos 0 -ℤ v) st)) }
+        IfOk result (λ j. answered j st.now
+        ≡ then_give (answered given st.now) (λ v st. in_base types integer (pos 0 -ℤ v) st)) }
 {
     match given {
         Answer::Gave(v) => Ok(in_base(around, INTEGER, difference(0, v)?, st)),
@@ -148,7 +148,7 @@ pub fn negated(around: &Around<'_>, given: Answer<i64>, st: &State) -> Result<An
 /// Whether a relation holds.
 #[tactic(auto, using(plain_store::proofs::Threads::threads))]
 pub fn compared(o: Comparison, given: Answer<Operands>, st: &State) -> Answer<i64>
-    ensures { told result st.now ≡ then_give (told given st.now)
+    ensures { answered result st.now ≡ then_give (answered given st.now)
         (λ xy st. Gave (truth (compared o xy.first xy.second)) st) }
 {
     match given {
@@ -160,7 +160,7 @@ pub fn compared(o: Comparison, given: Answer<Operands>, st: &State) -> Answer<i6
 /// Whether one set holds the other.
 #[tactic(auto, using(plain_store::proofs::Threads::threads))]
 pub fn included(o: Inclusion, given: Answer<Operands>, st: &State) -> Answer<i64>
-    ensures { told result st.now ≡ then_give (told given st.now)
+    ensures { answered result st.now ≡ then_give (answered given st.now)
         (λ xy st. Gave (truth (included o xy.first xy.second)) st) }
 {
     match given {
@@ -172,8 +172,8 @@ pub fn included(o: Inclusion, given: Answer<Operands>, st: &State) -> Answer<i64
 /// NOT.
 #[tactic(auto, using(plain_store::proofs::Threads::threads))]
 pub fn denied(given: Answer<i64>, st: &State) -> Answer<i64>
-    ensures { told result st.now
-        ≡ then_give (told given st.now) (λ v st. Gave (truth (not (is_true v))) st) }
+    ensures { answered result st.now
+        ≡ then_give (answered given st.now) (λ v st. Gave (truth (not (is_true v))) st) }
 {
     match given {
         Answer::Gave(v) => Answer::Gave(truth(!is_true(v))),
@@ -184,8 +184,8 @@ pub fn denied(given: Answer<i64>, st: &State) -> Answer<i64>
 /// Whether an element is in a set.
 #[tactic(auto, using(plain_store::proofs::Threads::threads))]
 pub fn is_in(x: i64, given: Answer<i64>, st: &State) -> Result<Answer<i64>, RunFault>
-    ensures { IfOk result (λ j. told j st.now
-        ≡ then_give (told given st.now) (λ s st. Gave (truth (has s x)) st)) }
+    ensures { IfOk result (λ j. answered j st.now
+        ≡ then_give (answered given st.now) (λ s st. Gave (truth (has s x)) st)) }
 {
     match given {
         Answer::Gave(s) => Ok(Answer::Gave(truth(operators::has(s, x)?))),
@@ -202,8 +202,8 @@ pub fn distance(
     st: &State,
 ) -> Result<Answer<i64>, RunFault>
     ensures { let types = (surroundings around.now).types in
-        IfOk result (λ j. told j st.now
-        ≡ then_give (told given st.now) (λ v st. in_base types t (absolute v) st)) }
+        IfOk result (λ j. answered j st.now
+        ≡ then_give (answered given st.now) (λ v st. in_base types t (absolute v) st)) }
 {
     match given {
         Answer::Gave(v) => Ok(in_base(around, t, operators::absolute(v)?, st)),
@@ -214,8 +214,8 @@ pub fn distance(
 /// CAP.
 #[tactic(auto, using(plain_store::proofs::Threads::threads))]
 pub fn capital(given: Answer<i64>, st: &State) -> Result<Answer<i64>, RunFault>
-    ensures { IfOk result (λ j. told j st.now
-        ≡ then_give (told given st.now) (λ v st. Gave (capital v) st)) }
+    ensures { IfOk result (λ j. answered j st.now
+        ≡ then_give (answered given st.now) (λ v st. Gave (capital v) st)) }
 {
     match given {
         Answer::Gave(v) => Ok(Answer::Gave(operators::capital(v)?)),
@@ -226,8 +226,8 @@ pub fn capital(given: Answer<i64>, st: &State) -> Result<Answer<i64>, RunFault>
 /// CHR.
 #[tactic(auto, using(plain_store::proofs::Threads::threads))]
 pub fn character(given: Answer<i64>, st: &State) -> Answer<i64>
-    ensures { told result st.now
-        ≡ then_give (told given st.now) (λ v st. within (pos 0) (pos 255) 1 v st) }
+    ensures { answered result st.now
+        ≡ then_give (answered given st.now) (λ v st. within (pos 0) (pos 255) 1 v st) }
 {
     match given {
         Answer::Gave(v) => within(0, 255, 1, v, st),
@@ -238,8 +238,8 @@ pub fn character(given: Answer<i64>, st: &State) -> Answer<i64>
 /// ODD.
 #[tactic(auto, using(plain_store::proofs::Threads::threads))]
 pub fn odd(given: Answer<i64>, st: &State) -> Answer<i64>
-    ensures { told result st.now
-        ≡ then_give (told given st.now) (λ v st. Gave (truth (odd v)) st) }
+    ensures { answered result st.now
+        ≡ then_give (answered given st.now) (λ v st. Gave (truth (odd v)) st) }
 {
     match given {
         Answer::Gave(v) => Answer::Gave(truth(is_odd(v))),
@@ -250,7 +250,7 @@ pub fn odd(given: Answer<i64>, st: &State) -> Answer<i64>
 /// ORD.
 #[tactic(auto, using(plain_store::proofs::Threads::threads))]
 pub fn ordinal(given: Answer<i64>, st: &State) -> Answer<i64>
-    ensures { told result st.now ≡ then_give (told given st.now) ordinal }
+    ensures { answered result st.now ≡ then_give (answered given st.now) ordinal }
 {
     match given {
         Answer::Gave(v) => {
@@ -268,7 +268,7 @@ pub fn ordinal(given: Answer<i64>, st: &State) -> Answer<i64>
 #[tactic(auto, using(plain_store::proofs::Threads::threads))]
 pub fn taken(around: &Around<'_>, t: TypeNo, given: Answer<i64>, st: &State) -> Answer<i64>
     ensures { let types = (surroundings around.now).types in
-        told result st.now ≡ then_give (told given st.now) (as_type types t) }
+        answered result st.now ≡ then_give (answered given st.now) (as_type types t) }
 {
     match given {
         Answer::Gave(v) => as_type(around, t, v, st),

@@ -7,7 +7,7 @@ ghost use Rattle.m2_layout.specs.Shapes.{elements_of};
 ghost use Rattle.m2_meaning.specs.Answer.{then_give};
 ghost use Rattle.m2_meaning.specs.Around.{named, location_of, high_of, or_root, module_place};
 ghost use Rattle.m2_meaning.specs.Expressions.{element, element_in, index_made, index_range, high_index, root_layer};
-ghost use Rattle.plain_store.specs.Seen.{seen, told};
+ghost use Rattle.plain_store.specs.Seen.{seen, answered};
 ghost use Rattle.plain_values.specs.Surroundings.{surroundings, modules_in, modules_of, asks_of, name_of};
 
 use crate::operators::{difference, is_between};
@@ -161,7 +161,7 @@ fn element(
     i: i64,
     st: &State,
 ) -> Result<Answer<Items<usize>>, RunFault>
-    ensures { IfOk result (λ j. told j st.now ≡ element l low high i (seen st.now)) }
+    ensures { IfOk result (λ j. answered j st.now ≡ element l low high i (seen st.now)) }
 {
     if is_between(low, i, high) {
         Ok(Answer::Gave(component(l, distance(low, i)?)?))
@@ -176,7 +176,7 @@ fn element_in(
     i: i64,
     st: &State,
 ) -> Result<Answer<Items<usize>>, RunFault>
-    ensures { IfOk result (λ j. told j st.now ≡ element_in l range i (seen st.now)) }
+    ensures { IfOk result (λ j. answered j st.now ≡ element_in l range i (seen st.now)) }
 {
     match range {
         None => Ok(Answer::Stopped(Stop::Ended(3))),
@@ -236,8 +236,8 @@ pub fn element_at(
     st: &State,
 ) -> Result<Answer<Items<usize>>, RunFault>
     ensures { let range = index_range (surroundings around.now).types t in
-        IfOk result (λ j. told j st.now
-        ≡ then_give (told given st.now) (λ v st. element_in l range v st)) }
+        IfOk result (λ j. answered j st.now
+        ≡ then_give (answered given st.now) (λ v st. element_in l range v st)) }
 {
     match given {
         Answer::Gave(i) => element_in(l, index_range(&around.home.body.types, t), i, st),
@@ -255,8 +255,8 @@ pub fn open_element_at(
     st: &State,
 ) -> Result<Answer<Items<usize>>, RunFault>
     ensures { let high = high_of (named (surroundings around.now) slot) in
-        IfOk result (λ j. told j st.now
-        ≡ then_give (told given st.now) (λ v st. element l (pos 0) (pos high) v st)) }
+        IfOk result (λ j. answered j st.now
+        ≡ then_give (answered given st.now) (λ v st. element l (pos 0) (pos high) v st)) }
 {
     match given {
         Answer::Gave(i) => element(l, 0, whole(slot_high(around, slot))?, i, st),

@@ -198,7 +198,7 @@ fn executed(
 }
 
 /// What is wrong with a program, if something is: it is built with so many workers, compared and executed.
-pub fn judged<R: Threads + Sync>(
+pub fn decided<R: Threads + Sync>(
     rt: &R,
     alloc: Global,
     program: &Program,

@@ -1,6 +1,6 @@
 //! The programs of `data/programs.txt`.
 
-use crate::program::{Expected, Program, judged, no_program};
+use crate::program::{Expected, Program, decided, no_program};
 use anyhow::{Context, Result, bail};
 use m2c::SourceFile;
 use std::alloc::Global;
@@ -110,7 +110,7 @@ fn counted<R: Threads + Sync + Eprint>(
     program: &Program,
 ) -> Result<Count> {
     for workers in [1, 8] {
-        if let Some(wrong) = judged(rt, alloc, program, workers)? {
+        if let Some(wrong) = decided(rt, alloc, program, workers)? {
             eprintln!(rt; "{}: {wrong}", program.name)?;
             return Ok(Count {
                 right: count.right,
@@ -124,7 +124,7 @@ fn counted<R: Threads + Sync + Eprint>(
     })
 }
 
-/// Judges each program.
+/// Decides each program.
 pub fn check_all<R: Threads + Sync + Files + Eprint + AllocGlobal>(rt: &R) -> Result<Count> {
     let alloc = rt.alloc();
     let bytes = fs::read(rt, "programs.txt").context("cannot read the programs")?;

@@ -1,8 +1,8 @@
-//! Reads Modula-2 as `build` does, and tells how fast.
+//! Reads Modula-2 as `build` does, and reports how fast.
 //!
 //! With no argument it reads a small corpus with 1, 2 and 4 workers, and a small text for each construct that can repeat.
-//! `corpus FILES BYTES` reads so many files of about so many bytes each with 1, 2 and 4 workers, and tells speed, page
-//! faults and memory. `repeats BYTES` reads a text of so many bytes for each construct, and tells how long each takes.
+//! `corpus FILES BYTES` reads so many files of about so many bytes each with 1, 2 and 4 workers, and reports speed, page
+//! faults and memory. `repeats BYTES` reads a text of so many bytes for each construct, and reports how long each takes.
 #![tactic(auto)]
 
 mod corpus;

@@ -31,7 +31,7 @@ impl fmt::Display for Hundredths {
 }
 
 /// Prints what one reading took.
-fn tell<R: Eprint>(
+fn report<R: Eprint>(
     rt: &R,
     workers: usize,
     bytes: u64,
@@ -65,7 +65,7 @@ fn measure_once<R: Files + Clock + Eprint + AllocGlobal + Threads + Sync>(
     let read = runner::read_all(rt, rt.alloc(), files, workers)?;
     let micros = start.elapsed(rt)?.as_micros().min(u128::from(u64::MAX)) as u64;
     let after = used(rt)?;
-    tell(rt, workers, corpus::total(files), micros, (before, after))?;
+    report(rt, workers, corpus::total(files), micros, (before, after))?;
     let trees = runner::trees(&read);
     if trees != files.len() {
         eprintln!(rt; "only {trees} files have trees")?;

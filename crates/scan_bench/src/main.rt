@@ -1,4 +1,4 @@
-//! Scans a text of 1 MiB, and tells how fast where it is given the number of rounds.
+//! Scans a text of 1 MiB, and reports how fast where it is given the number of rounds.
 #![tactic(auto)]
 
 mod sample;

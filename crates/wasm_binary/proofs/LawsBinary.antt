@@ -14,7 +14,7 @@ use Rattle.wasm_tree.specs.Format.{◌>>=◌}
 use Rattle.wasm_bytes.specs.Number.{unsigned}
 use Rattle.wasm_bytes.specs.Parts.{◌◂◌, ◌·◌, seen, vector, sized, bytes_left, name}
 use Rattle.wasm_code.specs.Instructions.{value_type, code}
-use Rattle.wasm_binary.specs.Binary.{table_type, memory_type, import_kind, import, global, export_kind, export, element, locals_at, locals_spelling, declared, locals, body, data_segment}
+use Rattle.wasm_binary.specs.Binary.{table_type, memory_type, import_kind, import, global, export_kind, export, element, locals_at, locals_encoding, declared, locals, body, data_segment}
 use Rattle.wasm_bytes.proofs.Laws.{IsBytes, IsBytes-tail, bind_ok, guard_ok, read_is, Taken, Law, whole}
 use Rattle.wasm_code.proofs.LawsTagged.{if_tag, bind_behind, tagged, value_type_law, value_type_fits}
 use Rattle.wasm_binary.proofs.LawsKinds.{table_type_law, memory_type_law}
@@ -46,12 +46,12 @@ import_kind_takes (b ∷ bytes) x rest fits e =
           ]
     ]
 
-import_kind_again : (x : ImportKind) (rest : List ℕ) → import_kind.fits x ≡ true → import_kind.reading (import_kind.spelling x ++ rest) ≡ Ok (x, rest)
+import_kind_again : (x : ImportKind) (rest : List ℕ) → import_kind.fits x ≡ true → import_kind.reading (import_kind.encoding x ++ rest) ≡ Ok (x, rest)
 unfolding import_kind
 import_kind_again (imported.Function t) rest fits = rw (unsigned_law.again t rest fits) refl
 import_kind_again (imported.Table t) rest fits = rw (table_type_law.again t rest fits) refl
 import_kind_again (imported.Memory t) rest fits = rw (memory_type_law.again t rest fits) refl
-import_kind_again (imported.Global t) rest fits = rw (append_assoc (value_type.spelling t) (0x00 ∷ []) rest, value_type_law.again t (0x00 ∷ rest) (value_type_fits t)) refl
+import_kind_again (imported.Global t) rest fits = rw (append_assoc (value_type.encoding t) (0x00 ∷ []) rest, value_type_law.again t (0x00 ∷ rest) (value_type_fits t)) refl
 
 pub import_kind_law : Law import_kind
 import_kind_law = record { takes = import_kind_takes; again = import_kind_again }
@@ -90,7 +90,7 @@ export_kind_takes (b ∷ bytes) x rest fits e =
           ]
     ]
 
-export_kind_again : (x : ExportKind) (rest : List ℕ) → export_kind.fits x ≡ true → export_kind.reading (export_kind.spelling x ++ rest) ≡ Ok (x, rest)
+export_kind_again : (x : ExportKind) (rest : List ℕ) → export_kind.fits x ≡ true → export_kind.reading (export_kind.encoding x ++ rest) ≡ Ok (x, rest)
 unfolding export_kind
 export_kind_again (exported.Function i) rest fits = rw (unsigned_law.again i rest fits) refl
 export_kind_again (exported.Table i) rest fits = rw (unsigned_law.again i rest fits) refl
@@ -119,7 +119,7 @@ data_segment_law =
 -- ---- locals
 
 record LocalsTaken (count before : ℕ) (bytes : List ℕ) (ls : List Locals) (rest : List ℕ) : Type 0 where
-  parts : bytes ≡ flat_map locals_spelling ls ++ rest
+  parts : bytes ≡ flat_map locals_encoding ls ++ rest
   rest_fits : IsBytes rest
   len : length ls ≡ count
   room : before + declared ls < 2 ^ 32
@@ -138,9 +138,9 @@ pair_of n t = record { count = n; value_type = t }
 
 locals_put : (count before n : ℕ) (t : ValueType) (ls : List Locals) (bytes mid after rest : List ℕ) → Taken unsigned bytes n mid → Taken value_type mid t after → LocalsTaken count (before + n) after ls rest → LocalsTaken (suc count) before bytes (pair_of n t ∷ ls) rest
 locals_put count before n t ls bytes mid after rest a b c =
-    let one : mid ≡ (value_type.spelling t ++ flat_map locals_spelling ls) ++ rest = b.parts ∙ ap (λ (r : List ℕ). value_type.spelling t ++ r) c.parts ∙ sym (append_assoc (value_type.spelling t) (flat_map locals_spelling ls) rest) in
-    let two : bytes ≡ ((unsigned.spelling n ++ value_type.spelling t) ++ flat_map locals_spelling ls) ++ rest =
-    a.parts ∙ ap (λ (r : List ℕ). unsigned.spelling n ++ r) one ∙ simp append_assoc in
+    let one : mid ≡ (value_type.encoding t ++ flat_map locals_encoding ls) ++ rest = b.parts ∙ ap (λ (r : List ℕ). value_type.encoding t ++ r) c.parts ∙ sym (append_assoc (value_type.encoding t) (flat_map locals_encoding ls) rest) in
+    let two : bytes ≡ ((unsigned.encoding n ++ value_type.encoding t) ++ flat_map locals_encoding ls) ++ rest =
+    a.parts ∙ ap (λ (r : List ℕ). unsigned.encoding n ++ r) one ∙ simp append_assoc in
     record { parts = two; rest_fits = c.rest_fits; len = ap suc c.len; room = omega (arith, c.room, declared-cons (pair_of n t) ls) }
 
 locals_at_takes : (count before : ℕ) (bytes : List ℕ) (ls : List Locals) (rest : List ℕ) → IsBytes bytes → before < 2 ^ 32 → locals_at count before bytes ≡ Ok (ls, rest) → LocalsTaken count before bytes ls rest
@@ -161,7 +161,7 @@ locals_at_takes (suc count) before bytes ls rest fits room e =
 locals_regroup : (one two text rest : List ℕ) → ((one ++ two) ++ text) ++ rest ≡ one ++ (two ++ (text ++ rest))
 locals_regroup one two text rest = simp append_assoc
 
-locals_at_again : (before : ℕ) (ls : List Locals) (rest : List ℕ) → before + declared ls < 2 ^ 32 → locals_at (length ls) before (flat_map locals_spelling ls ++ rest) ≡ Ok (ls, rest)
+locals_at_again : (before : ℕ) (ls : List Locals) (rest : List ℕ) → before + declared ls < 2 ^ 32 → locals_at (length ls) before (flat_map locals_encoding ls ++ rest) ≡ Ok (ls, rest)
 unfolding locals_at
 locals_at_again before [] rest room = refl
 locals_at_again before (l ∷ ls) rest room =
@@ -170,10 +170,10 @@ locals_at_again before (l ∷ ls) rest room =
     let two : before + l.count < 2 ^ 32 = omega (arith, sum) in
     let three : (before + l.count) + declared ls < 2 ^ 32 = omega (arith, sum) in
     rw (
-      locals_regroup (unsigned.spelling l.count) (value_type.spelling l.value_type) (flat_map locals_spelling ls) rest,
-      unsigned_law.again l.count (value_type.spelling l.value_type ++ (flat_map locals_spelling ls ++ rest)) (lt-ltb l.count (2 ^ 32) one),
+      locals_regroup (unsigned.encoding l.count) (value_type.encoding l.value_type) (flat_map locals_encoding ls) rest,
+      unsigned_law.again l.count (value_type.encoding l.value_type ++ (flat_map locals_encoding ls ++ rest)) (lt-ltb l.count (2 ^ 32) one),
       lt-ltb (before + l.count) (2 ^ 32) two,
-      value_type_law.again l.value_type (flat_map locals_spelling ls ++ rest) (value_type_fits l.value_type),
+      value_type_law.again l.value_type (flat_map locals_encoding ls ++ rest) (value_type_fits l.value_type),
       locals_at_again (before + l.count) ls rest three,
     )
     refl
@@ -184,19 +184,19 @@ locals_takes bytes ls rest fits e =
     let a = bind_ok (unsigned.reading bytes) (λ n. locals_at n.0 0 n.1) (ls, rest) e in
     let t = unsigned_law.takes bytes a.0.0 a.0.1 fits a.1 in
     let u = locals_at_takes a.0.0 0 a.0.1 ls rest t.rest_fits (omega arith) a.2 in
-    let parts : bytes ≡ (unsigned.spelling a.0.0 ++ flat_map locals_spelling ls) ++ rest = t.parts ∙ ap (λ (r : List ℕ). unsigned.spelling a.0.0 ++ r) u.parts ∙ sym (append_assoc (unsigned.spelling a.0.0) (flat_map locals_spelling ls) rest) in
+    let parts : bytes ≡ (unsigned.encoding a.0.0 ++ flat_map locals_encoding ls) ++ rest = t.parts ∙ ap (λ (r : List ℕ). unsigned.encoding a.0.0 ++ r) u.parts ∙ sym (append_assoc (unsigned.encoding a.0.0) (flat_map locals_encoding ls) rest) in
     record {
-      parts = parts ∙ ap (λ (n : ℕ). (unsigned.spelling n ++ flat_map locals_spelling ls) ++ rest) (sym u.len);
+      parts = parts ∙ ap (λ (n : ℕ). (unsigned.encoding n ++ flat_map locals_encoding ls) ++ rest) (sym u.len);
       rest_fits = u.rest_fits;
       fits = and_from _ _ (ap unsigned.fits u.len ∙ t.fits) (lt-ltb (declared ls) (2 ^ 32) (omega (arith, u.room)));
     }
 
-locals_again : (ls : List Locals) (rest : List ℕ) → locals.fits ls ≡ true → locals.reading (locals.spelling ls ++ rest) ≡ Ok (ls, rest)
+locals_again : (ls : List Locals) (rest : List ℕ) → locals.fits ls ≡ true → locals.reading (locals.encoding ls ++ rest) ≡ Ok (ls, rest)
 unfolding locals
 locals_again ls rest fits =
     let f = and_parts (ltb (length ls) (2 ^ 32)) (ltb (declared ls) (2 ^ 32)) fits in
     let room : declared ls < 2 ^ 32 = ltb-true (declared ls) (2 ^ 32) f.1 in
-    rw (append_assoc (unsigned.spelling (length ls)) (flat_map locals_spelling ls) rest, unsigned_law.again (length ls) (flat_map locals_spelling ls ++ rest) f.0) (locals_at_again 0 ls rest (omega arith))
+    rw (append_assoc (unsigned.encoding (length ls)) (flat_map locals_encoding ls) rest, unsigned_law.again (length ls) (flat_map locals_encoding ls ++ rest) f.0) (locals_at_again 0 ls rest (omega arith))
 
 pub locals_law : Law locals
 locals_law = record { takes = locals_takes; again = locals_again }

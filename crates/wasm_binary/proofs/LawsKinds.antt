@@ -37,12 +37,12 @@ limits_takes (suc zero ∷ bytes) x rest fits e =
     tagged limits (unsigned · unsigned) between 1 (then_law unsigned unsigned unsigned_law unsigned_law) (λ p. refl) (λ p. refl) 1 bytes x rest (IsBytes-tail 1 bytes fits) refl (bind_pair unsigned unsigned between bytes (x, rest) e)
 limits_takes (suc (suc b) ∷ bytes) x rest fits e = absurd cc
 
-limits_again : (min : ℕ) (max : Option ℕ) (rest : List ℕ) → limits.fits (record { min = min; max = max }) ≡ true → limits.reading (limits.spelling (record { min = min; max = max }) ++ rest) ≡ Ok (record { min = min; max = max }, rest)
+limits_again : (min : ℕ) (max : Option ℕ) (rest : List ℕ) → limits.fits (record { min = min; max = max }) ≡ true → limits.reading (limits.encoding (record { min = min; max = max }) ++ rest) ≡ Ok (record { min = min; max = max }, rest)
 unfolding limits
 limits_again min None rest fits = rw (unsigned_law.again min rest (sym (and_true (unsigned.fits min)) ∙ fits)) refl
 limits_again min (Some max) rest fits =
     let f = and_parts (unsigned.fits min) (unsigned.fits max) fits in
-    rw (append_assoc (unsigned.spelling min) (unsigned.spelling max) rest, unsigned_law.again min (unsigned.spelling max ++ rest) f.0, unsigned_law.again max rest f.1) refl
+    rw (append_assoc (unsigned.encoding min) (unsigned.encoding max) rest, unsigned_law.again min (unsigned.encoding max ++ rest) f.0, unsigned_law.again max rest f.1) refl
 
 pub limits_law : Law limits
 limits_law = record { takes = limits_takes; again = λ l rest fits. limits_again l.min l.max rest fits }

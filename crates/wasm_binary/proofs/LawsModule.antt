@@ -13,7 +13,7 @@ use Rattle.wasm_tree.specs.declared.module.WModule.{WModule}
 use Rattle.wasm_tree.specs.Format.{Format, Reading, ◌>>=◌, Gives, skip}
 use Rattle.wasm_bytes.specs.Number.{groups, unsigned}
 use Rattle.wasm_bytes.specs.Parts.{sized, section}
-use Rattle.wasm_binary.specs.Binary.{func_type, import, table_type, memory_type, global, export, element, body, data_segment, header, skip_all, bodies, code_entries, code_content, code_section, at_end, module_at, body_spelling, bodies_spelling, code_spelling, types_of, first_sections, middle_sections, last_sections, module_spelling, module_fits, binary, Spells, IsOnlySpelling}
+use Rattle.wasm_binary.specs.Binary.{func_type, import, table_type, memory_type, global, export, element, body, data_segment, header, skip_all, bodies, code_entries, code_content, code_section, at_end, module_at, body_encoding, bodies_encoding, code_encoding, types_of, first_sections, middle_sections, last_sections, module_encoding, module_fits, binary, Encodes, IsOnlyEncoding}
 use Rattle.wasm_bytes.proofs.Laws.{IsBytes, IsBytes-tail, IsBytes-after, bind_ok, guard_ok, ok_is, read_is, Taken, Law, WholeLaw}
 use Rattle.wasm_bytes.proofs.LawsNumber.{unsigned_law}
 use Rattle.wasm_bytes.proofs.LawsParts.{skip_ok, skip_same, sized_takes, sized_inner, sized_again, Past, Past-section, Past-less, section_law}
@@ -41,10 +41,10 @@ bodies_fit fs = list_all (λ f. body.fits f.body) fs
 
 -- what the code section holds, for functions of these types
 abbrev code_format : List ℕ → Format (List Function)
-code_format types = record { spelling = bodies_spelling; reading = code_entries types; fits = bodies_fit }
+code_format types = record { encoding = bodies_encoding; reading = code_entries types; fits = bodies_fit }
 
 record BodiesTaken (bytes : List ℕ) (fs : List Function) (rest : List ℕ) : Type 0 where
-  parts : bytes ≡ flat_map body_spelling fs ++ rest
+  parts : bytes ≡ flat_map body_encoding fs ++ rest
   rest_fits : IsBytes rest
   fits : bodies_fit fs ≡ true
 
@@ -62,7 +62,7 @@ bodies_take (t ∷ types) bytes fs rest fits e =
     let b = bind_ok (bodies types a.0.1) (λ fs. Ok (function t a.0.0 ∷ fs.0, fs.1)) (fs, rest) a.2 in
     let u = body_law.takes bytes a.0.0 a.0.1 fits a.1 in
     let v = bodies_take types a.0.1 b.0.0 b.0.1 u.rest_fits b.1 in
-    let parts : bytes ≡ (body.spelling a.0.0 ++ flat_map body_spelling b.0.0) ++ b.0.1 = u.parts ∙ ap (λ (r : List ℕ). body.spelling a.0.0 ++ r) v.parts ∙ sym (append_assoc (body.spelling a.0.0) (flat_map body_spelling b.0.0) b.0.1) in
+    let parts : bytes ≡ (body.encoding a.0.0 ++ flat_map body_encoding b.0.0) ++ b.0.1 = u.parts ∙ ap (λ (r : List ℕ). body.encoding a.0.0 ++ r) v.parts ∙ sym (append_assoc (body.encoding a.0.0) (flat_map body_encoding b.0.0) b.0.1) in
     bodies_taken_at bytes (function t a.0.0 ∷ b.0.0) fs b.0.1 rest (read_is (function t a.0.0 ∷ b.0.0) fs b.0.1 rest b.2) (record { parts = parts; rest_fits = v.rest_fits; fits = and_from _ _ u.fits v.fits })
 
 bodies_types : (types bytes : List ℕ) (fs : List Function) (rest : List ℕ) → bodies types bytes ≡ Ok (fs, rest) → types_of fs ≡ types
@@ -74,12 +74,12 @@ bodies_types (t ∷ types) bytes fs rest e =
     let is = read_is (function t a.0.0 ∷ b.0.0) fs b.0.1 rest b.2 in
     ap types_of (sym is.0) ∙ ap (λ (ts : List ℕ). t ∷ ts) (bodies_types types a.0.1 b.0.0 b.0.1 b.1)
 
-bodies_again : (fs : List Function) (rest : List ℕ) → bodies_fit fs ≡ true → bodies (types_of fs) (flat_map body_spelling fs ++ rest) ≡ Ok (fs, rest)
+bodies_again : (fs : List Function) (rest : List ℕ) → bodies_fit fs ≡ true → bodies (types_of fs) (flat_map body_encoding fs ++ rest) ≡ Ok (fs, rest)
 unfolding bodies
 bodies_again [] rest fits = refl
 bodies_again (f ∷ fs) rest fits =
     let g = and_parts (body.fits f.body) (bodies_fit fs) fits in
-    rw (append_assoc (body_spelling f) (flat_map body_spelling fs) rest, body_law.again f.body (flat_map body_spelling fs ++ rest) g.0, bodies_again fs rest g.1) refl
+    rw (append_assoc (body_encoding f) (flat_map body_encoding fs) rest, body_law.again f.body (flat_map body_encoding fs ++ rest) g.0, bodies_again fs rest g.1) refl
 
 entries_types : (types bytes : List ℕ) (fs : List Function) (rest : List ℕ) → code_entries types bytes ≡ Ok (fs, rest) → types_of fs ≡ types
 unfolding code_entries
@@ -96,35 +96,35 @@ entries_take types bytes fs rest fits e =
     let t = unsigned_law.takes bytes a.0.0 a.0.1 fits a.1 in
     let u = bodies_take types a.0.1 fs rest t.rest_fits g.1 in
     let len : a.0.0 ≡ length fs = eqb-true a.0.0 (length types) g.0 ∙ ap length (sym (bodies_types types a.0.1 fs rest g.1)) ∙ length-map fs (λ f. f.type_index) in
-    let parts : bytes ≡ (unsigned.spelling a.0.0 ++ flat_map body_spelling fs) ++ rest = t.parts ∙ ap (λ (r : List ℕ). unsigned.spelling a.0.0 ++ r) u.parts ∙ sym (append_assoc (unsigned.spelling a.0.0) (flat_map body_spelling fs) rest) in
-    record { parts = parts ∙ ap (λ (n : ℕ). (unsigned.spelling n ++ flat_map body_spelling fs) ++ rest) len; rest_fits = u.rest_fits; fits = u.fits }
+    let parts : bytes ≡ (unsigned.encoding a.0.0 ++ flat_map body_encoding fs) ++ rest = t.parts ∙ ap (λ (r : List ℕ). unsigned.encoding a.0.0 ++ r) u.parts ∙ sym (append_assoc (unsigned.encoding a.0.0) (flat_map body_encoding fs) rest) in
+    record { parts = parts ∙ ap (λ (n : ℕ). (unsigned.encoding n ++ flat_map body_encoding fs) ++ rest) len; rest_fits = u.rest_fits; fits = u.fits }
 
-entries_again : (fs : List Function) → bodies_fit fs ≡ true → ltb (length (types_of fs)) (2 ^ 32) ≡ true → code_entries (types_of fs) (bodies_spelling fs) ≡ Ok (fs, [])
+entries_again : (fs : List Function) → bodies_fit fs ≡ true → ltb (length (types_of fs)) (2 ^ 32) ≡ true → code_entries (types_of fs) (bodies_encoding fs) ≡ Ok (fs, [])
 unfolding code_entries
 entries_again fs fits few =
     let len : length (types_of fs) ≡ length fs = length-map fs (λ f. f.type_index) in
-    let all : bodies (types_of fs) (flat_map body_spelling fs) ≡ Ok (fs, []) = ap (bodies (types_of fs)) (sym (append-nil (flat_map body_spelling fs))) ∙ bodies_again fs [] fits in
-    rw (unsigned_law.again (length fs) (flat_map body_spelling fs) (sym (ap unsigned.fits len) ∙ few), eq-eqb (length fs) (length (types_of fs)) (sym len)) all
+    let all : bodies (types_of fs) (flat_map body_encoding fs) ≡ Ok (fs, []) = ap (bodies (types_of fs)) (sym (append-nil (flat_map body_encoding fs))) ∙ bodies_again fs [] fits in
+    rw (unsigned_law.again (length fs) (flat_map body_encoding fs) (sym (ap unsigned.fits len) ∙ few), eq-eqb (length fs) (length (types_of fs)) (sym len)) all
 
 -- what was read of the code section
 record CodeTaken (types bytes : List ℕ) (fs : List Function) (rest : List ℕ) : Type 0 where
-  parts : bytes ≡ code_spelling fs ++ rest
+  parts : bytes ≡ code_encoding fs ++ rest
   rest_fits : IsBytes rest
   types_are : types_of fs ≡ types
   fits : bodies_fit fs ≡ true
-  room : ltb (length (bodies_spelling fs)) (2 ^ 32) ≡ true
+  room : ltb (length (bodies_encoding fs)) (2 ^ 32) ≡ true
 
 code_taken_at : (types bytes : List ℕ) (x y : List Function) (b c : List ℕ) → (x ≡ y) × (b ≡ c) → CodeTaken types bytes x b → CodeTaken types bytes y c
 code_taken_at types bytes x y b c is t = subst (λ z. CodeTaken types bytes z c) is.0 (subst (λ r. CodeTaken types bytes x r) is.1 t)
 
-none_room : ltb (length (bodies_spelling [])) (2 ^ 32) ≡ true
+none_room : ltb (length (bodies_encoding [])) (2 ^ 32) ≡ true
 unfolding groups
 none_room = refl
 
 code_some : (t : ℕ) (types bytes : List ℕ) (fs : List Function) (rest : List ℕ) → types_of fs ≡ t ∷ types → Taken (sized (code_format (t ∷ types))) bytes fs rest → CodeTaken (t ∷ types) (10 ∷ bytes) fs rest
 code_some t types bytes [] rest is u = absurd cc
 code_some t types bytes (f ∷ fs) rest is u =
-    let g = and_parts (bodies_fit (f ∷ fs)) (ltb (length (bodies_spelling (f ∷ fs))) (2 ^ 32)) u.fits in
+    let g = and_parts (bodies_fit (f ∷ fs)) (ltb (length (bodies_encoding (f ∷ fs))) (2 ^ 32)) u.fits in
     record { parts = ap (λ (r : List ℕ). 10 ∷ r) u.parts; rest_fits = u.rest_fits; types_are = is; fits = g.0; room = g.1 }
 
 code_section_takes : (types bytes : List ℕ) (fs : List Function) (rest : List ℕ) → IsBytes bytes → code_section types bytes ≡ Ok (fs, rest) → CodeTaken types bytes fs rest
@@ -139,12 +139,12 @@ code_section_takes (t ∷ types) (b ∷ bytes) fs rest fits e =
     let u = sized_takes (code_format (t ∷ types)) (entries_take (t ∷ types)) bytes fs rest (IsBytes-tail b bytes fits) g.1 in
     subst (λ (c : ℕ). CodeTaken (t ∷ types) (c ∷ bytes) fs rest) (sym (eqb-true b 10 g.0)) (code_some t types bytes fs rest is u)
 
-code_section_again : (fs : List Function) (rest : List ℕ) → bodies_fit fs ≡ true → ltb (length (types_of fs)) (2 ^ 32) ≡ true → ltb (length (bodies_spelling fs)) (2 ^ 32) ≡ true → code_section (types_of fs) (code_spelling fs ++ rest) ≡ Ok (fs, rest)
+code_section_again : (fs : List Function) (rest : List ℕ) → bodies_fit fs ≡ true → ltb (length (types_of fs)) (2 ^ 32) ≡ true → ltb (length (bodies_encoding fs)) (2 ^ 32) ≡ true → code_section (types_of fs) (code_encoding fs ++ rest) ≡ Ok (fs, rest)
 unfolding code_content
 code_section_again [] rest fits few room = refl
 code_section_again (f ∷ fs) rest fits few room = sized_again (code_format (types_of (f ∷ fs))) (f ∷ fs) rest (entries_again (f ∷ fs) fits few) room
 
-Past-code : (before : ℕ) (fs : List Function) (rest : List ℕ) → before < 10 → Past before rest → Past before (code_spelling fs ++ rest)
+Past-code : (before : ℕ) (fs : List Function) (rest : List ℕ) → before < 10 → Past before rest → Past before (code_encoding fs ++ rest)
 Past-code before [] rest lt past = past
 Past-code before (f ∷ fs) rest lt past = lt
 
@@ -242,20 +242,20 @@ steps bytes m rest e =
 -- the parts of a module one after the other, each before all those behind it
 abbrev laid_out : WModule → List ℕ
 laid_out m =
-    header ++ ((section 1 func_type).spelling m.types ++ ((section 2 import).spelling m.imports ++ ((section 3 unsigned).spelling (types_of m.functions)
-    ++ ((section 4 table_type).spelling m.tables ++ ((section 5 memory_type).spelling m.memories ++ ((section 6 global).spelling m.globals
-    ++ ((section 7 export).spelling m.exports ++ ((section 9 element).spelling m.elements ++ (code_spelling m.functions
-    ++ (section 11 data_segment).spelling m.«data»)))))))))
+    header ++ ((section 1 func_type).encoding m.types ++ ((section 2 import).encoding m.imports ++ ((section 3 unsigned).encoding (types_of m.functions)
+    ++ ((section 4 table_type).encoding m.tables ++ ((section 5 memory_type).encoding m.memories ++ ((section 6 global).encoding m.globals
+    ++ ((section 7 export).encoding m.exports ++ ((section 9 element).encoding m.elements ++ (code_encoding m.functions
+    ++ (section 11 data_segment).encoding m.«data»)))))))))
 
 regroup : (h a b c d e f g i j k : List ℕ) → (h ++ a ++ b ++ c) ++ (d ++ e ++ f ++ g) ++ (i ++ j ++ k) ≡ h ++ (a ++ (b ++ (c ++ (d ++ (e ++ (f ++ (g ++ (i ++ (j ++ k)))))))))
 regroup h a b c d e f g i j k = simp append_assoc
 
-spelling_is : (m : WModule) → module_spelling m ≡ laid_out m
-unfolding module_spelling first_sections middle_sections last_sections
-spelling_is m =
-    regroup header ((section 1 func_type).spelling m.types) ((section 2 import).spelling m.imports) ((section 3 unsigned).spelling (types_of m.functions)) ((section 4 table_type).spelling m.tables)
-    ((section 5 memory_type).spelling m.memories) ((section 6 global).spelling m.globals) ((section 7 export).spelling m.exports) ((section 9 element).spelling m.elements) (code_spelling m.functions)
-    ((section 11 data_segment).spelling m.«data»)
+encoding_is : (m : WModule) → module_encoding m ≡ laid_out m
+unfolding module_encoding first_sections middle_sections last_sections
+encoding_is m =
+    regroup header ((section 1 func_type).encoding m.types) ((section 2 import).encoding m.imports) ((section 3 unsigned).encoding (types_of m.functions)) ((section 4 table_type).encoding m.tables)
+    ((section 5 memory_type).encoding m.memories) ((section 6 global).encoding m.globals) ((section 7 export).encoding m.exports) ((section 9 element).encoding m.elements) (code_encoding m.functions)
+    ((section 11 data_segment).encoding m.«data»)
 
 -- one part before others
 joins : (bytes text mid others : List ℕ) → bytes ≡ text ++ mid → mid ≡ others → bytes ≡ text ++ others
@@ -267,9 +267,9 @@ all_true a b c d e f g h i j k pa pb pc pd pe pf pg ph pi pj pk =
     and_from (a && b && c && d && e && f && g && h && i && j) k (and_from (a && b && c && d && e && f && g && h && i) j (and_from (a && b && c && d && e && f && g && h) i (and_from (a && b && c && d && e && f && g) h
     (and_from (a && b && c && d && e && f) g (and_from (a && b && c && d && e) f (and_from (a && b && c && d) e (and_from (a && b && c) d (and_from (a && b) c (and_from a b pa pb) pc) pd) pe) pf) pg) ph) pi) pj) pk
 
-spelled : (bytes : List ℕ) (m : WModule) (rest : List ℕ) → IsBytes bytes → Steps bytes m rest → Spells bytes m
+encoded : (bytes : List ℕ) (m : WModule) (rest : List ℕ) → IsBytes bytes → Steps bytes m rest → Encodes bytes m
 unfolding module_fits
-spelled bytes m rest fits s =
+encoded bytes m rest fits s =
     let b0 = skip_all_ok header bytes s.start s.begins in
     let t1 = (section_law 1 func_type func_type_law).takes s.start m.types s.r1 (IsBytes-after bytes header s.start b0 fits) s.types in
     let t2 = (section_law 2 import import_law).takes s.r1 m.imports s.r2 t1.rest_fits s.imports in
@@ -283,24 +283,24 @@ spelled bytes m rest fits s =
     let t11 = (section_law 11 data_segment data_segment_law).takes s.r10 m.«data» s.r11 t10.rest_fits s.segments in
     let types_are : s.uses ≡ types_of m.functions = sym t10.types_are in
     let nothing : s.r11 ≡ [] = at_end_ok s.r11 tt s.ends in
-    let end : s.r10 ≡ (section 11 data_segment).spelling m.«data» = joins s.r10 _ s.r11 [] t11.parts nothing ∙ append-nil ((section 11 data_segment).spelling m.«data») in
-    let p10 = joins s.r9 (code_spelling m.functions) s.r10 _ t10.parts end in
-    let p9 = joins s.r7 ((section 9 element).spelling m.elements) s.r9 _ t9.parts p10 in
-    let p7 = joins s.r6 ((section 7 export).spelling m.exports) s.r7 _ t7.parts p9 in
-    let p6 = joins s.r5 ((section 6 global).spelling m.globals) s.r6 _ t6.parts p7 in
-    let p5 = joins s.r4 ((section 5 memory_type).spelling m.memories) s.r5 _ t5.parts p6 in
-    let p4 = joins s.r3 ((section 4 table_type).spelling m.tables) s.r4 _ t4.parts p5 in
-    let p3 = joins s.r2 ((section 3 unsigned).spelling (types_of m.functions)) s.r3 _ (t3.parts ∙ ap (λ (ts : List ℕ). (section 3 unsigned).spelling ts ++ s.r3) types_are) p4 in
-    let p2 = joins s.r1 ((section 2 import).spelling m.imports) s.r2 _ t2.parts p3 in
-    let p1 = joins s.start ((section 1 func_type).spelling m.types) s.r1 _ t1.parts p2 in
+    let end : s.r10 ≡ (section 11 data_segment).encoding m.«data» = joins s.r10 _ s.r11 [] t11.parts nothing ∙ append-nil ((section 11 data_segment).encoding m.«data») in
+    let p10 = joins s.r9 (code_encoding m.functions) s.r10 _ t10.parts end in
+    let p9 = joins s.r7 ((section 9 element).encoding m.elements) s.r9 _ t9.parts p10 in
+    let p7 = joins s.r6 ((section 7 export).encoding m.exports) s.r7 _ t7.parts p9 in
+    let p6 = joins s.r5 ((section 6 global).encoding m.globals) s.r6 _ t6.parts p7 in
+    let p5 = joins s.r4 ((section 5 memory_type).encoding m.memories) s.r5 _ t5.parts p6 in
+    let p4 = joins s.r3 ((section 4 table_type).encoding m.tables) s.r4 _ t4.parts p5 in
+    let p3 = joins s.r2 ((section 3 unsigned).encoding (types_of m.functions)) s.r3 _ (t3.parts ∙ ap (λ (ts : List ℕ). (section 3 unsigned).encoding ts ++ s.r3) types_are) p4 in
+    let p2 = joins s.r1 ((section 2 import).encoding m.imports) s.r2 _ t2.parts p3 in
+    let p1 = joins s.start ((section 1 func_type).encoding m.types) s.r1 _ t1.parts p2 in
     let p0 = joins bytes header s.start _ b0 p1 in
     record {
       fits = all_true _ _ _ _ _ _ _ _ _ _ _ t1.fits t2.fits (ap (section 3 unsigned).fits (sym types_are) ∙ t3.fits) t4.fits t5.fits t6.fits t7.fits t9.fits t10.fits t10.room t11.fits;
-      spelling = p0 ∙ sym (spelling_is m);
+      encoding = p0 ∙ sym (encoding_is m);
     }
 
-pub module_takes : (bytes : List ℕ) (m : WModule) (rest : List ℕ) → IsBytes bytes → module_at bytes ≡ Ok (m, rest) → Spells bytes m × (rest ≡ [])
-module_takes bytes m rest fits e = let s = steps bytes m rest e in (spelled bytes m rest fits s, s.none)
+pub module_takes : (bytes : List ℕ) (m : WModule) (rest : List ℕ) → IsBytes bytes → module_at bytes ≡ Ok (m, rest) → Encodes bytes m × (rest ≡ [])
+module_takes bytes m rest fits e = let s = steps bytes m rest e in (encoded bytes m rest fits s, s.none)
 
 -- ---- and back
 
@@ -335,32 +335,32 @@ bind_is : {A B : Type 0} (r : Result A WFault) (x : A) (f : A → Result B WFaul
 bind_is {A} r x f z e h = ap (λ (s : Result A WFault). s >>= f) e ∙ h
 
 -- the last section, behind which there is nothing
-last_again : (xs : List Data) → (section 11 data_segment).fits xs ≡ true → (section 11 data_segment).reading ((section 11 data_segment).spelling xs) ≡ Ok (xs, [])
-last_again xs fits = ap (section 11 data_segment).reading (sym (append-nil ((section 11 data_segment).spelling xs))) ∙ (section_law 11 data_segment data_segment_law).again xs [] tt fits
+last_again : (xs : List Data) → (section 11 data_segment).fits xs ≡ true → (section 11 data_segment).reading ((section 11 data_segment).encoding xs) ≡ Ok (xs, [])
+last_again xs fits = ap (section 11 data_segment).reading (sym (append-nil ((section 11 data_segment).encoding xs))) ∙ (section_law 11 data_segment data_segment_law).again xs [] tt fits
 
-last_past : (before : ℕ) (xs : List Data) → before < 11 → Past before ((section 11 data_segment).spelling xs)
+last_past : (before : ℕ) (xs : List Data) → before < 11 → Past before ((section 11 data_segment).encoding xs)
 last_past before [] lt = tt
 last_past before (x ∷ xs) lt = lt
 
 -- what stands behind each section, given by the sections behind it
 record Layout (m : WModule) (s0 s1 s2 s3 s4 s5 s6 s7 s9 s10 : List ℕ) : Type 0 where
-  is0 : s0 ≡ (section 1 func_type).spelling m.types ++ s1
-  is1 : s1 ≡ (section 2 import).spelling m.imports ++ s2
-  is2 : s2 ≡ (section 3 unsigned).spelling (types_of m.functions) ++ s3
-  is3 : s3 ≡ (section 4 table_type).spelling m.tables ++ s4
-  is4 : s4 ≡ (section 5 memory_type).spelling m.memories ++ s5
-  is5 : s5 ≡ (section 6 global).spelling m.globals ++ s6
-  is6 : s6 ≡ (section 7 export).spelling m.exports ++ s7
-  is7 : s7 ≡ (section 9 element).spelling m.elements ++ s9
-  is9 : s9 ≡ code_spelling m.functions ++ s10
-  is10 : s10 ≡ (section 11 data_segment).spelling m.«data»
+  is0 : s0 ≡ (section 1 func_type).encoding m.types ++ s1
+  is1 : s1 ≡ (section 2 import).encoding m.imports ++ s2
+  is2 : s2 ≡ (section 3 unsigned).encoding (types_of m.functions) ++ s3
+  is3 : s3 ≡ (section 4 table_type).encoding m.tables ++ s4
+  is4 : s4 ≡ (section 5 memory_type).encoding m.memories ++ s5
+  is5 : s5 ≡ (section 6 global).encoding m.globals ++ s6
+  is6 : s6 ≡ (section 7 export).encoding m.exports ++ s7
+  is7 : s7 ≡ (section 9 element).encoding m.elements ++ s9
+  is9 : s9 ≡ code_encoding m.functions ++ s10
+  is10 : s10 ≡ (section 11 data_segment).encoding m.«data»
 
 -- a section is read again, and those behind it have greater numbers
 record Again {A : Type 0} (number before : ℕ) (p : Format A) (xs : List A) (now behind : List ℕ) : Type 0 where
   read : (section number p).reading now ≡ Ok (xs, behind)
   past : Past before now
 
-again_is : {A : Type 0} (number before : ℕ) (p : Format A) (law : Law p) (xs : List A) (now behind : List ℕ) → before < number → (section number p).fits xs ≡ true → now ≡ (section number p).spelling xs ++ behind → Past number behind → Again number before p xs now behind
+again_is : {A : Type 0} (number before : ℕ) (p : Format A) (law : Law p) (xs : List A) (now behind : List ℕ) → before < number → (section number p).fits xs ≡ true → now ≡ (section number p).encoding xs ++ behind → Past number behind → Again number before p xs now behind
 again_is number before p law xs now behind lt fits is past = record {
   read = ap (section number p).reading is ∙ (section_law number p law).again xs behind past fits;
   past = subst (Past before) (sym is) (Past-section before number p xs behind lt (Past-less before number behind lt past));
@@ -396,7 +396,7 @@ read_again m bytes s0 s1 s2 s3 s4 s5 s6 s7 s9 s10 e0 e1 e2 e3 e4 e5 e6 e7 e9 e10
 abbrev FitsEach : WModule → Type 0
 FitsEach m =
     AllTrue ((section 1 func_type).fits m.types) ((section 2 import).fits m.imports) ((section 3 unsigned).fits (types_of m.functions)) ((section 4 table_type).fits m.tables) ((section 5 memory_type).fits m.memories)
-    ((section 6 global).fits m.globals) ((section 7 export).fits m.exports) ((section 9 element).fits m.elements) (bodies_fit m.functions) (ltb (length (bodies_spelling m.functions)) (2 ^ 32)) ((section 11 data_segment).fits m.«data»)
+    ((section 6 global).fits m.globals) ((section 7 export).fits m.exports) ((section 9 element).fits m.elements) (bodies_fit m.functions) (ltb (length (bodies_encoding m.functions)) (2 ^ 32)) ((section 11 data_segment).fits m.«data»)
 
 fits_each : (m : WModule) → module_fits m ≡ true → FitsEach m
 unfolding module_fits
@@ -419,9 +419,9 @@ layout_again m s0 s1 s2 s3 s4 s5 s6 s7 s9 s10 fits l =
     let last : (section 11 data_segment).reading s10 ≡ Ok (m.«data», []) = ap (section 11 data_segment).reading l.is10 ∙ last_again m.«data» f.eleven in
     read_again m (header ++ s0) s0 s1 s2 s3 s4 s5 s6 s7 s9 s10 (skip_all_same header s0) a0.read a1.read a2.read a3.read a4.read a5.read a6.read a7.read coded last
 
-pub module_again : (m : WModule) → module_fits m ≡ true → module_at (module_spelling m) ≡ Ok (m, [])
+pub module_again : (m : WModule) → module_fits m ≡ true → module_at (module_encoding m) ≡ Ok (m, [])
 module_again m fits =
-    ap module_at (spelling_is m) ∙ layout_again m _ _ _ _ _ _ _ _ _ _ fits (record { is0 = refl; is1 = refl; is2 = refl; is3 = refl; is4 = refl; is5 = refl; is6 = refl; is7 = refl; is9 = refl; is10 = refl })
+    ap module_at (encoding_is m) ∙ layout_again m _ _ _ _ _ _ _ _ _ _ fits (record { is0 = refl; is1 = refl; is2 = refl; is3 = refl; is4 = refl; is5 = refl; is6 = refl; is7 = refl; is9 = refl; is10 = refl })
 
 pub binary_law : WholeLaw binary
 binary_law = record {
@@ -429,53 +429,53 @@ binary_law = record {
       let t = module_takes bytes m rest fits e in
       let none : rest ≡ [] = t.1 in
       record {
-        parts = t.0.spelling ∙ sym (append-nil (module_spelling m)) ∙ ap (λ (r : List ℕ). module_spelling m ++ r) (sym none);
+        parts = t.0.encoding ∙ sym (append-nil (module_encoding m)) ∙ ap (λ (r : List ℕ). module_encoding m ++ r) (sym none);
         rest_fits = subst IsBytes (sym none) (λ i. omega arith);
         fits = t.0.fits;
       };
   again = module_again;
 }
 
--- bytes are read as a module exactly where they spell it
-pub module_read : (bytes : List ℕ) (m : WModule) → IsBytes bytes → (module_at bytes ≡ Ok (m, [])) ↔ Spells bytes m
-module_read bytes m fits = (λ e. (module_takes bytes m [] fits e).0, λ s. ap module_at s.spelling ∙ module_again m s.fits)
+-- bytes are read as a module exactly where they encode it
+pub module_read : (bytes : List ℕ) (m : WModule) → IsBytes bytes → (module_at bytes ≡ Ok (m, [])) ↔ Encodes bytes m
+module_read bytes m fits = (λ e. (module_takes bytes m [] fits e).0, λ s. ap module_at s.encoding ∙ module_again m s.fits)
 
--- and they spell no other one
-pub one_module : (bytes : List ℕ) (m n : WModule) → Spells bytes m → Spells bytes n → m ≡ n
+-- and they encode no other one
+pub one_module : (bytes : List ℕ) (m n : WModule) → Encodes bytes m → Encodes bytes n → m ≡ n
 one_module bytes m n s t =
-    let one : module_at bytes ≡ Ok (m, []) = ap module_at s.spelling ∙ module_again m s.fits in
-    let two : module_at bytes ≡ Ok (n, []) = ap module_at t.spelling ∙ module_again n t.fits in
+    let one : module_at bytes ≡ Ok (m, []) = ap module_at s.encoding ∙ module_again m s.fits in
+    let two : module_at bytes ≡ Ok (n, []) = ap module_at t.encoding ∙ module_again n t.fits in
     (read_is m n [] [] (sym one ∙ two)).0
 
 refused_and_read : (x : WModule × List ℕ) (e : WFault) → ◌≡◌ {A = Reading WModule} (Ok x) (Err e) → ⊥
 refused_and_read x e h = cc
 
--- bytes that are refused spell no module
-pub none_spelled : (bytes : List ℕ) (e : WFault) → module_at bytes ≡ Err e → (m : WModule) → Spells bytes m → ⊥
-none_spelled bytes e refused m s =
-    let read : module_at bytes ≡ Ok (m, []) = ap module_at s.spelling ∙ module_again m s.fits in
+-- bytes that are refused encode no module
+pub none_encoded : (bytes : List ℕ) (e : WFault) → module_at bytes ≡ Err e → (m : WModule) → Encodes bytes m → ⊥
+none_encoded bytes e refused m s =
+    let read : module_at bytes ≡ Ok (m, []) = ap module_at s.encoding ∙ module_again m s.fits in
     refused_and_read (m, []) e (sym read ∙ refused)
 
 -- what a function answered that gives this reading
-pub is_spelled : (bytes : List ℕ) (r : Result WModule WFault) → IsBytes bytes → Gives (λ m. (m, [])) r (module_at bytes) → IfOk r (λ m. Spells bytes m)
-is_spelled bytes (Ok m) fits given = (module_takes bytes m [] fits given).0
-is_spelled bytes (Err e) fits given = tt
+pub is_encoded : (bytes : List ℕ) (r : Result WModule WFault) → IsBytes bytes → Gives (λ m. (m, [])) r (module_at bytes) → IfOk r (λ m. Encodes bytes m)
+is_encoded bytes (Ok m) fits given = (module_takes bytes m [] fits given).0
+is_encoded bytes (Err e) fits given = tt
 
-pub is_decided : (bytes : List ℕ) (r : Result WModule WFault) → IsBytes bytes → Gives (λ m. (m, [])) r (module_at bytes) → MatchResult r (λ m. Spells bytes m) (λ e. (e ≡ NoMemory) ⊎ ((m : WModule) → ¬ (Spells bytes m)))
+pub is_decided : (bytes : List ℕ) (r : Result WModule WFault) → IsBytes bytes → Gives (λ m. (m, [])) r (module_at bytes) → MatchResult r (λ m. Encodes bytes m) (λ e. (e ≡ NoMemory) ⊎ ((m : WModule) → ¬ (Encodes bytes m)))
 is_decided bytes (Ok m) fits given = (module_takes bytes m [] fits given).0
-is_decided bytes (Err Malformed) fits given = inr (none_spelled bytes Malformed given)
-is_decided bytes (Err OutsideProfile) fits given = inr (none_spelled bytes OutsideProfile given)
-is_decided bytes (Err Invalid) fits given = inr (none_spelled bytes Invalid given)
-is_decided bytes (Err Unlinked) fits given = inr (none_spelled bytes Unlinked given)
-is_decided bytes (Err SegmentOutside) fits given = inr (none_spelled bytes SegmentOutside given)
+is_decided bytes (Err Malformed) fits given = inr (none_encoded bytes Malformed given)
+is_decided bytes (Err OutsideProfile) fits given = inr (none_encoded bytes OutsideProfile given)
+is_decided bytes (Err Invalid) fits given = inr (none_encoded bytes Invalid given)
+is_decided bytes (Err Unlinked) fits given = inr (none_encoded bytes Unlinked given)
+is_decided bytes (Err SegmentOutside) fits given = inr (none_encoded bytes SegmentOutside given)
 is_decided bytes (Err NoMemory) fits given = inl refl
 
--- what is written is the only spelling
-pub only_spelling : (bytes : List ℕ) (m : WModule) → bytes ≡ module_spelling m → module_fits m ≡ true → IsOnlySpelling bytes m
-only_spelling bytes m e fits =
-    let here : Spells bytes m = record { fits = fits; spelling = e } in
-    record { spells = here; no_others = λ others h. h.spelling ∙ sym e; no_other = λ n h. one_module bytes n m h here }
+-- what is written is the only encoding
+pub only_encoding : (bytes : List ℕ) (m : WModule) → bytes ≡ module_encoding m → module_fits m ≡ true → IsOnlyEncoding bytes m
+only_encoding bytes m e fits =
+    let here : Encodes bytes m = record { fits = fits; encoding = e } in
+    record { encodes = here; no_others = λ others h. h.encoding ∙ sym e; no_other = λ n h. one_module bytes n m h here }
 
-pub is_only_spelling : {E : Type 0} (m : WModule) (r : Result (Vec ℕ) E) → IfOk r (λ v. v.items ≡ module_spelling m) → OnOk r (module_fits m ≡ true) → IfOk r (λ v. IsOnlySpelling v.items m)
-is_only_spelling m (Ok v) h fits = only_spelling v.items m h fits
-is_only_spelling m (Err e) h fits = tt
+pub is_only_encoding : {E : Type 0} (m : WModule) (r : Result (Vec ℕ) E) → IfOk r (λ v. v.items ≡ module_encoding m) → OnOk r (module_fits m ≡ true) → IfOk r (λ v. IsOnlyEncoding v.items m)
+is_only_encoding m (Ok v) h fits = only_encoding v.items m h fits
+is_only_encoding m (Err e) h fits = tt

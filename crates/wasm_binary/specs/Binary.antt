@@ -1,4 +1,4 @@
--- The binary format of modules (Core 1.0, section 5), in this project's profile: each number in its shortest spelling.
+-- The binary format of modules (Core 1.0, section 5), in this project's profile: each number in its shortest encoding.
 use Rattle.std.specs.Prelude.{◌≡◌, ℕ, zero, suc, ◌+◌, ◌^◌, Bool, true, ◌&&◌, List, [], ◌∷◌, ◌++◌, length, take, map, sum_by, Some, None, Result, Ok, Err, nat_lt, ◌==◌, if◌then◌else◌}
 use Rattle.std.specs.List.{flat_map, list_all}
 use Rattle.wasm_tree.specs.declared.fault.WFault.{WFault}
@@ -30,8 +30,8 @@ use Rattle.wasm_bytes.specs.Parts.{◌▸◌, ◌◂◌, ◌·◌, seen, vector,
 unfoldable pub func_type : Format FuncType
 func_type = seen (λ p. record { params = p.0; results = p.1 }) (λ t. (t.params, t.results)) (0x60 ▸ vector value_type · vector value_type)
 
-abbrev pub limits_spelling : Limits → List ℕ
-limits_spelling l = elim l.max [ None ↦ 0x00 ∷ unsigned.spelling l.min | Some m ↦ 0x01 ∷ unsigned.spelling l.min ++ unsigned.spelling m ]
+abbrev pub limits_encoding : Limits → List ℕ
+limits_encoding l = elim l.max [ None ↦ 0x00 ∷ unsigned.encoding l.min | Some m ↦ 0x01 ∷ unsigned.encoding l.min ++ unsigned.encoding m ]
 
 abbrev pub limits_of : ℕ → List ℕ → Reading Limits
 limits_of zero bytes = unsigned.reading bytes >>= λ n. Ok (record { min = n.0; max = None }, n.1)
@@ -42,7 +42,7 @@ abbrev pub limits_fit : Limits → Bool
 limits_fit l = unsigned.fits l.min && elim l.max [ None ↦ true | Some m ↦ unsigned.fits m ]
 
 unfoldable pub limits : Format Limits
-limits = record { spelling = limits_spelling; reading = λ bytes. byte_at bytes >>= λ b. limits_of b.0 b.1; fits = limits_fit }
+limits = record { encoding = limits_encoding; reading = λ bytes. byte_at bytes >>= λ b. limits_of b.0 b.1; fits = limits_fit }
 
 unfoldable pub table_type : Format TableType
 table_type = seen (λ l. record { limits = l }) (λ t. t.limits) (0x70 ▸ limits)
@@ -52,11 +52,11 @@ memory_type = seen (λ l. record { limits = l }) (λ t. t.limits) limits
 
 -- ---- the parts of a module (5.5)
 
-abbrev pub import_kind_spelling : ImportKind → List ℕ
-import_kind_spelling (imported.Function t) = 0x00 ∷ unsigned.spelling t
-import_kind_spelling (imported.Table t) = 0x01 ∷ table_type.spelling t
-import_kind_spelling (imported.Memory t) = 0x02 ∷ memory_type.spelling t
-import_kind_spelling (imported.Global t) = 0x03 ∷ value_type.spelling t ++ 0x00 ∷ []
+abbrev pub import_kind_encoding : ImportKind → List ℕ
+import_kind_encoding (imported.Function t) = 0x00 ∷ unsigned.encoding t
+import_kind_encoding (imported.Table t) = 0x01 ∷ table_type.encoding t
+import_kind_encoding (imported.Memory t) = 0x02 ∷ memory_type.encoding t
+import_kind_encoding (imported.Global t) = 0x03 ∷ value_type.encoding t ++ 0x00 ∷ []
 
 abbrev pub import_kind_of : ℕ → List ℕ → Reading ImportKind
 import_kind_of b bytes =
@@ -72,7 +72,7 @@ import_kind_fits (imported.Memory t) = memory_type.fits t
 import_kind_fits (imported.Global t) = true
 
 unfoldable pub import_kind : Format ImportKind
-import_kind = record { spelling = import_kind_spelling; reading = λ bytes. byte_at bytes >>= λ b. import_kind_of b.0 b.1; fits = import_kind_fits }
+import_kind = record { encoding = import_kind_encoding; reading = λ bytes. byte_at bytes >>= λ b. import_kind_of b.0 b.1; fits = import_kind_fits }
 
 unfoldable pub import : Format Import
 import = seen (λ p. record { module_name = p.0; name = p.1.0; kind = p.1.1 }) (λ i. (i.module_name, (i.name, i.kind))) (name · (name · import_kind))
@@ -80,11 +80,11 @@ import = seen (λ p. record { module_name = p.0; name = p.1.0; kind = p.1.1 }) (
 unfoldable pub global : Format Global
 global = seen (λ p. record { value_type = p.0; value = p.1 }) (λ g. (g.value_type, g.value)) ((value_type ◂ 0x00) · code)
 
-abbrev pub export_kind_spelling : ExportKind → List ℕ
-export_kind_spelling (exported.Function i) = 0x00 ∷ unsigned.spelling i
-export_kind_spelling (exported.Table i) = 0x01 ∷ unsigned.spelling i
-export_kind_spelling (exported.Memory i) = 0x02 ∷ unsigned.spelling i
-export_kind_spelling (exported.Global i) = 0x03 ∷ unsigned.spelling i
+abbrev pub export_kind_encoding : ExportKind → List ℕ
+export_kind_encoding (exported.Function i) = 0x00 ∷ unsigned.encoding i
+export_kind_encoding (exported.Table i) = 0x01 ∷ unsigned.encoding i
+export_kind_encoding (exported.Memory i) = 0x02 ∷ unsigned.encoding i
+export_kind_encoding (exported.Global i) = 0x03 ∷ unsigned.encoding i
 
 abbrev pub export_kind_of : ℕ → List ℕ → Reading ExportKind
 export_kind_of b bytes =
@@ -100,7 +100,7 @@ export_kind_fits (exported.Memory i) = unsigned.fits i
 export_kind_fits (exported.Global i) = unsigned.fits i
 
 unfoldable pub export_kind : Format ExportKind
-export_kind = record { spelling = export_kind_spelling; reading = λ bytes. byte_at bytes >>= λ b. export_kind_of b.0 b.1; fits = export_kind_fits }
+export_kind = record { encoding = export_kind_encoding; reading = λ bytes. byte_at bytes >>= λ b. export_kind_of b.0 b.1; fits = export_kind_fits }
 
 unfoldable pub export : Format Export
 export = seen (λ p. record { name = p.0; kind = p.1 }) (λ e. (e.name, e.kind)) (name · export_kind)
@@ -116,15 +116,15 @@ locals_at (suc count) before bytes =
     then (value_type.reading n.1 >>= λ t. locals_at count (before + n.0) t.1 >>= λ ls. Ok (record { count = n.0; value_type = t.0 } ∷ ls.0, ls.1))
     else Err Malformed
 
-abbrev pub locals_spelling : Locals → List ℕ
-locals_spelling l = unsigned.spelling l.count ++ value_type.spelling l.value_type
+abbrev pub locals_encoding : Locals → List ℕ
+locals_encoding l = unsigned.encoding l.count ++ value_type.encoding l.value_type
 
 abbrev pub declared : List Locals → ℕ
 declared ls = sum_by (λ l. l.count) ls
 
 unfoldable pub locals : Format (List Locals)
 locals = record {
-  spelling = λ ls. unsigned.spelling (length ls) ++ flat_map locals_spelling ls;
+  encoding = λ ls. unsigned.encoding (length ls) ++ flat_map locals_encoding ls;
   reading = λ bytes. unsigned.reading bytes >>= λ n. locals_at n.0 0 n.1;
   fits = λ ls. nat_lt (length ls) (2 ^ 32) && nat_lt (declared ls) (2 ^ 32);
 }
@@ -185,49 +185,49 @@ module_at bytes = do
   Ok (record { types = types.0; imports = imports.0; functions = functions.0; tables = tables.0; memories = memories.0; globals = globals.0; exports = exports.0; elements = elements.0; «data» = segments.0 }, [])
 
 -- the code section, beside which the function section stands
-abbrev pub body_spelling : Function → List ℕ
-body_spelling f = body.spelling f.body
+abbrev pub body_encoding : Function → List ℕ
+body_encoding f = body.encoding f.body
 
-abbrev pub bodies_spelling : List Function → List ℕ
-bodies_spelling fs = unsigned.spelling (length fs) ++ flat_map body_spelling fs
+abbrev pub bodies_encoding : List Function → List ℕ
+bodies_encoding fs = unsigned.encoding (length fs) ++ flat_map body_encoding fs
 
-abbrev pub code_spelling : List Function → List ℕ
-code_spelling [] = []
-code_spelling (f ∷ fs) = 10 ∷ unsigned.spelling (length (bodies_spelling (f ∷ fs))) ++ bodies_spelling (f ∷ fs)
+abbrev pub code_encoding : List Function → List ℕ
+code_encoding [] = []
+code_encoding (f ∷ fs) = 10 ∷ unsigned.encoding (length (bodies_encoding (f ∷ fs))) ++ bodies_encoding (f ∷ fs)
 
 abbrev pub types_of : List Function → List ℕ
 types_of fs = map (λ f. f.type_index) fs
 
 unfoldable pub first_sections : WModule → List ℕ
-first_sections m = header ++ (section 1 func_type).spelling m.types ++ (section 2 import).spelling m.imports ++ (section 3 unsigned).spelling (types_of m.functions)
+first_sections m = header ++ (section 1 func_type).encoding m.types ++ (section 2 import).encoding m.imports ++ (section 3 unsigned).encoding (types_of m.functions)
 
 unfoldable pub middle_sections : WModule → List ℕ
-middle_sections m = (section 4 table_type).spelling m.tables ++ (section 5 memory_type).spelling m.memories ++ (section 6 global).spelling m.globals ++ (section 7 export).spelling m.exports
+middle_sections m = (section 4 table_type).encoding m.tables ++ (section 5 memory_type).encoding m.memories ++ (section 6 global).encoding m.globals ++ (section 7 export).encoding m.exports
 
 unfoldable pub last_sections : WModule → List ℕ
-last_sections m = (section 9 element).spelling m.elements ++ code_spelling m.functions ++ (section 11 data_segment).spelling m.data
+last_sections m = (section 9 element).encoding m.elements ++ code_encoding m.functions ++ (section 11 data_segment).encoding m.data
 
-unfoldable pub module_spelling : WModule → List ℕ
-module_spelling m = first_sections m ++ middle_sections m ++ last_sections m
+unfoldable pub module_encoding : WModule → List ℕ
+module_encoding m = first_sections m ++ middle_sections m ++ last_sections m
 
--- the module has a spelling: its numbers fit their widths, its names are UTF-8, and no vector or part is too long
+-- the module has an encoding: its numbers fit their widths, its names are UTF-8, and no vector or part is too long
 unfoldable pub module_fits : WModule → Bool
 module_fits m =
     (section 1 func_type).fits m.types && (section 2 import).fits m.imports && (section 3 unsigned).fits (types_of m.functions)
     && (section 4 table_type).fits m.tables && (section 5 memory_type).fits m.memories && (section 6 global).fits m.globals
     && (section 7 export).fits m.exports && (section 9 element).fits m.elements && list_all (λ f. body.fits f.body) m.functions
-    && nat_lt (length (bodies_spelling m.functions)) (2 ^ 32) && (section 11 data_segment).fits m.data
+    && nat_lt (length (bodies_encoding m.functions)) (2 ^ 32) && (section 11 data_segment).fits m.data
 
 abbrev pub binary : Format WModule
-binary = record { spelling = module_spelling; reading = module_at; fits = module_fits }
+binary = record { encoding = module_encoding; reading = module_at; fits = module_fits }
 
--- the bytes spell the module
-pub record Spells (bytes : List ℕ) (m : WModule) : Type 0 where
+-- the bytes encode the module
+pub record Encodes (bytes : List ℕ) (m : WModule) : Type 0 where
   pub fits : module_fits m ≡ true
-  pub spelling : bytes ≡ module_spelling m
+  pub encoding : bytes ≡ module_encoding m
 
--- these bytes spell the module, no others do, and they spell no other module
-pub record IsOnlySpelling (bytes : List ℕ) (m : WModule) : Type 0 where
-  pub spells : Spells bytes m
-  pub no_others : (others : List ℕ) → Spells others m → others ≡ bytes
-  pub no_other : (n : WModule) → Spells bytes n → n ≡ m
+-- these bytes encode the module, no others do, and they encode no other module
+pub record IsOnlyEncoding (bytes : List ℕ) (m : WModule) : Type 0 where
+  pub encodes : Encodes bytes m
+  pub no_others : (others : List ℕ) → Encodes others m → others ≡ bytes
+  pub no_other : (n : WModule) → Encodes bytes n → n ≡ m

@@ -27,7 +27,7 @@ pub trait Binary: Drop {
 
     /// Appends the encoding. The only error is that memory ran out, or that the value has no encoding.
     fn write(&self, out: &mut Writer) -> Result<(), AllocError>
-        ensures written { OnOk result (out.new ≡ out.old ++ format.spelling self.now) }
+        ensures written { OnOk result (out.new ≡ out.old ++ format.encoding self.now) }
         ensures fits { OnOk result (format.fits self.now ≡ true) };
 }
 
@@ -101,7 +101,7 @@ pub fn section<T: Binary>(
 /// Appends how many there are, and then each. The only error is that memory ran out, or that one of them has no encoding,
 /// or that they are too many.
 pub fn write_vector<T: Binary>(out: &mut Writer, items: &[T]) -> Result<(), AllocError>
-    ensures written { OnOk result (out.new ≡ out.old ++ (vector T.format).spelling items.now) }
+    ensures written { OnOk result (out.new ≡ out.old ++ (vector T.format).encoding items.now) }
     ensures fits { OnOk result ((vector T.format).fits items.now ≡ true) }
 {
     if items.len() > MAX_ENTRIES {
@@ -117,7 +117,7 @@ pub fn write_vector<T: Binary>(out: &mut Writer, items: &[T]) -> Result<(), Allo
 /// Appends the section of this number, or nothing where it has no entry. The only error is that memory ran out, or that
 /// the section has no encoding.
 pub fn write_section<T: Binary>(out: &mut Writer, number: u8, items: &[T]) -> Result<(), AllocError>
-    ensures written { OnOk result (out.new ≡ out.old ++ (section number T.format).spelling items.now) }
+    ensures written { OnOk result (out.new ≡ out.old ++ (section number T.format).encoding items.now) }
     ensures fits { OnOk result ((section number T.format).fits items.now ≡ true) }
 {
     if items.is_empty() {

@@ -5,7 +5,7 @@ ghost use Rattle.std.specs.List.{list_all};
 ghost use Rattle.wasm_bytes.specs.Number.{unsigned};
 ghost use Rattle.wasm_bytes.specs.Parts.{section};
 ghost use Rattle.wasm_tree.specs.Format.{Format, Gives};
-ghost use Rattle.wasm_binary.specs.Binary.{body, data_segment, element, export, func_type, global, import, memory_type, table_type, header, skip_all, bodies, code_entries, code_content, code_section, at_end, module_at, types_of, bodies_spelling, code_spelling, first_sections, middle_sections, last_sections, module_spelling, module_fits, Spells, IsOnlySpelling};
+ghost use Rattle.wasm_binary.specs.Binary.{body, data_segment, element, export, func_type, global, import, memory_type, table_type, header, skip_all, bodies, code_entries, code_content, code_section, at_end, module_at, types_of, bodies_encoding, code_encoding, first_sections, middle_sections, last_sections, module_encoding, module_fits, Encodes, IsOnlyEncoding};
 ghost use Rattle.wasm_tree.specs.declared.fault.WFault.TheVariants.{NoMemory};
 ghost use Rattle.wasm_tree.specs.declared.module.WModule.{WModule};
 
@@ -142,12 +142,12 @@ fn module_at(alloc: Global, bytes: &[u8]) -> Result<WModule, WFault>
     })
 }
 
-/// The module that the bytes spell. `Malformed` or `OutsideProfile` where they spell none: which of the two, the first
-/// byte decides that cannot continue a spelling or that breaks a stated size.
+/// The module that the bytes encode. `Malformed` or `OutsideProfile` where they encode none: which of the two, the first
+/// byte decides that cannot continue an encoding or that breaks a stated size.
 pub fn read_module(alloc: Global, bytes: &[u8]) -> Result<WModule, WFault>
-    // A module exactly where the bytes spell it.
-    ensures decided { MatchResult result (λ m. Spells bytes.now m)
-        (λ e. (e ≡ NoMemory) ⊎ ((m : WModule) → ¬ (Spells bytes.now m))) }
+    // A module exactly where the bytes encode it.
+    ensures decided { MatchResult result (λ m. Encodes bytes.now m)
+        (λ e. (e ≡ NoMemory) ⊎ ((m : WModule) → ¬ (Encodes bytes.now m))) }
     // Which fault it is.
     ensures exact { Gives (λ m. (m, [])) result (module_at bytes.now) }
     // No memory is asked for before the header is there.
@@ -158,9 +158,9 @@ pub fn read_module(alloc: Global, bytes: &[u8]) -> Result<WModule, WFault>
 
 /// Appends the code section, or nothing where there is no function.
 fn write_code_section(out: &mut Writer, functions: &[Function]) -> Result<(), AllocError>
-    ensures written { OnOk result (out.new ≡ out.old ++ code_spelling functions.now) }
+    ensures written { OnOk result (out.new ≡ out.old ++ code_encoding functions.now) }
     ensures bodies { OnOk result (list_all (λ f. body.fits f.body) functions.now ≡ true) }
-    ensures size { OnOk result (nat_lt (length (bodies_spelling functions.now)) (2 ^ 32) ≡ true) }
+    ensures size { OnOk result (nat_lt (length (bodies_encoding functions.now)) (2 ^ 32) ≡ true) }
 {
     if functions.is_empty() {
         return Ok(());
@@ -172,7 +172,7 @@ fn write_code_section(out: &mut Writer, functions: &[Function]) -> Result<(), Al
 }
 
 fn write_bodies(out: &mut Writer, functions: &[Function]) -> Result<(), AllocError>
-    ensures written { OnOk result (out.new ≡ out.old ++ bodies_spelling functions.now) }
+    ensures written { OnOk result (out.new ≡ out.old ++ bodies_encoding functions.now) }
     ensures fits { OnOk result (list_all (λ f. body.fits f.body) functions.now ≡ true) }
 {
     out.unsigned(functions.len() as u64)?;
@@ -229,7 +229,7 @@ fn write_last(out: &mut Writer, tree: &WModule) -> Result<(), AllocError>
     ensures elements { OnOk result ((section 9 element).fits tree.now.elements ≡ true) }
     ensures bodies { OnOk result (list_all (λ f. body.fits f.body) tree.now.functions ≡ true) }
     ensures size { OnOk result
-        (nat_lt (length (bodies_spelling tree.now.functions)) (2 ^ 32) ≡ true) }
+        (nat_lt (length (bodies_encoding tree.now.functions)) (2 ^ 32) ≡ true) }
     ensures contents { OnOk result ((section 11 data_segment).fits tree.now.data ≡ true) }
 {
     write_section(out, 9, tree.elements.as_slice())?;
@@ -237,9 +237,9 @@ fn write_last(out: &mut Writer, tree: &WModule) -> Result<(), AllocError>
     write_section(out, 11, tree.data.as_slice())
 }
 
-#[tactic(auto, using(crate::proofs::Whole::whole_fits), unfolding(crate::specs::Binary::module_spelling))]
+#[tactic(auto, using(crate::proofs::Whole::whole_fits), unfolding(crate::specs::Binary::module_encoding))]
 fn written(alloc: Global, tree: &WModule) -> Result<Vec<u8>, AllocError>
-    ensures written { IfOk result (λ v. v.items ≡ module_spelling tree.now) }
+    ensures written { IfOk result (λ v. v.items ≡ module_encoding tree.now) }
     ensures fits { OnOk result (module_fits tree.now ≡ true) }
 {
     let uses = types_of(alloc, tree.functions.as_slice())?;
@@ -250,11 +250,11 @@ fn written(alloc: Global, tree: &WModule) -> Result<Vec<u8>, AllocError>
     Ok(out.into_bytes())
 }
 
-/// The bytes that spell the module: no others do. The only error is that memory ran out, or that the module has no
-/// spelling: a vector or a part too long, blocks that nest too deep, a name that is not UTF-8.
+/// The bytes that encode the module: no others do. The only error is that memory ran out, or that the module has no
+/// encoding: a vector or a part too long, blocks that nest too deep, a name that is not UTF-8.
 pub fn write_module(alloc: Global, tree: &WModule) -> Result<Vec<u8>, AllocError>
-    ensures written { IfOk result (λ v. v.items ≡ module_spelling tree.now) }
-    ensures only { IfOk result (λ v. IsOnlySpelling v.items tree.now) }
+    ensures written { IfOk result (λ v. v.items ≡ module_encoding tree.now) }
+    ensures only { IfOk result (λ v. IsOnlyEncoding v.items tree.now) }
 {
     written(alloc, tree)
 }

@@ -1,4 +1,4 @@
--- The two laws of a format: what is read was spelled so, and what is spelled is read again.
+-- The two laws of a format: what is read was encoded so, and what is encoded is read again.
 use Rattle.std.proofs.Common.{◌≡◌, ℕ, suc, ◌+◌, ◌<◌, Bool, true, false, cond, List, [], ◌∷◌, ◌++◌, length, get_or, take, drop, Result, Ok, Err, refl, sym, ap, subst, ◌∙◌, arith, inl, inr}
 use Rattle.std.proofs.lemmas.Bool.{cases_lt}
 use Rattle.std.proofs.lemmas.List.{append-nil, length-take, get_or-drop, get_or-take, get_or_past, get_or-append-add}
@@ -51,7 +51,7 @@ read_is {A} x y b c e = (ap (λ (p : A × List ℕ). p.0) (ok_is {A = A × List 
 
 -- what a reading took from the front
 pub record Taken {A : Type 0} (p : Format A) (bytes : List ℕ) (x : A) (rest : List ℕ) : Type 0 where
-  pub parts : bytes ≡ p.spelling x ++ rest
+  pub parts : bytes ≡ p.encoding x ++ rest
   pub rest_fits : IsBytes rest
   pub fits : p.fits x ≡ true
 
@@ -60,16 +60,16 @@ taken_at p bytes x y b c is t = subst (λ z. Taken p bytes z c) is.0 (subst (λ 
 
 pub record Law {A : Type 0} (p : Format A) : Type 0 where
   pub takes : (bytes : List ℕ) (x : A) (rest : List ℕ) → IsBytes bytes → p.reading bytes ≡ Ok (x, rest) → Taken p bytes x rest
-  pub again : (x : A) (rest : List ℕ) → p.fits x ≡ true → p.reading (p.spelling x ++ rest) ≡ Ok (x, rest)
+  pub again : (x : A) (rest : List ℕ) → p.fits x ≡ true → p.reading (p.encoding x ++ rest) ≡ Ok (x, rest)
 
 -- the same of a format that is read from bytes of its own
 pub record WholeLaw {A : Type 0} (p : Format A) : Type 0 where
   pub takes : (bytes : List ℕ) (x : A) (rest : List ℕ) → IsBytes bytes → p.reading bytes ≡ Ok (x, rest) → Taken p bytes x rest
-  pub again : (x : A) → p.fits x ≡ true → p.reading (p.spelling x) ≡ Ok (x, [])
+  pub again : (x : A) → p.fits x ≡ true → p.reading (p.encoding x) ≡ Ok (x, [])
 
 pub whole : {A : Type 0} (p : Format A) → Law p → WholeLaw p
-whole p law = record { takes = law.takes; again = λ x fits. ap p.reading (sym (append-nil (p.spelling x))) ∙ law.again x [] fits }
+whole p law = record { takes = law.takes; again = λ x fits. ap p.reading (sym (append-nil (p.encoding x))) ∙ law.again x [] fits }
 
 -- a byte before what was read
-pub put_before : (b : ℕ) (bytes text mid rest spelled : List ℕ) → bytes ≡ text ++ mid → mid ≡ rest → spelled ≡ b ∷ text → b ∷ bytes ≡ spelled ++ rest
-put_before b bytes text mid rest spelled e same is = ap (λ (t : List ℕ). b ∷ t) (e ∙ ap (λ (r : List ℕ). text ++ r) same) ∙ ap (λ (s : List ℕ). s ++ rest) (sym is)
+pub put_before : (b : ℕ) (bytes text mid rest encoded : List ℕ) → bytes ≡ text ++ mid → mid ≡ rest → encoded ≡ b ∷ text → b ∷ bytes ≡ encoded ++ rest
+put_before b bytes text mid rest encoded e same is = ap (λ (t : List ℕ). b ∷ t) (e ∙ ap (λ (r : List ℕ). text ++ r) same) ∙ ap (λ (s : List ℕ). s ++ rest) (sym is)

@@ -8,7 +8,7 @@ use Rattle.std.proofs.lemmas.List.{append-nil, length-append, take-append-drop, 
 use Rattle.wasm_tree.specs.declared.fault.WFault.TheVariants.{Malformed}
 use Rattle.wasm_tree.specs.Format.{Format, Reading, ◌>>=◌, skip}
 use Rattle.wasm_bytes.specs.Number.{unsigned}
-use Rattle.wasm_bytes.specs.Parts.{◌▸◌, ◌◂◌, ◌·◌, seen, that, many, vector, positive, entries, closed, sized, bytes_left, section_spelling, section_reading, section_fits, section, name}
+use Rattle.wasm_bytes.specs.Parts.{◌▸◌, ◌◂◌, ◌·◌, seen, that, many, vector, positive, entries, closed, sized, bytes_left, section_encoding, section_reading, section_fits, section, name}
 use Rattle.wasm_bytes.proofs.Laws.{IsBytes, IsBytes-tail, IsBytes-take, IsBytes-drop, bind_ok, guard_ok, ok_is, read_is, Taken, taken_at, Law, WholeLaw, whole}
 use Rattle.wasm_bytes.proofs.LawsNumber.{unsigned_law}
 
@@ -36,7 +36,7 @@ module _ {A : Type 0} (byte : ℕ) (p : Format A) (law : Law p) where
       record { parts = s ∙ ap (λ (r : List ℕ). byte ∷ r) t.parts; rest_fits = t.rest_fits; fits = t.fits }
 
   pub before_law : Law (byte ▸ p)
-  before_law = record { takes = before_takes; again = λ x rest fits. rw (skip_same byte (p.spelling x ++ rest)) (law.again x rest fits) }
+  before_law = record { takes = before_takes; again = λ x rest fits. rw (skip_same byte (p.encoding x ++ rest)) (law.again x rest fits) }
 
   behind_takes : (bytes : List ℕ) (x : A) (rest : List ℕ) → IsBytes bytes → (p ◂ byte).reading bytes ≡ Ok (x, rest) → Taken (p ◂ byte) bytes x rest
   behind_takes bytes x rest fits e =
@@ -45,11 +45,11 @@ module _ {A : Type 0} (byte : ℕ) (p : Format A) (law : Law p) where
       let is = read_is a.0.0 x b.0.1 rest b.2 in
       let t = law.takes bytes a.0.0 a.0.1 fits a.1 in
       let s = skip_ok byte a.0.1 b.0 b.1 in
-      let parts : bytes ≡ (p.spelling a.0.0 ++ byte ∷ []) ++ b.0.1 = t.parts ∙ ap (λ (r : List ℕ). p.spelling a.0.0 ++ r) s ∙ sym (append_assoc (p.spelling a.0.0) (byte ∷ []) b.0.1) in
+      let parts : bytes ≡ (p.encoding a.0.0 ++ byte ∷ []) ++ b.0.1 = t.parts ∙ ap (λ (r : List ℕ). p.encoding a.0.0 ++ r) s ∙ sym (append_assoc (p.encoding a.0.0) (byte ∷ []) b.0.1) in
       taken_at (p ◂ byte) bytes a.0.0 x b.0.1 rest is (record { parts = parts; rest_fits = IsBytes-behind a.0.1 byte b.0.1 s t.rest_fits; fits = t.fits })
 
-  behind_again : (x : A) (rest : List ℕ) → p.fits x ≡ true → (p ◂ byte).reading ((p.spelling x ++ byte ∷ []) ++ rest) ≡ Ok (x, rest)
-  behind_again x rest fits = rw (append_assoc (p.spelling x) (byte ∷ []) rest, law.again x (byte ∷ rest) fits, skip_same byte rest) refl
+  behind_again : (x : A) (rest : List ℕ) → p.fits x ≡ true → (p ◂ byte).reading ((p.encoding x ++ byte ∷ []) ++ rest) ≡ Ok (x, rest)
+  behind_again x rest fits = rw (append_assoc (p.encoding x) (byte ∷ []) rest, law.again x (byte ∷ rest) fits, skip_same byte rest) refl
 
   pub behind_law : Law (p ◂ byte)
   behind_law = record { takes = behind_takes; again = behind_again }
@@ -65,13 +65,13 @@ module _ {A B : Type 0} (p : Format A) (q : Format B) (lp : Law p) (lq : Law q) 
       let is = read_is made x b.0.1 rest b.2 in
       let t = lp.takes bytes a.0.0 a.0.1 fits a.1 in
       let u = lq.takes a.0.1 b.0.0 b.0.1 t.rest_fits b.1 in
-      let parts : bytes ≡ (p.spelling a.0.0 ++ q.spelling b.0.0) ++ b.0.1 = t.parts ∙ ap (λ (r : List ℕ). p.spelling a.0.0 ++ r) u.parts ∙ sym (append_assoc (p.spelling a.0.0) (q.spelling b.0.0) b.0.1) in
+      let parts : bytes ≡ (p.encoding a.0.0 ++ q.encoding b.0.0) ++ b.0.1 = t.parts ∙ ap (λ (r : List ℕ). p.encoding a.0.0 ++ r) u.parts ∙ sym (append_assoc (p.encoding a.0.0) (q.encoding b.0.0) b.0.1) in
       taken_at (p · q) bytes made x b.0.1 rest is (record { parts = parts; rest_fits = u.rest_fits; fits = and_from _ _ t.fits u.fits })
 
-  then_again : (x : A × B) (rest : List ℕ) → (p · q).fits x ≡ true → (p · q).reading ((p · q).spelling x ++ rest) ≡ Ok (x, rest)
+  then_again : (x : A × B) (rest : List ℕ) → (p · q).fits x ≡ true → (p · q).reading ((p · q).encoding x ++ rest) ≡ Ok (x, rest)
   then_again x rest fits =
       let f = and_parts (p.fits x.0) (q.fits x.1) fits in
-      rw (append_assoc (p.spelling x.0) (q.spelling x.1) rest, lp.again x.0 (q.spelling x.1 ++ rest) f.0, lq.again x.1 rest f.1) refl
+      rw (append_assoc (p.encoding x.0) (q.encoding x.1) rest, lp.again x.0 (q.encoding x.1 ++ rest) f.0, lq.again x.1 rest f.1) refl
 
   pub then_law : Law (p · q)
   then_law = record { takes = then_takes; again = then_again }
@@ -85,7 +85,7 @@ module _ {A B : Type 0} (make : A → B) (part : B → A) (p : Format A) (law : 
       let is = read_is (make a.0.0) y a.0.1 rest a.2 in
       let t = law.takes bytes a.0.0 a.0.1 fits a.1 in
       let back = parted a.0.0 in
-      taken_at (seen make part p) bytes (make a.0.0) y a.0.1 rest is (record { parts = t.parts ∙ ap (λ (x : A). p.spelling x ++ a.0.1) (sym back); rest_fits = t.rest_fits; fits = ap p.fits back ∙ t.fits })
+      taken_at (seen make part p) bytes (make a.0.0) y a.0.1 rest is (record { parts = t.parts ∙ ap (λ (x : A). p.encoding x ++ a.0.1) (sym back); rest_fits = t.rest_fits; fits = ap p.fits back ∙ t.fits })
 
   pub seen_law : Law (seen make part p)
   seen_law = record { takes = seen_takes; again = λ y rest fits. rw (law.again (part y) rest fits, made y) refl }
@@ -101,7 +101,7 @@ module _ {A : Type 0} (test : A → Bool) (p : Format A) (law : Law p) where
       let t = law.takes bytes a.0.0 a.0.1 fits a.1 in
       taken_at (that test p) bytes a.0.0 x a.0.1 rest is (record { parts = t.parts; rest_fits = t.rest_fits; fits = and_from _ _ t.fits g.0 })
 
-  that_again : (x : A) (rest : List ℕ) → (that test p).fits x ≡ true → (that test p).reading (p.spelling x ++ rest) ≡ Ok (x, rest)
+  that_again : (x : A) (rest : List ℕ) → (that test p).fits x ≡ true → (that test p).reading (p.encoding x ++ rest) ≡ Ok (x, rest)
   that_again x rest fits =
       let f = and_parts (p.fits x) (test x) fits in
       rw (law.again x rest f.0, f.1) refl
@@ -112,7 +112,7 @@ module _ {A : Type 0} (test : A → Bool) (p : Format A) (law : Law p) where
 -- ---- so many of a kind
 
 record ManyTaken {A : Type 0} (p : Format A) (count : ℕ) (bytes : List ℕ) (xs : List A) (rest : List ℕ) : Type 0 where
-  parts : bytes ≡ flat_map p.spelling xs ++ rest
+  parts : bytes ≡ flat_map p.encoding xs ++ rest
   rest_fits : IsBytes rest
   fits : list_all p.fits xs ≡ true
   len : length xs ≡ count
@@ -132,32 +132,32 @@ module _ {A : Type 0} (p : Format A) (law : Law p) where
       let is = read_is (a.0.0 ∷ b.0.0) xs b.0.1 rest b.2 in
       let t = law.takes bytes a.0.0 a.0.1 fits a.1 in
       let u = many_takes count a.0.1 b.0.0 b.0.1 t.rest_fits b.1 in
-      let parts : bytes ≡ (p.spelling a.0.0 ++ flat_map p.spelling b.0.0) ++ b.0.1 = t.parts ∙ ap (λ (r : List ℕ). p.spelling a.0.0 ++ r) u.parts ∙ sym (append_assoc (p.spelling a.0.0) (flat_map p.spelling b.0.0) b.0.1) in
+      let parts : bytes ≡ (p.encoding a.0.0 ++ flat_map p.encoding b.0.0) ++ b.0.1 = t.parts ∙ ap (λ (r : List ℕ). p.encoding a.0.0 ++ r) u.parts ∙ sym (append_assoc (p.encoding a.0.0) (flat_map p.encoding b.0.0) b.0.1) in
       many_taken_at p (suc count) bytes (a.0.0 ∷ b.0.0) xs b.0.1 rest is (record { parts = parts; rest_fits = u.rest_fits; fits = and_from _ _ t.fits u.fits; len = ap suc u.len })
 
-  many_again : (xs : List A) (rest : List ℕ) → list_all p.fits xs ≡ true → many p (length xs) (flat_map p.spelling xs ++ rest) ≡ Ok (xs, rest)
+  many_again : (xs : List A) (rest : List ℕ) → list_all p.fits xs ≡ true → many p (length xs) (flat_map p.encoding xs ++ rest) ≡ Ok (xs, rest)
   unfolding many
   many_again [] rest fits = refl
   many_again (x ∷ xs) rest fits =
       let f = and_parts (p.fits x) (list_all p.fits xs) fits in
-      rw (append_assoc (p.spelling x) (flat_map p.spelling xs) rest, law.again x (flat_map p.spelling xs ++ rest) f.0, many_again xs rest f.1) refl
+      rw (append_assoc (p.encoding x) (flat_map p.encoding xs) rest, law.again x (flat_map p.encoding xs ++ rest) f.0, many_again xs rest f.1) refl
 
   vector_takes : (bytes : List ℕ) (xs : List A) (rest : List ℕ) → IsBytes bytes → (vector p).reading bytes ≡ Ok (xs, rest) → Taken (vector p) bytes xs rest
   vector_takes bytes xs rest fits e =
       let a = bind_ok (unsigned.reading bytes) (λ n. many p n.0 n.1) (xs, rest) e in
       let t = unsigned_law.takes bytes a.0.0 a.0.1 fits a.1 in
       let u = many_takes a.0.0 a.0.1 xs rest t.rest_fits a.2 in
-      let parts : bytes ≡ (unsigned.spelling a.0.0 ++ flat_map p.spelling xs) ++ rest = t.parts ∙ ap (λ (r : List ℕ). unsigned.spelling a.0.0 ++ r) u.parts ∙ sym (append_assoc (unsigned.spelling a.0.0) (flat_map p.spelling xs) rest) in
+      let parts : bytes ≡ (unsigned.encoding a.0.0 ++ flat_map p.encoding xs) ++ rest = t.parts ∙ ap (λ (r : List ℕ). unsigned.encoding a.0.0 ++ r) u.parts ∙ sym (append_assoc (unsigned.encoding a.0.0) (flat_map p.encoding xs) rest) in
       record {
-        parts = parts ∙ ap (λ (n : ℕ). (unsigned.spelling n ++ flat_map p.spelling xs) ++ rest) (sym u.len);
+        parts = parts ∙ ap (λ (n : ℕ). (unsigned.encoding n ++ flat_map p.encoding xs) ++ rest) (sym u.len);
         rest_fits = u.rest_fits;
         fits = and_from _ _ (ap unsigned.fits u.len ∙ t.fits) u.fits;
       }
 
-  vector_again : (xs : List A) (rest : List ℕ) → (vector p).fits xs ≡ true → (vector p).reading ((vector p).spelling xs ++ rest) ≡ Ok (xs, rest)
+  vector_again : (xs : List A) (rest : List ℕ) → (vector p).fits xs ≡ true → (vector p).reading ((vector p).encoding xs ++ rest) ≡ Ok (xs, rest)
   vector_again xs rest fits =
       let f = and_parts (ltb (length xs) (2 ^ 32)) (list_all p.fits xs) fits in
-      rw (append_assoc (unsigned.spelling (length xs)) (flat_map p.spelling xs) rest, unsigned_law.again (length xs) (flat_map p.spelling xs ++ rest) f.0) (many_again xs rest f.1)
+      rw (append_assoc (unsigned.encoding (length xs)) (flat_map p.encoding xs) rest, unsigned_law.again (length xs) (flat_map p.encoding xs ++ rest) f.0) (many_again xs rest f.1)
 
   pub vector_law : Law (vector p)
   vector_law = record { takes = vector_takes; again = vector_again }
@@ -181,12 +181,12 @@ module _ {A : Type 0} (p : Format A) (law : Law p) where
       let t = vector_takes bytes xs rest fits v in
       record { parts = t.parts; rest_fits = t.rest_fits; fits = and_from _ _ (lt-ltb 0 (length xs) (omega (arith, u.len, s.0))) t.fits }
 
-  entries_again : (xs : List A) (rest : List ℕ) → (entries p).fits xs ≡ true → (entries p).reading ((entries p).spelling xs ++ rest) ≡ Ok (xs, rest)
+  entries_again : (xs : List A) (rest : List ℕ) → (entries p).fits xs ≡ true → (entries p).reading ((entries p).encoding xs ++ rest) ≡ Ok (xs, rest)
   entries_again xs rest fits =
       let g = and_parts (ltb 0 (length xs)) ((vector p).fits xs) fits in
       let f = and_parts (ltb (length xs) (2 ^ 32)) (list_all p.fits xs) g.1 in
       let more : 0 < length xs = ltb-true 0 (length xs) g.0 in
-      rw (append_assoc (unsigned.spelling (length xs)) (flat_map p.spelling xs) rest, unsigned_law.again (length xs) (flat_map p.spelling xs ++ rest) f.0, positive_same (length xs) (flat_map p.spelling xs ++ rest) more) (many_again xs rest f.1)
+      rw (append_assoc (unsigned.encoding (length xs)) (flat_map p.encoding xs) rest, unsigned_law.again (length xs) (flat_map p.encoding xs ++ rest) f.0, positive_same (length xs) (flat_map p.encoding xs ++ rest) more) (many_again xs rest f.1)
 
   pub entries_law : Law (entries p)
   entries_law = record { takes = entries_takes; again = entries_again }
@@ -205,19 +205,19 @@ closed_same text rest =
     rw (le-leb (length text) (length (text ++ rest)) room, drop_at text rest (length text) refl) refl
 
 -- the bytes of a part, and how many they are
-sized_parts : (bytes after text : List ℕ) (n : ℕ) → bytes ≡ unsigned.spelling n ++ after → take n after ≡ text → n ≤ length after → bytes ≡ (unsigned.spelling (length text) ++ text) ++ drop n after
+sized_parts : (bytes after text : List ℕ) (n : ℕ) → bytes ≡ unsigned.encoding n ++ after → take n after ≡ text → n ≤ length after → bytes ≡ (unsigned.encoding (length text) ++ text) ++ drop n after
 sized_parts bytes after text n parts is room =
     let len : length text ≡ n = ap length (sym is) ∙ length-take-le n after room in
     let split : after ≡ text ++ drop n after = sym (take-append-drop n after) ∙ ap (λ (t : List ℕ). t ++ drop n after) is in
-    parts ∙ ap (λ (r : List ℕ). unsigned.spelling n ++ r) split ∙ sym (append_assoc (unsigned.spelling n) text (drop n after)) ∙ ap (λ (k : ℕ). (unsigned.spelling k ++ text) ++ drop n after) (sym len)
+    parts ∙ ap (λ (r : List ℕ). unsigned.encoding n ++ r) split ∙ sym (append_assoc (unsigned.encoding n) text (drop n after)) ∙ ap (λ (k : ℕ). (unsigned.encoding k ++ text) ++ drop n after) (sym len)
 
 module _ {A : Type 0} (p : Format A) where
   sized_taken : (bytes after left rest : List ℕ) (n : ℕ) (x : A) → Taken unsigned bytes n after → Taken p (take n after) x left → closed n after left ≡ Ok rest → Taken (sized p) bytes x rest
   sized_taken bytes after left rest n x t u e =
       let k = closed_ok n after left rest e in
-      let text : take n after ≡ p.spelling x = u.parts ∙ ap (λ (r : List ℕ). p.spelling x ++ r) k.0 ∙ append-nil (p.spelling x) in
-      let len : length (p.spelling x) ≡ n = ap length (sym text) ∙ length-take-le n after k.1 in
-      let parts = sized_parts bytes after (p.spelling x) n t.parts text k.1 in
+      let text : take n after ≡ p.encoding x = u.parts ∙ ap (λ (r : List ℕ). p.encoding x ++ r) k.0 ∙ append-nil (p.encoding x) in
+      let len : length (p.encoding x) ≡ n = ap length (sym text) ∙ length-take-le n after k.1 in
+      let parts = sized_parts bytes after (p.encoding x) n t.parts text k.1 in
       let made : Taken (sized p) bytes x (drop n after) = record { parts = parts; rest_fits = IsBytes-drop n after t.rest_fits; fits = and_from _ _ u.fits (ap unsigned.fits len ∙ t.fits) } in
       taken_at (sized p) bytes x x (drop n after) rest (refl, k.2) made
 
@@ -240,15 +240,15 @@ module _ {A : Type 0} (p : Format A) where
       let is = read_is b.0.0 x c.0 rest c.2 in
       (take a.0.0 a.0.1, b.0.1, subst (λ (y : A). p.reading (take a.0.0 a.0.1) ≡ Ok (y, b.0.1)) is.0 b.1)
 
-  pub sized_again : (x : A) (rest : List ℕ) → p.reading (p.spelling x) ≡ Ok (x, []) → ltb (length (p.spelling x)) (2 ^ 32) ≡ true → (sized p).reading ((sized p).spelling x ++ rest) ≡ Ok (x, rest)
+  pub sized_again : (x : A) (rest : List ℕ) → p.reading (p.encoding x) ≡ Ok (x, []) → ltb (length (p.encoding x)) (2 ^ 32) ≡ true → (sized p).reading ((sized p).encoding x ++ rest) ≡ Ok (x, rest)
   sized_again x rest again room =
-      let text : List ℕ = p.spelling x in
-      rw (append_assoc (unsigned.spelling (length text)) text rest, unsigned_law.again (length text) (text ++ rest) room, take_at text rest (length text) refl, again, closed_same text rest) refl
+      let text : List ℕ = p.encoding x in
+      rw (append_assoc (unsigned.encoding (length text)) text rest, unsigned_law.again (length text) (text ++ rest) room, take_at text rest (length text) refl, again, closed_same text rest) refl
 
   pub sized_law : WholeLaw p → Law (sized p)
   sized_law law = record {
     takes = sized_takes law.takes;
-    again = λ x rest fits. let f = and_parts (p.fits x) (ltb (length (p.spelling x)) (2 ^ 32)) fits in sized_again x rest (law.again x f.0) f.1;
+    again = λ x rest fits. let f = and_parts (p.fits x) (ltb (length (p.encoding x)) (2 ^ 32)) fits in sized_again x rest (law.again x f.0) f.1;
   }
 
 pub are_bytes : (bytes : List ℕ) → IsBytes bytes → list_all (λ b. ltb b 256) bytes ≡ true
@@ -279,9 +279,9 @@ Past number (b ∷ bytes) = number < b
 
 pub record SectionLaw {A : Type 0} (number : ℕ) (p : Format A) : Type 0 where
   pub takes : (bytes : List ℕ) (xs : List A) (rest : List ℕ) → IsBytes bytes → (section number p).reading bytes ≡ Ok (xs, rest) → Taken (section number p) bytes xs rest
-  pub again : (xs : List A) (rest : List ℕ) → Past number rest → (section number p).fits xs ≡ true → (section number p).reading ((section number p).spelling xs ++ rest) ≡ Ok (xs, rest)
+  pub again : (xs : List A) (rest : List ℕ) → Past number rest → (section number p).fits xs ≡ true → (section number p).reading ((section number p).encoding xs ++ rest) ≡ Ok (xs, rest)
 
-pub Past-section : {A : Type 0} (before number : ℕ) (p : Format A) (xs : List A) (rest : List ℕ) → before < number → Past before rest → Past before (section_spelling number p xs ++ rest)
+pub Past-section : {A : Type 0} (before number : ℕ) (p : Format A) (xs : List A) (rest : List ℕ) → before < number → Past before rest → Past before (section_encoding number p xs ++ rest)
 Past-section before number p [] rest lt past = past
 Past-section before number p (x ∷ xs) rest lt past = lt
 
@@ -314,7 +314,7 @@ module _ {A : Type 0} (number : ℕ) (p : Format A) (law : Law p) where
   section_none [] past = refl
   section_none (b ∷ rest) past = rw (ne_eqb b number (λ e. omega arith)) refl
 
-  section_again : (xs : List A) (rest : List ℕ) → Past number rest → section_fits p xs ≡ true → section_reading number p (section_spelling number p xs ++ rest) ≡ Ok (xs, rest)
+  section_again : (xs : List A) (rest : List ℕ) → Past number rest → section_fits p xs ≡ true → section_reading number p (section_encoding number p xs ++ rest) ≡ Ok (xs, rest)
   section_again [] rest past fits = section_none rest past
   section_again (x ∷ xs) rest past fits = rw (eq-eqb number number refl) (section_content.again (x ∷ xs) rest fits)
 

@@ -1,5 +1,5 @@
 -- Numbers in groups of seven bits, the lowest first, each byte but the last with its high bit set, and no group more
--- than the number needs (Core 1.0, section 5.2.2, with the shortest spelling alone).
+-- than the number needs (Core 1.0, section 5.2.2, with the shortest encoding alone).
 use Rattle.std.specs.Prelude.{ℕ, zero, suc, ◌+◌, ◌-◌, ◌*◌, ◌/◌, ◌%◌, ◌^◌, List, [], ◌∷◌, Ok, Err, nat_lt, nat_le, if◌then◌else◌}
 use Rattle.wasm_tree.specs.declared.fault.WFault.TheVariants.{Malformed}
 use Rattle.wasm_tree.specs.Format.{Format, Reading, ◌>>=◌}
@@ -21,7 +21,7 @@ groups_at (suc most) (b ∷ bytes) = if nat_lt b 128 then Ok (b, bytes) else (gr
 
 -- a number below 2 ^ 32
 abbrev pub unsigned : Format ℕ
-unsigned = record { spelling = groups 10; reading = groups_at 5; fits = λ n. nat_lt n (2 ^ 32) }
+unsigned = record { encoding = groups 10; reading = groups_at 5; fits = λ n. nat_lt n (2 ^ 32) }
 
 -- A signed number is given by its bits, as one from 0 to top, the greatest number of its width: those above top / 2
 -- stand for the negative ones. The seventh bit of the last group is its sign.
@@ -48,7 +48,7 @@ signed_groups_at (suc most) top (b ∷ bytes) =
     else (signed_groups_at most top bytes >>= λ high. signed_joined top (b - 128) high.0 high.1))
 
 abbrev pub signed32 : Format ℕ
-signed32 = record { spelling = signed_groups 5 (2 ^ 32 - 1); reading = signed_groups_at 5 (2 ^ 32 - 1); fits = λ n. nat_lt n (2 ^ 32) }
+signed32 = record { encoding = signed_groups 5 (2 ^ 32 - 1); reading = signed_groups_at 5 (2 ^ 32 - 1); fits = λ n. nat_lt n (2 ^ 32) }
 
 abbrev pub signed64 : Format ℕ
-signed64 = record { spelling = signed_groups 10 (2 ^ 64 - 1); reading = signed_groups_at 10 (2 ^ 64 - 1); fits = λ n. nat_lt n (2 ^ 64) }
+signed64 = record { encoding = signed_groups 10 (2 ^ 64 - 1); reading = signed_groups_at 10 (2 ^ 64 - 1); fits = λ n. nat_lt n (2 ^ 64) }

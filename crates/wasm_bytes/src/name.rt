@@ -37,7 +37,7 @@ pub fn name_at(alloc: Global, bytes: &[u8]) -> Result<(Items<u8>, &[u8]), WFault
 /// Appends a name; nothing where memory is refused. It is refused also for a name that is not UTF-8, or is too long.
 #[tactic(auto, unfolding(crate::specs::Parts::name))]
 pub fn write_name(out: &mut Writer, text: &[u8]) -> Result<(), AllocError>
-    ensures ok { OnOk result (out.new ≡ out.old ++ name.spelling text.now) }
+    ensures ok { OnOk result (out.new ≡ out.old ++ name.encoding text.now) }
     ensures err { OnErr result (out.new ≡ out.old) }
     ensures fits { OnOk result (name.fits text.now ≡ true) }
 {

@@ -1,4 +1,4 @@
-//! Numbers in groups of seven bits (Core 1.0, section 5.2.2), in their shortest spelling alone.
+//! Numbers in groups of seven bits (Core 1.0, section 5.2.2), in their shortest encoding alone.
 
 ghost use Rattle.std.specs.Prelude.{◌≡◌, ◌+◌, ◌*◌, ◌%◌, ◌<◌, ◌≤◌, ◌^◌, ◌-◌, ◌/◌, ◌≢◌, IfOk, Err};
 ghost use Rattle.wasm_tree.specs.Format.{Format, Gives};
@@ -38,7 +38,7 @@ fn groups_at(most: u8, bytes: &[u8]) -> Result<(u32, &[u8]), WFault>
     }
 }
 
-/// The number below 2^32 at the front, and the bytes behind it. `Malformed` where there is none, or in a longer spelling.
+/// The number below 2^32 at the front, and the bytes behind it. `Malformed` where there is none, or in a longer encoding.
 #[inline(always)]
 #[tactic(auto, unfolding(crate::specs::Number::groups_at))]
 pub fn unsigned_at(bytes: &[u8]) -> Result<(u32, &[u8]), WFault>

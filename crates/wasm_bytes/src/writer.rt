@@ -79,7 +79,7 @@ impl Writer {
 
     /// Appends an index, a count or a size (Core 1.0, section 5.2.2).
     pub fn unsigned(&mut self, number: u64) -> Result<(), AllocError>
-        ensures ok { OnOk result (self.new ≡ self.old ++ unsigned.spelling number) }
+        ensures ok { OnOk result (self.new ≡ self.old ++ unsigned.encoding number) }
         ensures err { OnErr result (self.new ≡ self.old) }
     {
         self.bytes.reserve(usize::from(LONGEST))?;
@@ -89,7 +89,7 @@ impl Writer {
 
     /// Appends a constant of 32 bits, given by its bits, as the signed number that they stand for.
     pub fn signed32(&mut self, bits: u32) -> Result<(), AllocError>
-        ensures ok { OnOk result (self.new ≡ self.old ++ signed32.spelling bits) }
+        ensures ok { OnOk result (self.new ≡ self.old ++ signed32.encoding bits) }
         ensures err { OnErr result (self.new ≡ self.old) }
     {
         self.bytes.reserve(usize::from(LONGEST))?;
@@ -99,7 +99,7 @@ impl Writer {
 
     /// Appends a constant of 64 bits, given by its bits, as the signed number that they stand for.
     pub fn signed64(&mut self, bits: u64) -> Result<(), AllocError>
-        ensures ok { OnOk result (self.new ≡ self.old ++ signed64.spelling bits) }
+        ensures ok { OnOk result (self.new ≡ self.old ++ signed64.encoding bits) }
         ensures err { OnErr result (self.new ≡ self.old) }
     {
         self.bytes.reserve(usize::from(LONGEST))?;
@@ -110,7 +110,7 @@ impl Writer {
     /// Appends a part behind the number of its bytes: a section's content, a body or a name. The only error is that memory
     /// ran out, or that the part has more than `MAX_PART` bytes.
     pub fn sized(&mut self, part: &[u8]) -> Result<(), AllocError>
-        ensures ok { OnOk result (self.new ≡ self.old ++ (unsigned.spelling (length part.now) ++ part.now)) }
+        ensures ok { OnOk result (self.new ≡ self.old ++ (unsigned.encoding (length part.now) ++ part.now)) }
         ensures err { OnErr result (self.new ≡ self.old) }
         ensures fits { OnOk result ((sized bytes_left).fits part.now ≡ true) }
     {

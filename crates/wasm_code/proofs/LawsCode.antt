@@ -25,18 +25,18 @@ use Rattle.wasm_code.specs.declared.code.Ending.TheVariants.{End, Else}
 use Rattle.wasm_bytes.specs.Number.{unsigned, signed32, signed64}
 use Rattle.wasm_bytes.specs.Parts.{◌◂◌, ◌·◌, vector}
 use Rattle.wasm_code.specs.Opcode.{found, tests, calculations, loads as all_loads, widths, numeric_opcode, load_opcode, store_opcode, numeric_of, load_of, store_of}
-use Rattle.wasm_code.specs.Instructions.{value_type, block_type, instr_spelling, instr_fits, no_offset, memory_reading, memory_of, variable_of, plain_of, opens, one_sided, ending_of, Sequence, instr_of, sequence, ended, closing, opened, code_in, code_within, code}
+use Rattle.wasm_code.specs.Instructions.{value_type, block_type, instr_encoding, instr_fits, no_offset, memory_reading, memory_of, variable_of, plain_of, opens, one_sided, ending_of, Sequence, instr_of, sequence, ended, closing, opened, code_in, code_within, code}
 use Rattle.wasm_bytes.proofs.Laws.{IsBytes, IsBytes-tail, IsBytes-after, bind_ok, guard_ok, ok_is, read_is, Taken, taken_at, Law}
 use Rattle.wasm_bytes.proofs.LawsNumber.{unsigned_law, signed32_law, signed64_law}
 use Rattle.wasm_bytes.proofs.LawsParts.{skip_ok, behind_law, then_law, vector_law}
 use Rattle.wasm_code.proofs.LawsTagged.{if_tag, read_as, tagged, bind_behind, bind_pair, value_type_law}
 use Rattle.wasm_code.proofs.Loop.{with_instrs}
-use Rattle.wasm_code.proofs.Spelled.{spelled-Block, spelled-Loop, spelled-If-None, spelled-If-Some, spelled-Unreachable, spelled-Br, spelled-BrIf, spelled-BrTable, spelled-Return, spelled-Call, spelled-CallIndirect, spelled-Drop, spelled-LocalGet, spelled-LocalSet, spelled-LocalTee, spelled-GlobalGet, spelled-Load, spelled-Store, spelled-I32Const, spelled-I64Const, spelled-Numeric}
+use Rattle.wasm_code.proofs.Encoded.{encoded-Block, encoded-Loop, encoded-If-None, encoded-If-Some, encoded-Unreachable, encoded-Br, encoded-BrIf, encoded-BrTable, encoded-Return, encoded-Call, encoded-CallIndirect, encoded-Drop, encoded-LocalGet, encoded-LocalSet, encoded-LocalTee, encoded-GlobalGet, encoded-Load, encoded-Store, encoded-I32Const, encoded-I64Const, encoded-Numeric}
 use Rattle.wasm_code.proofs.Fitting.{all_fit, none-Block, none-Loop, none-If, fits-Block, fits-Loop, fits-If-None, fits-If-Some, fits-Unreachable, fits-Br, fits-BrIf, fits-BrTable, fits-Return, fits-Call, fits-CallIndirect, fits-Drop, fits-LocalGet, fits-LocalSet, fits-LocalTee, fits-GlobalGet, fits-Load, fits-Store, fits-I32Const, fits-I64Const, fits-Numeric}
 
 -- an instruction, where so many levels of nesting are left
 abbrev instr : (levels : ℕ) → Format Instr
-instr levels = record { spelling = instr_spelling; reading = λ bytes. byte_at bytes >>= λ b. instr_of (opened levels) b.0 b.1; fits = λ i. instr_fits i levels }
+instr levels = record { encoding = instr_encoding; reading = λ bytes. byte_at bytes >>= λ b. instr_of (opened levels) b.0 b.1; fits = λ i. instr_fits i levels }
 
 -- ---- block types
 
@@ -53,7 +53,7 @@ block_type_takes (b ∷ bytes) x rest fits e =
           taken_at block_type (b ∷ bytes) (Some a.0.0) x a.0.1 rest (read_is (Some a.0.0) x a.0.1 rest a.2) (record { parts = t.parts; rest_fits = t.rest_fits; fits = refl })
     ]
 
-block_type_again : (x : Option ValueType) (rest : List ℕ) → block_type.reading (block_type.spelling x ++ rest) ≡ Ok (x, rest)
+block_type_again : (x : Option ValueType) (rest : List ℕ) → block_type.reading (block_type.encoding x ++ rest) ≡ Ok (x, rest)
 unfolding block_type
 block_type_again None rest = refl
 block_type_again (Some value.I32) rest = refl
@@ -88,7 +88,7 @@ numeric_ok b n e = found_ok numeric_opcode b (tests ++ calculations) n e
 
 -- nothing, and the two bytes of zero
 abbrev nothing : Format (Unit {0})
-nothing = record { spelling = λ u. []; reading = λ bytes. Ok (tt, bytes); fits = λ u. true }
+nothing = record { encoding = λ u. []; reading = λ bytes. Ok (tt, bytes); fits = λ u. true }
 
 nothing_law : Law nothing
 nothing_law = record {
@@ -97,7 +97,7 @@ nothing_law = record {
 }
 
 abbrev zeros : Format (Unit {0})
-zeros = record { spelling = λ u. 0x00 ∷ 0x00 ∷ []; reading = λ bytes. no_offset bytes >>= λ rest. Ok (tt, rest); fits = λ u. true }
+zeros = record { encoding = λ u. 0x00 ∷ 0x00 ∷ []; reading = λ bytes. no_offset bytes >>= λ rest. Ok (tt, rest); fits = λ u. true }
 
 no_offset_ok : (bytes rest : List ℕ) → no_offset bytes ≡ Ok rest → bytes ≡ 0x00 ∷ 0x00 ∷ rest
 no_offset_ok bytes rest e =
@@ -121,11 +121,11 @@ read_as_zeros i (Err e) = refl
 module _ (levels : ℕ) (b : ℕ) (bytes : List ℕ) (x : Instr) (rest : List ℕ) (fits : IsBytes bytes) where
   memory_step : (l : Option load.Load) (w : Option StoreWidth) (n : Option numeric.Numeric) → load_of b ≡ l → store_of b ≡ w → numeric_of b ≡ n → memory_reading l w n bytes ≡ Ok (x, rest) → Taken (instr levels) (b ∷ bytes) x rest
   memory_step (Some l) w n p q r e =
-      tagged (instr levels) zeros (λ u. Load l) (load_opcode l) zeros_law (λ u. spelled-Load l) (λ u. fits-Load l levels) b bytes x rest fits (load_ok b l p) (read_as_zeros (Load l) (no_offset bytes) ∙ e)
+      tagged (instr levels) zeros (λ u. Load l) (load_opcode l) zeros_law (λ u. encoded-Load l) (λ u. fits-Load l levels) b bytes x rest fits (load_ok b l p) (read_as_zeros (Load l) (no_offset bytes) ∙ e)
   memory_step None (Some w) n p q r e =
-      tagged (instr levels) zeros (λ u. Store w) (store_opcode w) zeros_law (λ u. spelled-Store w) (λ u. fits-Store w levels) b bytes x rest fits (store_ok b w q) (read_as_zeros (Store w) (no_offset bytes) ∙ e)
+      tagged (instr levels) zeros (λ u. Store w) (store_opcode w) zeros_law (λ u. encoded-Store w) (λ u. fits-Store w levels) b bytes x rest fits (store_ok b w q) (read_as_zeros (Store w) (no_offset bytes) ∙ e)
   memory_step None None (Some n) p q r e =
-      tagged (instr levels) nothing (λ u. Numeric n) (numeric_opcode n) nothing_law (λ u. spelled-Numeric n) (λ u. fits-Numeric n levels) b bytes x rest fits (numeric_ok b n r) e
+      tagged (instr levels) nothing (λ u. Numeric n) (numeric_opcode n) nothing_law (λ u. encoded-Numeric n) (λ u. fits-Numeric n levels) b bytes x rest fits (numeric_ok b n r) e
   memory_step None None None p q r e = absurd cc
 
   memory_takes : memory_of b bytes ≡ Ok (x, rest) → Taken (instr levels) (b ∷ bytes) x rest
@@ -136,25 +136,25 @@ module _ (levels : ℕ) (b : ℕ) (bytes : List ℕ) (x : Instr) (rest : List �
   unfolding variable_of
   variable_takes e =
       elim (if_tag b 0x1A _ _ (Ok (x, rest)) e) [
-        | inl t ↦ tagged (instr levels) nothing (λ u. Drop) 0x1A nothing_law (λ u. spelled-Drop) (λ u. fits-Drop levels) b bytes x rest fits t.0 t.1
+        | inl t ↦ tagged (instr levels) nothing (λ u. Drop) 0x1A nothing_law (λ u. encoded-Drop) (λ u. fits-Drop levels) b bytes x rest fits t.0 t.1
         | inr e1 ↦
             elim (if_tag b 0x20 _ _ (Ok (x, rest)) e1) [
-              | inl t ↦ tagged (instr levels) unsigned LocalGet 0x20 unsigned_law spelled-LocalGet (λ n. fits-LocalGet n levels) b bytes x rest fits t.0 t.1
+              | inl t ↦ tagged (instr levels) unsigned LocalGet 0x20 unsigned_law encoded-LocalGet (λ n. fits-LocalGet n levels) b bytes x rest fits t.0 t.1
               | inr e2 ↦
                   elim (if_tag b 0x21 _ _ (Ok (x, rest)) e2) [
-                    | inl t ↦ tagged (instr levels) unsigned LocalSet 0x21 unsigned_law spelled-LocalSet (λ n. fits-LocalSet n levels) b bytes x rest fits t.0 t.1
+                    | inl t ↦ tagged (instr levels) unsigned LocalSet 0x21 unsigned_law encoded-LocalSet (λ n. fits-LocalSet n levels) b bytes x rest fits t.0 t.1
                     | inr e3 ↦
                         elim (if_tag b 0x22 _ _ (Ok (x, rest)) e3) [
-                          | inl t ↦ tagged (instr levels) unsigned LocalTee 0x22 unsigned_law spelled-LocalTee (λ n. fits-LocalTee n levels) b bytes x rest fits t.0 t.1
+                          | inl t ↦ tagged (instr levels) unsigned LocalTee 0x22 unsigned_law encoded-LocalTee (λ n. fits-LocalTee n levels) b bytes x rest fits t.0 t.1
                           | inr e4 ↦
                               elim (if_tag b 0x23 _ _ (Ok (x, rest)) e4) [
-                                | inl t ↦ tagged (instr levels) unsigned GlobalGet 0x23 unsigned_law spelled-GlobalGet (λ n. fits-GlobalGet n levels) b bytes x rest fits t.0 t.1
+                                | inl t ↦ tagged (instr levels) unsigned GlobalGet 0x23 unsigned_law encoded-GlobalGet (λ n. fits-GlobalGet n levels) b bytes x rest fits t.0 t.1
                                 | inr e5 ↦
                                     elim (if_tag b 0x41 _ _ (Ok (x, rest)) e5) [
-                                      | inl t ↦ tagged (instr levels) signed32 I32Const 0x41 signed32_law spelled-I32Const (λ n. fits-I32Const n levels) b bytes x rest fits t.0 t.1
+                                      | inl t ↦ tagged (instr levels) signed32 I32Const 0x41 signed32_law encoded-I32Const (λ n. fits-I32Const n levels) b bytes x rest fits t.0 t.1
                                       | inr e6 ↦
                                           elim (if_tag b 0x42 _ _ (Ok (x, rest)) e6) [
-                                            | inl t ↦ tagged (instr levels) signed64 I64Const 0x42 signed64_law spelled-I64Const (λ n. fits-I64Const n levels) b bytes x rest fits t.0 t.1
+                                            | inl t ↦ tagged (instr levels) signed64 I64Const 0x42 signed64_law encoded-I64Const (λ n. fits-I64Const n levels) b bytes x rest fits t.0 t.1
                                             | inr e7 ↦
                                                 memory_takes e7
                                           ]
@@ -172,25 +172,25 @@ module _ (levels : ℕ) (b : ℕ) (bytes : List ℕ) (x : Instr) (rest : List �
   unfolding plain_of
   plain_takes e =
       elim (if_tag b 0x00 _ _ (Ok (x, rest)) e) [
-        | inl t ↦ tagged (instr levels) nothing (λ u. Unreachable) 0x00 nothing_law (λ u. spelled-Unreachable) (λ u. fits-Unreachable levels) b bytes x rest fits t.0 t.1
+        | inl t ↦ tagged (instr levels) nothing (λ u. Unreachable) 0x00 nothing_law (λ u. encoded-Unreachable) (λ u. fits-Unreachable levels) b bytes x rest fits t.0 t.1
         | inr e1 ↦
             elim (if_tag b 0x0C _ _ (Ok (x, rest)) e1) [
-              | inl t ↦ tagged (instr levels) unsigned Br 0x0C unsigned_law spelled-Br (λ n. fits-Br n levels) b bytes x rest fits t.0 t.1
+              | inl t ↦ tagged (instr levels) unsigned Br 0x0C unsigned_law encoded-Br (λ n. fits-Br n levels) b bytes x rest fits t.0 t.1
               | inr e2 ↦
                   elim (if_tag b 0x0D _ _ (Ok (x, rest)) e2) [
-                    | inl t ↦ tagged (instr levels) unsigned BrIf 0x0D unsigned_law spelled-BrIf (λ n. fits-BrIf n levels) b bytes x rest fits t.0 t.1
+                    | inl t ↦ tagged (instr levels) unsigned BrIf 0x0D unsigned_law encoded-BrIf (λ n. fits-BrIf n levels) b bytes x rest fits t.0 t.1
                     | inr e3 ↦
                         elim (if_tag b 0x0E _ _ (Ok (x, rest)) e3) [
-                          | inl t ↦ tagged (instr levels) (vector unsigned · unsigned) table 0x0E (then_law (vector unsigned) unsigned (vector_law unsigned unsigned_law) unsigned_law) (λ p. spelled-BrTable p.0 p.1) (λ p. fits-BrTable p.0 p.1 levels) b bytes x rest fits t.0 (bind_pair (vector unsigned) unsigned table bytes (x, rest) t.1)
+                          | inl t ↦ tagged (instr levels) (vector unsigned · unsigned) table 0x0E (then_law (vector unsigned) unsigned (vector_law unsigned unsigned_law) unsigned_law) (λ p. encoded-BrTable p.0 p.1) (λ p. fits-BrTable p.0 p.1 levels) b bytes x rest fits t.0 (bind_pair (vector unsigned) unsigned table bytes (x, rest) t.1)
                           | inr e4 ↦
                               elim (if_tag b 0x0F _ _ (Ok (x, rest)) e4) [
-                                | inl t ↦ tagged (instr levels) nothing (λ u. Return) 0x0F nothing_law (λ u. spelled-Return) (λ u. fits-Return levels) b bytes x rest fits t.0 t.1
+                                | inl t ↦ tagged (instr levels) nothing (λ u. Return) 0x0F nothing_law (λ u. encoded-Return) (λ u. fits-Return levels) b bytes x rest fits t.0 t.1
                                 | inr e5 ↦
                                     elim (if_tag b 0x10 _ _ (Ok (x, rest)) e5) [
-                                      | inl t ↦ tagged (instr levels) unsigned Call 0x10 unsigned_law spelled-Call (λ n. fits-Call n levels) b bytes x rest fits t.0 t.1
+                                      | inl t ↦ tagged (instr levels) unsigned Call 0x10 unsigned_law encoded-Call (λ n. fits-Call n levels) b bytes x rest fits t.0 t.1
                                       | inr e6 ↦
                                           elim (if_tag b 0x11 _ _ (Ok (x, rest)) e6) [
-                                            | inl t ↦ tagged (instr levels) (unsigned ◂ 0x00) CallIndirect 0x11 (behind_law 0x00 unsigned unsigned_law) spelled-CallIndirect (λ n. fits-CallIndirect n levels) b bytes x rest fits t.0 (bind_behind unsigned CallIndirect 0x00 bytes (x, rest) t.1)
+                                            | inl t ↦ tagged (instr levels) (unsigned ◂ 0x00) CallIndirect 0x11 (behind_law 0x00 unsigned unsigned_law) encoded-CallIndirect (λ n. fits-CallIndirect n levels) b bytes x rest fits t.0 (bind_behind unsigned CallIndirect 0x00 bytes (x, rest) t.1)
                                             | inr e7 ↦
                                                 variable_takes e7
                                           ]
@@ -201,7 +201,7 @@ module _ (levels : ℕ) (b : ℕ) (bytes : List ℕ) (x : Instr) (rest : List �
             ]
       ]
 
--- ---- what was read is spelled so
+-- ---- what was read is encoded so
 
 abbrev ending_byte : Ending → ℕ
 ending_byte End = 0x0B
@@ -226,7 +226,7 @@ ending_ok b e h =
     ]
 
 record SequenceTaken (levels : ℕ) (bytes : List ℕ) (is : List Instr) (e : Ending) (rest : List ℕ) : Type 0 where
-  parts : bytes ≡ flat_map instr_spelling is ++ (ending_byte e ∷ rest)
+  parts : bytes ≡ flat_map instr_encoding is ++ (ending_byte e ∷ rest)
   rest_fits : IsBytes rest
   fits : all_fit levels is ≡ true
 
@@ -245,7 +245,7 @@ sequence_step levels most o b bytes = elim o [ Some e ↦ Ok (([], e), bytes) | 
 module _ (levels : ℕ) (takes : InstrTakes levels) where
   instr_then : (b : ℕ) (bytes : List ℕ) (i : Instr) (mid : List ℕ) (s : Sequence × List ℕ) → Taken (instr levels) (b ∷ bytes) i mid → SequenceIs levels mid s → SequenceIs levels (b ∷ bytes) ((i ∷ s.0.0, s.0.1), s.1)
   instr_then b bytes i mid s t u = record {
-    parts = t.parts ∙ ap (λ (r : List ℕ). instr_spelling i ++ r) u.parts ∙ sym (append_assoc (instr_spelling i) (flat_map instr_spelling s.0.0) (ending_byte s.0.1 ∷ s.1));
+    parts = t.parts ∙ ap (λ (r : List ℕ). instr_encoding i ++ r) u.parts ∙ sym (append_assoc (instr_encoding i) (flat_map instr_encoding s.0.0) (ending_byte s.0.1 ∷ s.1));
     rest_fits = u.rest_fits;
     fits = and_from _ _ t.fits u.fits;
   }
@@ -273,7 +273,7 @@ module _ (levels : ℕ) (takes : InstrTakes levels) where
 
 -- a sequence with an end
 record CodeTaken (levels : ℕ) (bytes : List ℕ) (is : List Instr) (rest : List ℕ) : Type 0 where
-  parts : bytes ≡ flat_map instr_spelling is ++ (0x0B ∷ rest)
+  parts : bytes ≡ flat_map instr_encoding is ++ (0x0B ∷ rest)
   rest_fits : IsBytes rest
   fits : all_fit levels is ≡ true
 
@@ -299,18 +299,18 @@ regroup_if : (type code others rest : List ℕ) → ((type ++ code) ++ (0x05 ∷
 regroup_if type code others rest = simp append_assoc
 
 abbrev is_block : ℕ → Option ValueType → List Instr → Type 0
-is_block k t is = instr_spelling (one_sided k t is) ≡ k ∷ ((block_type.spelling t ++ flat_map instr_spelling is) ++ 0x0B ∷ [])
+is_block k t is = instr_encoding (one_sided k t is) ≡ k ∷ ((block_type.encoding t ++ flat_map instr_encoding is) ++ 0x0B ∷ [])
 
-one_sided_spelled : (b : ℕ) (t : Option ValueType) (is : List Instr) → opens b ≡ true → is_block b t is
-one_sided_spelled b t is e =
+one_sided_encoded : (b : ℕ) (t : Option ValueType) (is : List Instr) → opens b ≡ true → is_block b t is
+one_sided_encoded b t is e =
     elim (cases_Bool (eqb b 0x02)) [
-      | inl two ↦ subst (λ (k : ℕ). is_block k t is) (sym (eqb-true b 0x02 two)) (spelled-Block t is)
+      | inl two ↦ subst (λ (k : ℕ). is_block k t is) (sym (eqb-true b 0x02 two)) (encoded-Block t is)
       | inr not_two ↦
           elim (cases_Bool (eqb b 0x03)) [
-            | inl three ↦ subst (λ (k : ℕ). is_block k t is) (sym (eqb-true b 0x03 three)) (spelled-Loop t is)
+            | inl three ↦ subst (λ (k : ℕ). is_block k t is) (sym (eqb-true b 0x03 three)) (encoded-Loop t is)
             | inr not_three ↦
                 let four : eqb b 0x04 ≡ true = rw (not_two, not_three) at e in
-                subst (λ (k : ℕ). is_block k t is) (sym (eqb-true b 0x04 four)) (spelled-If-None t is)
+                subst (λ (k : ℕ). is_block k t is) (sym (eqb-true b 0x04 four)) (encoded-If-None t is)
           ]
     ]
 
@@ -329,20 +329,20 @@ module _ (levels : ℕ) (takes : SequenceTakes levels) where
   closing_takes : (b : ℕ) (bytes : List ℕ) (t : Option ValueType) (after : List ℕ) (is : List Instr) (e : Ending) (mid : List ℕ) (x : Instr) (rest : List ℕ) → opens b ≡ true → Taken block_type bytes t after → SequenceTaken levels after is e mid
       → closing (code_in levels) b t is e mid ≡ Ok (x, rest) → Taken (instr (suc levels)) (b ∷ bytes) x rest
   closing_takes b bytes t after is End mid x rest o u v e =
-      let text : List ℕ = flat_map instr_spelling is in
-      let inner : bytes ≡ ((block_type.spelling t ++ text) ++ 0x0B ∷ []) ++ mid = u.parts ∙ ap (λ (r : List ℕ). block_type.spelling t ++ r) v.parts ∙ sym (regroup_block (block_type.spelling t) text mid) in
-      let parts : b ∷ bytes ≡ instr_spelling (one_sided b t is) ++ mid = ap (λ (r : List ℕ). b ∷ r) inner ∙ ap (λ (r : List ℕ). r ++ mid) (sym (one_sided_spelled b t is o)) in
+      let text : List ℕ = flat_map instr_encoding is in
+      let inner : bytes ≡ ((block_type.encoding t ++ text) ++ 0x0B ∷ []) ++ mid = u.parts ∙ ap (λ (r : List ℕ). block_type.encoding t ++ r) v.parts ∙ sym (regroup_block (block_type.encoding t) text mid) in
+      let parts : b ∷ bytes ≡ instr_encoding (one_sided b t is) ++ mid = ap (λ (r : List ℕ). b ∷ r) inner ∙ ap (λ (r : List ℕ). r ++ mid) (sym (one_sided_encoded b t is o)) in
       taken_at (instr (suc levels)) (b ∷ bytes) (one_sided b t is) x mid rest (read_is (one_sided b t is) x mid rest e) (record { parts = parts; rest_fits = v.rest_fits; fits = one_sided_fits b t is levels ∙ v.fits })
   closing_takes b bytes t after is Else mid x rest o u v e =
       let g = guard_ok (eqb b 0x04) OutsideProfile (ended (code_in levels mid) >>= λ others. Ok (If t is (Some others.0), others.1)) (x, rest) e in
       let a = bind_ok (ended (code_in levels mid)) (λ others. Ok (If t is (Some others.0), others.1)) (x, rest) g.1 in
       let w = ended_takes levels takes mid a.0.0 a.0.1 v.rest_fits a.1 in
-      let text : List ℕ = flat_map instr_spelling is in
-      let others : List ℕ = flat_map instr_spelling a.0.0 in
-      let inner : bytes ≡ ((block_type.spelling t ++ text) ++ (0x05 ∷ others ++ 0x0B ∷ [])) ++ a.0.1 =
-      u.parts ∙ ap (λ (r : List ℕ). block_type.spelling t ++ r) v.parts ∙ ap (λ (r : List ℕ). block_type.spelling t ++ (text ++ (0x05 ∷ r))) w.parts ∙ sym (regroup_if (block_type.spelling t) text others a.0.1) in
+      let text : List ℕ = flat_map instr_encoding is in
+      let others : List ℕ = flat_map instr_encoding a.0.0 in
+      let inner : bytes ≡ ((block_type.encoding t ++ text) ++ (0x05 ∷ others ++ 0x0B ∷ [])) ++ a.0.1 =
+      u.parts ∙ ap (λ (r : List ℕ). block_type.encoding t ++ r) v.parts ∙ ap (λ (r : List ℕ). block_type.encoding t ++ (text ++ (0x05 ∷ r))) w.parts ∙ sym (regroup_if (block_type.encoding t) text others a.0.1) in
       let tag : b ∷ bytes ≡ 0x04 ∷ bytes = ap (λ (c : ℕ). c ∷ bytes) (eqb-true b 0x04 g.0) in
-      let parts : b ∷ bytes ≡ instr_spelling (If t is (Some a.0.0)) ++ a.0.1 = tag ∙ ap (λ (r : List ℕ). 0x04 ∷ r) inner ∙ ap (λ (r : List ℕ). r ++ a.0.1) (sym (spelled-If-Some t is a.0.0)) in
+      let parts : b ∷ bytes ≡ instr_encoding (If t is (Some a.0.0)) ++ a.0.1 = tag ∙ ap (λ (r : List ℕ). 0x04 ∷ r) inner ∙ ap (λ (r : List ℕ). r ++ a.0.1) (sym (encoded-If-Some t is a.0.0)) in
       taken_at (instr (suc levels)) (b ∷ bytes) (If t is (Some a.0.0)) x a.0.1 rest (read_is (If t is (Some a.0.0)) x a.0.1 rest a.2)
       (record { parts = parts; rest_fits = w.rest_fits; fits = fits-If-Some t is a.0.0 levels ∙ and_from _ _ v.fits w.fits })
 
@@ -373,12 +373,12 @@ instr_takes (suc levels) b bytes x rest fits e =
       | inr no' ↦ plain_takes (suc levels) b bytes x rest fits (rw no' at e)
     ]
 
--- ---- what is spelled is read again
+-- ---- what is encoded is read again
 
 abbrev Again : (levels : ℕ) → Instr → Type 0
-Again levels i = (rest : List ℕ) → instr_fits i levels ≡ true → (instr levels).reading (instr_spelling i ++ rest) ≡ Ok (i, rest)
+Again levels i = (rest : List ℕ) → instr_fits i levels ≡ true → (instr levels).reading (instr_encoding i ++ rest) ≡ Ok (i, rest)
 
-begins : (levels : ℕ) (i : Instr) (k : ℕ) (text rest : List ℕ) → instr_spelling i ≡ k ∷ text → instr_of (opened levels) k (text ++ rest) ≡ Ok (i, rest) → (instr levels).reading (instr_spelling i ++ rest) ≡ Ok (i, rest)
+begins : (levels : ℕ) (i : Instr) (k : ℕ) (text rest : List ℕ) → instr_encoding i ≡ k ∷ text → instr_of (opened levels) k (text ++ rest) ≡ Ok (i, rest) → (instr levels).reading (instr_encoding i ++ rest) ≡ Ok (i, rest)
 begins levels i k text rest e again = ap (λ (s : List ℕ). (instr levels).reading (s ++ rest)) e ∙ again
 
 numeric_again : (levels : ℕ) (n : numeric.Numeric) (rest : List ℕ) → instr_of (opened levels) (numeric_opcode n) rest ≡ Ok (Numeric n, rest)
@@ -439,73 +439,73 @@ store_again levels Four rest = refl
 
 again-Br : (levels n : ℕ) → Again levels (Br n)
 unfolding plain_of variable_of
-again-Br levels n rest fits = begins levels (Br n) 0x0C (unsigned.spelling n) rest (spelled-Br n) (rw (unsigned_law.again n rest (sym (fits-Br n levels) ∙ fits)) refl)
+again-Br levels n rest fits = begins levels (Br n) 0x0C (unsigned.encoding n) rest (encoded-Br n) (rw (unsigned_law.again n rest (sym (fits-Br n levels) ∙ fits)) refl)
 
 again-BrIf : (levels n : ℕ) → Again levels (BrIf n)
 unfolding plain_of variable_of
-again-BrIf levels n rest fits = begins levels (BrIf n) 0x0D (unsigned.spelling n) rest (spelled-BrIf n) (rw (unsigned_law.again n rest (sym (fits-BrIf n levels) ∙ fits)) refl)
+again-BrIf levels n rest fits = begins levels (BrIf n) 0x0D (unsigned.encoding n) rest (encoded-BrIf n) (rw (unsigned_law.again n rest (sym (fits-BrIf n levels) ∙ fits)) refl)
 
 again-Call : (levels n : ℕ) → Again levels (Call n)
 unfolding plain_of variable_of
-again-Call levels n rest fits = begins levels (Call n) 0x10 (unsigned.spelling n) rest (spelled-Call n) (rw (unsigned_law.again n rest (sym (fits-Call n levels) ∙ fits)) refl)
+again-Call levels n rest fits = begins levels (Call n) 0x10 (unsigned.encoding n) rest (encoded-Call n) (rw (unsigned_law.again n rest (sym (fits-Call n levels) ∙ fits)) refl)
 
 again-LocalGet : (levels n : ℕ) → Again levels (LocalGet n)
 unfolding plain_of variable_of
-again-LocalGet levels n rest fits = begins levels (LocalGet n) 0x20 (unsigned.spelling n) rest (spelled-LocalGet n) (rw (unsigned_law.again n rest (sym (fits-LocalGet n levels) ∙ fits)) refl)
+again-LocalGet levels n rest fits = begins levels (LocalGet n) 0x20 (unsigned.encoding n) rest (encoded-LocalGet n) (rw (unsigned_law.again n rest (sym (fits-LocalGet n levels) ∙ fits)) refl)
 
 again-LocalSet : (levels n : ℕ) → Again levels (LocalSet n)
 unfolding plain_of variable_of
-again-LocalSet levels n rest fits = begins levels (LocalSet n) 0x21 (unsigned.spelling n) rest (spelled-LocalSet n) (rw (unsigned_law.again n rest (sym (fits-LocalSet n levels) ∙ fits)) refl)
+again-LocalSet levels n rest fits = begins levels (LocalSet n) 0x21 (unsigned.encoding n) rest (encoded-LocalSet n) (rw (unsigned_law.again n rest (sym (fits-LocalSet n levels) ∙ fits)) refl)
 
 again-LocalTee : (levels n : ℕ) → Again levels (LocalTee n)
 unfolding plain_of variable_of
-again-LocalTee levels n rest fits = begins levels (LocalTee n) 0x22 (unsigned.spelling n) rest (spelled-LocalTee n) (rw (unsigned_law.again n rest (sym (fits-LocalTee n levels) ∙ fits)) refl)
+again-LocalTee levels n rest fits = begins levels (LocalTee n) 0x22 (unsigned.encoding n) rest (encoded-LocalTee n) (rw (unsigned_law.again n rest (sym (fits-LocalTee n levels) ∙ fits)) refl)
 
 again-GlobalGet : (levels n : ℕ) → Again levels (GlobalGet n)
 unfolding plain_of variable_of
-again-GlobalGet levels n rest fits = begins levels (GlobalGet n) 0x23 (unsigned.spelling n) rest (spelled-GlobalGet n) (rw (unsigned_law.again n rest (sym (fits-GlobalGet n levels) ∙ fits)) refl)
+again-GlobalGet levels n rest fits = begins levels (GlobalGet n) 0x23 (unsigned.encoding n) rest (encoded-GlobalGet n) (rw (unsigned_law.again n rest (sym (fits-GlobalGet n levels) ∙ fits)) refl)
 
 again-I32Const : (levels n : ℕ) → Again levels (I32Const n)
 unfolding plain_of variable_of
-again-I32Const levels n rest fits = begins levels (I32Const n) 0x41 (signed32.spelling n) rest (spelled-I32Const n) (rw (signed32_law.again n rest (sym (fits-I32Const n levels) ∙ fits)) refl)
+again-I32Const levels n rest fits = begins levels (I32Const n) 0x41 (signed32.encoding n) rest (encoded-I32Const n) (rw (signed32_law.again n rest (sym (fits-I32Const n levels) ∙ fits)) refl)
 
 again-I64Const : (levels n : ℕ) → Again levels (I64Const n)
 unfolding plain_of variable_of
-again-I64Const levels n rest fits = begins levels (I64Const n) 0x42 (signed64.spelling n) rest (spelled-I64Const n) (rw (signed64_law.again n rest (sym (fits-I64Const n levels) ∙ fits)) refl)
+again-I64Const levels n rest fits = begins levels (I64Const n) 0x42 (signed64.encoding n) rest (encoded-I64Const n) (rw (signed64_law.again n rest (sym (fits-I64Const n levels) ∙ fits)) refl)
 
 again-Unreachable : (levels : ℕ) → Again levels Unreachable
 unfolding plain_of variable_of
-again-Unreachable levels rest fits = begins levels Unreachable 0x00 [] rest spelled-Unreachable refl
+again-Unreachable levels rest fits = begins levels Unreachable 0x00 [] rest encoded-Unreachable refl
 
 again-Return : (levels : ℕ) → Again levels Return
 unfolding plain_of variable_of
-again-Return levels rest fits = begins levels Return 0x0F [] rest spelled-Return refl
+again-Return levels rest fits = begins levels Return 0x0F [] rest encoded-Return refl
 
 again-Drop : (levels : ℕ) → Again levels Drop
 unfolding plain_of variable_of
-again-Drop levels rest fits = begins levels Drop 0x1A [] rest spelled-Drop refl
+again-Drop levels rest fits = begins levels Drop 0x1A [] rest encoded-Drop refl
 
 again-BrTable : (levels : ℕ) (ls : List ℕ) (l : ℕ) → Again levels (BrTable ls l)
 unfolding plain_of
 again-BrTable levels ls l rest fits =
     let f = and_parts ((vector unsigned).fits ls) (unsigned.fits l) (sym (fits-BrTable ls l levels) ∙ fits) in
-    begins levels (BrTable ls l) 0x0E ((vector unsigned).spelling ls ++ unsigned.spelling l) rest (spelled-BrTable ls l)
-    (rw (append_assoc ((vector unsigned).spelling ls) (unsigned.spelling l) rest, (vector_law unsigned unsigned_law).again ls (unsigned.spelling l ++ rest) f.0, unsigned_law.again l rest f.1) refl)
+    begins levels (BrTable ls l) 0x0E ((vector unsigned).encoding ls ++ unsigned.encoding l) rest (encoded-BrTable ls l)
+    (rw (append_assoc ((vector unsigned).encoding ls) (unsigned.encoding l) rest, (vector_law unsigned unsigned_law).again ls (unsigned.encoding l ++ rest) f.0, unsigned_law.again l rest f.1) refl)
 
 again-CallIndirect : (levels t : ℕ) → Again levels (CallIndirect t)
 unfolding plain_of
 again-CallIndirect levels t rest fits =
-    begins levels (CallIndirect t) 0x11 (unsigned.spelling t ++ 0x00 ∷ []) rest (spelled-CallIndirect t)
-    (rw (append_assoc (unsigned.spelling t) (0x00 ∷ []) rest, unsigned_law.again t (0x00 ∷ rest) (sym (fits-CallIndirect t levels) ∙ fits)) refl)
+    begins levels (CallIndirect t) 0x11 (unsigned.encoding t ++ 0x00 ∷ []) rest (encoded-CallIndirect t)
+    (rw (append_assoc (unsigned.encoding t) (0x00 ∷ []) rest, unsigned_law.again t (0x00 ∷ rest) (sym (fits-CallIndirect t levels) ∙ fits)) refl)
 
 again-Load : (levels : ℕ) (l : load.Load) → Again levels (Load l)
-again-Load levels l rest fits = begins levels (Load l) (load_opcode l) (0x00 ∷ 0x00 ∷ []) rest (spelled-Load l) (load_again levels l rest)
+again-Load levels l rest fits = begins levels (Load l) (load_opcode l) (0x00 ∷ 0x00 ∷ []) rest (encoded-Load l) (load_again levels l rest)
 
 again-Store : (levels : ℕ) (w : StoreWidth) → Again levels (Store w)
-again-Store levels w rest fits = begins levels (Store w) (store_opcode w) (0x00 ∷ 0x00 ∷ []) rest (spelled-Store w) (store_again levels w rest)
+again-Store levels w rest fits = begins levels (Store w) (store_opcode w) (0x00 ∷ 0x00 ∷ []) rest (encoded-Store w) (store_again levels w rest)
 
 again-Numeric : (levels : ℕ) (n : numeric.Numeric) → Again levels (Numeric n)
-again-Numeric levels n rest fits = begins levels (Numeric n) (numeric_opcode n) [] rest (spelled-Numeric n) (numeric_again levels n rest)
+again-Numeric levels n rest fits = begins levels (Numeric n) (numeric_opcode n) [] rest (encoded-Numeric n) (numeric_again levels n rest)
 
 -- the same of those with others inside
 record NestedAgain (levels : ℕ) : Type 0 where
@@ -577,14 +577,14 @@ ending_again levels most End rest = refl
 ending_again levels most Else rest = refl
 
 module _ (levels : ℕ) (again : (i : Instr) → Again levels i) where
-  sequence_again : (most : ℕ) (is : List Instr) (e : Ending) (rest : List ℕ) → length is < most → all_fit levels is ≡ true → sequence (opened levels) most (flat_map instr_spelling is ++ (ending_byte e ∷ rest)) ≡ Ok ((is, e), rest)
+  sequence_again : (most : ℕ) (is : List Instr) (e : Ending) (rest : List ℕ) → length is < most → all_fit levels is ≡ true → sequence (opened levels) most (flat_map instr_encoding is ++ (ending_byte e ∷ rest)) ≡ Ok ((is, e), rest)
   sequence_again zero is e rest room fits = absurd (omega arith)
   sequence_again (suc most) [] e rest room fits = ending_again levels most e rest
   sequence_again (suc most) (i ∷ is) e rest room fits =
       let f = and_parts (instr_fits i levels) (all_fit levels is) fits in
-      let text : List ℕ = flat_map instr_spelling is ++ (ending_byte e ∷ rest) in
-      let one = step_again levels most (instr_spelling i ++ text) i text (again i text f.0) in
-      ap (sequence (opened levels) (suc most)) (append_assoc (instr_spelling i) (flat_map instr_spelling is) (ending_byte e ∷ rest)) ∙ one ∙ ap (with_instrs (i ∷ [])) (sequence_again most is e rest (omega arith) f.1)
+      let text : List ℕ = flat_map instr_encoding is ++ (ending_byte e ∷ rest) in
+      let one = step_again levels most (instr_encoding i ++ text) i text (again i text f.0) in
+      ap (sequence (opened levels) (suc most)) (append_assoc (instr_encoding i) (flat_map instr_encoding is) (ending_byte e ∷ rest)) ∙ one ∙ ap (with_instrs (i ∷ [])) (sequence_again most is e rest (omega arith) f.1)
 
   none_read : (i : Instr) → (instr levels).reading [] ≡ Ok (i, []) → ⊥
   none_read i e = cc
@@ -593,35 +593,35 @@ module _ (levels : ℕ) (again : (i : Instr) → Again levels i) where
   nil_or_some [] = inl refl
   nil_or_some (b ∷ text) = inr (omega arith)
 
-  instr_some : (i : Instr) → instr_fits i levels ≡ true → 0 < length (instr_spelling i)
-  instr_some i fits = elim (nil_or_some (instr_spelling i)) [
+  instr_some : (i : Instr) → instr_fits i levels ≡ true → 0 < length (instr_encoding i)
+  instr_some i fits = elim (nil_or_some (instr_encoding i)) [
     | inl none ↦ absurd (none_read i (ap (λ (s : List ℕ). (instr levels).reading (s ++ [])) (sym none) ∙ again i [] fits))
     | inr some ↦ some
   ]
 
-  code_longer : (is : List Instr) → all_fit levels is ≡ true → length is ≤ length (flat_map instr_spelling is)
+  code_longer : (is : List Instr) → all_fit levels is ≡ true → length is ≤ length (flat_map instr_encoding is)
   code_longer [] fits = omega arith
   code_longer (i ∷ is) fits =
       let f = and_parts (instr_fits i levels) (all_fit levels is) fits in
-      omega (arith, length-append (instr_spelling i) (flat_map instr_spelling is), instr_some i f.0, code_longer is f.1)
+      omega (arith, length-append (instr_encoding i) (flat_map instr_encoding is), instr_some i f.0, code_longer is f.1)
 
-  code_in_again : (is : List Instr) (e : Ending) (rest : List ℕ) → all_fit levels is ≡ true → code_in levels (flat_map instr_spelling is ++ (ending_byte e ∷ rest)) ≡ Ok ((is, e), rest)
+  code_in_again : (is : List Instr) (e : Ending) (rest : List ℕ) → all_fit levels is ≡ true → code_in levels (flat_map instr_encoding is ++ (ending_byte e ∷ rest)) ≡ Ok ((is, e), rest)
   code_in_again is e rest fits =
-      let room : length is < length (flat_map instr_spelling is ++ (ending_byte e ∷ rest)) = omega (arith, length-append (flat_map instr_spelling is) (ending_byte e ∷ rest), code_longer is fits) in
-      sequence_again (length (flat_map instr_spelling is ++ (ending_byte e ∷ rest))) is e rest room fits
+      let room : length is < length (flat_map instr_encoding is ++ (ending_byte e ∷ rest)) = omega (arith, length-append (flat_map instr_encoding is) (ending_byte e ∷ rest), code_longer is fits) in
+      sequence_again (length (flat_map instr_encoding is ++ (ending_byte e ∷ rest))) is e rest room fits
 
-  block_again : (b : ℕ) (t : Option ValueType) (is : List Instr) (rest : List ℕ) → all_fit levels is ≡ true → opened (suc levels) b (((block_type.spelling t ++ flat_map instr_spelling is) ++ 0x0B ∷ []) ++ rest) ≡ Ok (one_sided b t is, rest)
+  block_again : (b : ℕ) (t : Option ValueType) (is : List Instr) (rest : List ℕ) → all_fit levels is ≡ true → opened (suc levels) b (((block_type.encoding t ++ flat_map instr_encoding is) ++ 0x0B ∷ []) ++ rest) ≡ Ok (one_sided b t is, rest)
   unfolding opened
-  block_again b t is rest fits = rw (regroup_block (block_type.spelling t) (flat_map instr_spelling is) rest, block_type_again t (flat_map instr_spelling is ++ (0x0B ∷ rest)), code_in_again is End rest fits) refl
+  block_again b t is rest fits = rw (regroup_block (block_type.encoding t) (flat_map instr_encoding is) rest, block_type_again t (flat_map instr_encoding is ++ (0x0B ∷ rest)), code_in_again is End rest fits) refl
 
   if_again : (t : Option ValueType) (is others : List Instr) (rest : List ℕ) → all_fit levels is ≡ true → all_fit levels others ≡ true
-      → opened (suc levels) 0x04 (((block_type.spelling t ++ flat_map instr_spelling is) ++ (0x05 ∷ flat_map instr_spelling others ++ 0x0B ∷ [])) ++ rest) ≡ Ok (If t is (Some others), rest)
+      → opened (suc levels) 0x04 (((block_type.encoding t ++ flat_map instr_encoding is) ++ (0x05 ∷ flat_map instr_encoding others ++ 0x0B ∷ [])) ++ rest) ≡ Ok (If t is (Some others), rest)
   unfolding opened
   if_again t is others rest fits more =
-      let behind : List ℕ = flat_map instr_spelling others ++ (0x0B ∷ rest) in
+      let behind : List ℕ = flat_map instr_encoding others ++ (0x0B ∷ rest) in
       rw (
-        regroup_if (block_type.spelling t) (flat_map instr_spelling is) (flat_map instr_spelling others) rest,
-        block_type_again t (flat_map instr_spelling is ++ (0x05 ∷ behind)),
+        regroup_if (block_type.encoding t) (flat_map instr_encoding is) (flat_map instr_encoding others) rest,
+        block_type_again t (flat_map instr_encoding is ++ (0x05 ∷ behind)),
         code_in_again is Else behind fits,
         code_in_again others End rest more,
       )
@@ -629,12 +629,12 @@ module _ (levels : ℕ) (again : (i : Instr) → Again levels i) where
 
   nested_again : NestedAgain (suc levels)
   nested_again = record {
-    block = λ t is rest fits. begins (suc levels) (Block t is) 0x02 ((block_type.spelling t ++ flat_map instr_spelling is) ++ 0x0B ∷ []) rest (spelled-Block t is) (block_again 0x02 t is rest (sym (fits-Block t is levels) ∙ fits));
-    loop = λ t is rest fits. begins (suc levels) (Loop t is) 0x03 ((block_type.spelling t ++ flat_map instr_spelling is) ++ 0x0B ∷ []) rest (spelled-Loop t is) (block_again 0x03 t is rest (sym (fits-Loop t is levels) ∙ fits));
-    one = λ t is rest fits. begins (suc levels) (If t is None) 0x04 ((block_type.spelling t ++ flat_map instr_spelling is) ++ 0x0B ∷ []) rest (spelled-If-None t is) (block_again 0x04 t is rest (sym (fits-If-None t is levels) ∙ fits));
+    block = λ t is rest fits. begins (suc levels) (Block t is) 0x02 ((block_type.encoding t ++ flat_map instr_encoding is) ++ 0x0B ∷ []) rest (encoded-Block t is) (block_again 0x02 t is rest (sym (fits-Block t is levels) ∙ fits));
+    loop = λ t is rest fits. begins (suc levels) (Loop t is) 0x03 ((block_type.encoding t ++ flat_map instr_encoding is) ++ 0x0B ∷ []) rest (encoded-Loop t is) (block_again 0x03 t is rest (sym (fits-Loop t is levels) ∙ fits));
+    one = λ t is rest fits. begins (suc levels) (If t is None) 0x04 ((block_type.encoding t ++ flat_map instr_encoding is) ++ 0x0B ∷ []) rest (encoded-If-None t is) (block_again 0x04 t is rest (sym (fits-If-None t is levels) ∙ fits));
     two = λ t is others rest fits.
         let f = and_parts (all_fit levels is) (all_fit levels others) (sym (fits-If-Some t is others levels) ∙ fits) in
-        begins (suc levels) (If t is (Some others)) 0x04 ((block_type.spelling t ++ flat_map instr_spelling is) ++ (0x05 ∷ flat_map instr_spelling others ++ 0x0B ∷ [])) rest (spelled-If-Some t is others) (if_again t is others rest f.0 f.1);
+        begins (suc levels) (If t is (Some others)) 0x04 ((block_type.encoding t ++ flat_map instr_encoding is) ++ (0x05 ∷ flat_map instr_encoding others ++ 0x0B ∷ [])) rest (encoded-If-Some t is others) (if_again t is others rest f.0 f.1);
   }
 
 false_true : {P : Type 0} → ◌≡◌ {A = Bool} false true → P
@@ -657,10 +657,10 @@ instr_again (suc levels) i = each_again (suc levels) (nested_again levels (instr
 code_takes : (levels : ℕ) (bytes : List ℕ) (is : List Instr) (rest : List ℕ) → IsBytes bytes → (code_within levels).reading bytes ≡ Ok (is, rest) → Taken (code_within levels) bytes is rest
 code_takes levels bytes is rest fits e =
     let t = ended_takes levels (code_in_takes levels (instr_takes levels)) bytes is rest fits e in
-    record { parts = t.parts ∙ sym (append_assoc (flat_map instr_spelling is) (0x0B ∷ []) rest); rest_fits = t.rest_fits; fits = t.fits }
+    record { parts = t.parts ∙ sym (append_assoc (flat_map instr_encoding is) (0x0B ∷ []) rest); rest_fits = t.rest_fits; fits = t.fits }
 
-code_again : (levels : ℕ) (is : List Instr) (rest : List ℕ) → all_fit levels is ≡ true → (code_within levels).reading ((flat_map instr_spelling is ++ 0x0B ∷ []) ++ rest) ≡ Ok (is, rest)
-code_again levels is rest fits = rw (append_assoc (flat_map instr_spelling is) (0x0B ∷ []) rest, code_in_again levels (instr_again levels) is End rest fits) refl
+code_again : (levels : ℕ) (is : List Instr) (rest : List ℕ) → all_fit levels is ≡ true → (code_within levels).reading ((flat_map instr_encoding is ++ 0x0B ∷ []) ++ rest) ≡ Ok (is, rest)
+code_again levels is rest fits = rw (append_assoc (flat_map instr_encoding is) (0x0B ∷ []) rest, code_in_again levels (instr_again levels) is End rest fits) refl
 
 within_law : (levels : ℕ) → Law (code_within levels)
 within_law levels = record { takes = code_takes levels; again = code_again levels }

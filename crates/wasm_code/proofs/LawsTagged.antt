@@ -23,15 +23,15 @@ if_tag b k r s z e =
 abbrev pub read_as : {A B : Type 0} → (A → B) → Reading A → Reading B
 read_as make r = r >>= λ t. Ok (make t.0, t.1)
 
--- the format f spells what make makes as the byte k and the part
-module _ {A B : Type 0} (f : Format B) (p : Format A) (make : A → B) (k : ℕ) (law : Law p) (spelled : (t : A) → f.spelling (make t) ≡ k ∷ p.spelling t) (fit : (t : A) → f.fits (make t) ≡ p.fits t) where
+-- the format f encodes what make makes as the byte k and the part
+module _ {A B : Type 0} (f : Format B) (p : Format A) (make : A → B) (k : ℕ) (law : Law p) (encoded : (t : A) → f.encoding (make t) ≡ k ∷ p.encoding t) (fit : (t : A) → f.fits (make t) ≡ p.fits t) where
   pub tagged : (b : ℕ) (bytes : List ℕ) (x : B) (rest : List ℕ) → IsBytes bytes → b ≡ k → read_as make (p.reading bytes) ≡ Ok (x, rest) → Taken f (b ∷ bytes) x rest
   tagged b bytes x rest fits tag e =
       let a = bind_ok (p.reading bytes) (λ t. Ok (make t.0, t.1)) (x, rest) e in
       let is = read_is (make a.0.0) x a.0.1 rest a.2 in
       let t = law.takes bytes a.0.0 a.0.1 fits a.1 in
-      let spells : f.spelling (make a.0.0) ≡ b ∷ p.spelling a.0.0 = spelled a.0.0 ∙ ap (λ (c : ℕ). c ∷ p.spelling a.0.0) (sym tag) in
-      taken_at f (b ∷ bytes) (make a.0.0) x a.0.1 rest is (record { parts = put_before b bytes (p.spelling a.0.0) a.0.1 a.0.1 (f.spelling (make a.0.0)) t.parts refl spells; rest_fits = t.rest_fits; fits = fit a.0.0 ∙ t.fits })
+      let encodes : f.encoding (make a.0.0) ≡ b ∷ p.encoding a.0.0 = encoded a.0.0 ∙ ap (λ (c : ℕ). c ∷ p.encoding a.0.0) (sym tag) in
+      taken_at f (b ∷ bytes) (make a.0.0) x a.0.1 rest is (record { parts = put_before b bytes (p.encoding a.0.0) a.0.1 a.0.1 (f.encoding (make a.0.0)) t.parts refl encodes; rest_fits = t.rest_fits; fits = fit a.0.0 ∙ t.fits })
 
 -- the same, with a byte behind the part
 pub bind_behind : {A B : Type 0} (p : Format A) (make : A → B) (c : ℕ) (bytes : List ℕ) (z : B × List ℕ) → (p.reading bytes >>= λ t. skip c t.1 >>= λ s. Ok (make t.0, s.1)) ≡ Ok z → read_as make ((p ◂ c).reading bytes) ≡ Ok z
@@ -61,7 +61,7 @@ value_type_takes (b ∷ bytes) x rest fits e =
           taken_at value_type (b ∷ bytes) I64 x bytes rest (read_is I64 x bytes rest g.1) (record { parts = ap (λ (c : ℕ). c ∷ bytes) (eqb-true b 0x7E g.0); rest_fits = IsBytes-tail b bytes fits; fits = refl })
     ]
 
-value_type_again : (x : ValueType) (rest : List ℕ) → value_type.fits x ≡ true → value_type.reading (value_type.spelling x ++ rest) ≡ Ok (x, rest)
+value_type_again : (x : ValueType) (rest : List ℕ) → value_type.fits x ≡ true → value_type.reading (value_type.encoding x ++ rest) ≡ Ok (x, rest)
 unfolding value_type
 value_type_again I32 rest fits = refl
 value_type_again I64 rest fits = refl

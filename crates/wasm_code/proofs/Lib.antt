@@ -1,4 +1,4 @@
-pub mod Spelled
+pub mod Encoded
 pub mod Flats
 pub mod ScratchStacks
 pub mod Written

@@ -1,4 +1,4 @@
--- The binary format of instructions (Core 1.0, section 5.4), in this project's profile: each number in its shortest spelling.
+-- The binary format of instructions (Core 1.0, section 5.4), in this project's profile: each number in its shortest encoding.
 use Rattle.std.specs.Prelude.{ℕ, zero, suc, Bool, true, false, ◌&&◌, ◌||◌, List, [], ◌∷◌, ◌++◌, length, Option, Some, None, Result, Ok, Err, ◌==◌, if◌then◌else◌}
 use Rattle.std.specs.List.{concat, flat_map, list_all}
 use Rattle.wasm_tree.specs.declared.fault.WFault.{WFault}
@@ -20,58 +20,58 @@ use Rattle.wasm_bytes.specs.Parts.{vector}
 
 -- ---- types of values (5.3.1)
 
-abbrev pub value_type_spelling : ValueType → List ℕ
-value_type_spelling I32 = 0x7F ∷ []
-value_type_spelling I64 = 0x7E ∷ []
+abbrev pub value_type_encoding : ValueType → List ℕ
+value_type_encoding I32 = 0x7F ∷ []
+value_type_encoding I64 = 0x7E ∷ []
 
 abbrev pub value_type_of : ℕ → List ℕ → Reading ValueType
 value_type_of b bytes = if b == 0x7F then Ok (I32, bytes) else (if b == 0x7E then Ok (I64, bytes) else Err OutsideProfile)
 
 unfoldable pub value_type : Format ValueType
-value_type = record { spelling = value_type_spelling; reading = λ bytes. byte_at bytes >>= λ b. value_type_of b.0 b.1; fits = λ t. true }
+value_type = record { encoding = value_type_encoding; reading = λ bytes. byte_at bytes >>= λ b. value_type_of b.0 b.1; fits = λ t. true }
 
 -- ---- instructions (5.4)
 
-abbrev pub block_type_spelling : Option ValueType → List ℕ
-block_type_spelling None = 0x40 ∷ []
-block_type_spelling (Some t) = value_type_spelling t
+abbrev pub block_type_encoding : Option ValueType → List ℕ
+block_type_encoding None = 0x40 ∷ []
+block_type_encoding (Some t) = value_type_encoding t
 
 abbrev pub block_type_of : ℕ → List ℕ → Reading (Option ValueType)
 block_type_of b bytes = if b == 0x40 then Ok (None, bytes) else (value_type_of b bytes >>= λ t. Ok (Some t.0, t.1))
 
 unfoldable pub block_type : Format (Option ValueType)
-block_type = record { spelling = block_type_spelling; reading = λ bytes. byte_at bytes >>= λ b. block_type_of b.0 b.1; fits = λ t. true }
+block_type = record { encoding = block_type_encoding; reading = λ bytes. byte_at bytes >>= λ b. block_type_of b.0 b.1; fits = λ t. true }
 
 -- the side of an if behind its else
-abbrev pub else_spelling : Option (List (List ℕ)) → List ℕ
-else_spelling None = []
-else_spelling (Some is) = 0x05 ∷ concat is
+abbrev pub else_encoding : Option (List (List ℕ)) → List ℕ
+else_encoding None = []
+else_encoding (Some is) = 0x05 ∷ concat is
 
--- an instruction, where each one inside it is given by its spelling
-abbrev pub spelling_step : Instr-F (List ℕ) → List ℕ
-spelling_step layer.Unreachable = 0x00 ∷ []
-spelling_step (layer.Block t is) = 0x02 ∷ block_type.spelling t ++ concat is ++ 0x0B ∷ []
-spelling_step (layer.Loop t is) = 0x03 ∷ block_type.spelling t ++ concat is ++ 0x0B ∷ []
-spelling_step (layer.If t is others) = 0x04 ∷ block_type.spelling t ++ concat is ++ (else_spelling others ++ 0x0B ∷ [])
-spelling_step (layer.Br l) = 0x0C ∷ unsigned.spelling l
-spelling_step (layer.BrIf l) = 0x0D ∷ unsigned.spelling l
-spelling_step (layer.BrTable ls l) = 0x0E ∷ (vector unsigned).spelling ls ++ unsigned.spelling l
-spelling_step layer.Return = 0x0F ∷ []
-spelling_step (layer.Call f) = 0x10 ∷ unsigned.spelling f
-spelling_step (layer.CallIndirect t) = 0x11 ∷ unsigned.spelling t ++ 0x00 ∷ []
-spelling_step layer.Drop = 0x1A ∷ []
-spelling_step (layer.LocalGet x) = 0x20 ∷ unsigned.spelling x
-spelling_step (layer.LocalSet x) = 0x21 ∷ unsigned.spelling x
-spelling_step (layer.LocalTee x) = 0x22 ∷ unsigned.spelling x
-spelling_step (layer.GlobalGet x) = 0x23 ∷ unsigned.spelling x
-spelling_step (layer.Load l) = load_opcode l ∷ 0x00 ∷ 0x00 ∷ []
-spelling_step (layer.Store w) = store_opcode w ∷ 0x00 ∷ 0x00 ∷ []
-spelling_step (layer.I32Const n) = 0x41 ∷ signed32.spelling n
-spelling_step (layer.I64Const n) = 0x42 ∷ signed64.spelling n
-spelling_step (layer.Numeric n) = numeric_opcode n ∷ []
+-- an instruction, where each one inside it is given by its encoding
+abbrev pub encoding_step : Instr-F (List ℕ) → List ℕ
+encoding_step layer.Unreachable = 0x00 ∷ []
+encoding_step (layer.Block t is) = 0x02 ∷ block_type.encoding t ++ concat is ++ 0x0B ∷ []
+encoding_step (layer.Loop t is) = 0x03 ∷ block_type.encoding t ++ concat is ++ 0x0B ∷ []
+encoding_step (layer.If t is others) = 0x04 ∷ block_type.encoding t ++ concat is ++ (else_encoding others ++ 0x0B ∷ [])
+encoding_step (layer.Br l) = 0x0C ∷ unsigned.encoding l
+encoding_step (layer.BrIf l) = 0x0D ∷ unsigned.encoding l
+encoding_step (layer.BrTable ls l) = 0x0E ∷ (vector unsigned).encoding ls ++ unsigned.encoding l
+encoding_step layer.Return = 0x0F ∷ []
+encoding_step (layer.Call f) = 0x10 ∷ unsigned.encoding f
+encoding_step (layer.CallIndirect t) = 0x11 ∷ unsigned.encoding t ++ 0x00 ∷ []
+encoding_step layer.Drop = 0x1A ∷ []
+encoding_step (layer.LocalGet x) = 0x20 ∷ unsigned.encoding x
+encoding_step (layer.LocalSet x) = 0x21 ∷ unsigned.encoding x
+encoding_step (layer.LocalTee x) = 0x22 ∷ unsigned.encoding x
+encoding_step (layer.GlobalGet x) = 0x23 ∷ unsigned.encoding x
+encoding_step (layer.Load l) = load_opcode l ∷ 0x00 ∷ 0x00 ∷ []
+encoding_step (layer.Store w) = store_opcode w ∷ 0x00 ∷ 0x00 ∷ []
+encoding_step (layer.I32Const n) = 0x41 ∷ signed32.encoding n
+encoding_step (layer.I64Const n) = 0x42 ∷ signed64.encoding n
+encoding_step (layer.Numeric n) = numeric_opcode n ∷ []
 
-unfoldable pub instr_spelling : Instr → List ℕ
-instr_spelling = fold-Instr (List ℕ) spelling_step
+unfoldable pub instr_encoding : Instr → List ℕ
+instr_encoding = fold-Instr (List ℕ) encoding_step
 
 -- numbers fit their widths, and blocks nest at most so deep
 abbrev pub fits_step : Instr-F (ℕ → Bool) → (levels : ℕ) → Bool
@@ -184,7 +184,7 @@ code_in levels bytes = sequence (opened levels) (length bytes) bytes
 
 abbrev pub code_within : (levels : ℕ) → Format (List Instr)
 code_within levels = record {
-  spelling = λ is. flat_map instr_spelling is ++ 0x0B ∷ [];
+  encoding = λ is. flat_map instr_encoding is ++ 0x0B ∷ [];
   reading = λ bytes. ended (code_in levels bytes);
   fits = λ is. list_all (λ i. instr_fits i levels) is;
 }

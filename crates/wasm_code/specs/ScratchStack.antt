@@ -35,9 +35,9 @@ onto_sequence before read = read >>= λ s. Ok ((before ++ flat s.0.0, s.0.1), s.
 abbrev pub onto_code : List Op → Reading (List Instr) → Reading (List Op)
 onto_code before read = read >>= λ is. Ok (before ++ flat is.0, is.1)
 
--- the spelling of the label that a branch names
-abbrev pub label_spelling : Op → List ℕ
-label_spelling o = unsigned.spelling (label_of o)
+-- the encoding of the label that a branch names
+abbrev pub label_encoding : Op → List ℕ
+label_encoding o = unsigned.encoding (label_of o)
 
 -- an instruction that holds others, behind its type, where so many levels of nesting are left for these
 abbrev pub sides_of : (levels : ℕ) → ℕ → Option ValueType → List ℕ → Reading Instr

@@ -8,7 +8,7 @@ ghost use Rattle.wasm_tree.specs.declared.code.Op.TheVariants.{Br, IfElse};
 ghost use Rattle.wasm_tree.specs.declared.instr.Instr.TheVariants as instr;
 ghost use Rattle.wasm_bytes.specs.Number.{unsigned, signed32, signed64};
 ghost use Rattle.wasm_bytes.specs.Parts.{many, vector};
-ghost use Rattle.wasm_code.specs.Instructions.{block_type, no_offset, memory_of, variable_of, plain_of, opens, ending_of, instr_of, code_in, opened, code_within, instr_spelling, code};
+ghost use Rattle.wasm_code.specs.Instructions.{block_type, no_offset, memory_of, variable_of, plain_of, opens, ending_of, instr_of, code_in, opened, code_within, instr_encoding, code};
 ghost use Rattle.wasm_code.specs.ScratchStack.{is_plain, one_sided_op, onto, onto_sequence, onto_code, sides_of};
 
 use crate::fits::code_fits;
@@ -447,7 +447,7 @@ pub fn code_at(alloc: Global, bytes: &[u8]) -> Result<(Code, &[u8]), WFault>
 
 /// Appends an opcode and the index behind it.
 fn write_indexed(out: &mut Writer, opcode: u8, index: u32) -> Result<(), AllocError>
-    ensures { OnOk result (out.new ≡ out.old ++ (opcode ∷ unsigned.spelling index)) }
+    ensures { OnOk result (out.new ≡ out.old ++ (opcode ∷ unsigned.encoding index)) }
 {
     out.byte(opcode)?;
     out.unsigned(u64::from(index))
@@ -463,7 +463,7 @@ fn write_no_offset(out: &mut Writer, opcode: u8) -> Result<(), AllocError>
 
 #[tactic(auto, unfolding(crate::specs::Instructions::block_type))]
 fn write_block_type(out: &mut Writer, kind: Option<ValueType>) -> Result<(), AllocError>
-    ensures { OnOk result (out.new ≡ out.old ++ block_type.spelling kind) }
+    ensures { OnOk result (out.new ≡ out.old ++ block_type.encoding kind) }
 {
     match kind {
         None => out.byte(0x40),
@@ -474,7 +474,7 @@ fn write_block_type(out: &mut Writer, kind: Option<ValueType>) -> Result<(), All
 
 /// Appends how many labels there are, and then each.
 fn write_labels(out: &mut Writer, labels: &[Op]) -> Result<(), AllocError>
-    ensures { OnOk result (out.new ≡ out.old ++ (vector unsigned).spelling (map label_of labels.now)) }
+    ensures { OnOk result (out.new ≡ out.old ++ (vector unsigned).encoding (map label_of labels.now)) }
 {
     out.unsigned(labels.len() as u64)?;
     for label in labels {
@@ -486,8 +486,8 @@ fn write_labels(out: &mut Writer, labels: &[Op]) -> Result<(), AllocError>
 fn write_table(out: &mut Writer, labels: &[Op], last: u32) -> Result<(), AllocError>
     ensures { OnOk result
         (out.new ≡ out.old
-        ++ (0x0E ∷ (vector unsigned).spelling (map label_of labels.now)
-        ++ unsigned.spelling last)) }
+        ++ (0x0E ∷ (vector unsigned).encoding (map label_of labels.now)
+        ++ unsigned.encoding last)) }
 {
     out.byte(0x0E)?;
     write_labels(out, labels)?;
@@ -495,14 +495,14 @@ fn write_table(out: &mut Writer, labels: &[Op], last: u32) -> Result<(), AllocEr
 }
 
 fn write_i32(out: &mut Writer, number: u32) -> Result<(), AllocError>
-    ensures { OnOk result (out.new ≡ out.old ++ (0x41 ∷ signed32.spelling number)) }
+    ensures { OnOk result (out.new ≡ out.old ++ (0x41 ∷ signed32.encoding number)) }
 {
     out.byte(0x41)?;
     out.signed32(number)
 }
 
 fn write_i64(out: &mut Writer, number: u64) -> Result<(), AllocError>
-    ensures { OnOk result (out.new ≡ out.old ++ (0x42 ∷ signed64.spelling number)) }
+    ensures { OnOk result (out.new ≡ out.old ++ (0x42 ∷ signed64.encoding number)) }
 {
     out.byte(0x42)?;
     out.signed64(number)
@@ -518,7 +518,7 @@ fn write_opened(
 ) -> Result<(), AllocError>
     ensures { OnOk result
         (out.new ≡ out.old
-        ++ (opcode ∷ block_type.spelling kind ++ flat_map instr_spelling (tree ops.now))) }
+        ++ (opcode ∷ block_type.encoding kind ++ flat_map instr_encoding (tree ops.now))) }
 {
     out.byte(opcode)?;
     write_block_type(out, kind)?;
@@ -535,7 +535,7 @@ fn write_block(
 ) -> Result<(), AllocError>
     ensures { OnOk result
         (out.new ≡ out.old
-        ++ (opcode ∷ block_type.spelling kind ++ flat_map instr_spelling (tree ops.now)
+        ++ (opcode ∷ block_type.encoding kind ++ flat_map instr_encoding (tree ops.now)
         ++ 0x0B ∷ [])) }
 {
     write_opened(out, opcode, kind, ops)?;
@@ -552,8 +552,8 @@ fn write_sides(
 ) -> Result<(), AllocError>
     ensures { OnOk result
         (out.new ≡ out.old
-        ++ (0x04 ∷ block_type.spelling kind ++ flat_map instr_spelling (tree ops.now)
-        ++ (0x05 ∷ flat_map instr_spelling (tree others.now) ++ 0x0B ∷ []))) }
+        ++ (0x04 ∷ block_type.encoding kind ++ flat_map instr_encoding (tree ops.now)
+        ++ (0x05 ∷ flat_map instr_encoding (tree others.now) ++ 0x0B ∷ []))) }
 {
     write_opened(out, 0x04, kind, ops)?;
     out.byte(0x05)?;
@@ -564,7 +564,7 @@ fn write_sides(
 /// Appends the instruction that this operation begins, of which those behind it may be a part.
 #[cycle(write)]
 fn write_op(out: &mut Writer, op: Op, rest: &[Op]) -> Result<(), AllocError>
-    ensures { OnOk result (out.new ≡ out.old ++ instr_spelling (head tree op rest.now)) }
+    ensures { OnOk result (out.new ≡ out.old ++ instr_encoding (head tree op rest.now)) }
 {
     match op {
         Op::Unreachable => out.byte(0x00),
@@ -600,7 +600,7 @@ fn write_op(out: &mut Writer, op: Op, rest: &[Op]) -> Result<(), AllocError>
 /// Appends the instructions, one after another.
 #[cycle(write)]
 fn write_ops(out: &mut Writer, ops: &[Op]) -> Result<(), AllocError>
-    ensures { OnOk result (out.new ≡ out.old ++ flat_map instr_spelling (tree ops.now)) }
+    ensures { OnOk result (out.new ≡ out.old ++ flat_map instr_encoding (tree ops.now)) }
 {
     let mut left = ops;
     while let Some((op, rest)) = first_of(left) {
@@ -614,7 +614,7 @@ fn write_ops(out: &mut Writer, ops: &[Op]) -> Result<(), AllocError>
 /// encoding.
 #[tactic(auto, unfolding(crate::specs::Instructions::code))]
 pub fn write_code(out: &mut Writer, ops: &[Op]) -> Result<(), AllocError>
-    ensures written { OnOk result (out.new ≡ out.old ++ code.spelling (tree ops.now)) }
+    ensures written { OnOk result (out.new ≡ out.old ++ code.encoding (tree ops.now)) }
     ensures fits { OnOk result (code.fits (tree ops.now) ≡ true) }
 {
     if !code_fits(ops) {

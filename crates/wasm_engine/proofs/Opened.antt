@@ -1,4 +1,4 @@
--- What an instruction opens to, by its name: the search is told of these.
+-- What an instruction opens to, by its name: the search is given these.
 use Rattle.std.proofs.Common.{◌≡◌, ℕ, List, Option, Some, None}
 use Rattle.wasm_tree.specs.declared.kinds.ValueType.{ValueType}
 use Rattle.wasm_tree.specs.declared.instr.Load.{Load}

@@ -3,7 +3,7 @@ use Rattle.std.proofs.Common.{◌≡◌, ℕ, zero, suc, ◌+◌, List, [], ◌+
 use Rattle.std.proofs.lemmas.List.{append-nil}
 use Rattle.wasm_tree.specs.declared.module.WModule.{WModule}
 use Rattle.wasm_tree.specs.Machine.{Config, Going, Over, Trapped, Progress, reduce, run}
-use Rattle.wasm_engine.specs.Told.{with_bytes}
+use Rattle.wasm_engine.specs.Reported.{with_bytes}
 
 -- one reduction behind others
 abbrev pub behind : List WModule → Progress → Progress
@@ -76,10 +76,10 @@ run_over modules k (suc more) c h =
     let one : suc more + k ≡ suc (more + k) = omega arith in
     ap (λ n. run modules n c) one ∙ run-suc modules (more + k) c ∙ ap (behind modules) same ∙ behind_over modules (run modules k c) h
 
-pub with_bytes-append : (told : Option (List ℕ)) (a b : List ℕ) → with_bytes (with_bytes told a) b ≡ with_bytes told (a ++ b)
+pub with_bytes-append : (reported : Option (List ℕ)) (a b : List ℕ) → with_bytes (with_bytes reported a) b ≡ with_bytes reported (a ++ b)
 with_bytes-append None a b = refl
 with_bytes-append (Some bytes) a b = ap (λ (x : List ℕ). Some x) (append_assoc bytes a b)
 
-pub with_bytes-nil : (told : Option (List ℕ)) → with_bytes told [] ≡ told
+pub with_bytes-nil : (reported : Option (List ℕ)) → with_bytes reported [] ≡ reported
 with_bytes-nil None = refl
 with_bytes-nil (Some bytes) = ap (λ (x : List ℕ). Some x) (append-nil bytes)

@@ -46,12 +46,12 @@ pub well_before : (i : Instances) → i.is_broken ≡ false → ∥ IsWell (modu
 well_before i e = ∥∥₁_map i.sound (λ h. h e)
 
 -- and once more reductions were made
-pub well_after : {S : Type 0} (told : S → Option (List ℕ)) (failed : S → ℕ) (steps : ℕ) (old new : Instances) (before after : S) (r : Result End RunFault) (broken : Bool)
-    → broken ≡ is_err r → IfOk r (λ e. Runs told failed steps e old new before after) → modules_of new ≡ modules_of old → ∥ IsWell (modules_of old) (config_of old) ∥₁
+pub well_after : {S : Type 0} (reported : S → Option (List ℕ)) (failed : S → ℕ) (steps : ℕ) (old new : Instances) (before after : S) (r : Result End RunFault) (broken : Bool)
+    → broken ≡ is_err r → IfOk r (λ e. Runs reported failed steps e old new before after) → modules_of new ≡ modules_of old → ∥ IsWell (modules_of old) (config_of old) ∥₁
     → ∥ (broken ≡ false → IsWell (modules_of new) (config_of new)) ∥₁
-well_after told failed steps old new before after (Ok e) broken is h same w =
+well_after reported failed steps old new before after (Ok e) broken is h same w =
     ∥∥₁_map (well_run (modules_of old) steps (config_of old) (config_of new) w h.config) (λ x _. subst (λ (m : List WModule). IsWell m (config_of new)) (sym same) x)
-well_after told failed steps old new before after (Err e) broken is h same w = merely (λ g. absurd (grind (arith, is, g)))
+well_after reported failed steps old new before after (Err e) broken is h same w = merely (λ g. absurd (grind (arith, is, g)))
 
 -- what such a configuration needs is there, and it traps only as the standard says
 is_safe : (modules : List WModule) (c : Config) → IsWell modules c → IsSafe modules c

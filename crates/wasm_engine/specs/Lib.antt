@@ -1,5 +1,5 @@
 pub mod Run
-pub mod Told
+pub mod Reported
 pub mod Going
 pub mod Instances
 pub mod Ends

@@ -10,7 +10,7 @@ ghost use Rattle.wasm_engine.specs.Going.{activation, going, progress, memory_fr
 ghost use Rattle.wasm_engine.specs.Ends.{config_at};
 ghost use Rattle.wasm_engine.specs.Well.{IsWell};
 ghost use Rattle.wasm_engine.specs.Safe.{StaysSafe};
-ghost use Rattle.wasm_engine.specs.Told.{with_bytes};
+ghost use Rattle.wasm_engine.specs.Reported.{with_bytes};
 
 use crate::call::entered;
 use crate::frame::{Machine, Pages, Reduced};
@@ -189,20 +189,20 @@ impl<'a> Instances<'a> {
     pub fn run<S: Sink>(&mut self, steps: u64, out: &mut S) -> Result<End, RunFault>
         requires { S.failed out.old + 1 < 2 ^ 64 }
         // Without a fault: exactly these reductions, the bytes that they print, and where the run is then.
-        ensures ok { IfOk result (λ e. Runs S.told S.failed steps e self.old self.new out.old out.new) }
+        ensures ok { IfOk result (λ e. Runs S.reported S.failed steps e self.old self.new out.old out.new) }
         ensures unbroken { OnOk result (has_failed self.new ≡ false) }
         // With one: the bytes of the reductions before it.
         ensures err { OnErr result
-            (RunsPart S.told steps self.old out.old out.new × (has_failed self.new ≡ true)) }
+            (RunsPart S.reported steps self.old out.old out.new × (has_failed self.new ≡ true)) }
         ensures write { (result ≡ Err RunFault.Write) ↔ (S.failed out.new ≡ S.failed out.old + 1) }
         ensures others { (result ≡ Err RunFault.Write → ⊥) → S.failed out.new ≡ S.failed out.old }
         ensures ended { (result ≡ Err RunFault.Ended) ↔ (has_failed self.old ≡ true) }
-        ensures nothing { result ≡ Err RunFault.Ended → IsIdle S.told self.old self.new out.old out.new }
+        ensures nothing { result ≡ Err RunFault.Ended → IsIdle S.reported self.old self.new out.old out.new }
         // After an end nothing is done, and the answer is the same.
         ensures over { has_failed self.old ≡ false
             → (e : End)
             → end_of (config_of self.old) ≡ Some e
-            → (result ≡ Ok e) × IsIdle S.told self.old self.new out.old out.new }
+            → (result ≡ Ok e) × IsIdle S.reported self.old self.new out.old out.new }
         ensures modules { modules_of self.new ≡ modules_of self.old }
         // Each reduction finds what it needs, and traps only by a rule of the standard.
         ensures safe { has_failed self.old ≡ false → StaysSafe (modules_of self.old) (config_of self.old) }
@@ -224,9 +224,9 @@ impl<'a> Instances<'a> {
         requires room { S.failed out.old + 1 < 2 ^ 64 }
         requires broken { has_failed self.old ≡ true }
         requires sound { ∥ IsWell (modules_of self.old) (config_of self.old) ∥₁ }
-        ensures ok { IfOk result (λ e. Runs S.told S.failed steps e self.old self.new out.old out.new) }
+        ensures ok { IfOk result (λ e. Runs S.reported S.failed steps e self.old self.new out.old out.new) }
         ensures err { IfErr result (λ e.
-            RunsPart S.told steps self.old out.old out.new × Breaks S.failed e out.old out.new) }
+            RunsPart S.reported steps self.old out.old out.new × Breaks S.failed e out.old out.new) }
         ensures keeps { (modules_of self.new ≡ modules_of self.old)
             × (has_failed self.new ≡ has_failed self.old) }
     {
@@ -245,8 +245,8 @@ impl<'a> Instances<'a> {
         requires broken { has_failed self.old ≡ true }
         requires sound { ∥ IsWell (modules_of self.old) (config_of self.old) ∥₁ }
         ensures ok { IfOk result (λ n.
-            (0 < n) × (n ≤ most) × Made S.told S.failed n self.old self.new out.old out.new) }
-        ensures err { IfErr result (λ e. Stops S.told S.failed e out.old out.new) }
+            (0 < n) × (n ≤ most) × Made S.reported S.failed n self.old self.new out.old out.new) }
+        ensures err { IfErr result (λ e. Stops S.reported S.failed e out.old out.new) }
         ensures keeps { (modules_of self.new ≡ modules_of self.old)
             × (has_failed self.new ≡ has_failed self.old) }
     {
@@ -261,8 +261,8 @@ impl<'a> Instances<'a> {
         requires going { self.old.end ≡ End.StillRunning }
         requires broken { has_failed self.old ≡ true }
         ensures settles { MatchResult result
-            (λ _. Settles S.told S.failed reduced self.old self.new out.old out.new)
-            (λ e. Stops S.told S.failed e out.old out.new) }
+            (λ _. Settles S.reported S.failed reduced self.old self.new out.old out.new)
+            (λ e. Stops S.reported S.failed e out.old out.new) }
         ensures keeps { (modules_of self.new ≡ modules_of self.old)
             × (has_failed self.new ≡ has_failed self.old) }
     {

@@ -12,7 +12,7 @@ use crate::known::{Known, known_as, nothing};
 use std::alloc::{AllocError, Global};
 use wasm_tree::{Locals, Value, ValueType};
 
-/// Values, the last on top. A cell has a value's bits, and nothing that tells its kind.
+/// Values, the last on top. A cell has a value's bits, and nothing that says its kind.
 #[derive(Drop)]
 pub struct Operands {
     cells: Vec<u64>,

@@ -1,4 +1,4 @@
--- Formats: how a value is spelled in bytes, what is read at the front of bytes, and which values can be spelled.
+-- Formats: how a value is encoded in bytes, what is read at the front of bytes, and which values can be encoded.
 -- A reading is a value with the bytes behind it, or the first fault from the left.
 use Rattle.std.specs.Prelude.{◌≡◌, ℕ, Bool, List, [], ◌∷◌, Result, Ok, Err, ◌==◌, if◌then◌else◌}
 use Rattle.wasm_tree.specs.declared.fault.WFault.{WFault}
@@ -8,7 +8,7 @@ abbrev pub Reading : Type 0 → Type 0
 Reading A = Result (A × List ℕ) WFault
 
 pub record Format (A : Type 0) : Type 0 where
-  pub spelling : A → List ℕ
+  pub encoding : A → List ℕ
   pub reading : List ℕ → Reading A
   pub fits : A → Bool
 

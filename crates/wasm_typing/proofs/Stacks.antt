@@ -7,7 +7,7 @@ use Rattle.wasm_tree.specs.declared.fault.WFault.TheVariants.{Malformed, Outside
 use Rattle.wasm_tree.specs.declared.kinds.ValueType.{ValueType}
 use Rattle.wasm_tree.specs.Validity.{Are}
 use Rattle.wasm_typing.specs.declared.operands.Operands.{Operands}
-use Rattle.wasm_typing.specs.Typing.{Refuses, Judges, Steps, StandsFor, Stands, Takes, Lacks, TakesIf, Puts, Moves, Halts, Change, Exchanges, Rule, Leaves, Drops}
+use Rattle.wasm_typing.specs.Typing.{Refuses, Settles, Steps, StandsFor, Stands, Takes, Lacks, TakesIf, Puts, Moves, Halts, Change, Exchanges, Rule, Leaves, Drops}
 
 -- ---- refusals
 
@@ -23,8 +23,8 @@ refuses_so SegmentOutside first other f h = h
 refuses_so NoMemory first other f h = h
 
 -- what the exit of a `?` answers
-pub exit : {A : Type 0} (result : Result A WFault) (y e : WFault) (fact refusal : Type 0) → result ≡ Err y → y ≡ e → Refuses e refusal → Judges result fact refusal
-exit {A} result y e fact refusal h g r = subst (λ (x : Result A WFault). Judges x fact refusal) (sym h) (subst (λ (x : WFault). Refuses x refusal) (sym g) r)
+pub exit : {A : Type 0} (result : Result A WFault) (y e : WFault) (fact refusal : Type 0) → result ≡ Err y → y ≡ e → Refuses e refusal → Settles result fact refusal
+exit {A} result y e fact refusal h g r = subst (λ (x : Result A WFault). Settles x fact refusal) (sym h) (subst (λ (x : WFault). Refuses x refusal) (sym g) r)
 
 -- ---- lists with one more at the end
 
@@ -186,7 +186,7 @@ exchanges old mid new ps rs t p = record {
 }
 
 -- the end of an exchange
-pub exchanged : {A : Type 0} (result : Result A WFault) (old mid new : Operands) (ps rs : List ValueType) → Takes old mid ps → Judges result (Puts mid new rs) ⊥ → Steps result (λ p r. Are ps rs p r) old new
+pub exchanged : {A : Type 0} (result : Result A WFault) (old mid new : Operands) (ps rs : List ValueType) → Takes old mid ps → Settles result (Puts mid new rs) ⊥ → Steps result (λ p r. Are ps rs p r) old new
 exchanged (Ok x) old mid new ps rs t p = exchanges old mid new ps rs t p
 exchanged (Err e) old mid new ps rs t p = refuses_so e ⊥ (Halts (λ p r. Are ps rs p r) old) (λ h. absurd h) p
 

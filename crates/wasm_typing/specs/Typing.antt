@@ -24,12 +24,12 @@ Refuses Unlinked refusal = ⊥
 Refuses SegmentOutside refusal = ⊥
 Refuses NoMemory refusal = Unit {0}
 
-abbrev pub Judges : {A : Type 0} → Result A WFault → (fact refusal : Type 0) → Type 0
-Judges (Ok x) fact refusal = fact
-Judges (Err e) fact refusal = Refuses e refusal
+abbrev pub Settles : {A : Type 0} → Result A WFault → (fact refusal : Type 0) → Type 0
+Settles (Ok x) fact refusal = fact
+Settles (Err e) fact refusal = Refuses e refusal
 
 abbrev pub Decides : {A : Type 0} → Result A WFault → Type 0 → Type 0
-Decides result fact = Judges result fact (¬ fact)
+Decides result fact = Settles result fact (¬ fact)
 
 -- ---- operands
 
@@ -70,7 +70,7 @@ pub record Halts (rule : (params results : List ValueType) → Type 0) (old : Op
   pub none : (before after : List ValueType) → Stands old before → ¬ Applies rule before after
 
 abbrev pub Steps : {A : Type 0} → Result A WFault → (rule : (params results : List ValueType) → Type 0) → (old new : Operands) → Type 0
-Steps result rule old new = Judges result (Moves rule old new) (Halts rule old)
+Steps result rule old new = Settles result (Moves rule old new) (Halts rule old)
 
 -- what an instruction does to the operands
 pub data Change : Type 0 where

@@ -2,7 +2,7 @@
 
 ghost use Rattle.std.specs.Prelude.{◌≢◌, Err, ◌≡◌, ◌↔◌, ◌++◌, ◌∷◌, [], false, IsTrue};
 ghost use Rattle.wasm_tree.specs.Validity.{Are, result_types};
-ghost use Rattle.wasm_typing.specs.Typing.{Judges, Stands, TakesIf, Takes, Puts, Steps, Rule, seen, Leaves, Drops};
+ghost use Rattle.wasm_typing.specs.Typing.{Settles, Stands, TakesIf, Takes, Puts, Steps, Rule, seen, Leaves, Drops};
 
 use sqlite_items::Items;
 use std::alloc::Global;
@@ -125,7 +125,7 @@ fn drop_one(operands: &mut Operands) -> Result<(), WFault>
 
 /// Puts operands of these types on top.
 fn put_all(operands: &mut Operands, given: &[ValueType]) -> Result<(), WFault>
-    ensures { Judges result (Puts operands.old operands.new given.now) ⊥ }
+    ensures { Settles result (Puts operands.old operands.new given.now) ⊥ }
 {
     for value_type in given {
         operands.known.push(*value_type)?;
@@ -165,7 +165,7 @@ fn take_given(operands: &mut Operands, wanted: Option<ValueType>) -> bool
 /// Puts an operand of this type on top, where there is one.
 #[inline(always)]
 fn put_given(operands: &mut Operands, given: Option<ValueType>) -> Result<(), WFault>
-    ensures { Judges result (Puts operands.old operands.new (result_types given)) ⊥ }
+    ensures { Settles result (Puts operands.old operands.new (result_types given)) ⊥ }
 {
     match given {
         Some(value_type) => {

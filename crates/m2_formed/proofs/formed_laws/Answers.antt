@@ -1,4 +1,4 @@
-use Rattle.m2_judged.specs.Judged.{least, every}
+use Rattle.m2_scopes.specs.Elaborated.{least, every}
 use Rattle.m2_formed.proofs.Meanings.{meant_formed}
 use Rattle.m2_formed.proofs.formed_laws.Goals as goal
 

@@ -1,4 +1,4 @@
-use Rattle.m2_judged.specs.Judged.{least, every}
+use Rattle.m2_scopes.specs.Elaborated.{least, every}
 use Rattle.m2_formed_frames.proofs.Rooms.{frames_have_room}
 use Rattle.m2_formed_frames.proofs.Bytes.{texts_are_bytes}
 use Rattle.m2_formed_frames.proofs.Modules.{modules_nested}

@@ -1,4 +1,4 @@
-use Rattle.m2_judged.specs.Judged.{least, every}
+use Rattle.m2_scopes.specs.Elaborated.{least, every}
 use Rattle.m2_formed_headings.proofs.Resolving.{names_stay}
 use Rattle.m2_formed_headings.proofs.Headings.{headings_stay}
 use Rattle.m2_formed_headings.proofs.formed_heading_laws.Goals as goal

@@ -1,4 +1,4 @@
-use Rattle.m2_judged.specs.Judged.{least, every}
+use Rattle.m2_scopes.specs.Elaborated.{least, every}
 use Rattle.m2_formed_imports.proofs.Imports.{tables_named, modules_stand}
 use Rattle.m2_formed_imports.proofs.import_laws.Goals as goal
 

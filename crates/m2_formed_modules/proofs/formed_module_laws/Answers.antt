@@ -1,4 +1,4 @@
-use Rattle.m2_judged.specs.Judged.{least, every}
+use Rattle.m2_scopes.specs.Elaborated.{least, every}
 use Rattle.m2_formed_modules.proofs.Modules.{modules_formed}
 use Rattle.m2_formed_modules.proofs.formed_module_laws.Goals as goal
 

@@ -1,5 +1,5 @@
 use Rattle.m2_tree.specs.declared.decl.Decl.{out-Decl}
-use Rattle.m2_judged.specs.Judged.{least, every}
+use Rattle.m2_scopes.specs.Elaborated.{least, every}
 use Rattle.m2_formed_numbers.proofs.Declarations.{decl_grows}
 use Rattle.m2_formed_numbers.proofs.Entered.{procedure_entered}
 use Rattle.m2_formed_numbers.proofs.formed_number_laws.Goals as goal

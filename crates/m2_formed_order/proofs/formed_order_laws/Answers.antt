@@ -1,5 +1,5 @@
 use Rattle.m2_tree.specs.declared.decl.Decl.{out-Decl}
-use Rattle.m2_judged.specs.Judged.{least, every}
+use Rattle.m2_scopes.specs.Elaborated.{least, every}
 use Rattle.m2_formed_order.proofs.Made.{type_of_ordered}
 use Rattle.m2_formed_order.proofs.Declarations.{def_ordered, decl_ordered}
 use Rattle.m2_formed_order.proofs.Blocks.{definition_ordered, block_ordered, module_ordered}

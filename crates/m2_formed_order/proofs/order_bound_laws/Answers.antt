@@ -1,4 +1,4 @@
-use Rattle.m2_judged.specs.Judged.{least, every}
+use Rattle.m2_scopes.specs.Elaborated.{least, every}
 use Rattle.m2_formed_order.proofs.Blocks.{entered_ordered, left_ordered}
 use Rattle.m2_formed_order.proofs.Tables.{first_ordered, exports_ordered}
 use Rattle.m2_formed_order.proofs.order_bound_laws.Goals as goal

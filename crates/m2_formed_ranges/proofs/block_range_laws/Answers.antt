@@ -1,4 +1,4 @@
-use Rattle.m2_judged.specs.Judged.{least, every}
+use Rattle.m2_scopes.specs.Elaborated.{least, every}
 use Rattle.m2_formed_ranges.proofs.Blocks.{block_ranged, module_ranged, definition_ranged, left_ranged, entered_ranged}
 use Rattle.m2_formed_ranges.proofs.Tables.{first_ranged, exports_ranged, reached_ranged, others_of_ranged}
 use Rattle.m2_formed_ranges.proofs.block_range_laws.Goals as goal

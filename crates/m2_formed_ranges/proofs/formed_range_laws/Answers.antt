@@ -1,5 +1,5 @@
 use Rattle.m2_tree.specs.declared.decl.Decl.{out-Decl}
-use Rattle.m2_judged.specs.Judged.{least, every}
+use Rattle.m2_scopes.specs.Elaborated.{least, every}
 use Rattle.m2_formed_ranges.proofs.Constants.{constants_ranged}
 use Rattle.m2_formed_ranges.proofs.Made.{type_of_ranged}
 use Rattle.m2_formed_ranges.proofs.Declarations.{def_ranged, decl_ranged}

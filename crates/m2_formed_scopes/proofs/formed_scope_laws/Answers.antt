@@ -1,5 +1,5 @@
 use Rattle.m2_tree.specs.declared.decl.Decl.{out-Decl}
-use Rattle.m2_judged.specs.Judged.{least, every}
+use Rattle.m2_scopes.specs.Elaborated.{least, every}
 use Rattle.m2_formed_scopes.proofs.Declarations.{decl_leads}
 use Rattle.m2_formed_scopes.proofs.formed_scope_laws.Goals as goal
 

@@ -1,4 +1,4 @@
-use Rattle.m2_judged.specs.Judged.{least, every}
+use Rattle.m2_scopes.specs.Elaborated.{least, every}
 use Rattle.m2_formed_stmts.proofs.Statements.{statements_formed}
 use Rattle.m2_formed_stmts.proofs.formed_statement_laws.Goals as goal
 

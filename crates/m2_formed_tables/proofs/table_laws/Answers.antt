@@ -1,4 +1,4 @@
-use Rattle.m2_judged.specs.Judged.{least, every}
+use Rattle.m2_scopes.specs.Elaborated.{least, every}
 use Rattle.m2_formed_tables.proofs.Exports.{tables_export}
 use Rattle.m2_formed_tables.proofs.Definitions.{tables_number}
 use Rattle.m2_formed_tables.proofs.table_laws.Goals as goal

@@ -1,5 +1,5 @@
 use Rattle.std.proofs.Common.{refl}
-use Rattle.m2_judged.specs.Judged.{least, every}
+use Rattle.m2_scopes.specs.Elaborated.{least, every}
 use Rattle.m2_typing.proofs.Bounding.{entered_words, left_words, first_words, exports_words}
 use Rattle.m2_typing.proofs.Carrying.{indexed_known}
 use Rattle.m2_typing.proofs.Declaring.{def_carries, decl_carries, block_carries, definition_carries, module_carries_on}
@@ -67,10 +67,10 @@ pub returns-clause-every_constants : goal.returns-clause-every_constants
 returns-clause-every_constants c = λ s h e. constants_words every s h e
 
 pub returns-clause-least_bodies : goal.returns-clause-least_bodies
-returns-clause-least_bodies c = λ judges number m own ts p. checked_indexed least judges number m own ts p
+returns-clause-least_bodies c = λ elaborates number m own ts p. checked_indexed least elaborates number m own ts p
 
 pub returns-clause-every_bodies : goal.returns-clause-every_bodies
-returns-clause-every_bodies c = λ judges number m own ts p. checked_indexed every judges number m own ts p
+returns-clause-every_bodies c = λ elaborates number m own ts p. checked_indexed every elaborates number m own ts p
 
 pub returns-clause-implementations : goal.returns-clause-implementations
 returns-clause-implementations c = implementation_indexed
@@ -79,10 +79,10 @@ pub returns-clause-least_own : goal.returns-clause-least_own
 returns-clause-least_own c = λ own tables p q. implementation_words own tables p q
 
 pub returns-clause-least_free : goal.returns-clause-least_free
-returns-clause-least_free c = (λ s e h. exports_free s e h, λ home tables. (tt, tt), λ own tables p. implementation_slots least.Told own tables p)
+returns-clause-least_free c = (λ s e h. exports_free s e h, λ home tables. (tt, tt), λ own tables p. implementation_slots least.Reported own tables p)
 
 pub returns-clause-every_own : goal.returns-clause-every_own
 returns-clause-every_own c = λ own tables p q. implementation_words own tables p q
 
 pub returns-clause-every_free : goal.returns-clause-every_free
-returns-clause-every_free c = (λ s e h. exports_free s e h, λ home tables. (tt, tt), λ own tables p. implementation_slots every.Told own tables p)
+returns-clause-every_free c = (λ s e h. exports_free s e h, λ home tables. (tt, tt), λ own tables p. implementation_slots every.Reported own tables p)

@@ -1,4 +1,4 @@
-use Rattle.m2_judged.specs.Judged.{least, every}
+use Rattle.m2_scopes.specs.Elaborated.{least, every}
 use Rattle.m2_typing.proofs.Entering.{formals_are_slots, formals_stay}
 use Rattle.m2_typing.proofs.Naming.{variable_there, block_typed}
 use Rattle.m2_typing.proofs.Scoping.{scope_typed, blocks_stay, slots_are_kinds}

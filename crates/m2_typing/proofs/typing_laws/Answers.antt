@@ -1,4 +1,4 @@
-use Rattle.m2_judged.specs.Judged.{least, every}
+use Rattle.m2_scopes.specs.Elaborated.{least, every}
 use Rattle.m2_typing.proofs.Meanings.{meant_typed, head_typed}
 use Rattle.m2_typing.proofs.typing_laws.Goals as goal
 

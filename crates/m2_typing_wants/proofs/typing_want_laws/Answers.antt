@@ -1,4 +1,4 @@
-use Rattle.m2_judged.specs.Judged.{least, every}
+use Rattle.m2_scopes.specs.Elaborated.{least, every}
 use Rattle.m2_typing_wants.specs.TypingWants.{placed}
 use Rattle.m2_typing_wants.proofs.Orders.{bodies_ordered}
 use Rattle.m2_typing_wants.proofs.Provided.{bodies_provided, module_typed}

@@ -2,7 +2,7 @@
 
 ghost use Rattle.std.specs.Prelude.{◌≡◌, ◌++◌, ◌+◌, OnOk, IfSome, true};
 ghost use Rattle.wasm_tree.specs.Format.{Format, Gives};
-ghost use Rattle.wasm_binary.specs.Binary.{declared, locals, locals_at, locals_spelling, body};
+ghost use Rattle.wasm_binary.specs.Binary.{declared, locals, locals_at, locals_encoding, body};
 
 use crate::binary::{Binary, MAX_ENTRIES};
 use sqlite_items::Items;
@@ -45,7 +45,7 @@ fn locals_at(alloc: Global, bytes: &[u8]) -> Result<(Items<Locals>, &[u8]), WFau
 /// Appends the groups, one after another.
 #[tactic(auto, unfolding(crate::specs::Binary::locals))]
 fn write_groups(out: &mut Writer, groups: &[Locals]) -> Result<(), AllocError>
-    ensures { OnOk result (out.new ≡ out.old ++ locals.spelling groups.now) }
+    ensures { OnOk result (out.new ≡ out.old ++ locals.encoding groups.now) }
 {
     out.unsigned(groups.len() as u64)?;
     for group in groups {
@@ -69,7 +69,7 @@ fn declared(groups: &[Locals]) -> Option<u32>
 /// Appends the groups of locals. The only error is that memory ran out, or that the locals are too many.
 #[tactic(auto, unfolding(crate::specs::Binary::locals))]
 fn write_locals(out: &mut Writer, groups: &[Locals]) -> Result<(), AllocError>
-    ensures written { OnOk result (out.new ≡ out.old ++ locals.spelling groups.now) }
+    ensures written { OnOk result (out.new ≡ out.old ++ locals.encoding groups.now) }
     ensures fits { OnOk result (locals.fits groups.now ≡ true) }
 {
     if groups.len() > MAX_ENTRIES {

@@ -1,6 +1,6 @@
 use Rattle.std.proofs.Common.{◌≡◌, take}
 use Rattle.std.specs.List.{fold}
-use Rattle.m2_judged.specs.Judged.{least}
+use Rattle.m2_scopes.specs.Elaborated.{least}
 use Rattle.m2_blocks.specs.Inner.{with_section}
 use Rattle.m2_blocks.proofs.inner.with_sections.Given as goal
 

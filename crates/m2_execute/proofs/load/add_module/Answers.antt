@@ -1,5 +1,5 @@
 use Rattle.std.proofs.Common.{refl}
-use Rattle.m2_execute.specs.Told.{Memory}
+use Rattle.m2_execute.specs.Reported.{Memory}
 use Rattle.m2_execute.proofs.load.add_module.Goals as goal
 
 pub returns-then-is_err-clause-err : goal.returns-then-is_err-clause-err

@@ -3,7 +3,7 @@ use Rattle.std.specs.String.{string_bytes}
 use Rattle.wasm_tree.specs.Linking.{link_name}
 use Rattle.wasm_tree.specs.declared.fault.WFault.TheVariants.{NoMemory}
 use Rattle.m2_execute.specs.declared.report.Report.TheVariants.{Refused}
-use Rattle.m2_execute.specs.Told.{Memory}
+use Rattle.m2_execute.specs.Reported.{Memory}
 use Rattle.m2_execute.specs.Directory.{module_names}
 use Rattle.m2_execute.proofs.Saying.{nothing}
 use Rattle.m2_execute.proofs.Missing.{comes_behind}
@@ -12,28 +12,28 @@ use Rattle.m2_execute.proofs.runner.execute.Goals as goal
 pub returns-in_default : goal.returns-in_default
 returns-in_default g c = record {
   report = Refused (record { ref_ptr = (0, 0); now = link_name }) NoMemory;
-  comes = inr ((refl, Memory), nothing g.S.Sink.told g.S.Sink.failed c.args.out.now);
-  answers = c.tell-in_default.ensures.status;
-  all_said = c.tell-in_default.ensures.says.0;
-  says = c.tell-in_default.ensures.says.1;
+  comes = inr ((refl, Memory), nothing g.S.Sink.reported g.S.Sink.failed c.args.out.now);
+  answers = c.write_report-in_default.ensures.status;
+  all_said = c.write_report-in_default.ensures.says.0;
+  says = c.write_report-in_default.ensures.says.1;
 }
 
 pub returns-in_default-alone : goal.returns-in_default-alone
 returns-in_default-alone g c = record {
   report = Refused (record { ref_ptr = (0, 0); now = link_name }) NoMemory;
-  comes = inr ((refl, Memory), nothing g.S.Sink.told g.S.Sink.failed c.args.out.now);
-  answers = c.tell-in_default-alone.ensures.status;
-  all_said = c.tell-in_default-alone.ensures.says.0;
-  says = c.tell-in_default-alone.ensures.says.1;
+  comes = inr ((refl, Memory), nothing g.S.Sink.reported g.S.Sink.failed c.args.out.now);
+  answers = c.write_report-in_default-alone.ensures.status;
+  all_said = c.write_report-in_default-alone.ensures.says.0;
+  says = c.write_report-in_default-alone.ensures.says.1;
 }
 
 pub returns : goal.returns
 returns g c = record {
   report = c.run_named.result;
   comes =
-      comes_behind (g.D.InDir.gives c.args.dir.now) (g.D.InDir.gives c.module_of.new.dir) c.module_of.ensures.stays g.S.Sink.told g.S.Sink.failed c.in-Ok.link c.in-Ok.ensures.ok c.args.steps c.run_named.result c.args.out.now c.run_named.new.out
+      comes_behind (g.D.InDir.gives c.args.dir.now) (g.D.InDir.gives c.module_of.new.dir) c.module_of.ensures.stays g.S.Sink.reported g.S.Sink.failed c.in-Ok.link c.in-Ok.ensures.ok c.args.steps c.run_named.result c.args.out.now c.run_named.new.out
       c.in-Ok-alone.first.items (map string_bytes c.deref.result.now) c.in-Ok-alone.ensures (ap (map string_bytes) c.deref.ensures.value ∙ c.in-Ok-module_names.ensures ∙ ap module_names c.exports.ensures) c.run_named.ensures;
-  answers = c.tell-2.ensures.status;
-  all_said = c.tell-2.ensures.says.0;
-  says = c.tell-2.ensures.says.1;
+  answers = c.write_report-2.ensures.status;
+  all_said = c.write_report-2.ensures.says.0;
+  says = c.write_report-2.ensures.says.1;
 }

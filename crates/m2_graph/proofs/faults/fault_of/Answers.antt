@@ -1,7 +1,7 @@
 use Rattle.std.proofs.Common.{take}
 use Rattle.m2_graph.specs.Program.{modules_of}
 use Rattle.m2_graph.specs.Refused.{faults_of}
-use Rattle.m2_graph.specs.Told.{cycle_faults}
+use Rattle.m2_graph.specs.Reported.{cycle_faults}
 use Rattle.m2_graph.proofs.Faulty.{then_least}
 use Rattle.m2_graph.proofs.faults.fault_of.Goals as goal
 

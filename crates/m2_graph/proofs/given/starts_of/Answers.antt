@@ -1,5 +1,5 @@
 use Rattle.m2_graph.specs.Program.{modules_of}
-use Rattle.m2_graph.proofs.Judging.{starts_within}
+use Rattle.m2_graph.proofs.Deciding.{starts_within}
 use Rattle.m2_graph.proofs.given.starts_of.Goals as goal
 
 pub start_order-requires-clause-within : goal.start_order-requires-clause-within

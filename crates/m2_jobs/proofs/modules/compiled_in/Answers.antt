@@ -7,8 +7,8 @@ use Rattle.m2_tree.specs.declared.decl.Module.{Module}
 use Rattle.m2_compile.specs.declared.outcome.Compiled.{Compiled}
 use Rattle.m2_compile.specs.Compiling.{compiled}
 use Rattle.m2_jobs.specs.Jobs.{compiled_in}
-use Rattle.m2_compile.specs.Spelled.{IsSpelled}
-use Rattle.m2_jobs.specs.Spelled.{spelled_in}
+use Rattle.m2_compile.specs.Encoded.{IsEncoded}
+use Rattle.m2_jobs.specs.Encoded.{encoded_in}
 use Rattle.m2_jobs.specs.Borrowed.{modules_borrowed}
 use Rattle.m2_jobs.proofs.modules.compiled_in.Goals as goal
 
@@ -26,13 +26,13 @@ returns-in-Some-clause-becomes c =
     in
     in_place c.compile.result (slice_get (modules_borrowed c.args.trees.now) c.args.file) c.in-Some.tree.now.1.now c.args.job (map (λ (n : Bor Compiled). n.now) c.args.needed.now) some c.compile.ensures.becomes
 
-spelled_in_place : {E : Type 0} (r : Result Compiled E) (o : Option Module) (m : Module) (job : ℕ) (needed : List Compiled) → o ≡ Some m
-    → OnOk r (IsSpelled m job needed) → OnOk r (spelled_in o job needed)
-spelled_in_place r o m job needed e h = subst (λ (p : Option Module). OnOk r (spelled_in p job needed)) (sym e) h
+encoded_in_place : {E : Type 0} (r : Result Compiled E) (o : Option Module) (m : Module) (job : ℕ) (needed : List Compiled) → o ≡ Some m
+    → OnOk r (IsEncoded m job needed) → OnOk r (encoded_in o job needed)
+encoded_in_place r o m job needed e h = subst (λ (p : Option Module). OnOk r (encoded_in p job needed)) (sym e) h
 
-pub returns-in-Some-clause-spelled : goal.returns-in-Some-clause-spelled
-returns-in-Some-clause-spelled c =
+pub returns-in-Some-clause-encoded : goal.returns-in-Some-clause-encoded
+returns-in-Some-clause-encoded c =
     let some : slice_get (modules_borrowed c.args.trees.now) c.args.file ≡ Some c.in-Some.tree.now.1.now =
     slice_get-map tree_of c.args.trees.now c.args.file ∙ ap (option_map tree_of) (sym c.at.ensures ∙ ap option_copied c.in-Some.is)
     in
-    spelled_in_place c.compile.result (slice_get (modules_borrowed c.args.trees.now) c.args.file) c.in-Some.tree.now.1.now c.args.job (map (λ (n : Bor Compiled). n.now) c.args.needed.now) some c.compile.ensures.spelled
+    encoded_in_place c.compile.result (slice_get (modules_borrowed c.args.trees.now) c.args.file) c.in-Some.tree.now.1.now c.args.job (map (λ (n : Bor Compiled). n.now) c.args.needed.now) some c.compile.ensures.encoded

@@ -1,6 +1,6 @@
 use Rattle.std.proofs.Common.{◌≡◌, take, Ok, []}
 use Rattle.std.specs.List.{fold}
-use Rattle.m2_judged.specs.Judged.{least}
+use Rattle.m2_scopes.specs.Elaborated.{least}
 use Rattle.m2_made.specs.Fields.{no_fields}
 use Rattle.m2_made.specs.Headings.{with_section}
 use Rattle.m2_made.proofs.heading.sections.Given as goal

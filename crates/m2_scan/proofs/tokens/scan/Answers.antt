@@ -38,16 +38,16 @@ returns-clause-accepted c = λ ts small h.
     tokens_once c.args.text.now c.put.new.tokens.items ts
     (ends c.args.text.now c.loop-rest.rest.now c.loop-rest.pos c.loop-rest.tokens.items c.put.new.tokens.items c.loop-rest.invariant (nil_from_length c.loop-rest.rest.now (eqb-true (length c.loop-rest.rest.now) 0 (sym c.is_empty.ensures ∙ c.loop-rest-test.false))) c.in_ok-put.ensures) h
 
-pub returns-then-text-gt-MAX_TEXT-clause-told : goal.returns-then-text-gt-MAX_TEXT-clause-told
-returns-then-text-gt-MAX_TEXT-clause-told c = λ r h. only_refusal c.args.text.now c.refused.result r h (too_long c.args.text.now c.refused.result c.if-text-gt-MAX_TEXT.true c.refused.ensures)
+pub returns-then-text-gt-MAX_TEXT-clause-reported : goal.returns-then-text-gt-MAX_TEXT-clause-reported
+returns-then-text-gt-MAX_TEXT-clause-reported c = λ r h. only_refusal c.args.text.now c.refused.result r h (too_long c.args.text.now c.refused.result c.if-text-gt-MAX_TEXT.true c.refused.ensures)
 
-pub returns-in_err-cut-clause-told : goal.returns-in_err-cut-clause-told
-returns-in_err-cut-clause-told c =
+pub returns-in_err-cut-clause-reported : goal.returns-in_err-cut-clause-reported
+returns-in_err-cut-clause-reported c =
     let p = err_from_is_err_and c.from_residual.result c.from_residual.ensures.1 in
     rw (p.1, p.2) (λ r h. only_refusal c.args.text.now _ r h (stops c.args.text.now c.loop-rest.rest.now c.loop-rest.pos c.loop-rest.tokens.items _ c.loop-rest.invariant c.in_err-cut.ensures.refused))
 
-pub returns-clause-told : goal.returns-clause-told
-returns-clause-told c = λ r h.
+pub returns-clause-reported : goal.returns-clause-reported
+returns-clause-reported c = λ r h.
     let last = nil_from_length c.loop-rest.rest.now (eqb-true (length c.loop-rest.rest.now) 0 (sym c.is_empty.ensures ∙ c.loop-rest-test.false)) in
     never_both c.args.text.now c.put.new.tokens.items r c.loop-rest.invariant.small
     (ends c.args.text.now c.loop-rest.rest.now c.loop-rest.pos c.loop-rest.tokens.items c.put.new.tokens.items c.loop-rest.invariant last c.in_ok-put.ensures) h

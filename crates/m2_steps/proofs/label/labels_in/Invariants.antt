@@ -1,6 +1,6 @@
 use Rattle.std.proofs.Common.{◌≡◌, take, Ok, []}
 use Rattle.std.specs.List.{fold}
-use Rattle.m2_judged.specs.Judged.{least}
+use Rattle.m2_scopes.specs.Elaborated.{least}
 use Rattle.m2_steps.specs.Labels.{with_item}
 use Rattle.m2_steps.proofs.label.labels_in.Given as goal
 

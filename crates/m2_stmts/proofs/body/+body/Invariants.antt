@@ -1,6 +1,6 @@
 use Rattle.std.proofs.Common.{◌≡◌, take, Ok, []}
 use Rattle.std.specs.List.{fold}
-use Rattle.m2_judged.specs.Judged.{least}
+use Rattle.m2_scopes.specs.Elaborated.{least}
 use Rattle.m2_stmts.specs.Statements.{with_written, with_written_arm}
 use Rattle.m2_stmts.proofs.body.+body.Given as goal
 

@@ -1,10 +1,10 @@
 use Rattle.std.proofs.Common.{◌≡◌, IfOk, Result, subst}
 use Rattle.m2_typed.specs.declared.table.Table.{Table}
-use Rattle.m2_judged.specs.declared.fault.Fault.{Fault}
+use Rattle.m2_scopes.specs.declared.fault.Fault.{Fault}
 use Rattle.m2_types.proofs.Defined.{definition_is}
 use Rattle.m2_types.proofs.definition.of_definition.Goals as goal
 
 pub returns : goal.returns
 returns c =
     subst (λ (x : Result Table Fault). IfOk c.table_or.result (λ j. j ≡ x))
-    (definition_is c.args.number c.args.tree.now c.args.tables _ c.args.defs.now _ _ _ _ _ c.as_slice.ensures c.in_ok-modules.ensures c.in_ok-scope.ensures c.in_ok-judged.ensures) c.table_or.ensures
+    (definition_is c.args.number c.args.tree.now c.args.tables _ c.args.defs.now _ _ _ _ _ c.as_slice.ensures c.in_ok-modules.ensures c.in_ok-scope.ensures c.in_ok-elaborated.ensures) c.table_or.ensures

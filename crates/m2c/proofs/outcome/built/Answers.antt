@@ -1,12 +1,12 @@
 use Rattle.std.proofs.Common.{◌≡◌, ◌≤◌, ◌+◌, ◌*◌, ℕ, List, map, ap, subst, ◌∙◌}
 use Rattle.std.specs.Global.{Vec}
-use Rattle.wasm_binary.specs.Binary.{Spells}
+use Rattle.wasm_binary.specs.Binary.{Encodes}
 use Rattle.m2_scheme.specs.Modules.{link_of, stack_begin}
 use Rattle.m2_emit.specs.declared.emitted.ModuleBytes.{ModuleBytes}
 use Rattle.m2_emit.specs.Emitted.{parts}
 use Rattle.m2_jobs.specs.Borrowed.{borrowed}
 use Rattle.m2c.specs.Build.{named, named_bytes, started}
-use Rattle.m2c.proofs.Graphs.{is_program, spelled_borrowed}
+use Rattle.m2c.proofs.Graphs.{is_program, encoded_borrowed}
 use Rattle.m2c.proofs.Borrowed.{copies_borrowed}
 use Rattle.m2c.proofs.outcome.built.Goals as goal
 
@@ -18,11 +18,11 @@ returns c =
     let g = c.args.graph.now in
     let fs = borrowed c.args.trees.now in
     let whole = started fs g.files.items (map items_of g.jobs.items) g.starts.items in
-    let link_is : Spells c.in_ok-link.link.items (link_of (parts whole) c.args.pages) =
-    subst (λ (ms : List ModuleBytes). Spells c.in_ok-link.link.items (link_of (parts ms) c.args.pages)) c.requires.modules c.in_ok-link.ensures
+    let link_is : Encodes c.in_ok-link.link.items (link_of (parts whole) c.args.pages) =
+    subst (λ (ms : List ModuleBytes). Encodes c.in_ok-link.link.items (link_of (parts ms) c.args.pages)) c.requires.modules c.in_ok-link.ensures
     in
     let built_are : map named c.in_ok-modules.modules.items ≡ map named_bytes whole = c.in_ok-modules.ensures.modules ∙ copies_borrowed c.args.modules.now ∙ ap (map named_bytes) c.requires.modules in
     let fits : stack_begin (parts whole) + 4096 ≤ 65536 * c.args.pages = subst (λ (ms : List ModuleBytes). stack_begin (parts ms) + 4096 ≤ 65536 * c.args.pages) c.requires.modules c.requires.fits in
-    let spelled = spelled_borrowed c.args.trees.now g.files.items (map items_of g.jobs.items) c.requires.spelled in
-    is_program c.args.files.now fs g.files.items (map items_of g.jobs.items) g.starts.items c.requires.graph c.requires.none spelled c.args.pages c.requires.least c.requires.most fits
+    let encoded = encoded_borrowed c.args.trees.now g.files.items (map items_of g.jobs.items) c.requires.encoded in
+    is_program c.args.files.now fs g.files.items (map items_of g.jobs.items) g.starts.items c.requires.graph c.requires.none encoded c.args.pages c.requires.least c.requires.most fits
     c.in_ok-link.link.items (map named c.in_ok-modules.modules.items) link_is built_are

@@ -1,4 +1,4 @@
-use Rattle.plain_store.specs.Seen.{seen, told, ended}
+use Rattle.plain_store.specs.Seen.{seen, answered, ended}
 use Rattle.plain_run.proofs.Called.{none_asked, some_asked, no_room, ran}
 use Rattle.plain_run.proofs.runs.+runs.Goals as goal
 
@@ -12,4 +12,4 @@ pub body_run-returns-in-None : goal.body_run-returns-in-None
 body_run-returns-in-None t c = no_room c.args.program.now c.args.depth c.args.request c.in_ok-rest_of.field-0 (seen c.args.st.now) c.in_ok-rest_of.ensures c.in-None.is
 
 pub body_run-returns-in_ok-o-in-Some : goal.body_run-returns-in_ok-o-in-Some
-body_run-returns-in_ok-o-in-Some t c = ran c.args.program.now c.args.depth c.in-Some.rest c.args.request c.in_ok-rest_of.field-0 c.in_ok-begins-in-Some.begins c.in_ok-inner-in-Some.inner c.as_slice.result.now (seen c.args.st.now) (seen c.enter.new.st) (ended c.in_ok-o-in-Some.o c.steps.new.st) (told c.result.result c.steps.new.st) c.in_ok-rest_of.ensures c.in-Some.is c.in_ok-inner-in-Some.ensures c.in_ok-begins-in-Some.ensures.begun c.in_ok-begins-in-Some.ensures.out c.as_slice.ensures c.in_ok-o-in-Some.ensures c.result.ensures
+body_run-returns-in_ok-o-in-Some t c = ran c.args.program.now c.args.depth c.in-Some.rest c.args.request c.in_ok-rest_of.field-0 c.in_ok-begins-in-Some.begins c.in_ok-inner-in-Some.inner c.as_slice.result.now (seen c.args.st.now) (seen c.enter.new.st) (ended c.in_ok-o-in-Some.o c.steps.new.st) (answered c.result.result c.steps.new.st) c.in_ok-rest_of.ensures c.in-Some.is c.in_ok-inner-in-Some.ensures c.in_ok-begins-in-Some.ensures.begun c.in_ok-begins-in-Some.ensures.out c.as_slice.ensures c.in_ok-o-in-Some.ensures c.result.ensures

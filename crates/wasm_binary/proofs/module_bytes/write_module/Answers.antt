@@ -1,5 +1,5 @@
-use Rattle.wasm_binary.proofs.LawsModule.{is_only_spelling}
+use Rattle.wasm_binary.proofs.LawsModule.{is_only_encoding}
 use Rattle.wasm_binary.proofs.module_bytes.write_module.Goals as goal
 
 pub returns-clause-only : goal.returns-clause-only
-returns-clause-only c = is_only_spelling c.args.tree.now c.written.result c.written.ensures.written c.written.ensures.fits
+returns-clause-only c = is_only_encoding c.args.tree.now c.written.result c.written.ensures.written c.written.ensures.fits

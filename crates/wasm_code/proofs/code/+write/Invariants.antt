@@ -1,7 +1,7 @@
 use Rattle.std.proofs.Common.{◌≡◌, ◌+◌, ◌*◌, ◌≤◌, ◌++◌, length}
 use Rattle.std.specs.List.{flat_map}
 use Rattle.wasm_tree.specs.Code.{tree}
-use Rattle.wasm_code.specs.Instructions.{instr_spelling}
+use Rattle.wasm_code.specs.Instructions.{instr_encoding}
 use Rattle.wasm_code.proofs.code.+write.Given as goal
 
 abbrev pub decreases-write_ops : goal.decreases-write_ops
@@ -24,4 +24,4 @@ decreases-write_ops-loop-op l = length l.left
 
 abbrev pub invariant-write_ops-loop-op : goal.invariant-write_ops-loop-op
 invariant-write_ops-loop-op l =
-    (l.out ++ flat_map instr_spelling (tree l.left) ≡ l.fn.out ++ flat_map instr_spelling (tree l.ops)) × (length l.left ≤ length l.ops)
+    (l.out ++ flat_map instr_encoding (tree l.left) ≡ l.fn.out ++ flat_map instr_encoding (tree l.ops)) × (length l.left ≤ length l.ops)

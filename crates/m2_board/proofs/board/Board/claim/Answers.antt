@@ -27,8 +27,8 @@ push_reserved-requires c =
     let here : c.self.inside.graph ≡ c.args.self.now.graph = ap (λ (b : BoardState). b.graph) c.self.view_is in
     let low : c.args.job < length c.self.inside.graph = subst (λ (g : List (List ℕ)). c.args.job < length g) (sym here) c.requires.job in
     let same = ap (λ (t : TableId). t.words) (ap (λ (s : SeatState). s.board) c.seat.view_is ∙ (c.requires.board ∙ sym (ap (λ (b : BoardState). b.id) c.self.view_is))) in
-    let told = got _ _ _ _ c.if-found-eq0.true c.swap-found.ensures.2 in
-    let fits = seat_room _ _ c.args.job _ _ c.seat.invariant (low_word _ _ _ (same ∙ c.self.invariant.words_are) low) told.2 in
+    let answered = got _ _ _ _ c.if-found-eq0.true c.swap-found.ensures.2 in
+    let fits = seat_room _ _ c.args.job _ _ c.seat.invariant (low_word _ _ _ (same ∙ c.self.invariant.words_are) low) answered.2 in
     let len : vec_len c.seat.inside.had ≡ length c.seat.inside.had.items = c.seat.inside.had.ok.0 in
     omega (arith, fits, len)
 
@@ -37,6 +37,6 @@ invariant_of-seat c =
     let here : c.self.inside.graph ≡ c.args.self.now.graph = ap (λ (b : BoardState). b.graph) c.self.view_is in
     let low : c.args.job < length c.self.inside.graph = subst (λ (g : List (List ℕ)). c.args.job < length g) (sym here) c.requires.job in
     let same = ap (λ (t : TableId). t.words) (ap (λ (s : SeatState). s.board) c.seat.view_is ∙ (c.requires.board ∙ sym (ap (λ (b : BoardState). b.id) c.self.view_is))) in
-    let told = got _ _ _ _ c.if-found-eq0.true c.swap-found.ensures.2 in
-    let after = seat_had _ _ c.args.job _ _ c.swap-found.new.seat.me c.seat.invariant (low_word _ _ _ (same ∙ c.self.invariant.words_are) low) told.0 told.1 told.2 in
+    let answered = got _ _ _ _ c.if-found-eq0.true c.swap-found.ensures.2 in
+    let after = seat_had _ _ c.args.job _ _ c.swap-found.new.seat.me c.seat.invariant (low_word _ _ _ (same ∙ c.self.invariant.words_are) low) answered.0 answered.1 answered.2 in
     rw (ap (λ (t : TableId). t.words) c.swap-found.ensures.0, c.push_reserved.ensures.capacity, c.push_reserved.ensures.items) after

@@ -6,7 +6,7 @@ use Rattle.m2_board.specs.Rule.{record_of}
 use Rattle.m2_board.specs.Seats.{BoardState, SeatState, all_had, all_met, all_counts, unset, without}
 use Rattle.m2_board.proofs.Keeps.{IsClosed, closes}
 use Rattle.m2_board.proofs.Tallied.{unset_is, each_job, listed-map}
-use Rattle.m2_board.proofs.Laws.{no_job_is_twice, taken_is_had, told_is_once}
+use Rattle.m2_board.proofs.Laws.{no_job_is_twice, taken_is_had, answered_is_once}
 use Rattle.m2_board.proofs.Weights.{weigh-append}
 use Rattle.m2_board.proofs.Consistent.{bit}
 use Rattle.m2_board.proofs.board.Board.close.Goals as goal
@@ -53,5 +53,5 @@ returns-clause-apart c = no_job_is_twice c.args.self.graph c.args.seats.items (c
 pub returns-clause-taken : goal.returns-clause-taken
 returns-clause-taken c = taken_is_had c.args.self.graph c.args.seats.items (closed ((goal.at.returns-clause-taken c).After-free)).consistent
 
-pub returns-clause-told : goal.returns-clause-told
-returns-clause-told c = told_is_once c.args.self.graph c.args.seats.items (closed ((goal.at.returns-clause-told c).After-free)).consistent
+pub returns-clause-answered : goal.returns-clause-answered
+returns-clause-answered c = answered_is_once c.args.self.graph c.args.seats.items (closed ((goal.at.returns-clause-answered c).After-free)).consistent

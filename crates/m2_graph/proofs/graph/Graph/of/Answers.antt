@@ -2,7 +2,7 @@ use Rattle.std.proofs.Common.{map, ap}
 use Rattle.m2_graph.specs.Sources.{file_of}
 use Rattle.m2_graph.proofs.Whole.{compiles_given}
 use Rattle.m2_graph.specs.Files.{files_of}
-use Rattle.m2_graph.proofs.Judging.{ok_map, err_map, graph_given, refusal_given}
+use Rattle.m2_graph.proofs.Deciding.{ok_map, err_map, graph_given, refusal_given}
 use Rattle.m2_graph.proofs.graph.Graph.of.Goals as goal
 
 pub returns-clause-graph : goal.returns-clause-graph

@@ -7,8 +7,8 @@ use Rattle.m2_board.specs.Graph.{IsJobGraph}
 use Rattle.m2_tree.specs.declared.decl.Module.{Module}
 use Rattle.m2_compile.specs.declared.outcome.Compiled.{Compiled}
 use Rattle.m2_jobs.specs.Jobs.{all_compiled}
-use Rattle.m2_jobs.specs.Spelled.{AreSpelled}
-use Rattle.m2_jobs.proofs.Below.{all_spelled}
+use Rattle.m2_jobs.specs.Encoded.{AreEncoded}
+use Rattle.m2_jobs.proofs.Below.{all_encoded}
 use Rattle.m2_jobs.specs.Borrowed.{modules_borrowed}
 use Rattle.std.proofs.lemmas.Result.{IfOk-weaker}
 use Rattle.m2_jobs.proofs.Rounds.{each_compiled}
@@ -33,14 +33,14 @@ returns-clause-becomes g c =
     in
     IfOk-weaker c.run.result _ (λ all. all.items ≡ wanted) (λ all h. each_compiled (modules_borrowed modules.trees.now) modules.files.now (map (λ job. job.items) modules.jobs.now) all.items sound h ∙ same) c.run.ensures
 
-pub returns-clause-spelled : goal.returns-clause-spelled
-returns-clause-spelled g c =
+pub returns-clause-encoded : goal.returns-clause-encoded
+returns-clause-encoded g c =
     let modules = c.modules_of.result in
     let graph = c.args.graph.now in
     let sound : IsJobGraph (map (λ job. job.items) modules.jobs.now) = subst (λ (js : List (Vec ℕ)). IsJobGraph (map (λ job. job.items) js)) (sym c.modules_of.ensures.jobs) c.in_ok-jobs.ensures.sound in
-    IfOk-weaker c.run.result _ (λ all. AreSpelled (modules_borrowed c.args.trees.now) graph.files.items (map (λ job. job.items) graph.jobs.items))
+    IfOk-weaker c.run.result _ (λ all. AreEncoded (modules_borrowed c.args.trees.now) graph.files.items (map (λ job. job.items) graph.jobs.items))
     (λ all h.
-    subst (λ (ts : List (Bor (List ℕ) × Bor Module)). AreSpelled (modules_borrowed ts) graph.files.items (map (λ job. job.items) graph.jobs.items)) c.modules_of.ensures.trees
-    (subst (λ (fs : List ℕ). AreSpelled (modules_borrowed modules.trees.now) fs (map (λ job. job.items) graph.jobs.items)) c.modules_of.ensures.files
-    (subst (λ (js : List (Vec ℕ)). AreSpelled (modules_borrowed modules.trees.now) modules.files.now (map (λ job. job.items) js)) c.modules_of.ensures.jobs
-    (all_spelled (modules_borrowed modules.trees.now) modules.files.now (map (λ job. job.items) modules.jobs.now) all.items sound h)))) c.run.ensures
+    subst (λ (ts : List (Bor (List ℕ) × Bor Module)). AreEncoded (modules_borrowed ts) graph.files.items (map (λ job. job.items) graph.jobs.items)) c.modules_of.ensures.trees
+    (subst (λ (fs : List ℕ). AreEncoded (modules_borrowed modules.trees.now) fs (map (λ job. job.items) graph.jobs.items)) c.modules_of.ensures.files
+    (subst (λ (js : List (Vec ℕ)). AreEncoded (modules_borrowed modules.trees.now) modules.files.now (map (λ job. job.items) js)) c.modules_of.ensures.jobs
+    (all_encoded (modules_borrowed modules.trees.now) modules.files.now (map (λ job. job.items) modules.jobs.now) all.items sound h)))) c.run.ensures
