@@ -3,7 +3,7 @@ use Rattle.std.proofs.Common.{◌≡◌, ◌≢◌, ℕ, zero, suc, ◌+◌, ◌
 use Rattle.std.specs.Prelude.{slice_get, ◌==◌, if◌then◌else◌}
 use Rattle.std.specs.List.{fold, flat_map}
 use Rattle.std.proofs.lemmas.Bool.{eqb-true}
-use Rattle.std.proofs.lemmas.Bool.Decides.{eqb_reports}
+use Rattle.std.proofs.lemmas.Bool.Decides.{eqb_tells}
 use Rattle.std.proofs.lemmas.List.{length-set, get_or-set_same, append-nil, length-replicate}
 use Rattle.std.proofs.lemmas.Option.{slice_get-get_or}
 use Rattle.m2_typed.specs.declared.typed_module.Which.{Which}
@@ -90,7 +90,7 @@ at_either : (xs : Table) (n k : ℕ) (cs : List ℕ) (ts more : Texts) → n < l
     → or_else (slice_get xs n) (length cs + characters (if n == k then [] else ts ++ more))
     ≡ or_else (slice_get (noted xs k (length cs)) n) (length (cs ++ all_characters ts) + characters more)
 at_either xs n k cs ts more h =
-    elim (eqb_reports n k) [
+    elim (eqb_tells n k) [
       | inl p ↦ at_same xs n k cs ts more (length (cs ++ all_characters ts) + characters more) p.0 h
       | inr p ↦ at_other xs (noted xs k (length cs)) n (n == k) cs ts more p.0 (other_place (slice_get xs k) xs k n (length cs) p.1)
     ]
