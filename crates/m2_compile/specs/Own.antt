@@ -1,7 +1,7 @@
 -- The tables that a body is checked with: that of its own definition, and those of the modules that it imports.
 use Rattle.std.specs.Prelude.{cond, List, [], ◌∷◌, Option, Some, None, drop}
 use Rattle.m2_tree.specs.declared.decl.Module.{Module}
-use Rattle.m2_graph.specs.Imports.{same_name}
+use Rattle.m2_tree.specs.Names.{same_name}
 use Rattle.m2_typed.specs.declared.table.Table.{Table}
 
 -- the table of a body's own definition, which is the first that it needs

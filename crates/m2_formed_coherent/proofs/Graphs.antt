@@ -14,9 +14,9 @@ use Rattle.m2_tree.specs.declared.decl.Contents.TheVariants as contents
 use Rattle.m2_tree.specs.declared.decl.Module.{Module}
 use Rattle.m2_graph.specs.Files.{File, numbered, trees}
 use Rattle.m2_graph.specs.Graph.{IsGraph, CompileEach}
-use Rattle.m2_graph.specs.Imports.{imported, is_definition, is_definition_part, is_program, is_program_part, is_implementation, implements, definition_of, same_name as same_file_name}
+use Rattle.m2_tree.specs.Names.{same_name, is_console}
+use Rattle.m2_graph.specs.Imports.{imported, is_definition, is_definition_part, is_program, is_program_part, is_implementation, implements, definition_of}
 use Rattle.m2_graph.specs.Jobs.{number_of}
-use Rattle.m2_graph.specs.Refused.{is_console}
 use Rattle.m2_graph_laws.specs.Started.{at_places, names_of, is_named, AreApart, definition_imported, all_imported, AreStarted}
 use Rattle.m2_graph_laws.proofs.Lists.{some_at, among-permutation}
 use Rattle.m2_graph_laws.proofs.Passing.{found_at}
@@ -27,7 +27,6 @@ use Rattle.m2_graph_laws.proofs.Defined.{one_definition}
 use Rattle.m2_typed.specs.declared.table.Table.{Table}
 use Rattle.m2_typed.specs.declared.typed_module.Imported.{Imported}
 use Rattle.m2_typed.specs.declared.typed_module.TypedModule.{TypedModule}
-use Rattle.m2_typed.specs.Names.{same_name}
 use Rattle.m2_scopes.specs.Elaborated.{least}
 use Rattle.m2_check.specs.Checks.{elaborated}
 use Rattle.m2_links.specs.Linked.{Program}
@@ -185,8 +184,8 @@ module _ (fs : List (List ℕ × Module)) (files : List ℕ) (jobs : List (List 
       let at : Stands (slice_index_or files k 0) d.tree = stands (slice_index_or files k 0) d.tree d.is_tree in
       let w = fine.whole d.tree (at.place, tree_there (slice_index_or files k 0) d.tree at) d.definition in
       let x = found_at (implements d.tree.name.name) (trees ordered) w.0 w.1 in
-      let part : is_implementation x.0 ≡ true = both_left (is_implementation x.0) (same_file_name d.tree.name.name x.0.name.name) x.2 in
-      let named : same_file_name d.tree.name.name x.0.name.name ≡ true = both_right (is_implementation x.0) (same_file_name d.tree.name.name x.0.name.name) x.2 in
+      let part : is_implementation x.0 ≡ true = both_left (is_implementation x.0) (same_name d.tree.name.name x.0.name.name) x.2 in
+      let named : same_name d.tree.name.name x.0.name.name ≡ true = both_right (is_implementation x.0) (same_name d.tree.name.name x.0.name.name) x.2 in
       let none = neither (is_definition x.0) (is_program x.0) part in
       let a : Stands (slice_index_or files job 0) m = stands (slice_index_or files job 0) m there in
       let place : a.place ≡ w.0 = fine.apart a.place w.0 m x.0 (tree_there (slice_index_or files job 0) m a) x.1 (no_definition m.contents is ∙ sym none.0)

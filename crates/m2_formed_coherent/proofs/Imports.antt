@@ -8,7 +8,8 @@ use Rattle.m2_tree.specs.declared.decl.Import.{Import}
 use Rattle.m2_typed.specs.declared.table.Table.{Table}
 use Rattle.m2_typed.specs.declared.known_types.Types.{Types}
 use Rattle.m2_typed.specs.declared.typed_module.Imported.{Imported}
-use Rattle.m2_typed.specs.Names.{same_name, found, entered}
+use Rattle.m2_tree.specs.Names.{same_name, is_console}
+use Rattle.m2_typed.specs.Names.{found, entered}
 use Rattle.m2_types.specs.Importing.{numbered_modules}
 use Rattle.m2_types.specs.Export.{with_table_if, with_place_if, with_imported, with_imports_of, with_import_of, imported_modules}
 use Rattle.m2_modules.specs.Own.{exported_variables}
@@ -17,9 +18,6 @@ use Rattle.m2_formed_imports.proofs.Lists.{same_is, each_entered, found_each}
 use Rattle.m2_formed_imports.proofs.Imports.{IsPlaced, numbered_placed}
 use Rattle.m2_formed_known.specs.FormedKnown.{HasReached}
 use Rattle.m2_formed_known.proofs.Gathered.{each_more}
-
-abbrev pub is_console : List ℕ → Bool
-is_console name = same_name name (codes "Console")
 
 got : {X : Type 0} (F : X → Type 0) (xs : List X) → AllByRecursion F xs → (k : ℕ) (x : X) → slice_get xs k ≡ Some x → F x
 got F [] h k x e = absurd cc

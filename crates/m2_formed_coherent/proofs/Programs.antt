@@ -10,7 +10,8 @@ use Rattle.m2_tree.specs.declared.decl.Def.{Def}
 use Rattle.m2_tree.specs.declared.decl.Contents.{Contents}
 use Rattle.m2_tree.specs.declared.decl.Contents.TheVariants as contents
 use Rattle.m2_tree.specs.declared.decl.Module.{Module}
-use Rattle.m2_graph.specs.Imports.{is_definition, is_definition_part, is_program, is_program_part, same_name as same_file_name}
+use Rattle.m2_tree.specs.Names.{same_name, is_console}
+use Rattle.m2_graph.specs.Imports.{is_definition, is_definition_part, is_program, is_program_part}
 use Rattle.m2_typed.specs.declared.shape.Made.{Made}
 use Rattle.m2_typed.specs.declared.table.Table.{Table}
 use Rattle.m2_typed.specs.declared.types.TypeNo.{TypeNo}
@@ -55,7 +56,7 @@ use Rattle.m2_formed_reach.proofs.Reach.{tree_fits, IsNeeded, own_formed, behind
 use Rattle.m2_formed_coherent.specs.FormedCoherent.{IsBodyOf, IsWhole}
 use Rattle.m2_formed_coherent.proofs.Agree.{variables_agree}
 use Rattle.m2_formed_coherent.proofs.Bodies.{BeginWith, IsKnownBy, IsKnown, module_known}
-use Rattle.m2_formed_coherent.proofs.Imports.{is_console, AreListed, AreMade, OwnListed, IsImportOf, AreImports, table_imports, typed_are}
+use Rattle.m2_formed_coherent.proofs.Imports.{AreListed, AreMade, OwnListed, IsImportOf, AreImports, table_imports, typed_are}
 
 -- ---- results and lists
 
@@ -199,8 +200,8 @@ module _ (trees : List Module) (files : List ℕ) (jobs : List (List ℕ)) (fit 
 
   pub own_is : (n : ℕ) (m : Module) (ts : List Table) → AllByRecursion (Needed n) ts → (o : Table) → own_table m ts ≡ Some o → Needed n o × (o.name ≡ m.name.name)
   own_is n m [] h o e = absurd cc
-  own_is n m (t ∷ ts) h o e = by (same_file_name t.name m.name.name) refl e where
-    by : (b : Bool) → same_file_name t.name m.name.name ≡ b → cond b (Some t) None ≡ Some o → Needed n o × (o.name ≡ m.name.name)
+  own_is n m (t ∷ ts) h o e = by (same_name t.name m.name.name) refl e where
+    by : (b : Bool) → same_name t.name m.name.name ≡ b → cond b (Some t) None ≡ Some o → Needed n o × (o.name ≡ m.name.name)
     by true q g = let same : t ≡ o = cc in subst (λ (x : Table). Needed n x × (x.name ≡ m.name.name)) same (h.0, same_is t.name m.name.name q)
     by false q g = absurd cc
 

@@ -3,7 +3,8 @@ use Rattle.std.proofs.Common.{◌≡◌, ℕ, suc, ◌+◌, ◌<◌, Bool, true,
 use Rattle.std.specs.Prelude.{slice_get}
 use Rattle.std.specs.List.{position_from}
 use Rattle.std.proofs.lemmas.Iterator.Adapters.{position_from-zero}
-use Rattle.m2_typed.specs.Names.{same_name, found, place_of, entered}
+use Rattle.m2_tree.specs.Names.{same_name}
+use Rattle.m2_typed.specs.Names.{found, place_of, entered}
 use Rattle.m2_formed_scopes.specs.FormedScopes.{picked}
 use Rattle.m2_formed_scopes.proofs.Names.{same_refl, same_is, found_self}
 

@@ -11,7 +11,8 @@ use Rattle.m2_typed.specs.declared.types.Home.{Home}
 use Rattle.m2_typed.specs.declared.types.Home.TheVariants as home
 use Rattle.m2_typed.specs.declared.types.TypeNo.{TypeNo}
 use Rattle.m2_typed.specs.Known.{made_from, made_at}
-use Rattle.m2_typed.specs.Names.{same_name, found, entered}
+use Rattle.m2_tree.specs.Names.{same_name}
+use Rattle.m2_typed.specs.Names.{found, entered}
 use Rattle.m2_scopes.specs.Elaborated.{Gathers, reported}
 use Rattle.m2_scopes.specs.Scopes.{State, is_free, with_known, unless_declared, begun, is_begun, finished, unless_marked, marked}
 use Rattle.m2_scopes.specs.declared.known.Known.{Known}

@@ -9,7 +9,8 @@ use lib.Pointwise.{bytes_decides}
 use Rattle.m2_tree.specs.declared.name.Ident.{Ident}
 use Rattle.m2_tree.specs.declared.decl.Import.{Import}
 use Rattle.m2_graph.specs.Imports.{named_by}
-use Rattle.m2_typed.specs.Names.{same_name, found, entered}
+use Rattle.m2_tree.specs.Names.{same_name}
+use Rattle.m2_typed.specs.Names.{found, entered}
 
 pub same_refl : (name : List ℕ) → same_name name name ≡ true
 same_refl name = (bytes_decides name name).1 refl

@@ -6,7 +6,7 @@ use Rattle.m2_graph.specs.Imports.{imported}
 use Rattle.m2_typed.specs.declared.table.Table.{Table}
 use Rattle.m2_typed.specs.declared.typed_module.Imported.{Imported}
 use Rattle.m2_typed.specs.declared.typed_module.TypedModule.{TypedModule}
-use Rattle.m2_typed.specs.Names.{same_name}
+use Rattle.m2_tree.specs.Names.{same_name}
 use Rattle.m2_scopes.specs.Elaborated.{Gathers}
 use Rattle.m2_types.specs.Compiled.{compiled}
 use Rattle.m2_bodies.specs.Elaborating.{Elaborates}

@@ -12,7 +12,8 @@ use Rattle.m2_typed.specs.declared.table.Table.{Table}
 use Rattle.m2_typed.specs.declared.typed_module.TypedModule.{TypedModule}
 use Rattle.m2_typed.specs.declared.types.TypeNo.{TypeNo}
 use Rattle.m2_typed.specs.Types.{integer, cardinal, boolean, char, bitset}
-use Rattle.m2_typed.specs.Names.{same_name, found}
+use Rattle.m2_tree.specs.Names.{same_name}
+use Rattle.m2_typed.specs.Names.{found}
 use Rattle.m2_scopes.specs.Elaborated.{Gathers}
 use Rattle.m2_scopes.specs.declared.known.Known.{Known}
 use Rattle.m2_scopes.specs.declared.known.Known.TheVariants.{Declared}
@@ -32,7 +33,7 @@ use Rattle.m2_formed_scopes.proofs.Declarations.{same_home}
 use Rattle.m2_formed_scopes.proofs.Imports.{OpenTables}
 use Rattle.m2_formed_imports.proofs.Lists.{or_right, each_entered, found_each}
 use Rattle.m2_formed_tables.specs.FormedTables.{IsExport, AreExports, IsNumbered, AreNumberedBy}
-use Rattle.m2_formed_modules.specs.FormedModules.{is_console, IsTable, AreTables}
+use Rattle.m2_formed_modules.specs.FormedModules.{is_console_table, IsTable, AreTables}
 use Rattle.m2_formed_modules.proofs.Opens.{open_table, open_in}
 
 -- ---- procedures that are awaited
@@ -163,7 +164,7 @@ module _ (m : TypedModule) (opens : ℕ → Bool) where
     imported_if false b e h = h
 
     table_formed : (t : Table) → IsTable home t → open_table m.imports (Some t) ≡ true → ExportsFormed m opens t.exported
-    table_formed t i h = exports_formed t i.other (imported_if (is_console t) (list_any (λ i. i.number == t.number) m.imports) i.named h) t.exported i.exports
+    table_formed t i h = exports_formed t i.other (imported_if (is_console_table t) (list_any (λ i. i.number == t.number) m.imports) i.named h) t.exported i.exports
 
     console_formed : ExportsFormed m opens console.exported
     unfolding console

@@ -8,7 +8,8 @@ use Rattle.m2_tree.specs.declared.decl.Import.{Import}
 use Rattle.m2_typed.specs.declared.table.Table.{Table}
 use Rattle.m2_typed.specs.declared.typed_module.Imported.{Imported}
 use Rattle.m2_typed.specs.declared.typed_module.TypedModule.{TypedModule}
-use Rattle.m2_typed.specs.Names.{same_name, found, entered}
+use Rattle.m2_tree.specs.Names.{same_name}
+use Rattle.m2_typed.specs.Names.{found, entered}
 use Rattle.m2_scopes.specs.Elaborated.{Gathers}
 use Rattle.m2_types.specs.Export.{with_table_if, with_place_if, with_imported, with_imports_of, with_import_of}
 use Rattle.m2_modules.specs.Imports.{definition_imports, all_imports, imported_as, with_table_of, with_place_of, with_module_of, typed_imports}
@@ -16,11 +17,11 @@ use Rattle.m2_formed_scopes.specs.FormedScopes.{OpensNames, OpensImports}
 use Rattle.m2_formed_scopes.proofs.Declarations.{same_home}
 use Rattle.m2_formed_scopes.proofs.Imports.{OpensImport, OpensAll}
 use Rattle.m2_formed_imports.proofs.Lists.{same_refl, same_is, or_left, or_right}
-use Rattle.m2_formed_modules.specs.FormedModules.{is_console}
+use Rattle.m2_formed_modules.specs.FormedModules.{is_console_table}
 
 abbrev pub open_table : List Imported → Option Table → Bool
 open_table is None = true
-open_table is (Some t) = is_console t || list_any (λ i. i.number == t.number) is
+open_table is (Some t) = is_console_table t || list_any (λ i. i.number == t.number) is
 
 abbrev pub open_in : List Table → List Imported → ℕ → Bool
 open_in tables is k = open_table is (slice_get tables k)
@@ -102,7 +103,7 @@ module _ (modules : List (List ℕ × ℕ)) (tables : List Table) where
     IsOpen is = open_table is (Some t) ≡ true
 
     more_open : (so : List Imported) (x : Imported) → IsOpen so → IsOpen (so ++ x ∷ [])
-    more_open so x h = or_more (is_console t) (list_any is_it so) (list_any is_it (so ++ x ∷ [])) h (λ e. list_any-append is_it so (x ∷ []) ∙ or_left (list_any is_it so) (list_any is_it (x ∷ [])) e)
+    more_open so x h = or_more (is_console_table t) (list_any is_it so) (list_any is_it (so ++ x ∷ [])) h (λ e. list_any-append is_it so (x ∷ []) ∙ or_left (list_any is_it so) (list_any is_it (x ∷ [])) e)
 
     cond_open : (b : Bool) (so : List Imported) (x : Imported) → IsOpen so → IsOpen (cond b so (so ++ x ∷ []))
     cond_open true so x h = h
@@ -110,7 +111,7 @@ module _ (modules : List (List ℕ × ℕ)) (tables : List Table) where
 
     table_open : (so : List Imported) (o : Option Table) → IsOpen so → IsOpen (with_table_of so o)
     table_open so None h = h
-    table_open so (Some u) h = cond_open (is_console u) so (imported_as u) h
+    table_open so (Some u) h = cond_open (is_console_table u) so (imported_as u) h
 
     place_open : (so : List Imported) (e : List ℕ × ℕ) (o : Option ℕ) → IsOpen so → IsOpen (with_place_of tables so e o)
     place_open so e None h = cond_open (same_name e.0 (codes "Console")) so (record { name = e.0; number = e.1; variables = [] }) h
@@ -130,7 +131,7 @@ module _ (modules : List (List ℕ × ℕ)) (tables : List Table) where
     now_open name v so s =
         ap (λ (o : Option ℕ). open_table (with_place_of tables so (name, v) o) (Some t)) s.1
         ∙ ap (λ (o : Option Table). open_table (with_table_of so o) (Some t)) s.2
-        ∙ new_open (is_console t) so
+        ∙ new_open (is_console_table t) so
 
     name_by : (name : List ℕ) (e : List ℕ × ℕ) (es : List (List ℕ × ℕ)) (so : List Imported) (b : Bool) → same_name name e.0 ≡ b → Stands name t → (rest : Bool)
         → (rest ≡ true → IsOpen (fold (with_module_of modules tables) (with_module_of modules tables so e) es)) → (b || rest) ≡ true → IsOpen (fold (with_module_of modules tables) (with_module_of modules tables so e) es)

@@ -1,11 +1,11 @@
 -- What the checker makes of modules is well formed.
-use Rattle.std.specs.Prelude.{◌≡◌, ℕ, ◌==◌, Bool, false, List, Option, Some, None, codes}
+use Rattle.std.specs.Prelude.{◌≡◌, ℕ, ◌==◌, Bool, false, List, Option, Some, None}
 use Rattle.std.specs.List.{AllByRecursion}
 use Rattle.m2_tree.specs.declared.decl.Contents.{Contents}
 use Rattle.m2_tree.specs.declared.decl.Contents.TheVariants as contents
 use Rattle.m2_tree.specs.declared.decl.Module.{Module}
 use Rattle.m2_typed.specs.declared.table.Table.{Table}
-use Rattle.m2_typed.specs.Names.{same_name}
+use Rattle.m2_tree.specs.Names.{is_console}
 use Rattle.m2_scopes.specs.Elaborated.{Gathers}
 use Rattle.m2_modules.specs.Own.{exported_headings}
 use Rattle.m2_check.specs.Checks.{checked}
@@ -15,13 +15,13 @@ use Rattle.m2_formed_tables.specs.FormedTables.{AreExports, AreNumberedBy}
 
 -- ---- tables
 
-abbrev pub is_console : Table → Bool
-is_console t = same_name t.name (codes "Console")
+abbrev pub is_console_table : Table → Bool
+is_console_table t = is_console t.name
 
 -- of another module's definition, which exports what is its own
 pub record IsTable (home : ℕ) (t : Table) : Type 0 where
   pub exports : AreExports t.number t.exported
-  pub named : is_console t ≡ false
+  pub named : is_console_table t ≡ false
   pub other : (t.number == home) ≡ false
 
 abbrev pub AreTables : (home : ℕ) → List Table → Type 0

@@ -19,7 +19,8 @@ use Rattle.m2_typed.specs.declared.meaning.Value.{Value}
 use Rattle.m2_typed.specs.declared.shape.Formal.{Formal}
 use Rattle.m2_typed.specs.declared.shape.Made.{Made}
 use Rattle.m2_typed.specs.declared.types.TypeNo.{TypeNo}
-use Rattle.m2_typed.specs.Names.{same_name, found}
+use Rattle.m2_tree.specs.Names.{same_name}
+use Rattle.m2_typed.specs.Names.{found}
 use Rattle.m2_scopes.specs.Elaborated.{Gathers, ◌▷◌}
 use Rattle.m2_scopes.specs.Scopes.{State, with_known, begun, is_begun}
 use Rattle.m2_scopes.specs.declared.known.Known.{Known}

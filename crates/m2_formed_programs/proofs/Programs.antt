@@ -16,12 +16,12 @@ use Rattle.m2_worker.proofs.Resulting.{results-length}
 use Rattle.m2_graph.specs.Files.{numbered, trees}
 use Rattle.m2_graph.specs.Graph.{IsGraph}
 use Rattle.m2_graph.specs.Order.{IsJob}
-use Rattle.m2_graph.specs.Refused.{is_built_in, is_console as is_console_name}
+use Rattle.m2_tree.specs.Names.{is_console, same_name}
+use Rattle.m2_graph.specs.Refused.{is_built_in}
 use Rattle.m2_graph_laws.proofs.Given.{given_among}
 use Rattle.m2_graph_laws.proofs.Fine.{fine_file, tree_at}
 use Rattle.m2_typed.specs.declared.table.Table.{Table}
 use Rattle.m2_typed.specs.declared.typed_module.TypedModule.{TypedModule}
-use Rattle.m2_typed.specs.Names.{same_name}
 use Rattle.m2_scopes.specs.declared.fault.Fault.{Fault}
 use Rattle.m2_scopes.specs.Elaborated.{least}
 use Rattle.m2_layout.specs.Layouts.{too_large}
@@ -39,7 +39,7 @@ use Rattle.m2_formed_imports.proofs.Lists.{or_left, or_right}
 use Rattle.m2_formed_tables.specs.FormedTables.{AreExports, AreNumberedBy}
 use Rattle.m2_formed_tables.proofs.Exports.{tables_export}
 use Rattle.m2_formed_tables.proofs.Definitions.{tables_number}
-use Rattle.m2_formed_modules.specs.FormedModules.{is_console, AreTables, AreForOwn, AreFor}
+use Rattle.m2_formed_modules.specs.FormedModules.{is_console_table, AreTables, AreForOwn, AreFor}
 use Rattle.m2_formed_modules.proofs.Modules.{modules_formed}
 use Rattle.m2_compile.specs.declared.outcome.Compiled.{Compiled}
 use Rattle.m2_compile.specs.declared.outcome.Compiled.TheVariants.{Defined, Built, Refused, Blocked}
@@ -113,21 +113,21 @@ module _ (fs : List (List ℕ × Module)) (files : List ℕ) (jobs : List (List 
   record IsDefined (t : Table) : Type 0 where
     exports : AreExports t.number t.exported
     numbers : AreNumberedBy (exported_headings t.exported) t.exported
-    named : is_console t ≡ false
+    named : is_console_table t ≡ false
 
   -- the table of the definition that a job compiles
   abbrev IsOf : ℕ → Table → Type 0
   IsOf job t = IsDefined t × (t.number ≡ job)
 
-  not_console : (m : Module) (k : ℕ) → slice_get (trees_of fs) k ≡ Some m → is_console_name m.name.name ≡ false
+  not_console : (m : Module) (k : ℕ) → slice_get (trees_of fs) k ≡ Some m → is_console m.name.name ≡ false
   not_console m k e =
       let a = given_among fs graph.0 graph.1 m (k, e) in
       let f = tree_at graph.0 a.0 m a.1 in
       let fine = (fine_file graph.0 graph.2.fine a.0 f.0 f.1).first in
-      let free : is_console_name f.0.tree.name.name ≡ false = (or_none (is_console_name f.0.tree.name.name) (same_name f.0.tree.name.name (codes "link")) (or_none _ (is_built_in f.0.tree.name.name) fine).1).0 in
-      subst (λ (x : Module). is_console_name x.name.name ≡ false) f.2 free
+      let free : is_console f.0.tree.name.name ≡ false = (or_none (is_console f.0.tree.name.name) (same_name f.0.tree.name.name (codes "link")) (or_none _ (is_built_in f.0.tree.name.name) fine).1).0 in
+      subst (λ (x : Module). is_console x.name.name ≡ false) f.2 free
 
-  defined_of : (m : Module) (job : ℕ) (t : Table) → is_console_name m.name.name ≡ false → NamesImports m job t → AreExports job t.exported → AreNumberedBy (exported_headings t.exported) t.exported → IsOf job t
+  defined_of : (m : Module) (job : ℕ) (t : Table) → is_console m.name.name ≡ false → NamesImports m job t → AreExports job t.exported → AreNumberedBy (exported_headings t.exported) t.exported → IsOf job t
   defined_of m job t free n e k = (
     record {
       exports = subst (λ (h : ℕ). AreExports h t.exported) (sym n.number) e;
@@ -137,7 +137,7 @@ module _ (fs : List (List ℕ × Module)) (files : List ℕ) (jobs : List (List 
     n.number,
   )
 
-  result_of : (m : Module) (job : ℕ) (t : Table) (r : Result Table Fault) → is_console_name m.name.name ≡ false → IfOk r (NamesImports m job) → IfOk r (λ t. AreExports job t.exported) → IfOk r (λ t. AreNumberedBy (exported_headings t.exported) t.exported)
+  result_of : (m : Module) (job : ℕ) (t : Table) (r : Result Table Fault) → is_console m.name.name ≡ false → IfOk r (NamesImports m job) → IfOk r (λ t. AreExports job t.exported) → IfOk r (λ t. AreNumberedBy (exported_headings t.exported) t.exported)
       → of_definition r ≡ Defined t → IsOf job t
   result_of m job t (Ok x) free n e k is = let same : x ≡ t = cc in subst (λ (y : Table). IsOf job y) same (defined_of m job x free n e k)
   result_of m job t (Err f) free n e k is = absurd cc
@@ -150,13 +150,13 @@ module _ (fs : List (List ℕ × Module)) (files : List ℕ) (jobs : List (List 
   no_body t (Ok b) e = no_fit t b (too_large b) e
   no_body t (Err f) e = absurd cc
 
-  from_contents : (m : Module) (job : ℕ) (tables : List Table) (t : Table) → is_console_name m.name.name ≡ false → (c : Contents) → of_contents m job tables c ≡ Defined t → IsOf job t
+  from_contents : (m : Module) (job : ℕ) (tables : List Table) (t : Table) → is_console m.name.name ≡ false → (c : Contents) → of_contents m job tables c ≡ Defined t → IsOf job t
   from_contents m job tables t free (contents.Definition ds) e =
       result_of m job t (types.compiled least job m tables) free (tables_named least job m tables) (tables_export least job m tables) (tables_number least job m tables) e
   from_contents m job tables t free (contents.Implementation b) e = absurd (no_body t (typed_body m job tables) e)
   from_contents m job tables t free (contents.Program b) e = absurd (no_body t (typed_body m job tables) e)
 
-  from_compiled : (m : Module) (job : ℕ) (outs : List Compiled) (t : Table) → is_console_name m.name.name ≡ false → compiled m job outs ≡ Defined t → IsOf job t
+  from_compiled : (m : Module) (job : ℕ) (outs : List Compiled) (t : Table) → is_console m.name.name ≡ false → compiled m job outs ≡ Defined t → IsOf job t
   unfolding compiled
   from_compiled m job outs t free e = by (list_all is_sound outs) e where
     by : (b : Bool) → cond b (of_contents m job (tables_of outs) m.contents) Blocked ≡ Defined t → IsOf job t

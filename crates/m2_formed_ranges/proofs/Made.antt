@@ -19,7 +19,8 @@ use Rattle.m2_typed.specs.declared.shape.Made.{Made}
 use Rattle.m2_typed.specs.declared.meaning.Meaning.{Meaning}
 use Rattle.m2_typed.specs.declared.known_types.Types.{Types}
 use Rattle.m2_typed.specs.Known.{scalar_at, cells_at, range}
-use Rattle.m2_typed.specs.Names.{found, entered, same_name}
+use Rattle.m2_tree.specs.Names.{same_name}
+use Rattle.m2_typed.specs.Names.{found, entered}
 use Rattle.m2_scopes.specs.declared.known.Known.{Known}
 use Rattle.m2_scopes.specs.declared.known.Known.TheVariants.{Declared}
 use Rattle.m2_scopes.specs.declared.known.Origin.TheVariants.{Here}

@@ -10,7 +10,7 @@ use Rattle.m2_tree.specs.declared.decl.Contents.TheVariants as contents
 use Rattle.m2_tree.specs.declared.decl.Module.{Module}
 use Rattle.m2_board.specs.Graph.{prerequisites_of}
 use Rattle.m2_worker.specs.Results.{results_below, picked, with_item}
-use Rattle.m2_graph.specs.Imports.{same_name}
+use Rattle.m2_tree.specs.Names.{same_name}
 use Rattle.m2_typed.specs.declared.shape.Made.{Made}
 use Rattle.m2_typed.specs.declared.table.ModuleTypes.{ModuleTypes}
 use Rattle.m2_typed.specs.declared.table.Table.{Table}

@@ -2,7 +2,8 @@
 use Rattle.std.proofs.Common.{◌≡◌, ℕ, zero, suc, Bool, true, false, cond, List, [], ◌∷◌, ◌++◌, length, Option, Some, None, refl, sym, ap, subst, ◌∙◌}
 use Rattle.std.specs.Prelude.{slice_get}
 use lib.Pointwise.{bytes_decides}
-use Rattle.m2_typed.specs.Names.{same_name, found, entered}
+use Rattle.m2_tree.specs.Names.{same_name}
+use Rattle.m2_typed.specs.Names.{found, entered}
 use Rattle.m2_formed_scopes.specs.FormedScopes.{picked}
 
 pub same_refl : (name : List ℕ) → same_name name name ≡ true

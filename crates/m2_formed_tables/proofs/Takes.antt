@@ -18,7 +18,8 @@ use Rattle.m2_tree.specs.declared.decl.TypeExpr.TheOpen as layer
 use Rattle.m2_tree.specs.declared.decl.Field.{Field, Field-F, out-Field, roll-Field, out-roll-Field, map-Field, fold_out-Field}
 use Rattle.m2_typed.specs.declared.shape.Made.{Made}
 use Rattle.m2_typed.specs.declared.types.TypeNo.{TypeNo}
-use Rattle.m2_typed.specs.Names.{same_name, found}
+use Rattle.m2_tree.specs.Names.{same_name}
+use Rattle.m2_typed.specs.Names.{found}
 use Rattle.m2_typed.specs.Known.{cells_at}
 use Rattle.m2_scopes.specs.Elaborated.{Gathers, reported, both, beside, ◌▷◌}
 use Rattle.m2_scopes.specs.Scopes.{State, is_free, with_known, unless_declared, begun, unless_marked, marked}

@@ -10,7 +10,8 @@ use Rattle.std.proofs.lemmas.List.{take_more, length-take-le, length-map}
 use Rattle.m2_tree.specs.declared.decl.Module.{Module}
 use Rattle.m2_graph.specs.declared.program.Part.{Part}
 use Rattle.m2_graph.specs.declared.program.Part.TheVariants.{Definition, Body}
-use Rattle.m2_graph.specs.Imports.{same_name, first_that, is_definition}
+use Rattle.m2_tree.specs.Names.{same_name}
+use Rattle.m2_graph.specs.Imports.{first_that, is_definition}
 use Rattle.m2_graph.specs.Parts.{bears, number_at, or_first, is_earlier}
 use Rattle.m2_graph.specs.Refused.{are_one_part}
 use Rattle.m2_graph.proofs.Importing.{module_at, first_within}

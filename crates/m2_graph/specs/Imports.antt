@@ -2,16 +2,11 @@
 use Rattle.std.specs.Prelude.{ℕ, Bool, true, false, not, ◌&&◌, ◌||◌, List, [], ◌∷◌, ◌++◌, Option, Some, None, map, suc, cond, slice_index_or}
 use Rattle.std.specs.List.{flat_map, filter_map}
 use Rattle.std.specs.Option.{option_map, option_to_list}
-use Rattle.std.specs.Cmp.Lexicographic.{pointwise}
-use Rattle.std.specs.Prelude.{nat_eq}
+use Rattle.m2_tree.specs.Names.{same_name}
 use Rattle.m2_tree.specs.declared.name.Ident.{Ident}
 use Rattle.m2_tree.specs.declared.decl.Module.{Module}
 use Rattle.m2_tree.specs.declared.decl.Contents.{Contents}
 use Rattle.m2_tree.specs.declared.decl.Contents.TheVariants.{Definition, Implementation, Program}
-
--- two names have the same bytes
-abbrev pub same_name : List ℕ → List ℕ → Bool
-same_name = pointwise nat_eq
 
 -- the modules that an import names: the one behind FROM, else each
 abbrev pub named_by : Option Ident → List Ident → List Ident

@@ -5,7 +5,8 @@ use Rattle.std.specs.HashMap.{HashMap, get_by}
 use Rattle.m2_tree.specs.declared.decl.Module.{Module}
 use Rattle.m2_graph.specs.declared.program.Part.{Part}
 use Rattle.m2_graph.specs.declared.program.Part.TheVariants.{Definition, Implementation, Body}
-use Rattle.m2_graph.specs.Imports.{same_name, is_definition, is_implementation}
+use Rattle.m2_tree.specs.Names.{same_name}
+use Rattle.m2_graph.specs.Imports.{is_definition, is_implementation}
 
 abbrev pub is_part : Part → Module → Bool
 is_part Definition m = is_definition m

@@ -7,7 +7,8 @@ use Rattle.m2_tree.specs.declared.pos.Pos.{Pos}
 use Rattle.m2_tree.specs.declared.name.Ident.{Ident}
 use Rattle.m2_tree.specs.declared.decl.Module.{Module}
 use Rattle.m2_graph.specs.declared.faults.Fault.{Fault}
-use Rattle.m2_graph.specs.Imports.{same_name, imported, is_definition, is_program, is_implementation, defines, implements, definition_of, first_that}
+use Rattle.m2_tree.specs.Names.{same_name, is_console}
+use Rattle.m2_graph.specs.Imports.{imported, is_definition, is_program, is_implementation, defines, implements, definition_of, first_that}
 
 abbrev pub fault : Pos → ℕ → Fault
 fault pos number = record { pos = pos; number = number }
@@ -38,14 +39,10 @@ fault_where holds pos number = cond holds (fault pos number ∷ []) []
 abbrev pub any_that : (Module → Bool) → List Module → Bool
 any_that test modules = is_some (first_that test modules)
 
--- the built in module is imported without a definition
-abbrev pub is_console : List ℕ → Bool
-is_console name = same_name name (codes "Console")
-
 abbrev pub is_built_in : List ℕ → Bool
 is_built_in name = is_console name || same_name name (codes "link")
 
--- an import of a module that has no definition, or by a body of its own module
+-- an import of a module that has no definition, Console apart, or by a body of its own module
 abbrev pub is_bad_import : List Module → Module → List ℕ → Bool
 is_bad_import modules m name = (not (is_console name) && is_none (definition_of modules name)) || (not (is_definition m) && same_name name m.name.name)
 

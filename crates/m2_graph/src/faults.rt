@@ -2,14 +2,14 @@
 
 ghost use Rattle.std.specs.Prelude.{◌≡◌, ◌<◌, ◌++◌, ◌||◌, length, take, fold};
 ghost use Rattle.m2_graph.specs.Imports.{imported, named_by, is_program};
-ghost use Rattle.m2_graph.specs.Refused.{fault, fault_where, is_less, lesser, least_of, is_console, is_built_in, is_bad_import, import_faults, any_that, is_second, is_repeated, is_without_program, is_second_program, is_lone, faults_of};
+ghost use Rattle.m2_graph.specs.Refused.{fault, fault_where, is_less, lesser, least_of, is_built_in, is_bad_import, import_faults, any_that, is_second, is_repeated, is_without_program, is_second_program, is_lone, faults_of};
 ghost use Rattle.m2_graph.specs.Program.{modules_of, IsIndexed};
 ghost use Rattle.m2_graph.specs.Parts.{is_earlier};
 ghost use Rattle.m2_graph.specs.Reported.{cycle_faults};
 
 use crate::imports::{is_definition, is_implementation, is_program};
 use crate::program::{Program, definition_of, first_file_of, implementation_of};
-use m2_tree::{Ident, Import, Module, Name, Pos};
+use m2_tree::{Ident, Import, Module, Name, Pos, is_console};
 
 /// The most files of a program.
 pub const MAX_FILES: usize = 1024;
@@ -53,24 +53,17 @@ fn with_fault(least: Option<Fault>, holds: bool, pos: Pos, number: u32) -> Optio
     }
 }
 
-/// Whether this is the name of the built in module.
-pub fn is_console(name: &Name) -> bool
-    ensures { result ≡ is_console name.now }
-{
-    name.as_bytes() == b"Console".as_slice()
-}
-
 fn is_built_in(name: &Name) -> bool
     ensures { result ≡ is_built_in name.now }
 {
-    is_console(name) || name.as_bytes() == b"link".as_slice()
+    is_console(name.as_bytes()) || name.as_bytes() == b"link".as_slice()
 }
 
 fn is_bad_import(program: &Program<'_>, tree: &Module, name: &Name) -> bool
     requires { IsIndexed program.now }
     ensures { result ≡ is_bad_import (modules_of program.now) tree.now name.now }
 {
-    (!is_console(name) && definition_of(program, name).is_none())
+    (!is_console(name.as_bytes()) && definition_of(program, name).is_none())
         || (!is_definition(tree) && *name == tree.name.name)
 }
 

@@ -19,5 +19,4 @@ mod reported;
 mod sources;
 
 pub use error::GraphError;
-pub use faults::is_console;
 pub use graph::Graph;

@@ -1,7 +1,8 @@
 //! The modules of a program, and where each name stands among them.
 
 ghost use Rattle.std.specs.Prelude.{◌≡◌, ◌&&◌, ◌<◌, List, ℕ, length, cond, map, IfOk, OnOk, IfSome, Some, None};
-ghost use Rattle.m2_graph.specs.Imports.{same_name, definition_of, implements, first_that};
+ghost use Rattle.m2_tree.specs.Names.{same_name};
+ghost use Rattle.m2_graph.specs.Imports.{definition_of, implements, first_that};
 ghost use Rattle.m2_graph.specs.Parts.{is_part, bears, number_at, or_first};
 ghost use Rattle.m2_graph.specs.Refused.{are_one_part};
 ghost use Rattle.m2_graph.specs.Program.{modules_of, IsIndexed};

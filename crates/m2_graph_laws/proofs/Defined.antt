@@ -9,7 +9,8 @@ use Rattle.m2_tree.specs.declared.decl.Module.{Module}
 use Rattle.m2_tree.specs.declared.name.Ident.{Ident}
 use Rattle.m2_graph.specs.Files.{File, AreInOrder, numbered, trees}
 use Rattle.m2_graph.specs.Graph.{IsGraph}
-use Rattle.m2_graph.specs.Imports.{same_name, imported, is_definition, defines, definition_of, first_that}
+use Rattle.m2_tree.specs.Names.{same_name}
+use Rattle.m2_graph.specs.Imports.{imported, is_definition, defines, definition_of, first_that}
 use Rattle.m2_graph_laws.specs.Started.{definition_imported, imported_by}
 use Rattle.m2_graph_laws.specs.Defined.{OneDefinition}
 use Rattle.m2_graph_laws.proofs.Lists.{Among}

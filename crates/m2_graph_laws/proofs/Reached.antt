@@ -12,8 +12,8 @@ use Rattle.graph_walk.specs.Links.{has, times, targets}
 use Rattle.graph_walk.specs.Starts.{One, Walks}
 use Rattle.graph_walk.proofs.Marking.{has-append}
 use Rattle.graph_walk.proofs.Chains.{times_has}
-use Rattle.m2_graph.specs.Imports.{same_name, imported, is_definition, is_program, is_implementation, defines, implements, first_that, definition_of, links_of, links_at, body_links, walks}
-use Rattle.m2_graph.specs.Refused.{is_console}
+use Rattle.m2_tree.specs.Names.{same_name, is_console}
+use Rattle.m2_graph.specs.Imports.{imported, is_definition, is_program, is_implementation, defines, implements, first_that, definition_of, links_of, links_at, body_links, walks}
 use Rattle.m2_graph_laws.specs.Started.{names_of, is_named, AreApart}
 use Rattle.m2_graph_laws.proofs.Lists.{Among, has_among, among_has, filtered_among, among_filtered, all_among, map_among, among-map, any_among}
 use Rattle.m2_graph_laws.proofs.Passing.{found_at}

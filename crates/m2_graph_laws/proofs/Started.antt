@@ -10,8 +10,9 @@ use Rattle.m2_tree.specs.declared.name.Ident.{Ident}
 use Rattle.graph_walk.specs.Links.{has}
 use Rattle.m2_graph.specs.Files.{File, AreInOrder, numbered, trees, given_of}
 use Rattle.m2_graph.specs.Graph.{IsGraph, IsGraphOf, body_of, bodies_of}
-use Rattle.m2_graph.specs.Imports.{same_name, imported, is_definition, defines, definition_of}
-use Rattle.m2_graph.specs.Refused.{is_console, max_files}
+use Rattle.m2_tree.specs.Names.{same_name, is_console}
+use Rattle.m2_graph.specs.Imports.{imported, is_definition, defines, definition_of}
+use Rattle.m2_graph.specs.Refused.{max_files}
 use Rattle.m2_graph_laws.specs.Started.{at_places, names_of, is_named, AreApart, imported_by, definition_imported, all_imported, AreStarted}
 use Rattle.m2_graph_laws.proofs.Lists.{Among, none_among, among_has, filtered_among, filtered_twice, filtered_length, few_below, all_among, among_append_cases}
 use Rattle.m2_graph_laws.proofs.Passing.{found_at}

@@ -8,7 +8,8 @@ use Rattle.std.proofs.lemmas.Option.{none-some, same_Some, slice_get-map, get_or
 use Rattle.m2_tree.specs.declared.decl.Module.{Module}
 use Rattle.m2_tree.specs.declared.name.Ident.{Ident}
 use Rattle.graph_walk.specs.Links.{has, targets}
-use Rattle.m2_graph.specs.Imports.{same_name, imported, is_definition, is_program, is_implementation, implements, first_that, definition_of, links_of, links_at, body_links, walk_of, walks}
+use Rattle.m2_tree.specs.Names.{same_name}
+use Rattle.m2_graph.specs.Imports.{imported, is_definition, is_program, is_implementation, implements, first_that, definition_of, links_of, links_at, body_links, walk_of, walks}
 use Rattle.m2_graph.specs.Graph.{body_of}
 use Rattle.m2_graph_laws.proofs.Lists.{bound, has_among, among_has, filtered_among, among_append_cases}
 use Rattle.m2_graph_laws.proofs.Passing.{found_at}

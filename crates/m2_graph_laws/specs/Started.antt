@@ -5,7 +5,8 @@ use Rattle.std.specs.Str.{bytes_eq}
 use Rattle.m2_tree.specs.declared.name.Ident.{Ident}
 use Rattle.m2_tree.specs.declared.decl.Module.{Module}
 use Rattle.m2_graph.specs.Imports.{imported, is_definition, definition_of}
-use Rattle.m2_graph.specs.Refused.{is_console, max_files}
+use Rattle.m2_tree.specs.Names.{is_console}
+use Rattle.m2_graph.specs.Refused.{max_files}
 
 -- the modules at these places
 abbrev pub at_places : List Module → List ℕ → List Module

@@ -1,10 +1,11 @@
 -- The modules that a body stands on.
-use Rattle.std.specs.Prelude.{ℕ, cond, List, [], ◌∷◌, ◌++◌, codes, Option, Some, None, slice_get}
+use Rattle.std.specs.Prelude.{ℕ, cond, List, [], ◌∷◌, ◌++◌, Option, Some, None, slice_get}
 use Rattle.std.specs.List.{fold}
 use Rattle.m2_tree.specs.declared.decl.Import.{Import}
 use Rattle.m2_typed.specs.declared.table.Table.{Table}
 use Rattle.m2_typed.specs.declared.typed_module.Imported.{Imported}
-use Rattle.m2_typed.specs.Names.{found, entered, same_name}
+use Rattle.m2_tree.specs.Names.{is_console}
+use Rattle.m2_typed.specs.Names.{found, entered}
 use Rattle.m2_types.specs.Export.{with_import_of}
 use Rattle.m2_modules.specs.Own.{exported_variables}
 
@@ -27,11 +28,11 @@ imported_as t = record { name = t.name; number = t.number; variables = exported_
 
 abbrev pub with_table_of : List Imported → Option Table → List Imported
 with_table_of so None = so
-with_table_of so (Some t) = cond (same_name t.name (codes "Console")) so (so ++ imported_as t ∷ [])
+with_table_of so (Some t) = cond (is_console t.name) so (so ++ imported_as t ∷ [])
 
 -- a module that the definition alone imports: the body can name none of its variables
 abbrev pub with_name_of : List Imported → List ℕ × ℕ → List Imported
-with_name_of so e = cond (same_name e.0 (codes "Console")) so (so ++ record { name = e.0; number = e.1; variables = [] } ∷ [])
+with_name_of so e = cond (is_console e.0) so (so ++ record { name = e.0; number = e.1; variables = [] } ∷ [])
 
 abbrev pub with_place_of : List Table → List Imported → List ℕ × ℕ → Option ℕ → List Imported
 with_place_of tables so e None = with_name_of so e

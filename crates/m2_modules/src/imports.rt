@@ -1,15 +1,14 @@
 //! The modules that a body stands on.
 
-ghost use Rattle.std.specs.Prelude.{◌≡◌, [], IfOk, OnOk, codes};
+ghost use Rattle.std.specs.Prelude.{◌≡◌, [], IfOk, OnOk};
 ghost use Rattle.std.specs.List.{fold};
 ghost use Rattle.std.specs.Option.{option_map, option_copied};
-ghost use Rattle.m2_typed.specs.Names.{same_name};
 ghost use Rattle.m2_types.specs.Steps.{if_some};
 ghost use Rattle.m2_types.specs.Export.{with_import_of};
 ghost use Rattle.m2_modules.specs.Imports.{with_import_copy, definition_imports, all_imports, imported_as, with_table_of, with_name_of, with_place_of, with_module_of, typed_imports};
 
 use crate::own::exported_variables;
-use m2_tree::{Import, Items, Name};
+use m2_tree::{Import, Items, Name, is_console};
 use m2_typed::{Dictionary, Imported, Shared, Table};
 use m2_types::with_import_of;
 use std::alloc::{AllocError, Global};
@@ -67,12 +66,6 @@ pub fn all_imports(
 }
 
 // ---- their variables
-
-fn is_console(name: &[u8]) -> bool
-    ensures { result ≡ same_name name.now (codes "Console") }
-{
-    name == b"Console".as_slice()
-}
 
 fn imported_as(alloc: Global, table: &Table) -> Result<Imported, AllocError>
     ensures { IfOk result (λ imported. imported ≡ imported_as table.now) }

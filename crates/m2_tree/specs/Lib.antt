@@ -8,3 +8,4 @@ pub mod SoundStmt
 pub mod SoundTypes
 pub mod formers
 pub mod Limits
+pub mod Names

@@ -25,7 +25,7 @@ pub use decl::{
 pub use exact::{Exact, are_equal};
 pub use expr::{AddOp, Designator, Expr, Item, MulOp, Operator, Qualified, RelOp, Selector, Sign};
 pub use items::Items;
-pub use name::{Ident, MAX_NAME, Name};
+pub use name::{Ident, MAX_NAME, Name, is_console};
 pub use pos::Pos;
 pub use refusal::Refusal;
 pub use stmt::{Arm, Rest, Stmt};

@@ -5,6 +5,7 @@ ghost use Rattle.std.specs.Cmp.Lexicographic.{pointwise};
 ghost use Rattle.std.specs.Cmp.Rules.{comparing};
 ghost use Rattle.std.proofs.Common.{rules};
 ghost use Rattle.m2_tree.specs.Limits.{max_name};
+ghost use Rattle.m2_tree.specs.Names.{is_console};
 
 use crate::bytes::Bytes;
 use crate::pos::Pos;
@@ -71,6 +72,13 @@ impl PartialEq for Name {
 
 impl Eq for Name {
     ghost laws = { Prim.search (comparing, rules) };
+}
+
+/// Whether this is the name of the built in module.
+pub fn is_console(name: &[u8]) -> bool
+    ensures { result ≡ is_console name.now }
+{
+    name == b"Console".as_slice()
 }
 
 /// A name where it is written.

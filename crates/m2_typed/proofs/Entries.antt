@@ -4,7 +4,8 @@ use Rattle.std.specs.Prelude.{map, nat_lt}
 use Rattle.std.specs.List.{position, prefix_len}
 use Rattle.std.specs.Map.{lookup, keys_of}
 use Rattle.indexmap.specs.IndexMap.{insert_entry}
-use Rattle.m2_typed.specs.Names.{same_name, found, place_of, entered}
+use Rattle.m2_tree.specs.Names.{same_name}
+use Rattle.m2_typed.specs.Names.{found, place_of, entered}
 
 module _ {K V : Type 0} (items : K → List ℕ) where
   abbrev pub named : List (K × V) → List (List ℕ × V)

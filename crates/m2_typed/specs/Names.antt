@@ -1,10 +1,7 @@
 -- Lists of names with what each stands for.
-use Rattle.std.specs.Prelude.{ℕ, Bool, cond, nat_eq, List, [], ◌∷◌, Option, Some, None}
+use Rattle.std.specs.Prelude.{ℕ, Bool, cond, List, [], ◌∷◌, Option, Some, None}
 use Rattle.std.specs.List.{position}
-use Rattle.std.specs.Cmp.Lexicographic.{pointwise}
-
-abbrev pub same_name : List ℕ → List ℕ → Bool
-same_name a b = pointwise nat_eq a b
+use Rattle.m2_tree.specs.Names.{same_name}
 
 module _ {V : Type 0} where
   abbrev pub found : List ℕ → List (List ℕ × V) → Option V

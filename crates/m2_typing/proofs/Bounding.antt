@@ -12,7 +12,8 @@ use Rattle.m2_typed.specs.declared.meaning.Meaning.{Meaning}
 use Rattle.m2_typed.specs.declared.meaning.Meaning.TheVariants as meaning
 use Rattle.m2_typed.specs.declared.table.Table.{Table}
 use Rattle.m2_typed.specs.Types.{integer, cardinal, boolean, char, bitset}
-use Rattle.m2_typed.specs.Names.{same_name, found, entered}
+use Rattle.m2_tree.specs.Names.{same_name}
+use Rattle.m2_typed.specs.Names.{found, entered}
 use Rattle.m2_scopes.specs.Elaborated.{Gathers}
 use Rattle.m2_scopes.specs.declared.known.Origin.{Origin}
 use Rattle.m2_scopes.specs.declared.known.Origin.TheVariants.{Here}

@@ -7,7 +7,8 @@ use Rattle.m2_typed.specs.declared.meaning.Meaning.TheVariants as meaning
 use Rattle.m2_typed.specs.declared.meaning.Standard.TheVariants.{Abs, Cap, Chr, High, Max, Min, Odd, Ord, Val, Inc, Dec, Incl, Excl, Halt}
 use Rattle.m2_typed.specs.Known.{range}
 use Rattle.m2_typed.specs.Types.{integer, cardinal, boolean, char, bitset}
-use Rattle.m2_typed.specs.Names.{same_name, entered}
+use Rattle.m2_tree.specs.Names.{same_name}
+use Rattle.m2_typed.specs.Names.{entered}
 use Rattle.m2_scopes.specs.declared.known.Known.{Known}
 use Rattle.m2_scopes.specs.declared.known.Known.TheVariants.{Declared}
 use Rattle.m2_scopes.specs.declared.known.Origin.TheVariants.{Here}

@@ -12,7 +12,8 @@ use Rattle.m2_typed.specs.declared.meaning.Meaning.TheVariants as meaning
 use Rattle.m2_typed.specs.declared.table.Table.{Table}
 use Rattle.m2_typed.specs.declared.typed_module.TypedModule.{TypedModule}
 use Rattle.m2_typed.specs.declared.types.TypeNo.{TypeNo}
-use Rattle.m2_typed.specs.Names.{same_name, found, entered, place_of}
+use Rattle.m2_tree.specs.Names.{same_name}
+use Rattle.m2_typed.specs.Names.{found, entered, place_of}
 use Rattle.m2_scopes.specs.Elaborated.{Gathers, reported}
 use Rattle.m2_scopes.specs.Scopes.{State, is_free, with_known, is_again, imported}
 use Rattle.m2_scopes.specs.declared.known.Known.{Known}

@@ -16,7 +16,7 @@ use Rattle.m2_typed.specs.declared.typed_module.Imported.{Imported}
 use Rattle.m2_typed.specs.declared.typed_module.Routine.{Routine}
 use Rattle.m2_typed.specs.declared.typed_module.TypedModule.{TypedModule}
 use Rattle.m2_typed.specs.declared.typed_module.Which.{Which}
-use Rattle.m2_typed.specs.Names.{same_name}
+use Rattle.m2_tree.specs.Names.{same_name}
 use Rattle.m2_scopes.specs.Elaborated.{least}
 use Rattle.m2_layout.specs.Types.{Ty, Hidden, row, component}
 use Rattle.m2_layout.specs.Frames.{module_row}

@@ -5,14 +5,13 @@ use Rattle.std.specs.List.{AllByRecursion, fold}
 use Rattle.std.specs.Option.{is_some}
 use Rattle.m2_typed.specs.declared.table.Table.{Table}
 use Rattle.m2_typed.specs.declared.typed_module.Imported.{Imported}
-use Rattle.m2_typed.specs.Names.{same_name, found, entered}
+use Rattle.m2_tree.specs.Names.{same_name, is_console}
+use Rattle.m2_typed.specs.Names.{found, entered}
 use Rattle.m2_types.specs.Importing.{with_place, with_numbered, numbered_modules}
 use Rattle.m2_modules.specs.Imports.{imported_as, with_table_of, with_place_of, with_module_of, typed_imports}
 use Rattle.m2_formed_scopes.proofs.Names.{found_self}
 use Rattle.m2_formed_known.proofs.Gathered.{each_more}
 
-abbrev is_console : List ℕ → Bool
-is_console name = same_name name (codes "Console")
 
 -- ---- a table has a place under its name
 

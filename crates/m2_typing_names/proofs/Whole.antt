@@ -52,7 +52,7 @@ use Rattle.m2_formed_reach.specs.FormedReach.{result_of, types_of}
 use Rattle.m2_formed_reach.proofs.Reach.{tree_fits, IsNeeded, own_formed, behind_formed, known_below, tables_needed}
 use Rattle.m2_formed_coherent.specs.FormedCoherent.{trees_of, IsBodyOf, IsWhole, AreBodiesIn}
 use Rattle.m2_formed_coherent.proofs.Bodies.{IsKnownBy, IsKnown, module_known}
-use Rattle.m2_formed_coherent.proofs.Imports.{is_console, AreListed, AreMade, OwnListed, IsImportOf, AreImports, table_imports, typed_are}
+use Rattle.m2_formed_coherent.proofs.Imports.{AreListed, AreMade, OwnListed, IsImportOf, AreImports, table_imports, typed_are}
 use Rattle.m2_formed_coherent.proofs.Programs.{holds_ok, IsDefined, defined_by, own_is, coherent}
 use Rattle.m2_formed_coherent.proofs.Graphs.{graphs_whole}
 use Rattle.m2_typing_names.specs.TypingNames.{own_of, tables_for}

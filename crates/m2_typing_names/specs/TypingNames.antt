@@ -10,7 +10,7 @@ use Rattle.m2_graph.specs.Graph.{IsGraph, CompileEach}
 use Rattle.m2_typed.specs.declared.table.Table.{Table}
 use Rattle.m2_typed.specs.declared.typed_module.Imported.{Imported}
 use Rattle.m2_typed.specs.declared.typed_module.TypedModule.{TypedModule}
-use Rattle.m2_typed.specs.Names.{same_name}
+use Rattle.m2_tree.specs.Names.{same_name}
 use Rattle.m2_scopes.specs.declared.fault.Fault.{Fault}
 use Rattle.m2_scopes.specs.declared.scope.Scope.{Scope}
 use Rattle.m2_scopes.specs.Elaborated.{least}

@@ -9,7 +9,8 @@ use Rattle.m2_typed.specs.declared.meaning.Meaning.{Meaning}
 use Rattle.m2_typed.specs.declared.meaning.Meaning.TheVariants as meaning
 use Rattle.m2_typed.specs.declared.meaning.Procedure.{Procedure}
 use Rattle.m2_typed.specs.declared.types.TypeNo.{TypeNo}
-use Rattle.m2_typed.specs.Names.{same_name, found, entered, place_of}
+use Rattle.m2_tree.specs.Names.{same_name}
+use Rattle.m2_typed.specs.Names.{found, entered, place_of}
 use Rattle.m2_scopes.specs.Elaborated.{Gathers, reported}
 use Rattle.m2_scopes.specs.Scopes.{State, is_free, with_known, is_again, imported}
 use Rattle.m2_scopes.specs.declared.known.Origin.{Origin}

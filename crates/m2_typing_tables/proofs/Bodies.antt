@@ -9,7 +9,7 @@ use Rattle.m2_tree.specs.declared.decl.Contents.TheVariants as contents
 use Rattle.m2_tree.specs.declared.decl.Module.{Module}
 use Rattle.m2_graph.specs.Files.{numbered}
 use Rattle.m2_graph.specs.Graph.{IsGraph}
-use Rattle.m2_graph.specs.Imports.{same_name}
+use Rattle.m2_tree.specs.Names.{same_name}
 use Rattle.m2_typed.specs.declared.meaning.Meaning.{Meaning}
 use Rattle.m2_typed.specs.declared.meaning.Meaning.TheVariants as meaning
 use Rattle.m2_typed.specs.declared.shape.Made.{Made}
@@ -19,7 +19,7 @@ use Rattle.m2_typed.specs.declared.known_types.Types.{Types}
 use Rattle.m2_typed.specs.declared.typed_module.TypedModule.{TypedModule}
 use Rattle.m2_typed.specs.declared.types.TypeNo.{TypeNo}
 use Rattle.m2_typed.specs.Known.{in_list, made_in}
-use Rattle.m2_typed.specs.Names.{same_name as same_key, entered}
+use Rattle.m2_typed.specs.Names.{entered}
 use Rattle.m2_scopes.specs.Elaborated.{least}
 use Rattle.m2_scopes.specs.declared.known.Known.{Known}
 use Rattle.m2_scopes.specs.declared.known.Known.TheVariants.{Declared}
@@ -104,7 +104,7 @@ module _ (home : ℕ) (vs : List TypeNo) {T : Type 0} where
 
   placed_more : (name : List ℕ) (k : Known T) (es : List (List ℕ × Known T)) → KnownPlaced home vs k → NamesPlaced home vs es → NamesPlaced home vs (entered name k es)
   placed_more name k [] p h = (p, tt)
-  placed_more name k (e ∷ es) p h = placed_by (same_key name e.0) k e es (entered name k es) p h (placed_more name k es p h.1)
+  placed_more name k (e ∷ es) p h = placed_by (same_name name e.0) k e es (entered name k es) p h (placed_more name k es p h.1)
 
   own_placed : (es : List (List ℕ × Meaning)) (ns : List (List ℕ × Known T)) → ArePlacedBy vs es → NamesPlaced home vs ns → NamesPlaced home vs (fold with_own_name ns es)
   own_placed [] ns p h = h

@@ -13,7 +13,8 @@ use Rattle.m2_tree.specs.declared.decl.Variables.{Variables}
 use Rattle.m2_typed.specs.declared.meaning.Meaning.TheVariants as meaning
 use Rattle.m2_typed.specs.declared.table.Table.{Table}
 use Rattle.m2_typed.specs.declared.types.TypeNo.{TypeNo}
-use Rattle.m2_typed.specs.Names.{same_name, found, entered}
+use Rattle.m2_tree.specs.Names.{same_name}
+use Rattle.m2_typed.specs.Names.{found, entered}
 use Rattle.m2_scopes.specs.Elaborated.{Gathers, reported, beside}
 use Rattle.m2_scopes.specs.Scopes.{State, is_free, with_known, begun, is_begun, marked}
 use Rattle.m2_scopes.specs.declared.known.Origin.TheVariants.{Here}

@@ -18,7 +18,8 @@ use Rattle.m2_typed.specs.declared.meaning.Meaning.{Meaning}
 use Rattle.m2_typed.specs.declared.meaning.Value.{Value}
 use Rattle.m2_typed.specs.declared.shape.Made.{Made}
 use Rattle.m2_typed.specs.declared.types.TypeNo.{TypeNo}
-use Rattle.m2_typed.specs.Names.{same_name, found, place_of}
+use Rattle.m2_tree.specs.Names.{same_name}
+use Rattle.m2_typed.specs.Names.{found, place_of}
 use Rattle.m2_scopes.specs.Elaborated.{Gathers, reported}
 use Rattle.m2_scopes.specs.Scopes.{State, is_free, with_known, unless_declared, begun, is_begun, finished, is_again, imported, unless_marked, marked}
 use Rattle.m2_scopes.specs.declared.known.Origin.{Origin}

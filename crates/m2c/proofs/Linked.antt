@@ -15,13 +15,12 @@ use Rattle.m2_worker.specs.Results.{results_below, picked, with_item}
 use Rattle.m2_graph.specs.Files.{numbered}
 use Rattle.m2_graph.specs.Graph.{IsGraph}
 use Rattle.m2_graph.specs.Imports.{imported, is_definition, is_definition_part, definition_of}
-use Rattle.m2_graph.specs.Refused.{is_console}
+use Rattle.m2_tree.specs.Names.{is_console, same_name}
 use Rattle.m2_graph_laws.specs.Started.{at_places, is_named, definition_imported, all_imported}
 use Rattle.m2_graph_laws.proofs.Defined.{one_definition}
 use Rattle.m2_typed.specs.declared.table.Table.{Table}
 use Rattle.m2_typed.specs.declared.typed_module.Imported.{Imported}
 use Rattle.m2_typed.specs.declared.typed_module.TypedModule.{TypedModule}
-use Rattle.m2_typed.specs.Names.{same_name}
 use Rattle.m2_scopes.specs.declared.fault.Fault.{Fault}
 use Rattle.m2_scopes.specs.Elaborated.{least}
 use Rattle.m2_layout.specs.Layouts.{too_large}
