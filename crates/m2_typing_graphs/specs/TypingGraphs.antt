@@ -6,9 +6,9 @@ use Rattle.m2_graph.specs.Files.{numbered}
 use Rattle.m2_graph.specs.Graph.{IsGraph, CompileEach}
 use Rattle.m2_links.specs.Linked.{Program, bytes_in}
 use Rattle.m2_formed_known.specs.FormedKnown.{fits_module}
-use Rattle.m2_formed_coherent.specs.FormedCoherent.{trees_of, AreBodiesIn}
-use Rattle.m2_formed_graphs.specs.FormedGraphs.{IsFit}
-use Rattle.m2_formed_trees.specs.FormedTrees.{fits_contents}
+use Rattle.m2_typing_graphs.specs.FormedCoherent.{trees_of, AreBodiesIn}
+use Rattle.m2_typing_graphs.specs.FormedGraphs.{IsFit}
+use Rattle.m2_typing_graphs.specs.FormedTrees.{fits_contents}
 use Rattle.m2_agree_linked.specs.Modules.{AreTypedModules}
 
 -- The files have this graph, and their trees fit, with the statements in them. The bodies that start fit, and there is room for

@@ -8,9 +8,9 @@ use Rattle.m2_formed_known.specs.FormedKnown.{fits_module}
 use Rattle.m2_formed_fits.proofs.Folds.{and_both}
 use Rattle.m2_formed_fits.proofs.Spelled.{module_fits}
 use Rattle.m2_formed_fits.proofs.Tokens.{tokens_fit}
-use Rattle.m2_formed_trees.specs.FormedTrees.{fits_contents}
-use Rattle.m2_formed_trees.proofs.Rules.{text_whole}
-use Rattle.m2_formed_coherent.specs.FormedCoherent.{AreBodiesIn}
+use Rattle.m2_typing_graphs.specs.FormedTrees.{fits_contents}
+use Rattle.m2_typing_graphs.proofs.Rules.{text_whole}
+use Rattle.m2_typing_graphs.specs.FormedCoherent.{AreBodiesIn}
 use Rattle.m2_read.specs.declared.file.SourceFile.{SourceFile}
 use Rattle.m2_read.specs.declared.reading.Read.{Read}
 use Rattle.m2_read.specs.declared.reading.Read.TheVariants as read

@@ -35,9 +35,9 @@ use Rattle.m2_agree_linked.proofs.Programs.{typed_behave}
 use Rattle.m2_whole_runs.proofs.Programs.{strict_runs, nothing_lacks}
 use Rattle.m2_links.proofs.Placed.{modules_link}
 use Rattle.m2_formed_programs.proofs.Links.{slots_few, link_valid}
-use Rattle.m2_formed_graphs.proofs.Modules.{are_modules}
+use Rattle.m2_typing_graphs.proofs.GraphModules.{are_modules}
 use Rattle.m2c.proofs.Linked.{all_modules}
-use Rattle.m2_typing_graphs.proofs.Modules.{are_typed}
+use Rattle.m2_typing_graphs.proofs.TypedModules.{are_typed}
 use Rattle.m2c.proofs.Fitting.{trees_fit, trees_whole, bodies_in}
 use Rattle.m2c.proofs.Valid.{all_valid}
 use Rattle.m2c.proofs.Programs.{AreFit, AreBuilt, all_built, distinct_all, count_all}

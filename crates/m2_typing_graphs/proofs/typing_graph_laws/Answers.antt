@@ -1,4 +1,4 @@
-use Rattle.m2_typing_graphs.proofs.Modules.{are_typed}
+use Rattle.m2_typing_graphs.proofs.TypedModules.{are_typed}
 use Rattle.m2_typing_graphs.proofs.typing_graph_laws.Goals as goal
 
 pub returns : goal.returns

@@ -1,5 +1,0 @@
-pub mod Fits
-pub mod Exprs
-pub mod Stmts
-pub mod Blocks
-pub mod Rules

@@ -1,9 +1,0 @@
-pub mod Preserved
-pub mod Brought
-pub mod Begun
-pub mod Agree
-pub mod Imported
-pub mod Around
-pub mod Whole
-pub mod Exports
-pub mod Names
