@@ -1,4 +1,5 @@
 use crate::gates::{Always, Counting, Meeting};
+use crate::{many, rows};
 use m2c::{BuildFault, Options, Outcome, SourceFile, build};
 use std::alloc::{AllocError, Global};
 use std::test::Fail;
@@ -446,5 +447,20 @@ fn who_is_never_let_in_leaves_all_to_the_gatherer(rt: HostRuntime) -> Result<(),
     assert_eq!(rt; link.as_slice(), LINK.as_slice());
     assert_eq!(rt; modules.len(), 1);
     assert!(rt; modules[0].1.as_slice().ends_with(&BODY));
+    Ok(())
+}
+
+#[test]
+fn bodies_start_in_order(rt: HostRuntime) -> Result<(), Fail> {
+    rows::imports_that_lead_to_one_another(&rt, rt.alloc())?;
+    rows::a_body_runs_once(&rt, rt.alloc())?;
+    rows::what_is_not_reached_is_not_run(&rt, rt.alloc())?;
+    Ok(())
+}
+
+#[test]
+fn as_many_files_as_there_may_be(rt: HostRuntime) -> Result<(), Fail> {
+    many::one_thousand_and_twenty_three_files(&rt, rt.alloc())?;
+    many::one_file_too_many(&rt, rt.alloc())?;
     Ok(())
 }

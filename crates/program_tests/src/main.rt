@@ -1,19 +1,27 @@
-//! Builds programs that others wrote (`data/programs.txt`), holds each byte of their modules against theirs, executes them,
-//! and holds what they print and how they end against what is to be printed. Behind them stand programs that
-//! `tools/random_programs` made, with what the definition of a run prints of them.
+//! Holds the compiler against rows that others made, and against rows of this project:
+//!
+//! - `data/programs.txt`: programs whose modules have these very bytes, print this and end so. Behind them stand programs that
+//!   `tools/random_programs` made, with what the definition of a run prints of them;
+//! - `data/refusals.txt`: files with all that `build` is to report of them;
+//! - `data/definitions.txt`: texts of definitions, each of which may import those before it, with the least rule that the
+//!   last one breaks.
 #![tactic(auto)]
 
+mod count;
+mod definitions;
 mod memory;
 mod program;
-mod rows;
+mod programs;
+mod refusals;
 
-use anyhow::{Result, bail};
+use anyhow::Result;
 
 fn main(rt: HostRuntime) -> Result<()> {
-    let count = rows::check_all(&rt)?;
-    println!(rt; "{} programs as expected", count.right)?;
-    if count.wrong > 0 {
-        bail!("some programs are not as expected");
-    }
+    let definitions = definitions::check_all(&rt)?.all_right()?;
+    println!(rt; "{definitions} definitions as expected")?;
+    let refusals = refusals::check_all(&rt)?.all_right()?;
+    println!(rt; "{refusals} rows of refusals as expected")?;
+    let programs = programs::check_all(&rt)?.all_right()?;
+    println!(rt; "{programs} programs as expected")?;
     Ok(())
 }

@@ -11,7 +11,7 @@ use std::thread::Threads;
 const STEPS: u64 = 1_000_000_000;
 
 /// Lets each worker in.
-struct Always;
+pub struct Always;
 
 impl Gate for Always {
     fn enter(&self, _job: usize) -> bool {

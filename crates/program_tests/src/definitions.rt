@@ -1,5 +1,6 @@
 //! Rows of definitions.
 
+use crate::count::Count;
 use anyhow::{Context, Result, bail};
 use m2_parse::parse;
 use m2_scan::scan;
@@ -9,13 +10,6 @@ use m2_typed::{Shared, Table};
 use m2_types::compile_definition;
 use std::alloc::Global;
 use std::fs;
-
-/// How many rows are as expected, and how many are not.
-#[derive(Clone, Copy)]
-pub struct Count {
-    pub right: u32,
-    pub wrong: u32,
-}
 
 fn tree_of(alloc: Global, text: &[u8]) -> Result<Module> {
     let Ok(tokens) = scan(alloc, text) else {
@@ -106,27 +100,19 @@ fn with_line(row: &mut Row, line: &str) -> Result<()> {
 }
 
 fn counted(rt: &HostRuntime, count: Count, row: &Row) -> Result<Count> {
-    match difference(rt.alloc(), row)? {
-        None => Ok(Count {
-            right: count.right.saturating_add(1),
-            wrong: count.wrong,
-        }),
-        Some(line) => {
-            eprintln!(rt; "{line}")?;
-            Ok(Count {
-                right: count.right,
-                wrong: count.wrong.saturating_add(1),
-            })
-        }
+    let wrong = difference(rt.alloc(), row)?;
+    if let Some(line) = &wrong {
+        eprintln!(rt; "{line}")?;
     }
+    Ok(count.with(wrong.is_none()))
 }
 
 /// Compiles each row, and compares what is reported of its last definition.
 pub fn check_all(rt: &HostRuntime) -> Result<Count> {
     let alloc = rt.alloc();
-    let bytes = fs::read(rt, "cases.txt").context("cannot read the rows")?;
+    let bytes = fs::read(rt, "definitions.txt").context("cannot read the rows")?;
     let all = String::from_utf8(bytes)?;
-    let mut count = Count { right: 0, wrong: 0 };
+    let mut count = Count::none();
     let mut row = empty_row(alloc);
     for line in all.as_str().lines() {
         if line == "%+" {

@@ -1,5 +1,6 @@
 //! The programs of `data/programs.txt`.
 
+use crate::count::Count;
 use crate::program::{Expected, Program, decided, no_program};
 use anyhow::{Context, Result, bail};
 use m2c::SourceFile;
@@ -7,13 +8,6 @@ use std::alloc::Global;
 use std::fs;
 use std::rt::Files;
 use std::thread::Threads;
-
-/// How many programs are as expected, and how many are not.
-#[derive(Clone, Copy)]
-pub struct Count {
-    pub right: u32,
-    pub wrong: u32,
-}
 
 /// A program as far as it is read, and the file of which lines are read.
 #[derive(Drop)]
@@ -112,16 +106,10 @@ fn counted<R: Threads + Sync + Eprint>(
     for workers in [1, 8] {
         if let Some(wrong) = decided(rt, alloc, program, workers)? {
             eprintln!(rt; "{}: {wrong}", program.name)?;
-            return Ok(Count {
-                right: count.right,
-                wrong: count.wrong.saturating_add(1),
-            });
+            return Ok(count.with(false));
         }
     }
-    Ok(Count {
-        right: count.right.saturating_add(1),
-        wrong: count.wrong,
-    })
+    Ok(count.with(true))
 }
 
 /// Decides each program.
@@ -129,7 +117,7 @@ pub fn check_all<R: Threads + Sync + Files + Eprint + AllocGlobal>(rt: &R) -> Re
     let alloc = rt.alloc();
     let bytes = fs::read(rt, "programs.txt").context("cannot read the programs")?;
     let all = String::from_utf8(bytes)?;
-    let mut count = Count { right: 0, wrong: 0 };
+    let mut count = Count::none();
     let mut reading = begun(alloc);
     for line in all.as_str().lines() {
         if line == "%%" {

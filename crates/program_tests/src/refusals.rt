@@ -1,27 +1,13 @@
 //! Rows of files, each with all that is to be reported of them.
 
+use crate::count::Count;
+use crate::program::Always;
 use anyhow::{Context, Result};
-use m2c::{Gate, Options, Outcome, SourceFile, build};
+use m2c::{Options, Outcome, SourceFile, build};
 use std::alloc::Global;
 use std::fs;
 use std::rt::Files;
 use std::thread::Threads;
-
-/// Lets each worker in.
-struct Always;
-
-impl Gate for Always {
-    fn enter(&self, _job: usize) -> bool {
-        true
-    }
-}
-
-/// How many rows are as expected, and how many are not.
-#[derive(Clone, Copy)]
-pub struct Count {
-    pub right: u32,
-    pub wrong: u32,
-}
 
 /// A row as far as it is read: its files, the text of the last one, and what is to be reported of them, a line for each.
 #[derive(Drop)]
@@ -95,25 +81,19 @@ fn counted<R: Threads + Sync + Eprint>(
     row: &Row,
 ) -> Result<Count> {
     let answer = reported(rt, alloc, &row.files)?;
-    if answer.as_str() == row.expected.as_str() {
-        return Ok(Count {
-            right: count.right.saturating_add(1),
-            wrong: count.wrong,
-        });
+    let is_right = answer.as_str() == row.expected.as_str();
+    if !is_right {
+        eprintln!(rt; "expected {}, reported {answer}", row.expected)?;
     }
-    eprintln!(rt; "expected {}, reported {answer}", row.expected)?;
-    Ok(Count {
-        right: count.right,
-        wrong: count.wrong.saturating_add(1),
-    })
+    Ok(count.with(is_right))
 }
 
 /// Builds the files of each row, and compares what is reported of them.
 pub fn check_all<R: Threads + Sync + Files + Eprint + AllocGlobal>(rt: &R) -> Result<Count> {
     let alloc = rt.alloc();
-    let bytes = fs::read(rt, "cases.txt").context("cannot read the rows")?;
+    let bytes = fs::read(rt, "refusals.txt").context("cannot read the rows")?;
     let all = String::from_utf8(bytes)?;
-    let mut count = Count { right: 0, wrong: 0 };
+    let mut count = Count::none();
     let mut row = empty_row(alloc);
     for line in all.as_str().lines() {
         if line == "%%" {
