@@ -27,6 +27,7 @@ use m2_read::{Read, SourceFile};
 use m2_tree::{Contents, Module, Pos, Refusal};
 use m2_worker::Gate;
 use std::alloc::{AllocError, AllocFailed, Global};
+use std::thread;
 use std::thread::Threads;
 
 /// The least stack, in bytes, that a program has.
@@ -236,6 +237,18 @@ fn of_reads<R: Threads + Sync, G: Gate>(
     of_trees(runner, files, &trees, pages)
 }
 
+/// Lets go of what was read, each worker of its share: trees are large, and one thread would take long over all of them.
+fn let_go<R: Threads + Sync, G: Gate>(runner: &Runner<'_, R, G>, reads: &mut [Read]) {
+    thread::for_each_mut(
+        runner.rt,
+        reads,
+        runner.workers,
+        &|_file: usize, read: &mut Read| {
+            *read = Read::Refused(Pos { line: 1, col: 1 }, 0);
+        },
+    );
+}
+
 /// The outcome of a build where the numbers of workers and pages are fine.
 pub fn outcome_of<R: Threads + Sync, G: Gate>(
     runner: &Runner<'_, R, G>,
@@ -246,6 +259,8 @@ pub fn outcome_of<R: Threads + Sync, G: Gate>(
     requires most { pages ≤ max_pages }
     ensures { IfOk result (IsBuilt files.now pages) }
 {
-    let reads = runner.read_all(files)?;
-    of_reads(runner, files, &reads, pages)
+    let mut reads = runner.read_all(files)?;
+    let outcome = of_reads(runner, files, &reads, pages);
+    let_go(runner, reads.as_mut_slice());
+    outcome
 }
