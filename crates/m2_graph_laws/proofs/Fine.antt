@@ -16,7 +16,7 @@ use Rattle.m2_tree.specs.Names.{same_name, is_console}
 use Rattle.m2_graph.specs.Imports.{imported, is_definition, is_implementation, defines, implements, definition_of, first_that}
 use Rattle.m2_graph.specs.Refused.{fault, fault_where, first_place, least_of, is_bad_import, import_faults, are_one_part, is_second, is_repeated, is_second_program, is_without_program, is_built_in, is_lone, max_files, faults_of}
 use Rattle.m2_graph.specs.Reported.{Reported, reported_at, cycle_faults, refused_from, refused_of, IsReported}
-use Rattle.m2_graph.proofs.Elaborating.{never_none, nothing_reported}
+use Rattle.m2_graph.proofs.Deciding.{never_none, nothing_reported}
 use Rattle.m2_graph_laws.proofs.Lists.{Among, none_among, among_cases}
 use Rattle.m2_graph_laws.proofs.Passing.{some_that, none_that, among_taken}
 
