@@ -1,1 +1,15 @@
 pub mod Formed
+pub mod FormedImports
+pub mod FormedTables
+pub mod FormedStmts
+pub mod FormedScopes
+pub mod FormedNumbers
+pub mod FormedHeadings
+pub mod FormedRanges
+pub mod Ordered
+pub mod FormedOrder
+pub mod FormedKnown
+pub mod FormedFits
+pub mod FormedBodies
+pub mod FormedModules
+pub mod FormedFrames

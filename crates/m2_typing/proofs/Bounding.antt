@@ -28,7 +28,7 @@ use Rattle.m2_types.specs.Export.{with_meaning, with_declared, with_known, with_
 use Rattle.m2_blocks.specs.declared.inner.Outside.{Outside}
 use Rattle.m2_blocks.specs.Inner.{inwards, formal_kind, formal_meaning, Formals, with_formal, with_section, entered_procedure, split_last, popped, left_procedure}
 use Rattle.m2_formed.specs.Formed.{Holds, fine, broken}
-use Rattle.m2_formed_ranges.proofs.Declarations.{meant_holds}
+use Rattle.m2_formed.proofs.RangesDeclarations.{meant_holds}
 use Rattle.m2_typing.specs.Carried.{MeaningWord, KnownWord, NamesWords, BlocksWords, ExportsWords, TablesWords, ScopeWords}
 use Rattle.m2_typing.proofs.Carrying.{words_more}
 

@@ -47,16 +47,16 @@ use Rattle.m2_layout.specs.Shapes.{elements_of, tree}
 use Rattle.m2_layout.specs.Types.{Ty, Callable, Cell, Array}
 use Rattle.m2_scheme.specs.Cells.{base_of}
 use Rattle.m2_agree.specs.Scene.{AreAmong}
-use Rattle.m2_agree_calls.specs.Passing.{Form, ByCopy, ByName, ByArray, value_form, form_of, forms_of, result_of}
-use Rattle.m2_agree_trees.specs.Typed.{Context, IsNamed, IsInner}
+use Rattle.m2_agree.specs.Passing.{Form, ByCopy, ByName, ByArray, value_form, form_of, forms_of, result_of}
+use Rattle.m2_agree.specs.TreesTyped.{Context, IsNamed, IsInner}
 use Rattle.m2_formed.specs.Formed.{Holds, fine}
 use Rattle.m2_formed.proofs.Basics.{then_holds, reported_holds, where_holds, both_holds, Grows}
 use Rattle.m2_ranges.specs.Ranges.{IsRange}
 use Rattle.m2_ranges.proofs.Known.{range_at}
-use Rattle.m2_formed_ranges.specs.FormedRanges.{IsBased, ValueRanged}
-use Rattle.m2_formed_ranges.proofs.Types.{same_types, both_left}
-use Rattle.m2_formed_ranges.proofs.Subranges.{between_in, at_itself, number_between, based_at}
-use Rattle.m2_formed_ranges.proofs.Values.{unary_ranged}
+use Rattle.m2_formed.specs.FormedRanges.{IsBased, ValueRanged}
+use Rattle.m2_formed.proofs.RangesTypes.{same_types, both_left}
+use Rattle.m2_formed.proofs.Subranges.{between_in, at_itself, number_between, based_at}
+use Rattle.m2_formed.proofs.Values.{unary_ranged}
 use Rattle.m2_typing.specs.Typing.{IsConstant, is_known, TypesTyped, ExprTyped, PlaceTyped, CallTyped, ArgumentTyped, ScalarTyped, ValueTyped, DesignatedTyped}
 use Rattle.m2_typing.proofs.Known.{IsRoutine, ClassIs, class_is, scalar_known, array_known, among_base, base_is, among_natural, HasCell, ranged_cell, bits_cell, routine_tree, has_base, IsArray, array_is, whole_copied}
 use Rattle.m2_typing.proofs.Words.{holds_both, unary_words, bound_word}

@@ -31,7 +31,7 @@ use Rattle.m2_made.specs.Made.{with_shape, with_made}
 use Rattle.m2_types.specs.Declare.{with_variable_type, with_procedure_type}
 use Rattle.m2_formed.specs.Formed.{Holds, fine, broken}
 use Rattle.m2_formed.proofs.Basics.{holds_weaker, Grows}
-use Rattle.m2_formed_scopes.proofs.Names.{get_more}
+use Rattle.m2_formed.proofs.Names.{get_more}
 use Rattle.m2_typing.specs.Typing.{IsIndexed}
 use Rattle.m2_typing.specs.Carried.{ShapeIndexed, AllIndexed, OthersIndexed, TypesIndexed, MeaningPlaced, KnownPlaced, NamesPlaced, MeaningWord, KnownWord, NamesWords, ScopeWords, slots_from, slots_in, StandsIn, MeaningSlot, KnownSlot, NamesSlots, Carries}
 use Rattle.m2_typing.specs.Scopes.{formal_slot, variable_slot}

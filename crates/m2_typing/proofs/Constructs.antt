@@ -38,11 +38,11 @@ use Rattle.m2_scheme.specs.Exprs.{Part, is_own, index_of, expr_layer, expr_part}
 use Rattle.m2_scheme.specs.Modules.{numbered}
 use Rattle.m2_scheme.specs.Signatures.{of_heading}
 use Rattle.m2_agree.specs.Scene.{IsValue, AreAmong, AreNatural, IsCell}
-use Rattle.m2_agree_calls.specs.Frames.{Open, kind_at}
-use Rattle.m2_agree_calls.specs.Passing.{Form, ByNumber, ByCopy, ByName, ByArray, Forms, Result, forms_of, result_of}
-use Rattle.m2_agree_trees.specs.Typed.{Context, IsNamed, IsCallable, IsInner, HasText, IsTaken, IsRoot, IsExpr, IsProcedureExpr, AreLinks, IsLink, IsPlace, AreComponents, IsComponent, IsCall, AreArguments, IsArgument}
-use Rattle.m2_agree_trees.specs.Typed as typed
-use Rattle.m2_agree_trees.proofs.Opened.{expr_opened, expr_at}
+use Rattle.m2_agree.specs.Frames.{Open, kind_at}
+use Rattle.m2_agree.specs.Passing.{Form, ByNumber, ByCopy, ByName, ByArray, Forms, Result, forms_of, result_of}
+use Rattle.m2_agree.specs.TreesTyped.{Context, IsNamed, IsCallable, IsInner, HasText, IsTaken, IsRoot, IsExpr, IsProcedureExpr, AreLinks, IsLink, IsPlace, AreComponents, IsComponent, IsCall, AreArguments, IsArgument}
+use Rattle.m2_agree.specs.TreesTyped as typed
+use Rattle.m2_agree.proofs.Opened.{expr_opened, expr_at}
 use Rattle.m2_typing.specs.Wanted.{Wanted, wanted_of, wanted_at, wanted_called, wanted_linked, wanted_behind, wanted_passed, AreNeeded, Has}
 use Rattle.m2_typing.specs.Typing.{ExprTyped, ProcedureTyped, PlaceTyped, CallTyped, ArgumentTyped}
 use Rattle.m2_typing.proofs.Wants.{nothing, beside, made, seam, has_first, has_second, all_passed, passed_last, wants_constant, wants_load, wants_procedure, wants_plus, wants_negate, wants_compare, wants_not, wants_include, wants_in, wants_abs, wants_cap, wants_chr, wants_odd, wants_ord, wants_val, wants_high, wants_call, wants_linked, wants_arithmetic, wants_and, wants_or, wants_combine, wants_rooted, wants_behind, wants_field, wants_element, wants_open_element, through_table, wants_module, wants_nested, by_heading, wants_variable, wants_value, wants_actual, wants_array, wants_open, wants_text}

@@ -59,9 +59,9 @@ use Rattle.m2_blocks.specs.Naming.{marked_layer, marked_decl, with_marks, all_ma
 use Rattle.m2_blocks.specs.Declarations.{local_meaning, finished_local, with_locals, Course, decl_layer, with_decl, declared_block, declared_module}
 use Rattle.m2_formed.specs.Formed.{Holds, fine, broken}
 use Rattle.m2_formed.proofs.Basics.{then_holds, holds_weaker, where_holds, both_holds, any_holds}
-use Rattle.m2_formed_ranges.proofs.Declarations.{meant_holds}
-use Rattle.m2_formed_scopes.proofs.Names.{get_last}
-use Rattle.m2_formed_scopes.proofs.Declarations.{same_home}
+use Rattle.m2_formed.proofs.RangesDeclarations.{meant_holds}
+use Rattle.m2_formed.proofs.Names.{get_last}
+use Rattle.m2_formed.proofs.ScopesDeclarations.{same_home}
 use Rattle.m2_typing.specs.Carried.{ShapeIndexed, MeaningPlaced, IsElsewhere, ExportsElsewhere, TablesElsewhere, MeaningWord, ExportsWords, TablesWords, ScopeWords, slots_from, slots_in, StandsIn, MeaningSlot, Carries}
 use Rattle.m2_typing.specs.Scopes.{formal_slot, variable_slot}
 use Rattle.m2_typing.proofs.Carrying.{Slots, slots_behind, IsScalar, scalar_stays, carries_refl, carries_then, free_carries, unless_carries, begun_carries, finished_carries, known_carries, marked_carries, shape_carries, made_carries, variable_type_carries, procedure_type_carries, then_finished}

@@ -24,7 +24,7 @@ use Rattle.m2_made.specs.Headings.{formal_of, repeated, joined_formals, with_sec
 use Rattle.m2_made.specs.Named.{named_type}
 use Rattle.m2_blocks.specs.Inner.{inwards, formal_kind, formal_meaning, Formals, with_formal, with_section as entered_section, formals_in, entered_procedure}
 use Rattle.m2_formed.specs.Formed.{fine}
-use Rattle.m2_formed_scopes.proofs.Names.{get_last, get_more}
+use Rattle.m2_formed.proofs.Names.{get_last, get_more}
 use Rattle.m2_typing.specs.Scopes.{formal_slot, variable_slot}
 use Rattle.m2_typing.specs.Carried.{slots_from, KnownSlot, NamesSlots, ScopeSlots}
 use Rattle.m2_typing.proofs.Carrying.{Slots, slots_stay, slots_more}

@@ -23,14 +23,14 @@ use Rattle.m2_cells.specs.Relation.{heading_in, heading_made, heading_at}
 use Rattle.m2_scheme.specs.Cells.{base_in, base_of, is_subrange, is_free}
 use Rattle.m2_scheme.specs.Exprs.{index_shape, index_made, index_of}
 use Rattle.m2_agree.specs.Scene.{IsIn, IsValue, AreAmong, AreNatural, IsCell}
-use Rattle.m2_agree_calls.specs.Passing.{ByCopy, value_form, result_in, result_made, result_of}
-use Rattle.m2_agree_types.proofs.Cells.{cell_is, set_is, procedure_tree_is}
+use Rattle.m2_agree.specs.Passing.{ByCopy, value_form, result_in, result_made, result_of}
+use Rattle.m2_agree.proofs.Cells.{cell_is, set_is, procedure_tree_is}
 use Rattle.m2_formed.proofs.Basics.{Grows}
 use Rattle.m2_ranges.specs.Ranges.{IsRange, AreRanged}
 use Rattle.m2_ranges.proofs.Known.{range_at}
-use Rattle.m2_formed_ranges.specs.FormedRanges.{IsNumber}
-use Rattle.m2_formed_ranges.proofs.Types.{same_types}
-use Rattle.m2_formed_ranges.proofs.Subranges.{type_itself, through, based_at}
+use Rattle.m2_formed.specs.FormedRanges.{IsNumber}
+use Rattle.m2_formed.proofs.RangesTypes.{same_types}
+use Rattle.m2_formed.proofs.Subranges.{type_itself, through, based_at}
 use Rattle.m2_typing.specs.Typing.{HasBase, is_known_from, is_known, IsIndexed, TypesTyped}
 
 -- ---- types that are known

@@ -63,15 +63,15 @@ use Rattle.m2_calls.specs.declared.standard.Unary.{Unary}
 use Rattle.m2_exprs.specs.Meanings.{Meant, Picks, of_computed, signed_first, named, field_of, formals_of, argument_by, call_given, as_constant, value_of, with_actual, actuals, routine_called, unary, bound, conversion, high, by_form, called_as, called_by, factor, term, relation, expr_layer, selector_layer, designator_layer, item_layer, meant, picks, head, item}
 use Rattle.m2_layout.specs.Shapes.{tree}
 use Rattle.m2_layout.specs.Types.{Ty}
-use Rattle.m2_agree_calls.specs.Frames.{kind_at}
-use Rattle.m2_agree_calls.specs.Passing.{Forms, form_of}
-use Rattle.m2_agree_trees.specs.Typed.{Context, GlobalRoot, LocalRoot, AliasRoot, WithRoot}
+use Rattle.m2_agree.specs.Frames.{kind_at}
+use Rattle.m2_agree.specs.Passing.{Forms, form_of}
+use Rattle.m2_agree.specs.TreesTyped.{Context, GlobalRoot, LocalRoot, AliasRoot, WithRoot}
 use Rattle.m2_formed.specs.Formed.{Holds, fine, broken}
 use Rattle.m2_formed.proofs.Basics.{then_holds, reported_holds, both_holds, any_holds, heading_kept}
-use Rattle.m2_formed_ranges.specs.FormedRanges.{itself, fits_letter, fits_layer, LetterRanged}
-use Rattle.m2_formed_ranges.proofs.Types.{both_left, both_right}
-use Rattle.m2_formed_ranges.proofs.Subranges.{from_le}
-use Rattle.m2_formed_ranges.proofs.Values.{char_ranged}
+use Rattle.m2_formed.specs.FormedRanges.{itself, fits_letter, fits_layer, LetterRanged}
+use Rattle.m2_formed.proofs.RangesTypes.{both_left, both_right}
+use Rattle.m2_formed.proofs.Subranges.{from_le}
+use Rattle.m2_formed.proofs.Values.{char_ranged}
 use Rattle.m2_typing.specs.Typing.{fits_selector, fits_designator, fits_item, fits_whole, fits_picked, fits_head, IsConstant, FormalsKnown, kind_of, CallTyped, ValueTyped, DesignatedTyped, MeaningTyped, IsTyped}
 use Rattle.m2_typing.proofs.Known.{signature_known, result_is}
 use Rattle.m2_typing.proofs.Words.{B_, added_small, AllSmall, items_small}

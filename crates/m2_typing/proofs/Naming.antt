@@ -15,12 +15,12 @@ use Rattle.m2_layout.specs.Shapes.{tree}
 use Rattle.m2_layout.specs.Frames.{module_row}
 use Rattle.m2_meaning.specs.Around.{module_place}
 use Rattle.m2_scheme.specs.Exprs.{is_own, import_place, imported_row}
-use Rattle.m2_agree_calls.specs.Frames.{Kinds}
-use Rattle.m2_agree_trees.specs.Typed.{Context, IsVariable}
+use Rattle.m2_agree.specs.Frames.{Kinds}
+use Rattle.m2_agree.specs.TreesTyped.{Context, IsVariable}
 use Rattle.m2_formed.specs.Formed.{Holds, fine, broken}
-use Rattle.m2_formed_ranges.specs.FormedRanges.{MeaningRanged, KnownRanged, NamesRanged}
-use Rattle.m2_formed_ranges.proofs.Types.{value_kept}
-use Rattle.m2_formed_scopes.proofs.Declarations.{same_home}
+use Rattle.m2_formed.specs.FormedRanges.{MeaningRanged, KnownRanged, NamesRanged}
+use Rattle.m2_formed.proofs.RangesTypes.{value_kept}
+use Rattle.m2_formed.proofs.ScopesDeclarations.{same_home}
 use Rattle.m2_typing.specs.Scopes.{MeaningIn, KnownIn, NamesIn}
 use Rattle.m2_typing.specs.Carried.{MeaningPlaced, KnownPlaced, NamesPlaced, MeaningWord, KnownWord, NamesWords, MeaningSlot, KnownSlot, NamesSlots}
 use Rattle.m2_typing.specs.Names.{HasVariables, HasInstance, MeaningElse, KnownElse, NamesElse, BlockFound}

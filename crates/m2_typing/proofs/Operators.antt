@@ -65,14 +65,14 @@ use Rattle.m2_layout.specs.Shapes.{Trees, tree_in, passing_of, result_tree, head
 use Rattle.m2_layout.specs.Types.{Passing, ByValue, ByName, AsOpen, Ty, Heading, Function, Takes, row, component}
 use Rattle.m2_cells.specs.Relation.{heading_at}
 use Rattle.m2_agree.specs.Scene.{IsValue, AreAmong}
-use Rattle.m2_agree_calls.specs.Frames.{Open, kind_at}
-use Rattle.m2_agree_trees.specs.Typed.{Context, IsNamed}
+use Rattle.m2_agree.specs.Frames.{Open, kind_at}
+use Rattle.m2_agree.specs.TreesTyped.{Context, IsNamed}
 use Rattle.m2_formed.specs.Formed.{Holds, fine, broken}
 use Rattle.m2_formed.proofs.Basics.{then_holds, holds_weaker, reported_holds, where_holds, both_holds, any_holds, Grows}
-use Rattle.m2_formed_ranges.specs.FormedRanges.{IsNumber, ValueRanged}
-use Rattle.m2_formed_ranges.proofs.Types.{same_types, both_left, both_right}
-use Rattle.m2_formed_ranges.proofs.Subranges.{between_in, test_holds, beside_holds, SortRanged, OperandRanged, operand_ranged, fits_number}
-use Rattle.m2_formed_ranges.proofs.Values.{combined_ranged, signed_ranged, negated_ranged}
+use Rattle.m2_formed.specs.FormedRanges.{IsNumber, ValueRanged}
+use Rattle.m2_formed.proofs.RangesTypes.{same_types, both_left, both_right}
+use Rattle.m2_formed.proofs.Subranges.{between_in, test_holds, beside_holds, SortRanged, OperandRanged, operand_ranged, fits_number}
+use Rattle.m2_formed.proofs.Values.{combined_ranged, signed_ranged, negated_ranged}
 use Rattle.m2_typing.specs.Typing.{IsWord, IsConstant, HasBase, TypesTyped, ExprTyped, ProcedureTyped, PlaceTyped, GivenTyped, ScalarTyped, WordTyped, RoutineTyped, ValueTyped, DesignatedTyped}
 use Rattle.m2_typing.proofs.Known.{IsRoutine, ClassIs, MadeSo, class_is, signature_known, array_known, fields_known, within_range, number_value, among_itself, among_words, among_base, free_among, HasCell, ranged_cell, bits_cell, has_base, IsArray, array_is, record_is, heading_is, heading_by_signature}
 use Rattle.m2_typing.proofs.Known as known

@@ -12,7 +12,7 @@ use Rattle.m2_typed.specs.declared.table.Table.{Table}
 use Rattle.m2_types.specs.Export.{with_types, own_types, reached_of}
 use Rattle.m2_types.specs.Predeclared.{with_reached, with_table, others_of}
 use Rattle.m2_formed.proofs.Basics.{Grows}
-use Rattle.m2_formed_ranges.specs.FormedRanges.{first_types}
+use Rattle.m2_formed.specs.FormedRanges.{first_types}
 use Rattle.m2_typing.specs.Carried.{AllIndexed, OthersIndexed, TypesIndexed, ReachedIndexed, TablesIndexed}
 use Rattle.m2_typing.proofs.Carrying.{all_stay}
 

@@ -26,8 +26,8 @@ use Rattle.m2_scopes.specs.declared.scope.Scope.{Scope}
 use Rattle.m2_computed.specs.Values.{nested_by}
 use Rattle.m2_layout.specs.Frames.{formals_of}
 use Rattle.m2_layout.specs.Shapes.{tree}
-use Rattle.m2_agree_calls.specs.Frames.{Kind, Kept, Kinds, or_none, kind_at, formal_kind as kind_in_frame, kinds_of}
-use Rattle.m2_agree_trees.specs.Typed.{Context, IsInner}
+use Rattle.m2_agree.specs.Frames.{Kind, Kept, Kinds, or_none, kind_at, formal_kind as kind_in_frame, kinds_of}
+use Rattle.m2_agree.specs.TreesTyped.{Context, IsInner}
 use Rattle.m2_blocks.specs.Inner.{formal_kind}
 use Rattle.m2_formed.specs.Formed.{Holds, fine}
 use Rattle.m2_formed.proofs.Basics.{holds_weaker, reported_holds}

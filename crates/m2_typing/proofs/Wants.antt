@@ -30,7 +30,7 @@ use Rattle.m2_layout.specs.Texts as texts
 use Rattle.m2_scheme.specs.Exprs.{is_own}
 use Rattle.m2_scheme.specs.Signatures.{Signatures, of_heading, of_expr, of_place, of_call}
 use Rattle.m2_scheme.specs.Signatures as signed
-use Rattle.m2_agree_trees.specs.Typed.{Context}
+use Rattle.m2_agree.specs.TreesTyped.{Context}
 use Rattle.m2_typing.specs.Wanted.{of_link, of_component, of_argument, Wanted, wanted_of, wanted_at, wanted_called, wanted_linked, wanted_behind, wanted_passed, TextsStand, AreNeeded, Has}
 
 -- ---- one behind the other

@@ -44,7 +44,7 @@ use Rattle.m2_modules.specs.Own.{implementation_scope}
 use Rattle.m2_bodies.specs.Elaborating.{Elaborates}
 use Rattle.m2_bodies.specs.Checked.{checked}
 use Rattle.m2_formed.specs.Formed.{Holds}
-use Rattle.m2_formed_ranges.specs.FormedRanges.{first_types}
+use Rattle.m2_formed.specs.FormedRanges.{first_types}
 use Rattle.m2_typing.specs.Typing.{IsWord, IsIndexed}
 use Rattle.m2_typing.specs.Scopes.{formal_slot, variable_slot}
 

@@ -3,3 +3,16 @@ pub mod Typing
 pub mod Scopes
 pub mod Carried
 pub mod Names
+pub mod Asked
+pub mod TypingStmts
+pub mod Words
+pub mod TypingBodies
+pub mod FormedPrograms
+pub mod FormedReach
+pub mod FormedCoherent
+pub mod FormedGraphs
+pub mod FormedTrees
+pub mod TypingWants
+pub mod TypingTables
+pub mod TypingNames
+pub mod TypingGraphs

@@ -15,10 +15,10 @@ use Rattle.m2_layout.specs.Types.{Ty, row}
 use Rattle.m2_layout.specs.Shapes.{tree}
 use Rattle.m2_meaning.specs.Around.{module_place}
 use Rattle.m2_scheme.specs.Exprs.{variables_row}
-use Rattle.m2_agree_calls.specs.Frames.{Kinds, kind_at}
-use Rattle.m2_agree_trees.specs.Typed.{Context, IsKnown, IsVariable, IsNamed}
+use Rattle.m2_agree.specs.Frames.{Kinds, kind_at}
+use Rattle.m2_agree.specs.TreesTyped.{Context, IsKnown, IsVariable, IsNamed}
 use Rattle.m2_formed.specs.Formed.{Holds}
-use Rattle.m2_formed_ranges.specs.FormedRanges.{NamesRanged}
+use Rattle.m2_formed.specs.FormedRanges.{NamesRanged}
 use Rattle.m2_typing.specs.Typing.{kind_of}
 use Rattle.m2_typing.specs.Scopes.{IsNested, NamesIn}
 use Rattle.m2_typing.specs.Carried.{NamesPlaced, NamesWords, NamesSlots}

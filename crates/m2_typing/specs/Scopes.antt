@@ -22,9 +22,9 @@ use Rattle.m2_constants.specs.Denote.{member}
 use Rattle.m2_computed.specs.Classes.{signature_at}
 use Rattle.m2_layout.specs.Frames.{formals_of}
 use Rattle.m2_layout.specs.Shapes.{tree}
-use Rattle.m2_agree_calls.specs.Frames.{Kinds, kind_at, kinds_of}
-use Rattle.m2_agree_calls.specs.Passing.{forms_of, result_of}
-use Rattle.m2_agree_trees.specs.Typed.{Context, IsVariable, kinds_around, IsNamed}
+use Rattle.m2_agree.specs.Frames.{Kinds, kind_at, kinds_of}
+use Rattle.m2_agree.specs.Passing.{forms_of, result_of}
+use Rattle.m2_agree.specs.TreesTyped.{Context, IsVariable, kinds_around, IsNamed}
 use Rattle.m2_blocks.specs.Inner.{formal_kind}
 use Rattle.m2_formed.specs.Formed.{Holds}
 use Rattle.m2_typing.specs.Typing.{IsConstant, FormalsKnown, kind_of, TypesTyped, MeaningTyped, IsTyped}

@@ -44,12 +44,12 @@ use Rattle.m2_layout.specs.Shapes.{shape_tree, known_trees, tree}
 use Rattle.m2_cells.specs.Relation.{heading_at}
 use Rattle.m2_scheme.specs.Exprs.{expr_part}
 use Rattle.m2_scheme.specs.Modules.{numbered}
-use Rattle.m2_agree_calls.specs.Frames.{Kind, Kept, Alias, Open, kind_at}
-use Rattle.m2_agree_calls.specs.Passing.{Form, Result as Gives}
-use Rattle.m2_agree_trees.specs.Typed.{Context, IsVariable, IsNamed, IsInner, IsTaken, IsExpr, IsProcedureExpr, IsPlace, IsCall, IsArgument}
+use Rattle.m2_agree.specs.Frames.{Kind, Kept, Alias, Open, kind_at}
+use Rattle.m2_agree.specs.Passing.{Form, Result as Gives}
+use Rattle.m2_agree.specs.TreesTyped.{Context, IsVariable, IsNamed, IsInner, IsTaken, IsExpr, IsProcedureExpr, IsPlace, IsCall, IsArgument}
 use Rattle.m2_formed.specs.Formed.{Holds}
 use Rattle.m2_ranges.specs.Ranges.{AreRanged}
-use Rattle.m2_formed_ranges.specs.FormedRanges.{itself, fits_layer, ValueRanged, IsBased, AllBased, OthersBased}
+use Rattle.m2_formed.specs.FormedRanges.{itself, fits_layer, ValueRanged, IsBased, AllBased, OthersBased}
 use Rattle.m2_typing.specs.Wanted.{Has, wanted_of, wanted_at, wanted_called, wanted_passed}
 
 -- ---- trees: numbers and characters are as the scanner gives them, also in brackets behind names

@@ -9,7 +9,7 @@ use Rattle.m2_typed.specs.declared.computed.TypedExpr.{TypedExpr}
 use Rattle.m2_typed.specs.declared.typed_module.TypedModule.{TypedModule}
 use Rattle.m2_layout.specs.Texts.{Texts, texts_of, texts_at, texts_called, texts_linked, texts_behind, texts_passed}
 use Rattle.m2_scheme.specs.Signatures.{Signatures, needed, is_among, of_expr, of_place, of_call, argument_layer, call_layer, component_layer, link_layer, expr_layer, place_layer}
-use Rattle.m2_agree_trees.specs.Typed.{Context, HasText}
+use Rattle.m2_agree.specs.TreesTyped.{Context, HasText}
 
 -- ---- the types of calls through the table, in the parts that have no name in the scheme
 

@@ -49,14 +49,14 @@ use Rattle.m2_scheme.specs.Exprs.{index_of}
 use Rattle.m2_agree.specs.Scene.{IsCell}
 use Rattle.m2_agree.proofs.Components.{same_index}
 use Rattle.m2_agree.proofs.Operators.{between_in}
-use Rattle.m2_agree_calls.specs.Frames.{Kind, Kept, Alias, Open, Kinds, kind_at}
-use Rattle.m2_agree_calls.specs.Passing.{Form, ByNumber, ByCopy, ByName, ByArray, Forms, Result, forms_of, result_of}
-use Rattle.m2_agree_calls.proofs.Headings.{forms_same, result_same, means_it}
-use Rattle.m2_agree_procedures.specs.Laws.{callee_of}
-use Rattle.m2_agree_trees.specs.Typed as typed
-use Rattle.m2_agree_trees.specs.Typed.{Context, IsKnown, IsVariable, IsNamed, IsInner}
-use Rattle.m2_agree_trees.proofs.Meant.{argument_value, component_value, link_value, expr_meant, expr_means, link_meant, link_means, component_meant, component_means, place_means, call_meant, call_means, argument_meant, argument_means}
-use Rattle.m2_agree_bodies.specs.Linked.{Spot, around_of}
+use Rattle.m2_agree.specs.Frames.{Kind, Kept, Alias, Open, Kinds, kind_at}
+use Rattle.m2_agree.specs.Passing.{Form, ByNumber, ByCopy, ByName, ByArray, Forms, Result, forms_of, result_of}
+use Rattle.m2_agree.proofs.Headings.{forms_same, result_same, means_it}
+use Rattle.m2_agree.specs.ProceduresLaws.{callee_of}
+use Rattle.m2_agree.specs.TreesTyped as typed
+use Rattle.m2_agree.specs.TreesTyped.{Context, IsKnown, IsVariable, IsNamed, IsInner}
+use Rattle.m2_agree.proofs.TreesMeant.{argument_value, component_value, link_value, expr_meant, expr_means, link_meant, link_means, component_meant, component_means, place_means, call_meant, call_means, argument_meant, argument_means}
+use Rattle.m2_agree.specs.Linked.{Spot, around_of}
 use Rattle.m2_whole_runs.specs.Worlds.{World, type_at, is_cell}
 use Rattle.m2_whole_runs.specs.Expressions as strict
 use Rattle.m2_whole_runs.specs.Expressions.{Calls, is_module, is_ranged, is_procedure, is_taken, has_range, variable_of, elements_named, first_of, provided, needs, at_there, at_cell, suits_call}

@@ -14,8 +14,8 @@ use Rattle.m2_meaning.specs.Around.{Modules, Named, At, Elements, Passed, Number
 use Rattle.m2_meaning.specs.Statements.{character}
 use Rattle.m2_meaning.specs.Calls.{Entered, variable_at, with_passed, with_all, variables_from, entered}
 use Rattle.m2_cells.specs.Relation.{IsProcedureValue, Empty}
-use Rattle.m2_agree_calls.specs.Frames.{Kind, Kept, Alias, Open, Kinds, formal_kind, kinds_of}
-use Rattle.m2_agree_calls.specs.Passing.{Form, ByNumber, ByCopy, ByName, ByArray, value_form, form_of}
+use Rattle.m2_agree.specs.Frames.{Kind, Kept, Alias, Open, Kinds, formal_kind, kinds_of}
+use Rattle.m2_agree.specs.Passing.{Form, ByNumber, ByCopy, ByName, ByArray, value_form, form_of}
 use Rattle.m2_whole_runs.specs.Worlds.{World, type_at, is_like, is_cell}
 use Rattle.m2_whole_runs.specs.Calls.{suits, all_suit, copy_of, copies_of}
 use Rattle.m2_whole_runs.proofs.Worlds.{there_more, there_behind, there_new, whole, alike_itself, HoldsProcedures, IsFine, fine_placed, fine_new}

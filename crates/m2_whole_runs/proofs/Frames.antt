@@ -6,8 +6,8 @@ use Rattle.m2_layout.specs.Types.{Ty, Scalar, Natural, Callable, Cell, Array, He
 use Rattle.m2_meaning.specs.Around.{Modules, Named, At, Elements, Frames, Around, Passed, Number, Variable, Array as Whole, Text, or_empty, named}
 use Rattle.m2_meaning.specs.Store.{Location}
 use Rattle.m2_cells.specs.Relation.{IsProcedureValue}
-use Rattle.m2_agree_calls.specs.Frames.{Kind, Kept, Alias, Open, Kinds, or_none, kind_at}
-use Rattle.m2_agree_calls.specs.Passing.{Form, ByNumber, ByCopy, ByName, ByArray, Result}
+use Rattle.m2_agree.specs.Frames.{Kind, Kept, Alias, Open, Kinds, or_none, kind_at}
+use Rattle.m2_agree.specs.Passing.{Form, ByNumber, ByCopy, ByName, ByArray, Result}
 use Rattle.m2_whole_runs.specs.Worlds.{World, type_at}
 use Rattle.m2_whole_runs.proofs.Worlds.{none_some, some_same, there_more}
 

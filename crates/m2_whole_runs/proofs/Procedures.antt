@@ -12,14 +12,14 @@ use Rattle.m2_meaning.specs.Answer.{Outcome, storage_fault, no_return}
 use Rattle.m2_meaning.specs.Around.{Modules, Around, Callee, Frames}
 use Rattle.m2_meaning.specs.Calls as meaning
 use Rattle.m2_meaning.specs.Calls.{Entered, calling, entered, around_of, needed, is_function, is_there, variables_from}
-use Rattle.m2_agree_calls.specs.Frames.{Kinds, kinds_of}
-use Rattle.m2_agree_calls.specs.Passing.{Result, forms_of, result_of}
-use Rattle.m2_agree_calls.proofs.Headings.{means_it}
-use Rattle.m2_agree_procedures.specs.Laws.{callee_of}
-use Rattle.m2_agree_stmts.specs.Typed.{AreStmts}
-use Rattle.m2_agree_trees.specs.Typed.{Context}
-use Rattle.m2_agree_bodies.specs.Linked as linked
-use Rattle.m2_agree_bodies.specs.Linked.{Spot, context}
+use Rattle.m2_agree.specs.Frames.{Kinds, kinds_of}
+use Rattle.m2_agree.specs.Passing.{Result, forms_of, result_of}
+use Rattle.m2_agree.proofs.Headings.{means_it}
+use Rattle.m2_agree.specs.ProceduresLaws.{callee_of}
+use Rattle.m2_agree.specs.StmtsTyped.{AreStmts}
+use Rattle.m2_agree.specs.TreesTyped.{Context}
+use Rattle.m2_agree.specs.Linked as linked
+use Rattle.m2_agree.specs.Linked.{Spot, context}
 use Rattle.m2_whole_runs.specs.Worlds.{World}
 use Rattle.m2_whole_runs.specs.Calls as strict
 use Rattle.m2_whole_runs.specs.Calls.{all_suit, copies_of, calling as strict_calling}

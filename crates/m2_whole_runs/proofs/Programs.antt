@@ -23,13 +23,13 @@ use Rattle.m2_scheme.specs.Functions.{routine_of}
 use Rattle.m2_links.specs.Linked.{Program}
 use Rattle.m2_valid.proofs.Numbers.{mapped_at}
 use Rattle.m2_valid.proofs.Own.{at_place}
-use Rattle.m2_agree_calls.specs.Frames.{Kinds}
-use Rattle.m2_agree_trees.specs.Typed.{IsVariable, kinds_around}
-use Rattle.m2_agree_bodies.specs.Linked.{Spot, context, text_of, around_of}
-use Rattle.m2_agree_runs.specs.Programs.{ground}
-use Rattle.m2_agree_linked.specs.Knows.{IsKnown, Knows as KnowsImport}
-use Rattle.m2_agree_linked.specs.Modules.{AreModules, AreTypedModules}
-use Rattle.m2_agree_linked.proofs.Globals.{each_at, import_of}
+use Rattle.m2_agree.specs.Frames.{Kinds}
+use Rattle.m2_agree.specs.TreesTyped.{IsVariable, kinds_around}
+use Rattle.m2_agree.specs.Linked.{Spot, context, text_of, around_of}
+use Rattle.m2_agree.specs.RunsPrograms.{ground}
+use Rattle.m2_agree.specs.Knows.{IsKnown, Knows as KnowsImport}
+use Rattle.m2_agree.specs.Modules.{AreModules, AreTypedModules}
+use Rattle.m2_agree.proofs.Globals.{each_at, import_of}
 use Rattle.m2_whole_runs.specs.Worlds.{World, component_in, type_at}
 use Rattle.m2_whole_runs.specs.Expressions.{is_module}
 use Rattle.m2_whole_runs.specs.Calls.{calling as strict_calling}

@@ -32,11 +32,11 @@ use Rattle.m2_cells.specs.Relation.{IsProcedureValue}
 use Rattle.m2_cells.proofs.Places.{when}
 use Rattle.m2_cells.proofs.Worlds.{same_cell}
 use Rattle.m2_agree.specs.Scene.{IsCell}
-use Rattle.m2_agree_calls.specs.Passing.{Result}
-use Rattle.m2_agree_trees.specs.Typed as trees
-use Rattle.m2_agree_trees.specs.Typed.{Context}
-use Rattle.m2_agree_stmts.specs.Typed as typed
-use Rattle.m2_agree_stmts.proofs.Meant.{arm_does, step_meant, step_means, arm_means}
+use Rattle.m2_agree.specs.Passing.{Result}
+use Rattle.m2_agree.specs.TreesTyped as trees
+use Rattle.m2_agree.specs.TreesTyped.{Context}
+use Rattle.m2_agree.specs.StmtsTyped as typed
+use Rattle.m2_agree.proofs.StmtsMeant.{arm_does, step_meant, step_means, arm_means}
 use Rattle.m2_whole_runs.specs.Worlds.{World, type_at, is_like, has_room}
 use Rattle.m2_whole_runs.specs.Expressions as places
 use Rattle.m2_whole_runs.specs.Expressions.{is_ranged, is_taken, provided, at_cell}

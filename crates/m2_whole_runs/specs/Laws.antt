@@ -10,7 +10,7 @@ use Rattle.m2_typed.specs.declared.typed_module.TypedModule.{TypedModule}
 use Rattle.m2_meaning.specs.Answer.{Stopped, halted}
 use Rattle.m2_meaning.specs.Runs.{run}
 use Rattle.m2_links.specs.Linked.{Program}
-use Rattle.m2_agree_linked.specs.Modules.{AreModules, AreTypedModules}
+use Rattle.m2_agree.specs.Modules.{AreModules, AreTypedModules}
 use Rattle.m2_whole_runs.specs.Expressions.{is_module}
 use Rattle.m2_whole_runs.specs.Runs.{strict_run}
 

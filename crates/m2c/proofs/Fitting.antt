@@ -4,13 +4,13 @@ use Rattle.std.specs.List.{list_all}
 use Rattle.std.specs.Arc.{arc_value}
 use Rattle.m2_tree.specs.declared.decl.Module.{Module}
 use Rattle.m2_meaning.specs.Around.{Modules}
-use Rattle.m2_formed_known.specs.FormedKnown.{fits_module}
-use Rattle.m2_formed_fits.proofs.Folds.{and_both}
-use Rattle.m2_formed_fits.proofs.Spelled.{module_fits}
-use Rattle.m2_formed_fits.proofs.Tokens.{tokens_fit}
-use Rattle.m2_typing_graphs.specs.FormedTrees.{fits_contents}
-use Rattle.m2_typing_graphs.proofs.Rules.{text_whole}
-use Rattle.m2_typing_graphs.specs.FormedCoherent.{AreBodiesIn}
+use Rattle.m2_formed.specs.FormedKnown.{fits_module}
+use Rattle.m2_formed.proofs.Folds.{and_both}
+use Rattle.m2_formed.proofs.Spelled.{module_fits}
+use Rattle.m2_formed.proofs.Tokens.{tokens_fit}
+use Rattle.m2_typing.specs.FormedTrees.{fits_contents}
+use Rattle.m2_typing.proofs.Rules.{text_whole}
+use Rattle.m2_typing.specs.FormedCoherent.{AreBodiesIn}
 use Rattle.m2_read.specs.declared.file.SourceFile.{SourceFile}
 use Rattle.m2_read.specs.declared.reading.Read.{Read}
 use Rattle.m2_read.specs.declared.reading.Read.TheVariants as read

@@ -30,14 +30,14 @@ use Rattle.m2c.specs.Build.{AreEncoded as BytesEncode}
 use Rattle.m2c.specs.Build.{Reported, AreReported, reported_at, built_of, named_bytes, modules, refusal_in, refused_from, refused_by, started, data_and_stack, program_file, HaveGraph, IsTooLarge, IsProgram}
 use Rattle.m2_jobs.specs.Encoded.{AreEncoded}
 use Rattle.m2_links.specs.Linked.{IsLinkable, imported_names}
-use Rattle.m2_agree_linked.specs.Modules.{AreModules, AreTypedModules}
-use Rattle.m2_agree_linked.proofs.Programs.{typed_behave}
+use Rattle.m2_agree.specs.Modules.{AreModules, AreTypedModules}
+use Rattle.m2_agree.proofs.LinkedPrograms.{typed_behave}
 use Rattle.m2_whole_runs.proofs.Programs.{strict_runs, nothing_lacks}
 use Rattle.m2_links.proofs.Placed.{modules_link}
-use Rattle.m2_formed_programs.proofs.Links.{slots_few, link_valid}
-use Rattle.m2_typing_graphs.proofs.GraphModules.{are_modules}
+use Rattle.m2_typing.proofs.Links.{slots_few, link_valid}
+use Rattle.m2_typing.proofs.GraphModules.{are_modules}
 use Rattle.m2c.proofs.Linked.{all_modules}
-use Rattle.m2_typing_graphs.proofs.TypedModules.{are_typed}
+use Rattle.m2_typing.proofs.TypedModules.{are_typed}
 use Rattle.m2c.proofs.Fitting.{trees_fit, trees_whole, bodies_in}
 use Rattle.m2c.proofs.Valid.{all_valid}
 use Rattle.m2c.proofs.Programs.{AreFit, AreBuilt, all_built, distinct_all, count_all}

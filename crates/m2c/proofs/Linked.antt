@@ -27,8 +27,8 @@ use Rattle.m2_layout.specs.Layouts.{too_large}
 use Rattle.m2_types.specs.Compiled as types
 use Rattle.m2_check.specs.Checks.{elaborated}
 use Rattle.m2_meaning.specs.Around.{Modules}
-use Rattle.m2_formed_imports.specs.FormedImports.{is_imported, is_imported_by, IsImport, NamesImports, StandsOnImports}
-use Rattle.m2_formed_imports.proofs.Imports.{tables_named, modules_stand}
+use Rattle.m2_formed.specs.FormedImports.{is_imported, is_imported_by, IsImport, NamesImports, StandsOnImports}
+use Rattle.m2_formed.proofs.NamedImports.{tables_named, modules_stand}
 use Rattle.m2_links.specs.Linked.{imported_names}
 use Rattle.m2_compile.specs.declared.outcome.Compiled.{Compiled}
 use Rattle.m2_compile.specs.declared.outcome.Compiled.TheVariants.{Defined, Built, Refused, Blocked}

@@ -45,7 +45,7 @@ use Rattle.m2_compile.specs.Compiling.{is_sound, tables_of, of_fit, of_checked, 
 use Rattle.m2_compile.specs.Encoded.{IsEncoded, fit_encoded, checked_encoded, contents_encoded}
 use Rattle.m2_jobs.specs.Jobs.{compiled_in}
 use Rattle.m2_jobs.specs.Encoded.{encoded_in, AreEncoded}
-use Rattle.m2_typing_graphs.specs.FormedGraphs.{IsFit}
+use Rattle.m2_typing.specs.FormedGraphs.{IsFit}
 use Rattle.m2c.specs.Modules.{module_in, modules_at, IsTyped, AreTyped}
 use Rattle.m2c.specs.Build.{modules, refused_by, result_at}
 use Rattle.m2c.proofs.EachOnce.{all_within, file_job, job_of}

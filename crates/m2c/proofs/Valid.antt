@@ -10,7 +10,7 @@ use Rattle.m2_typed.specs.declared.typed_module.TypedModule.{TypedModule}
 use Rattle.m2_meaning.specs.Around.{Modules}
 use Rattle.m2_scheme.specs.Modules.{typed_module}
 use Rattle.m2_formed.specs.Formed.{Holds, fine, broken}
-use Rattle.m2_formed_programs.proofs.Programs.{programs_valid}
+use Rattle.m2_typing.proofs.ValidPrograms.{programs_valid}
 use Rattle.m2c.specs.Modules.{IsTyped, AreTyped}
 use Rattle.m2c.specs.Build.{modules}
 

@@ -22,7 +22,7 @@ use Rattle.m2_meaning.specs.Runs.{run}
 use Rattle.m2_whole_runs.specs.Runs.{strict_run}
 use Rattle.m2_scheme.specs.Modules.{typed_module, typed_link, part_of, stack_begin}
 use Rattle.m2_emit.specs.declared.emitted.ModuleBytes.{ModuleBytes}
-use Rattle.m2_agree_runs.specs.Behaves.{Behaves}
+use Rattle.m2_agree.specs.Behaves.{Behaves}
 use Rattle.m2_read.specs.declared.file.SourceFile.{SourceFile}
 use Rattle.m2c.specs.declared.files.Outcome.{Outcome}
 use Rattle.m2c.specs.declared.files.Outcome.TheVariants as outcome

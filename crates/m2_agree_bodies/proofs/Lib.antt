@@ -1,4 +1,0 @@
-pub mod Counted
-pub mod Fitted
-pub mod Bodies
-pub mod Programs

@@ -1,4 +1,0 @@
-pub mod Laws
-pub mod Frames
-pub mod Passing
-pub mod Held

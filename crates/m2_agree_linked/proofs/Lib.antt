@@ -1,9 +1,0 @@
-pub mod Places
-pub mod Helped
-pub mod Globals
-pub mod Slots
-pub mod Functions
-pub mod Tables
-pub mod Linked
-pub mod Parts
-pub mod Programs

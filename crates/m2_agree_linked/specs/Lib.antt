@@ -1,3 +1,0 @@
-pub mod Knows
-pub mod Modules
-pub mod Laws

@@ -1,2 +1,0 @@
-pub mod Knots
-pub mod Mains

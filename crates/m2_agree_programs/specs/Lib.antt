@@ -1,2 +1,0 @@
-pub mod Knot
-pub mod Main

@@ -1,4 +1,0 @@
-pub mod Bodies
-pub mod Grounds
-pub mod Tabled
-pub mod Programs

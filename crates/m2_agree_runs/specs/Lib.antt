@@ -1,3 +1,0 @@
-pub mod Behaves
-pub mod Bodies
-pub mod Programs

@@ -1,5 +1,0 @@
-pub mod Meant
-pub mod Staying
-pub mod Boxed
-pub mod Stmts
-pub mod Laws

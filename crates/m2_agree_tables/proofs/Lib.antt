@@ -1,3 +1,0 @@
-pub mod Targets
-pub mod Jumps
-pub mod Tables

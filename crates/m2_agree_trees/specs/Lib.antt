@@ -1,4 +1,0 @@
-pub mod Placed
-pub mod Typed
-pub mod Fitting
-pub mod Laws

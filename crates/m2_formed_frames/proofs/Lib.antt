@@ -1,6 +1,0 @@
-pub mod Rooms
-pub mod Bytes
-pub mod Nested
-pub mod Blocks
-pub mod Procedures
-pub mod Modules

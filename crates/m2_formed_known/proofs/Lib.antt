@@ -1,4 +1,0 @@
-pub mod Gathered
-pub mod Begins
-pub mod Definitions
-pub mod Walks

@@ -1,4 +1,0 @@
-pub mod Growth
-pub mod TypeExprs
-pub mod Declarations
-pub mod Entered

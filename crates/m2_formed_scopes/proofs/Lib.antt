@@ -1,5 +1,0 @@
-pub mod Names
-pub mod Growth
-pub mod TypeExprs
-pub mod Declarations
-pub mod Imports
