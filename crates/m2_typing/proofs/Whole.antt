@@ -3,6 +3,7 @@ use Rattle.std.proofs.Common.{◌≡◌, ◌⊎◌, inl, inr, ℕ, zero, suc, �
 use Rattle.std.specs.Prelude.{slice_get, slice_index_or, codes, All}
 use Rattle.std.specs.List.{AllByRecursion, fold, list_all}
 use Rattle.std.proofs.lemmas.Option.{same_Some}
+use Rattle.m2_tree.specs.Names.{is_console}
 use Rattle.m2_tree.specs.declared.decl.Def.{Def}
 use Rattle.m2_tree.specs.declared.decl.Contents.{Contents}
 use Rattle.m2_tree.specs.declared.decl.Contents.TheVariants as contents
