@@ -1,4 +1,3 @@
-pub mod Halving
 pub mod Results
 pub mod Settled
 pub mod Tallied

@@ -13,7 +13,4 @@ mod run;
 
 pub use m2_board::{Board, BoardSeat, JobGraph, PoolRefusal, Tally};
 pub use m2_worker::{Gate, Work};
-pub use run::run_jobs;
-
-#[cfg(test)]
-mod tests;
+pub use run::{run_jobs, run_on};

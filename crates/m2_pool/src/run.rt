@@ -53,7 +53,8 @@ pub fn run_jobs<R: Threads + Sync, W: Work, G: Gate>(
     Ok(run_on(rt, alloc, board, seats, graph, cells.as_slice(), gate, work)?)
 }
 
-/// The same, on a board that was just opened and with these cells.
+/// The same, on a board that was just opened and with these cells. A cell may hold a result already: what stands on one that
+/// no worker published is run again. The error is want of memory.
 pub fn run_on<R: Threads + Sync, W: Work, G: Gate>(
     rt: &R,
     alloc: Global,
