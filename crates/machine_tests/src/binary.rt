@@ -31,7 +31,7 @@ fn number_of(alloc: Global, bytes: &[u8]) -> u32 {
 }
 
 /// A module of one function with this code.
-pub fn with_code(alloc: Global, code: &[u8]) -> Result<Vec<u8>, AllocError> {
+fn with_code(alloc: Global, code: &[u8]) -> Result<Vec<u8>, AllocError> {
     let mut body = Writer::new(alloc);
     body.byte(0x00)?;
     body.bytes(code)?;

@@ -4,8 +4,7 @@ use std::alloc::Global;
 use std::process::Abort;
 use std::test::*;
 use wasm_binary::read_module;
-use wasm_engine::{End, Instances, RunFault, Sink};
-use wasm_tree::WFault;
+use wasm_engine::{Instances, RunFault, Sink};
 use wasm_valid::{ValidModule, validate};
 
 /// A sink over memory that refuses bytes from some place on.
@@ -65,39 +64,6 @@ fn calling(rt: &impl Abort, alloc: Global, code: &[u8]) -> ValidModule {
     module(rt, alloc, &bytes)
 }
 
-fn run_of(rt: &impl Abort, alloc: Global, code: &[u8], steps: u64) -> (End, Vec<u8>) {
-    let modules = vec![in alloc; calling(rt, alloc, code)].expect(rt, "memory");
-    let mut instances = Instances::link(alloc, &modules).expect(rt, "linked");
-    let mut out = make_screen(alloc, 100);
-    let end = instances.run(steps, &mut out).expect(rt, "a run");
-    (end, out.bytes)
-}
-
-#[test]
-fn put_prints_and_stop_ends(rt: HostRuntime) {
-    let alloc = rt.alloc();
-    // i64.const 65, call 0; i64.const 322 (its low byte is 66), call 0; i64.const 3, call 1
-    let code = b"\x42\xC1\x00\x10\x00\x42\xC2\x02\x10\x00\x42\x03\x10\x01";
-    let (end, printed) = run_of(&rt, alloc, code, 100);
-    assert_eq!(rt; end, End::Done(3));
-    assert_eq!(rt; printed.as_slice(), b"AB".as_slice());
-    let (end, printed) = run_of(&rt, alloc, code, 3);
-    assert_eq!(rt; end, End::StillRunning);
-    assert_eq!(rt; printed.as_slice(), b"A".as_slice());
-}
-
-#[test]
-fn stop_takes_1_to_255(rt: HostRuntime) {
-    let alloc = rt.alloc();
-    assert_eq!(rt;
-        run_of(&rt, alloc, b"\x42\xFF\x01\x10\x01", 9).0,
-        End::Done(255)
-    );
-    assert_eq!(rt; run_of(&rt, alloc, b"\x42\x80\x02\x10\x01", 9).0, End::Trap);
-    assert_eq!(rt; run_of(&rt, alloc, b"\x42\x00\x10\x01", 9).0, End::Trap);
-    assert_eq!(rt; run_of(&rt, alloc, b"", 9).0, End::Done(0));
-}
-
 #[test]
 fn a_refused_byte_breaks_the_run_off(rt: HostRuntime) -> Result<(), Fail> {
     let alloc = rt.alloc();
@@ -111,26 +77,5 @@ fn a_refused_byte_breaks_the_run_off(rt: HostRuntime) -> Result<(), Fail> {
     let mut other = make_screen(alloc, 9);
     assert_eq!(rt; instances.run(50, &mut other), Err(RunFault::Ended));
     assert_eq!(rt; other.bytes.len(), 0);
-    Ok(())
-}
-
-#[test]
-fn what_cannot_be_linked(rt: HostRuntime) -> Result<(), Fail> {
-    let alloc = rt.alloc();
-    let none: Vec<ValidModule> = Vec::new(alloc);
-    assert!(rt; matches!(Instances::link(alloc, &none), Err(WFault::Unlinked)));
-    // no export at all
-    let modules = vec![in alloc; module(&rt, alloc, b"\x00asm\x01\x00\x00\x00")]?;
-    assert!(rt; matches!(Instances::link(alloc, &modules), Err(WFault::Unlinked)));
-    // `run` beside a data segment of one byte behind the end of a memory of no page
-    let past =
-        b"\x00asm\x01\x00\x00\x00\x01\x04\x01\x60\x00\x00\x03\x02\x01\x00\x05\x03\x01\x00\x00\x07\x07\x01\x03run\x00\x00\x0A\x04\x01\x02\x00\x0B\x0B\x07\x01\x00\x41\x00\x0B\x01x";
-    let modules = vec![in alloc; module(&rt, alloc, past)]?;
-    assert!(rt;
-        matches!(
-            Instances::link(alloc, &modules),
-            Err(WFault::SegmentOutside)
-        )
-    );
     Ok(())
 }

@@ -5,8 +5,6 @@
 #[cfg(test)]
 mod binary;
 #[cfg(test)]
-mod encoded;
-#[cfg(test)]
 mod engine;
 #[cfg(test)]
 mod steps;

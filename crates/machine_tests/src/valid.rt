@@ -48,72 +48,64 @@ fn accepts(rt: &impl Abort, alloc: Global, code: Vec<Op>) -> bool {
 }
 
 #[test]
-fn labels_are_those_of_the_blocks_around(rt: HostRuntime) -> Result<(), Fail> {
-    let alloc = rt.alloc();
-    let code = vec![in alloc; Op::Block(None, 1), Op::Br(1)]?;
-    assert!(rt; accepts(&rt, alloc, code));
-    let code = vec![in alloc; Op::Block(None, 1), Op::Br(5)]?;
-    assert!(rt; !accepts(&rt, alloc, code));
-    Ok(())
-}
-
-#[test]
-fn nothing_is_left(rt: HostRuntime) -> Result<(), Fail> {
-    let alloc = rt.alloc();
-    let code = vec![in alloc; Op::I32Const(1), Op::Drop]?;
-    assert!(rt; accepts(&rt, alloc, code));
-    let code = vec![in alloc; Op::I32Const(1)]?;
-    assert!(rt; !accepts(&rt, alloc, code));
-    Ok(())
-}
-
-#[test]
-fn both_sides_of_an_if_give_its_result(rt: HostRuntime) -> Result<(), Fail> {
-    let alloc = rt.alloc();
-    let whole = Op::IfElse(Some(ValueType::I64), 1, 1);
-    let code = vec![in alloc;
-        Op::I32Const(1),
-        whole,
-        Op::I64Const(1),
-        Op::I64Const(2),
-        Op::Drop,
-    ]?;
-    assert!(rt; accepts(&rt, alloc, code));
-    let half = Op::If(Some(ValueType::I64), 1);
-    let code = vec![in alloc; Op::I32Const(1), half, Op::I64Const(1), Op::Drop]?;
-    assert!(rt; !accepts(&rt, alloc, code));
-    Ok(())
-}
-
-#[test]
-fn any_operands_may_stand_behind_a_branch(rt: HostRuntime) -> Result<(), Fail> {
-    let alloc = rt.alloc();
+fn accepts_what_is_valid(rt: HostRuntime) -> Result<(), Fail> {
+    let number = Some(ValueType::I64);
     let add = Op::Numeric(Numeric::I32Add);
-    let code = vec![in alloc; Op::Br(0), add, Op::Drop]?;
-    assert!(rt; accepts(&rt, alloc, code));
-    let code = vec![in alloc; Op::Br(0), Op::I64Const(1), add, Op::Drop]?;
-    assert!(rt; !accepts(&rt, alloc, code));
-    Ok(())
-}
-
-#[test]
-fn all_labels_of_a_table_take_the_same(rt: HostRuntime) -> Result<(), Fail> {
-    let alloc = rt.alloc();
-    let code = vec![in alloc;
-        Op::I32Const(1),
-        Op::BrTable(2, 0),
-        Op::Br(0),
-        Op::Br(0),
-        Op::Drop,
-    ]?;
-    assert!(rt; accepts(&rt, alloc, code));
-    let code = vec![in alloc;
-        Op::I32Const(1),
-        Op::BrTable(2, 0),
-        Op::Br(0),
-        Op::Br(7),
-        Op::Drop,
-    ]?;
-    assert!(rt; !accepts(&rt, alloc, code));
+    let rows: [(&[Op], bool); 10] = [
+        // Labels are those of the blocks around.
+        (&[Op::Block(None, 1), Op::Br(1)], true),
+        (&[Op::Block(None, 1), Op::Br(5)], false),
+        // Nothing is left.
+        (&[Op::I32Const(1), Op::Drop], true),
+        (&[Op::I32Const(1)], false),
+        // Both sides of an if give its result.
+        (
+            &[
+                Op::I32Const(1),
+                Op::IfElse(number, 1, 1),
+                Op::I64Const(1),
+                Op::I64Const(2),
+                Op::Drop,
+            ],
+            true,
+        ),
+        (
+            &[
+                Op::I32Const(1),
+                Op::If(number, 1),
+                Op::I64Const(1),
+                Op::Drop,
+            ],
+            false,
+        ),
+        // Any operands may stand behind a branch.
+        (&[Op::Br(0), add, Op::Drop], true),
+        (&[Op::Br(0), Op::I64Const(1), add, Op::Drop], false),
+        // All labels of a table take the same.
+        (
+            &[
+                Op::I32Const(1),
+                Op::BrTable(2, 0),
+                Op::Br(0),
+                Op::Br(0),
+                Op::Drop,
+            ],
+            true,
+        ),
+        (
+            &[
+                Op::I32Const(1),
+                Op::BrTable(2, 0),
+                Op::Br(0),
+                Op::Br(7),
+                Op::Drop,
+            ],
+            false,
+        ),
+    ];
+    for (at, (code, is_valid)) in rows.iter().enumerate() {
+        let code = Vec::from_slice(rt.alloc(), code)?;
+        assert!(rt; accepts(&rt, rt.alloc(), code) == *is_valid, "row {at}");
+    }
     Ok(())
 }

@@ -13,23 +13,9 @@ enum Part {
     Body,
 }
 
-/// A file with a module that has at most one import, at column 20; its own name is at column 8.
-#[derive(Clone, Copy)]
-struct Row<'a> {
-    file: &'a str,
-    part: Part,
-    name: &'a str,
-    import: &'a str,
-}
-
-fn make_row<'a>(file: &'a str, part: Part, name: &'a str, import: &'a str) -> Row<'a> {
-    Row {
-        file,
-        part,
-        name,
-        import,
-    }
-}
+/// A file with a module: the sort of the module, its name, and the one module that it imports, or no name. Its own name
+/// is at column 8, the import at column 20.
+type Row<'a> = (&'a str, Part, &'a str, &'a str);
 
 fn ident(alloc: Global, name: &str, col: u32) -> Result<Ident, AllocError> {
     let bytes = name.as_bytes();
@@ -67,11 +53,12 @@ fn contents_of(alloc: Global, part: Part) -> Contents {
 }
 
 fn tree_of(alloc: Global, row: Row<'_>) -> Result<Module, AllocError> {
-    let imports = imports_of(alloc, row.import)?;
+    let (_, part, name, import) = row;
+    let imports = imports_of(alloc, import)?;
     Ok(Module {
-        name: ident(alloc, row.name, 8)?,
+        name: ident(alloc, name, 8)?,
         imports,
-        contents: contents_of(alloc, row.part),
+        contents: contents_of(alloc, part),
     })
 }
 
@@ -90,7 +77,7 @@ fn borrowed<'r, 't>(
 ) -> Result<Vec<(&'r str, &'t Module)>, AllocError> {
     let mut files = Vec::new(alloc);
     for (row, tree) in rows.iter().zip(trees) {
-        files.push((row.file, tree))?;
+        files.push((row.0, tree))?;
     }
     Ok(files)
 }
@@ -129,80 +116,91 @@ fn reports(alloc: Global, rows: &[Row<'_>], file: &str, col: u32, number: u32) -
 #[test]
 fn bodies_start_after_their_imports(rt: HostRuntime) -> Result<(), Fail> {
     let rows = [
-        make_row("p.mod", Part::Body, "P", "A"),
-        make_row("A.mod", Part::Implementation, "A", "B"),
-        make_row("B.mod", Part::Implementation, "B", "A"),
-        make_row("A.def", Part::Definition, "A", ""),
-        make_row("B.def", Part::Definition, "B", ""),
+        ("p.mod", Part::Body, "P", "A"),
+        ("A.mod", Part::Implementation, "A", "B"),
+        ("B.mod", Part::Implementation, "B", "A"),
+        ("A.def", Part::Definition, "A", ""),
+        ("B.def", Part::Definition, "B", ""),
     ];
     assert!(rt; starts(rt.alloc(), rows.as_slice(), [2, 1, 0].as_slice()));
     Ok(())
 }
 
-/// Two definitions that import each other are reported once.
 #[test]
-fn a_cycle_is_reported_once(rt: HostRuntime) -> Result<(), Fail> {
-    let rows = [
-        make_row("p.mod", Part::Body, "P", ""),
-        make_row("A.mod", Part::Implementation, "A", ""),
-        make_row("B.mod", Part::Implementation, "B", ""),
-        make_row("B.def", Part::Definition, "B", "A"),
-        make_row("A.def", Part::Definition, "A", "B"),
+fn refuses(rt: HostRuntime) -> Result<(), Fail> {
+    let rows: [(&[Row<'_>], &str, u32, u32); 8] = [
+        // Two definitions that import each other are reported once.
+        (
+            &[
+                ("p.mod", Part::Body, "P", ""),
+                ("A.mod", Part::Implementation, "A", ""),
+                ("B.mod", Part::Implementation, "B", ""),
+                ("B.def", Part::Definition, "B", "A"),
+                ("A.def", Part::Definition, "A", "B"),
+            ],
+            "A.def",
+            20,
+            22,
+        ),
+        // A definition that imports itself is a cycle.
+        (
+            &[
+                ("p.mod", Part::Body, "P", ""),
+                ("A.mod", Part::Implementation, "A", ""),
+                ("A.def", Part::Definition, "A", "A"),
+            ],
+            "A.def",
+            20,
+            22,
+        ),
+        // A body may not import its own module.
+        (
+            &[
+                ("p.mod", Part::Body, "P", ""),
+                ("A.mod", Part::Implementation, "A", "A"),
+                ("A.def", Part::Definition, "A", ""),
+            ],
+            "A.mod",
+            20,
+            20,
+        ),
+        // There is one program module.
+        (&[], "", 1, 23),
+        (
+            &[
+                ("q.mod", Part::Body, "Q", ""),
+                ("p.mod", Part::Body, "P", ""),
+            ],
+            "q.mod",
+            8,
+            23,
+        ),
+        // The names of the modules that are built in are taken.
+        (&[("p.mod", Part::Body, "Console", "")], "p.mod", 8, 21),
+        (&[("p.mod", Part::Body, "link", "Console")], "p.mod", 8, 21),
+        // An implementation has a definition.
+        (
+            &[
+                ("p.mod", Part::Body, "P", ""),
+                ("A.mod", Part::Implementation, "A", ""),
+            ],
+            "A.mod",
+            8,
+            24,
+        ),
     ];
-    assert!(rt; reports(rt.alloc(), rows.as_slice(), "A.def", 20, 22));
-    Ok(())
-}
-
-#[test]
-fn a_definition_that_imports_itself_is_a_cycle(rt: HostRuntime) -> Result<(), Fail> {
-    let rows = [
-        make_row("p.mod", Part::Body, "P", ""),
-        make_row("A.mod", Part::Implementation, "A", ""),
-        make_row("A.def", Part::Definition, "A", "A"),
-    ];
-    assert!(rt; reports(rt.alloc(), rows.as_slice(), "A.def", 20, 22));
-    Ok(())
-}
-
-#[test]
-fn a_body_may_not_import_its_own_module(rt: HostRuntime) -> Result<(), Fail> {
-    let rows = [
-        make_row("p.mod", Part::Body, "P", ""),
-        make_row("A.mod", Part::Implementation, "A", "A"),
-        make_row("A.def", Part::Definition, "A", ""),
-    ];
-    assert!(rt; reports(rt.alloc(), rows.as_slice(), "A.mod", 20, 20));
-    Ok(())
-}
-
-#[test]
-fn no_files_have_no_program(rt: HostRuntime) -> Result<(), Fail> {
-    assert!(rt; reports(rt.alloc(), [].as_slice(), "", 1, 23));
-    Ok(())
-}
-
-#[test]
-fn one_program_is_enough(rt: HostRuntime) -> Result<(), Fail> {
-    let rows = [
-        make_row("q.mod", Part::Body, "Q", ""),
-        make_row("p.mod", Part::Body, "P", ""),
-    ];
-    assert!(rt; reports(rt.alloc(), rows.as_slice(), "q.mod", 8, 23));
-    Ok(())
-}
-
-#[test]
-fn built_in_names_are_taken(rt: HostRuntime) -> Result<(), Fail> {
-    let console = [make_row("p.mod", Part::Body, "Console", "")];
-    assert!(rt; reports(rt.alloc(), console.as_slice(), "p.mod", 8, 21));
-    let link = [make_row("p.mod", Part::Body, "link", "Console")];
-    assert!(rt; reports(rt.alloc(), link.as_slice(), "p.mod", 8, 21));
+    for (files, file, col, number) in rows {
+        assert!(rt;
+            reports(rt.alloc(), files, file, col, number),
+            "{file} {number}"
+        );
+    }
     Ok(())
 }
 
 /// Whether the last of so many files is reported as one too many.
 fn is_one_too_many(alloc: Global, count: usize) -> Result<bool, AllocError> {
-    let tree = tree_of(alloc, make_row("p.mod", Part::Body, "P", ""))?;
+    let tree = tree_of(alloc, ("p.mod", Part::Body, "P", ""))?;
     let mut files = Vec::new(alloc);
     for _ in 0..count {
         files.push(("p.mod", &tree))?;

@@ -118,12 +118,3 @@ pub const DIMENSIONS: Nested = Nested {
     end: b"",
     tail: b"",
 };
-
-/// No nesting: as many statements as parts.
-pub const ASSIGNMENTS: Nested = Nested {
-    head: b"MODULE M; BEGIN ",
-    part: b"x := a[1] + f(2, 3);\n",
-    middle: b"END M.",
-    end: b"",
-    tail: b"",
-};

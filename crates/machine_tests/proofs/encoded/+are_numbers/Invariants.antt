@@ -1,4 +1,0 @@
-use Rattle.machine_tests.proofs.encoded.+are_numbers.Given as goal
-
-abbrev pub decreases-are_numbers : goal.decreases-are_numbers
-decreases-are_numbers l = l.count
