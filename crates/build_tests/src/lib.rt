@@ -7,8 +7,6 @@ mod gates;
 #[cfg(test)]
 mod many;
 #[cfg(test)]
-mod memory;
-#[cfg(test)]
 mod rows;
 #[cfg(test)]
 mod tests;

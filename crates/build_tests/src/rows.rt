@@ -1,10 +1,10 @@
 //! Programs of several files, and what they print.
 
 use crate::gates::Always;
-use crate::memory::{Folder, Screen};
 use anyhow::{Result, bail};
 use m2_execute::execute;
 use m2c::{Options, Outcome, SourceFile, build};
+use memory_streams::{Folder, Screen};
 use std::alloc::{AllocError, Global};
 use std::thread::Threads;
 

@@ -1,8 +1,9 @@
 //! A program's files with one byte changed.
 
-use crate::memory::{Pair, Screen};
+use crate::memory::Pair;
 use anyhow::{Result, bail};
 use m2_execute::execute;
+use memory_streams::Screen;
 use std::alloc::Global;
 use std::fs;
 

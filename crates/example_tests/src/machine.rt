@@ -1,9 +1,9 @@
 //! Directories of modules, and what comes of them.
 
 use crate::expected::{self, Expected};
-use crate::memory::Screen;
 use anyhow::{Context, Result, bail};
 use m2_execute::{InDir, execute};
+use memory_streams::Screen;
 use std::alloc::{AllocError, Global};
 use std::fs;
 use std::rt::Files;

@@ -1,47 +1,10 @@
-ghost use Rattle.std.specs.Prelude.{◌≡◌, Some};
-
+use memory_streams::Screen;
 use std::alloc::Global;
 use std::process::Abort;
 use std::test::*;
 use wasm_binary::read_module;
-use wasm_engine::{Instances, RunFault, Sink};
+use wasm_engine::{Instances, RunFault};
 use wasm_valid::{ValidModule, validate};
-
-/// A sink over memory that refuses bytes from some place on.
-#[derive(Drop)]
-pub struct Screen {
-    pub bytes: Vec<u8>,
-    room: usize,
-    failures: u64,
-}
-
-impl Sink for Screen {
-    ghost failed = { λ s. s.failures };
-
-    ghost reported = { λ s. Some s.bytes.items };
-
-    fn take(&mut self, byte: u8) -> bool {
-        if self.bytes.len() >= self.room || self.bytes.push(byte).is_err() {
-            self.failures += 1;
-            return false;
-        }
-        true
-    }
-
-    fn failures(&self) -> u64 {
-        self.failures
-    }
-}
-
-pub fn make_screen(alloc: Global, room: usize) -> Screen
-    ensures { result.failures ≡ 0 }
-{
-    Screen {
-        bytes: Vec::new(alloc),
-        room,
-        failures: 0,
-    }
-}
 
 fn module(rt: &impl Abort, alloc: Global, bytes: &[u8]) -> ValidModule {
     let tree = read_module(alloc, bytes).expect(rt, "a module");
@@ -70,11 +33,11 @@ fn a_refused_byte_breaks_the_run_off(rt: HostRuntime) -> Result<(), Fail> {
     let code = b"\x42\x01\x10\x00\x42\x02\x10\x00\x42\x03\x10\x00";
     let modules = vec![in alloc; calling(&rt, alloc, code)]?;
     let mut instances = Instances::link(alloc, &modules)?;
-    let mut out = make_screen(alloc, 2);
+    let mut out = Screen::with_room(alloc, 2);
     assert_eq!(rt; instances.run(50, &mut out), Err(RunFault::Write));
     assert_eq!(rt; out.bytes.as_slice(), [1, 2].as_slice());
     assert_eq!(rt; out.failures, 1);
-    let mut other = make_screen(alloc, 9);
+    let mut other = Screen::with_room(alloc, 9);
     assert_eq!(rt; instances.run(50, &mut other), Err(RunFault::Ended));
     assert_eq!(rt; other.bytes.len(), 0);
     Ok(())

@@ -1,11 +1,13 @@
-//! Tests of the machine: of `wasm_binary`, `wasm_valid` and `wasm_engine`, in a crate of their own, so that these libraries
-//! are proved once.
+//! Tests of the machine: of `wasm_binary`, `wasm_valid`, `wasm_engine` and `m2_execute`, in a crate of their own, so that these
+//! libraries are proved once.
 #![tactic(auto)]
 
 #[cfg(test)]
 mod binary;
 #[cfg(test)]
 mod engine;
+#[cfg(test)]
+mod execute;
 #[cfg(test)]
 mod steps;
 #[cfg(test)]

@@ -1,6 +1,6 @@
 //! Code with where the machine is after 60 reductions and what it printed by then, worked out by hand.
 
-use crate::engine::make_screen;
+use memory_streams::Screen;
 use sqlite_items::Items;
 use std::alloc::Global;
 use std::process::Abort;
@@ -60,7 +60,7 @@ fn modules_of(rt: &impl Abort, alloc: Global, sources: &[&[u8]]) -> Vec<ValidMod
 /// After 60 reductions the modules are here, and have printed this.
 fn expect_of(rt: &impl Abort, alloc: Global, modules: &[ValidModule], end: End, printed: &[u8]) {
     let mut instances = Instances::link(alloc, modules).expect(rt, "linked");
-    let mut out = make_screen(alloc, 1000);
+    let mut out = Screen::with_room(alloc, 1000);
     let answer = instances.run(60, &mut out).expect(rt, "a run");
     assert_eq!(rt; answer, end);
     assert_eq!(rt; out.bytes.as_slice(), printed);

@@ -9,7 +9,6 @@
 
 mod count;
 mod definitions;
-mod memory;
 mod program;
 mod programs;
 mod refusals;

@@ -1,9 +1,9 @@
 //! A program with all that is known of it.
 
-use crate::memory::{Folder, Screen};
 use anyhow::Result;
 use m2_execute::execute;
 use m2c::{Gate, Options, Outcome, SourceFile, build};
+use memory_streams::{Folder, Screen};
 use std::alloc::Global;
 use std::thread::Threads;
 

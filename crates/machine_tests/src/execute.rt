@@ -1,6 +1,5 @@
-ghost use Rattle.std.specs.Prelude.{◌≡◌, Some};
-
-use m2_execute::{InDir, Sink, execute};
+use m2_execute::{InDir, execute};
+use memory_streams::Screen;
 use std::alloc::{AllocError, Global};
 use std::test::Fail;
 use wasm_binary::read_module;
@@ -96,42 +95,6 @@ impl InDir for Folder<'_> {
     }
 }
 
-/// A stream over memory that has room for so many bytes.
-#[derive(Drop)]
-struct Screen {
-    bytes: Vec<u8>,
-    room: usize,
-    failures: u64,
-}
-
-impl Sink for Screen {
-    ghost failed = { λ s. s.failures };
-
-    ghost reported = { λ s. Some s.bytes.items };
-
-    fn take(&mut self, byte: u8) -> bool {
-        if self.bytes.len() >= self.room || self.bytes.push(byte).is_err() {
-            self.failures += 1;
-            return false;
-        }
-        true
-    }
-
-    fn failures(&self) -> u64 {
-        self.failures
-    }
-}
-
-fn make_screen(alloc: Global, room: usize) -> Screen
-    ensures { result.failures ≡ 0 }
-{
-    Screen {
-        bytes: Vec::new(alloc),
-        room,
-        failures: 0,
-    }
-}
-
 /// The files of link and of M.
 fn two<'a>(alloc: Global, link: &'a [u8], body: &'a [u8]) -> Folder<'a> {
     Folder {
@@ -149,8 +112,8 @@ fn reported(
     steps: u64,
     room: usize,
 ) -> Result<String, AllocError> {
-    let mut out = make_screen(alloc, room);
-    let mut err = make_screen(alloc, 100);
+    let mut out = Screen::with_room(alloc, room);
+    let mut err = Screen::with_room(alloc, 100);
     let status = execute(alloc, folder, steps, &mut out, &mut err);
     let printed = String::from_utf8_lossy(alloc, &out.bytes)?;
     let words = String::from_utf8_lossy(alloc, &err.bytes)?;
@@ -275,17 +238,17 @@ fn goes_on_from_call_to_call(rt: HostRuntime) -> Result<(), Fail> {
     let body = validate(alloc, read_module(alloc, &BODY)?)?;
     let modules = vec![in alloc; link, body]?;
     let mut instances = Instances::link(alloc, &modules)?;
-    let mut first = make_screen(alloc, 9);
+    let mut first = Screen::with_room(alloc, 9);
     assert_eq!(rt; instances.run(4, &mut first), Ok(End::StillRunning));
     assert_eq!(rt; first.bytes.len(), 0);
-    let mut second = make_screen(alloc, 9);
+    let mut second = Screen::with_room(alloc, 9);
     assert_eq!(rt; instances.run(1, &mut second), Ok(End::StillRunning));
     assert_eq!(rt; second.bytes.as_slice(), b"A".as_slice());
-    let mut third = make_screen(alloc, 9);
+    let mut third = Screen::with_room(alloc, 9);
     assert_eq!(rt; instances.run(2, &mut third), Ok(End::Done(0)));
     assert_eq!(rt; third.bytes.len(), 0);
     for steps in [0, 1, 1000] {
-        let mut later = make_screen(alloc, 9);
+        let mut later = Screen::with_room(alloc, 9);
         assert_eq!(rt; instances.run(steps, &mut later), Ok(End::Done(0)));
         assert_eq!(rt; later.bytes.len(), 0);
     }

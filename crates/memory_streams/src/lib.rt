@@ -1,4 +1,5 @@
-//! A folder and streams over memory.
+//! A folder and streams over memory, for the crates of tests.
+#![tactic(auto)]
 
 ghost use Rattle.std.specs.Prelude.{◌≡◌};
 
@@ -28,22 +29,33 @@ impl InDir for Folder<'_> {
     }
 }
 
-/// A stream that keeps what it takes.
+/// A stream that keeps what it takes, and refuses each byte for which it has no room.
 #[derive(Drop)]
 pub struct Screen {
+    /// What it took.
     pub bytes: Vec<u8>,
+    /// How often it refused a byte.
     pub failures: u64,
+    room: usize,
 }
 
 impl Screen {
-    /// A stream that took nothing yet.
-    pub fn new(alloc: Global) -> Screen
+    /// A stream that took nothing yet, and has room for so many bytes.
+    pub fn with_room(alloc: Global, room: usize) -> Screen
         ensures { result.failures ≡ 0 }
     {
         Screen {
             bytes: Vec::new(alloc),
             failures: 0,
+            room,
         }
+    }
+
+    /// A stream that took nothing yet, and has room for all.
+    pub fn new(alloc: Global) -> Screen
+        ensures { result.failures ≡ 0 }
+    {
+        Screen::with_room(alloc, usize::MAX)
     }
 }
 
@@ -55,7 +67,7 @@ impl Sink for Screen {
     ghost reported = { λ s. Some s.bytes.items };
 
     fn take(&mut self, byte: u8) -> bool {
-        if self.bytes.push(byte).is_err() {
+        if self.bytes.len() >= self.room || self.bytes.push(byte).is_err() {
             self.failures += 1;
             return false;
         }
