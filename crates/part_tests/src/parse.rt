@@ -109,7 +109,7 @@ fn counts_nesting(rt: HostRuntime) -> Result<(), Fail> {
     for (nested, most, col) in rows.iter() {
         let deepest = text_of(rt.alloc(), nested, *most)?;
         assert_eq!(rt; outcome(rt.alloc(), deepest.as_slice()), Reported::Tree);
-        let over = text_of(rt.alloc(), nested, *most + 1)?;
+        let over = text_of(rt.alloc(), nested, most.saturating_add(1))?;
         assert_eq!(rt; outcome(rt.alloc(), over.as_slice()), refused(1, *col, 12));
     }
     Ok(())
