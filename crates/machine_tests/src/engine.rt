@@ -28,17 +28,18 @@ fn calling(rt: &impl Abort, alloc: Global, code: &[u8]) -> ValidModule {
 }
 
 #[test]
-fn a_refused_byte_breaks_the_run_off(rt: HostRuntime) -> Result<(), Fail> {
+fn a_refused_byte_breaks_the_run_off(rt: HostRuntime) {
     let alloc = rt.alloc();
     let code = b"\x42\x01\x10\x00\x42\x02\x10\x00\x42\x03\x10\x00";
-    let modules = vec![in alloc; calling(&rt, alloc, code)]?;
-    let mut instances = Instances::link(alloc, &modules)?;
-    let mut out = Screen::with_room(alloc, 2);
-    assert_eq!(rt; instances.run(50, &mut out), Err(RunFault::Write));
-    assert_eq!(rt; out.bytes.as_slice(), [1, 2].as_slice());
-    assert_eq!(rt; out.failures, 1);
-    let mut other = Screen::with_room(alloc, 9);
-    assert_eq!(rt; instances.run(50, &mut other), Err(RunFault::Ended));
-    assert_eq!(rt; other.bytes.len(), 0);
-    Ok(())
+    let modules = vec![in alloc; calling(&rt, alloc, code)].expect(&rt, "memory");
+    let mut instances = Instances::link(alloc, &modules).expect(&rt, "linked");
+    let rows = [
+        (2, RunFault::Write, [1, 2].as_slice(), 1),
+        (9, RunFault::Ended, [].as_slice(), 0),
+    ];
+    for (room, fault, printed, failures) in rows {
+        let mut out = Screen::with_room(alloc, room);
+        assert!(rt; instances.run(50, &mut out) == Err(fault));
+        assert!(rt; out.bytes.as_slice() == printed && out.failures == failures);
+    }
 }

@@ -1,10 +1,11 @@
 use m2_execute::{InDir, execute};
 use memory_streams::Screen;
 use std::alloc::{AllocError, Global};
-use std::test::Fail;
+use std::process::Abort;
+use std::test::*;
 use wasm_binary::read_module;
 use wasm_engine::{End, Instances};
-use wasm_valid::validate;
+use wasm_valid::{ValidModule, validate};
 
 /// The module link of the program `MODULE M; FROM Console IMPORT Put; BEGIN Put("A") END M.` with 16 pages, encoded by
 /// hand from Core 1.0, section 5.
@@ -231,26 +232,31 @@ fn reads_a_module_after_the_one_before_is_valid(rt: HostRuntime) -> Result<(), F
     Ok(())
 }
 
+/// The modules of the first program.
+fn first_program(rt: &impl Abort, alloc: Global) -> Vec<ValidModule> {
+    let link = read_module(alloc, &LINK).expect(rt, "a module");
+    let body = read_module(alloc, &BODY).expect(rt, "a module");
+    let link = validate(alloc, link).expect(rt, "a valid module");
+    let body = validate(alloc, body).expect(rt, "a valid module");
+    vec![in alloc; link, body].expect(rt, "memory")
+}
+
 #[test]
-fn goes_on_from_call_to_call(rt: HostRuntime) -> Result<(), Fail> {
+fn goes_on_from_call_to_call(rt: HostRuntime) {
     let alloc = rt.alloc();
-    let link = validate(alloc, read_module(alloc, &LINK)?)?;
-    let body = validate(alloc, read_module(alloc, &BODY)?)?;
-    let modules = vec![in alloc; link, body]?;
-    let mut instances = Instances::link(alloc, &modules)?;
-    let mut first = Screen::with_room(alloc, 9);
-    assert_eq!(rt; instances.run(4, &mut first), Ok(End::StillRunning));
-    assert_eq!(rt; first.bytes.len(), 0);
-    let mut second = Screen::with_room(alloc, 9);
-    assert_eq!(rt; instances.run(1, &mut second), Ok(End::StillRunning));
-    assert_eq!(rt; second.bytes.as_slice(), b"A".as_slice());
-    let mut third = Screen::with_room(alloc, 9);
-    assert_eq!(rt; instances.run(2, &mut third), Ok(End::Done(0)));
-    assert_eq!(rt; third.bytes.len(), 0);
-    for steps in [0, 1, 1000] {
-        let mut later = Screen::with_room(alloc, 9);
-        assert_eq!(rt; instances.run(steps, &mut later), Ok(End::Done(0)));
-        assert_eq!(rt; later.bytes.len(), 0);
+    let modules = first_program(&rt, alloc);
+    let mut instances = Instances::link(alloc, &modules).expect(&rt, "linked");
+    let rows = [
+        (4, End::StillRunning, b"".as_slice()),
+        (1, End::StillRunning, b"A".as_slice()),
+        (2, End::Done(0), b"".as_slice()),
+        (0, End::Done(0), b"".as_slice()),
+        (1, End::Done(0), b"".as_slice()),
+        (1000, End::Done(0), b"".as_slice()),
+    ];
+    for (steps, end, printed) in rows {
+        let mut out = Screen::with_room(alloc, 9);
+        assert!(rt; instances.run(steps, &mut out) == Ok(end));
+        assert!(rt; out.bytes.as_slice() == printed);
     }
-    Ok(())
 }
