@@ -49,7 +49,7 @@ fn all_said(alloc: Global, text: &[u8]) -> Result<Vec<(Said, u32, u32)>, ScanErr
 
 #[test]
 fn refuses(rt: HostRuntime) -> Result<(), Fail> {
-    let rows: [(&[u8], (u32, u32, u32)); 39] = [
+    let rows: [(&[u8], (u32, u32, u32)); 40] = [
         (b"", (0, 0, 0)),
         (b"MODULE _x", (1, 8, 2)),
         (b"$", (1, 1, 2)),
@@ -90,6 +90,10 @@ fn refuses(rt: HostRuntime) -> Result<(), Fail> {
         (
             b"B1B1B1B1B1B1B1B1B1B1B1B1B1B1B1B1B1B1B1B1B1B1B1B1B1B1B1B1B1B1B1B1",
             (0, 0, 0),
+        ),
+        (
+            b"B1B1B1B1B1B1B1B1B1B1B1B1B1B1B1B1B1B1B1B1B1B1B1B1B1B1B1B1B1B1B1B1x",
+            (1, 1, 7),
         ),
         (
             b"x (* a *)B1B1B1B1B1B1B1B1B1B1B1B1B1B1B1B1B1B1B1B1B1B1B1B1B1B1B1B1B1B1B1B1B1 _",
