@@ -10,7 +10,7 @@ use sqlite_items::Items;
 use std::alloc::{AllocError, Global};
 
 /// A node that was entered, and how many of its imports were walked. It starts when all were.
-#[derive(Clone, Copy, Debug)]
+#[derive(Clone, Copy)]
 pub struct Frame {
     pub node: usize,
     pub next: usize,

@@ -14,7 +14,7 @@ use m2_types::{procedure_meaning, with_procedure_type};
 use std::alloc::{AllocError, Global};
 
 /// What stands under the name of a heading.
-#[derive(Clone, Copy, Debug, PartialEq, Eq)]
+#[derive(Clone, Copy, PartialEq, Eq)]
 pub enum Standing {
     /// Nothing yet.
     Free,

@@ -11,7 +11,7 @@ use m2_typed::{Scalar, Standard, TypeNo, Types, Value, scalar_of};
 use m2_values::{absolute, bound_of, capital, character, converted, is_odd, ordinal_of};
 
 /// What a standard procedure asks for in a constant expression.
-#[derive(Clone, Copy, Debug, PartialEq, Eq)]
+#[derive(Clone, Copy, PartialEq, Eq)]
 pub enum Sort {
     /// One constant.
     Unary,

@@ -13,7 +13,7 @@ use m2_tree::{Module, Name};
 use std::alloc::{AllocError, Global};
 
 /// A sort of modules.
-#[derive(Clone, Copy, Debug)]
+#[derive(Clone, Copy)]
 pub enum Part {
     Definition,
     Implementation,

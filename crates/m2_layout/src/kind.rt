@@ -10,7 +10,7 @@ use crate::capped::{capped, sum};
 use m2_typed::{Scalar, TypeNo, are_same, is_integer};
 
 /// A scalar type.
-#[derive(Clone, Copy, Debug, PartialEq, Eq)]
+#[derive(Clone, Copy, PartialEq, Eq)]
 pub enum Kind {
     /// Numbers from 0 to this one.
     Natural(u64),
@@ -20,7 +20,7 @@ pub enum Kind {
 }
 
 /// How many bytes a cell has.
-#[derive(Clone, Copy, Debug, PartialEq, Eq)]
+#[derive(Clone, Copy, PartialEq, Eq)]
 pub enum Width {
     One,
     Two,

@@ -13,7 +13,7 @@ use m2_typed::{
 use std::alloc::{AllocError, Global};
 
 /// A procedure of a block, by its number, and its heading as a procedure type.
-#[derive(Clone, Copy, Debug, PartialEq, Eq)]
+#[derive(Clone, Copy, PartialEq, Eq)]
 pub struct Numbered {
     pub which: Which,
     pub heading: TypeNo,

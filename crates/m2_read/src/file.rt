@@ -1,7 +1,7 @@
 //! Source files.
 
 /// A file and its name as it was given.
-#[derive(Debug, Drop)]
+#[derive(Drop)]
 pub struct SourceFile {
     pub name: String,
     pub bytes: Vec<u8>,

@@ -238,7 +238,7 @@ fn open_copied(
 }
 
 /// The locals for the stack's top and for the address of a copy.
-#[derive(Clone, Copy, Debug, PartialEq, Eq)]
+#[derive(Clone, Copy, PartialEq, Eq)]
 pub struct Locals {
     pub top: u32,
     pub copy: u32,

@@ -38,7 +38,7 @@ pub fn right(pos: Pos, count: usize) -> Pos
 }
 
 /// What stands at the front of a text inside of a comment.
-#[derive(Clone, Copy, Debug)]
+#[derive(Clone, Copy)]
 pub enum Mark {
     Opening,
     Closing,

@@ -11,7 +11,7 @@ use crate::refusal::Fault;
 use m2_tree::Lexeme;
 
 /// The ways to write a number.
-#[derive(Clone, Copy, Debug)]
+#[derive(Clone, Copy)]
 pub enum Numeral {
     Decimal,
     /// With a B behind it.

@@ -3,7 +3,7 @@
 use m2_typed::Meaning;
 
 /// Where a name of a block comes from.
-#[derive(Clone, Copy, Debug, PartialEq, Eq)]
+#[derive(Clone, Copy, PartialEq, Eq)]
 pub enum Origin {
     /// It is declared in the block.
     Here,

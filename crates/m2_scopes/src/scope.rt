@@ -23,7 +23,7 @@ pub struct Block<T> {
 }
 
 /// The record of a WITH.
-#[derive(Clone, Copy, Debug, PartialEq, Eq)]
+#[derive(Clone, Copy, PartialEq, Eq)]
 pub struct OpenedRecord {
     /// The number of the WITH among those around the place, the outermost first, from 0.
     pub number: usize,

@@ -10,7 +10,7 @@ use m2_typed::{Procedure, TypeNo, TypedModule, Types};
 use std::alloc::AllocError;
 
 /// Whether the type without result is needed, and the one with a result.
-#[derive(Clone, Copy, Debug, PartialEq, Eq)]
+#[derive(Clone, Copy, PartialEq, Eq)]
 pub struct Mark {
     pub without: bool,
     pub giving: bool,

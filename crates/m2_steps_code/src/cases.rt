@@ -167,7 +167,7 @@ fn dispatch(
 }
 
 /// The places where blocks of a table begin: that behind which stands what is done else, and the first of the arms.
-#[derive(Clone, Copy, Debug, PartialEq, Eq)]
+#[derive(Clone, Copy, PartialEq, Eq)]
 pub struct Begun {
     pub rest: usize,
     pub first: usize,

@@ -20,7 +20,7 @@ use std::alloc::AllocError;
 use wasm_tree::{Op, Operation, Relation};
 
 /// A block with a loop in it, by their places.
-#[derive(Clone, Copy, Debug, PartialEq, Eq)]
+#[derive(Clone, Copy, PartialEq, Eq)]
 pub struct Turns {
     pub block: usize,
     pub turn: usize,

@@ -11,7 +11,7 @@ use m2_typed::{Label, TypedArm};
 use std::alloc::{AllocError, Global};
 
 /// The least and the greatest value of labels, and how many values they have, or 4096.
-#[derive(Clone, Copy, Debug, PartialEq, Eq)]
+#[derive(Clone, Copy, PartialEq, Eq)]
 pub struct Bounds {
     pub least: i64,
     pub greatest: i64,
@@ -19,7 +19,7 @@ pub struct Bounds {
 }
 
 /// The least value of the labels of a CASE, and how many values there are up to the greatest.
-#[derive(Clone, Copy, Debug, PartialEq, Eq)]
+#[derive(Clone, Copy, PartialEq, Eq)]
 pub struct Plan {
     pub least: i64,
     pub span: usize,

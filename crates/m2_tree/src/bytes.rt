@@ -10,7 +10,7 @@ use std::sync::Arc;
 const MAX_INLINE: usize = 14;
 
 /// At most 14 bytes. Contracts see their list.
-#[derive(Clone, Copy, Debug)]
+#[derive(Clone, Copy)]
 struct Inline {
     len: u8,
     bytes: [u8; 14],
@@ -54,7 +54,7 @@ impl Inline {
 }
 
 /// Where the bytes of a list are kept.
-#[derive(Debug, Drop)]
+#[derive(Drop)]
 enum Place {
     Inline(Inline),
     Shared(Arc<Vec<u8>>),
@@ -62,7 +62,6 @@ enum Place {
 
 /// A list of bytes that takes 16 bytes, and shares memory with its clones where it is longer than 14. Contracts see the
 /// list.
-#[derive(Debug)]
 pub(crate) struct Bytes {
     place: Place,
 }

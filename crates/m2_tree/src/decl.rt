@@ -8,7 +8,7 @@ use crate::pos::Pos;
 use crate::stmt::Stmt;
 
 /// A type that can stand as an index: a name, an enumeration or a subrange.
-#[derive(Debug, PartialEq, Eq)]
+#[derive(PartialEq, Eq)]
 pub enum Simple {
     Named(Qualified),
     /// The place of the bracket, and the constants.
@@ -33,7 +33,7 @@ impl Drop for Simple {
 
 /// A type.
 #[cycle(types)]
-#[derive(Debug, PartialEq, Eq)]
+#[derive(PartialEq, Eq)]
 pub enum TypeExpr {
     Simple(Simple),
     /// The place of its first token, the index and the elements. `ARRAY a, b OF T` is `ARRAY a OF ARRAY b OF T`, in
@@ -65,14 +65,14 @@ impl Drop for TypeExpr {
 
 /// Fields of one type.
 #[cycle(types)]
-#[derive(Debug, PartialEq, Eq, Drop)]
+#[derive(PartialEq, Eq, Drop)]
 pub struct Field {
     pub names: Items<Ident>,
     pub of: TypeExpr,
 }
 
 /// The type of a formal.
-#[derive(Clone, Debug, PartialEq, Eq, Drop)]
+#[derive(Clone, PartialEq, Eq, Drop)]
 pub struct FormalType {
     /// Whether ARRAY OF stands before the name.
     pub is_open: bool,
@@ -80,7 +80,7 @@ pub struct FormalType {
 }
 
 /// A formal of a procedure type.
-#[derive(Clone, Debug, PartialEq, Eq, Drop)]
+#[derive(Clone, PartialEq, Eq, Drop)]
 pub struct Parameter {
     /// Whether VAR stands before it.
     pub is_var: bool,
@@ -88,7 +88,7 @@ pub struct Parameter {
 }
 
 /// Formals of one type, with their names.
-#[derive(Debug, PartialEq, Eq, Drop)]
+#[derive(PartialEq, Eq, Drop)]
 pub struct Section {
     /// Whether VAR stands before them.
     pub is_var: bool,
@@ -97,7 +97,7 @@ pub struct Section {
 }
 
 /// The heading of a procedure.
-#[derive(Debug, PartialEq, Eq, Drop)]
+#[derive(PartialEq, Eq, Drop)]
 pub struct Heading {
     pub name: Ident,
     pub formals: Items<Section>,
@@ -105,28 +105,28 @@ pub struct Heading {
 }
 
 /// A constant, and its value.
-#[derive(Debug, PartialEq, Eq, Drop)]
+#[derive(PartialEq, Eq, Drop)]
 pub struct Constant {
     pub name: Ident,
     pub value: Expr,
 }
 
 /// The name of a type, and the type.
-#[derive(Debug, PartialEq, Eq, Drop)]
+#[derive(PartialEq, Eq, Drop)]
 pub struct TypeDecl {
     pub name: Ident,
     pub of: TypeExpr,
 }
 
 /// Variables of one type.
-#[derive(Debug, PartialEq, Eq, Drop)]
+#[derive(PartialEq, Eq, Drop)]
 pub struct Variables {
     pub names: Items<Ident>,
     pub of: TypeExpr,
 }
 
 /// What a definition module declares.
-#[derive(Debug, PartialEq, Eq, Drop)]
+#[derive(PartialEq, Eq, Drop)]
 pub enum Def {
     Constants(Items<Constant>),
     Types(Items<TypeDecl>),
@@ -136,7 +136,7 @@ pub enum Def {
 
 /// What a program module, an implementation module or a procedure declares.
 #[cycle(decl)]
-#[derive(Debug, PartialEq, Eq, Drop)]
+#[derive(PartialEq, Eq, Drop)]
 pub enum Decl {
     Constants(Items<Constant>),
     Types(Items<TypeDecl>),
@@ -146,14 +146,14 @@ pub enum Decl {
 
 /// Declarations, and the statements behind the BEGIN if there is one.
 #[cycle(decl)]
-#[derive(Debug, PartialEq, Eq, Drop)]
+#[derive(PartialEq, Eq, Drop)]
 pub struct Block {
     pub decls: Items<Decl>,
     pub body: Option<Items<Stmt>>,
 }
 
 /// An import: of modules, or of names from a module.
-#[derive(Debug, PartialEq, Eq, Drop)]
+#[derive(PartialEq, Eq, Drop)]
 pub struct Import {
     /// The module behind the FROM.
     pub from: Option<Ident>,
@@ -161,7 +161,7 @@ pub struct Import {
 }
 
 /// Which sort of module it is, and what it holds.
-#[derive(Debug, PartialEq, Eq, Drop)]
+#[derive(PartialEq, Eq, Drop)]
 pub enum Contents {
     Definition(Items<Def>),
     Implementation(Block),
@@ -169,7 +169,7 @@ pub enum Contents {
 }
 
 /// A module.
-#[derive(Debug, PartialEq, Eq, Drop)]
+#[derive(PartialEq, Eq, Drop)]
 pub struct Module {
     pub name: Ident,
     pub imports: Items<Import>,

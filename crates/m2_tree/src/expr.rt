@@ -7,7 +7,7 @@ use crate::pos::Pos;
 use crate::text::Quoted;
 
 /// A relation between two values.
-#[derive(Clone, Copy, Debug, PartialEq, Eq)]
+#[derive(Clone, Copy, PartialEq, Eq)]
 pub enum RelOp {
     Equal,
     Unequal,
@@ -19,14 +19,14 @@ pub enum RelOp {
 }
 
 /// The sign of a sum's first term.
-#[derive(Clone, Copy, Debug, PartialEq, Eq)]
+#[derive(Clone, Copy, PartialEq, Eq)]
 pub enum Sign {
     Plus,
     Minus,
 }
 
 /// An operator between the terms of a sum.
-#[derive(Clone, Copy, Debug, PartialEq, Eq)]
+#[derive(Clone, Copy, PartialEq, Eq)]
 pub enum AddOp {
     Plus,
     Minus,
@@ -34,7 +34,7 @@ pub enum AddOp {
 }
 
 /// An operator between the factors of a term.
-#[derive(Clone, Copy, Debug, PartialEq, Eq)]
+#[derive(Clone, Copy, PartialEq, Eq)]
 pub enum MulOp {
     Times,
     Over,
@@ -44,14 +44,14 @@ pub enum MulOp {
 }
 
 /// An operator where it is written.
-#[derive(Clone, Copy, Debug, PartialEq, Eq)]
+#[derive(Clone, Copy, PartialEq, Eq)]
 pub struct Operator<O> {
     pub op: O,
     pub pos: Pos,
 }
 
 /// A name, or a name of a module.
-#[derive(Clone, Debug, PartialEq, Eq, Drop)]
+#[derive(Clone, PartialEq, Eq, Drop)]
 pub struct Qualified {
     /// The module that is named before the point, if one is.
     pub module: Option<Ident>,
@@ -60,7 +60,7 @@ pub struct Qualified {
 
 /// An expression. The place of an expression is the place of its first token.
 #[cycle(expr)]
-#[derive(Debug, PartialEq, Eq)]
+#[derive(PartialEq, Eq)]
 pub enum Expr {
     Number(Pos, u32),
     /// A character by its code.
@@ -117,7 +117,7 @@ impl Drop for Expr {
 
 /// One value, or a range: an element of a set, or a label of a case.
 #[cycle(expr)]
-#[derive(Debug, PartialEq, Eq, Drop)]
+#[derive(PartialEq, Eq, Drop)]
 pub struct Item {
     pub low: Expr,
     pub high: Option<Expr>,
@@ -125,7 +125,7 @@ pub struct Item {
 
 /// A component of a variable.
 #[cycle(expr)]
-#[derive(Debug, PartialEq, Eq, Drop)]
+#[derive(PartialEq, Eq, Drop)]
 pub enum Selector {
     /// The place of the point, and the field.
     Field(Pos, Ident),
@@ -135,7 +135,7 @@ pub enum Selector {
 
 /// A name and the components that are picked.
 #[cycle(expr)]
-#[derive(Debug, PartialEq, Eq, Drop)]
+#[derive(PartialEq, Eq, Drop)]
 pub struct Designator {
     pub name: Ident,
     pub selectors: Items<Selector>,

@@ -8,7 +8,7 @@ use std::marker::Model;
 
 /// A `Vec` that contracts see as the list of its elements, so that clauses compare two trees by `≡`, and code by `==`.
 /// (The kit's `sqlite_items` has the same, without `==`.)
-#[derive(Debug, Drop)]
+#[derive(Drop)]
 pub struct Items<T> {
     items: Vec<T>,
 }

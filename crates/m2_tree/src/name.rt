@@ -16,7 +16,7 @@ use std::marker::Model;
 pub const MAX_NAME: usize = 64;
 
 /// A name of at most 64 bytes. Contracts see it as the list of its bytes.
-#[derive(Debug, Drop)]
+#[derive(Drop)]
 pub struct Name {
     bytes: Bytes,
 }
@@ -82,7 +82,7 @@ pub fn is_console(name: &[u8]) -> bool
 }
 
 /// A name where it is written.
-#[derive(Clone, Debug, PartialEq, Eq, Drop)]
+#[derive(Clone, PartialEq, Eq, Drop)]
 pub struct Ident {
     /// The name.
     pub name: Name,

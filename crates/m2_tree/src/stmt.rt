@@ -8,7 +8,7 @@ use crate::pos::Pos;
 
 /// A statement.
 #[cycle(stmt)]
-#[derive(Debug, PartialEq, Eq)]
+#[derive(PartialEq, Eq)]
 pub enum Stmt {
     /// What is assigned to, and the value.
     Assign(Designator, Expr),
@@ -81,7 +81,7 @@ impl Drop for Stmt {
 
 /// What follows the first part of an IF.
 #[cycle(stmt)]
-#[derive(Debug, PartialEq, Eq, Drop)]
+#[derive(PartialEq, Eq, Drop)]
 pub enum Rest {
     Elsif(Expr, Items<Stmt>, Boxed<Rest>),
     Else(Option<Items<Stmt>>),
@@ -89,7 +89,7 @@ pub enum Rest {
 
 /// The labels and the statements of an arm of a CASE.
 #[cycle(stmt)]
-#[derive(Debug, PartialEq, Eq, Drop)]
+#[derive(PartialEq, Eq, Drop)]
 pub struct Arm {
     pub labels: Items<Item>,
     pub body: Items<Stmt>,

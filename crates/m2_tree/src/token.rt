@@ -6,7 +6,7 @@ use crate::text::Quoted;
 
 /// An operator, a delimiter or a reserved word ("Programming in Modula-2", 4th edition, Report, section 3). The two
 /// spellings of one operator, as `&` and `AND`, are one symbol.
-#[derive(Clone, Copy, Debug, PartialEq, Eq)]
+#[derive(Clone, Copy, PartialEq, Eq)]
 pub enum Symbol {
     // Reserved words.
     And,
@@ -76,7 +76,7 @@ pub enum Symbol {
 }
 
 /// What a token says.
-#[derive(Debug, PartialEq, Eq, Drop)]
+#[derive(PartialEq, Eq, Drop)]
 pub enum Lexeme {
     /// A name that is no reserved word.
     Name(Name),
@@ -93,7 +93,7 @@ pub enum Lexeme {
 }
 
 /// A token, and the place of its first byte. The end of a text is a token behind its last byte.
-#[derive(Debug, PartialEq, Eq, Drop)]
+#[derive(PartialEq, Eq, Drop)]
 pub struct Token {
     pub lexeme: Lexeme,
     pub pos: Pos,

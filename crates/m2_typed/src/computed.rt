@@ -11,7 +11,7 @@ use m2_tree::{Boxed, Items, Quoted};
 use std::alloc::{AllocError, Global};
 
 /// A formal or a variable of a procedure.
-#[derive(Clone, Copy, Debug, PartialEq, Eq)]
+#[derive(Clone, Copy, PartialEq, Eq)]
 pub struct Slot {
     /// How many procedures outwards it is declared: 0 in the procedure itself.
     pub up: usize,
@@ -20,7 +20,7 @@ pub struct Slot {
 }
 
 /// A procedure that is declared in a procedure.
-#[derive(Clone, Copy, Debug, PartialEq, Eq)]
+#[derive(Clone, Copy, PartialEq, Eq)]
 pub struct LocalProcedure {
     /// How many procedures outwards it is declared: 0 in the procedure that calls it.
     pub up: usize,
@@ -31,7 +31,7 @@ pub struct LocalProcedure {
 }
 
 /// An operator on two INTEGERs or two CARDINALs.
-#[derive(Clone, Copy, Debug, PartialEq, Eq)]
+#[derive(Clone, Copy, PartialEq, Eq)]
 pub enum Arithmetic {
     Add,
     Subtract,
@@ -43,7 +43,7 @@ pub enum Arithmetic {
 }
 
 /// A relation between two values of one scalar type.
-#[derive(Clone, Copy, Debug, PartialEq, Eq)]
+#[derive(Clone, Copy, PartialEq, Eq)]
 pub enum Comparison {
     Equal,
     Unequal,
@@ -54,7 +54,7 @@ pub enum Comparison {
 }
 
 /// An operator on two sets.
-#[derive(Clone, Copy, Debug, PartialEq, Eq)]
+#[derive(Clone, Copy, PartialEq, Eq)]
 pub enum SetOperator {
     Union,
     Difference,
@@ -64,7 +64,7 @@ pub enum SetOperator {
 }
 
 /// Which of two sets holds the other.
-#[derive(Clone, Copy, Debug, PartialEq, Eq)]
+#[derive(Clone, Copy, PartialEq, Eq)]
 pub enum Inclusion {
     /// The second holds the first.
     Within,
@@ -73,7 +73,7 @@ pub enum Inclusion {
 }
 
 /// What a variable's name stands for.
-#[derive(Clone, Copy, Debug, PartialEq, Eq)]
+#[derive(Clone, Copy, PartialEq, Eq)]
 pub enum Root {
     /// A variable of a module.
     Global(Variable),

@@ -8,7 +8,7 @@ use m2_tree::Quoted;
 use std::alloc::AllocError;
 
 /// A constant of a scalar type.
-#[derive(Clone, Copy, Debug, PartialEq, Eq)]
+#[derive(Clone, Copy, PartialEq, Eq)]
 pub struct ScalarValue {
     pub of: TypeNo,
     /// What its type computes in.
@@ -30,7 +30,7 @@ pub enum Value {
 }
 
 /// A variable of a module: its number among those that the module declares.
-#[derive(Clone, Copy, Debug, PartialEq, Eq)]
+#[derive(Clone, Copy, PartialEq, Eq)]
 pub struct Variable {
     pub home: u32,
     pub number: usize,
@@ -38,7 +38,7 @@ pub struct Variable {
 }
 
 /// A procedure of a module: its number among those that the module declares, and its heading as a procedure type.
-#[derive(Clone, Copy, Debug, PartialEq, Eq)]
+#[derive(Clone, Copy, PartialEq, Eq)]
 pub struct Procedure {
     pub home: u32,
     pub number: usize,
@@ -46,7 +46,7 @@ pub struct Procedure {
 }
 
 /// Which sort of name of a procedure it is.
-#[derive(Clone, Copy, Debug, PartialEq, Eq)]
+#[derive(Clone, Copy, PartialEq, Eq)]
 pub enum LocalKind {
     /// A variable that the procedure declares.
     Variable,
@@ -59,7 +59,7 @@ pub enum LocalKind {
 }
 
 /// A variable or a formal of a procedure.
-#[derive(Clone, Copy, Debug, PartialEq, Eq)]
+#[derive(Clone, Copy, PartialEq, Eq)]
 pub struct LocalVariable {
     /// The level of the procedure: 1 for one of the module.
     pub level: usize,
@@ -71,7 +71,7 @@ pub struct LocalVariable {
 }
 
 /// A procedure that is declared in a procedure.
-#[derive(Clone, Copy, Debug, PartialEq, Eq)]
+#[derive(Clone, Copy, PartialEq, Eq)]
 pub struct NestedProcedure {
     /// The level of the procedure around it.
     pub level: usize,
@@ -82,7 +82,7 @@ pub struct NestedProcedure {
 }
 
 /// A field of the record of a WITH.
-#[derive(Clone, Copy, Debug, PartialEq, Eq)]
+#[derive(Clone, Copy, PartialEq, Eq)]
 pub struct OpenedField {
     /// The number of the WITH among those around the place, the outermost first, from 0.
     pub with: usize,
@@ -94,7 +94,7 @@ pub struct OpenedField {
 }
 
 /// A standard procedure.
-#[derive(Clone, Copy, Debug, PartialEq, Eq)]
+#[derive(Clone, Copy, PartialEq, Eq)]
 pub enum Standard {
     Abs,
     Cap,

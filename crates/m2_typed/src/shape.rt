@@ -5,7 +5,7 @@ use crate::types::TypeNo;
 use m2_tree::Items;
 
 /// A scalar type: what it computes in, and its least and greatest value.
-#[derive(Clone, Copy, Debug, PartialEq, Eq)]
+#[derive(Clone, Copy, PartialEq, Eq)]
 pub struct Scalar {
     pub base: TypeNo,
     pub low: i64,
@@ -13,7 +13,7 @@ pub struct Scalar {
 }
 
 /// A formal of a procedure.
-#[derive(Clone, Copy, Debug, PartialEq, Eq)]
+#[derive(Clone, Copy, PartialEq, Eq)]
 pub struct Formal {
     /// Whether VAR stands before it.
     pub is_var: bool,

@@ -6,21 +6,21 @@ use crate::types::TypeNo;
 use m2_tree::{Items, Quoted};
 
 /// INC and DEC.
-#[derive(Clone, Copy, Debug, PartialEq, Eq)]
+#[derive(Clone, Copy, PartialEq, Eq)]
 pub enum Change {
     Increase,
     Decrease,
 }
 
 /// INCL and EXCL.
-#[derive(Clone, Copy, Debug, PartialEq, Eq)]
+#[derive(Clone, Copy, PartialEq, Eq)]
 pub enum Membership {
     Include,
     Exclude,
 }
 
 /// The values that a label of a CASE stands for, both bounds included.
-#[derive(Clone, Copy, Debug, PartialEq, Eq)]
+#[derive(Clone, Copy, PartialEq, Eq)]
 pub struct Label {
     pub low: i64,
     pub high: i64,

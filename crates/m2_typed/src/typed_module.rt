@@ -22,7 +22,7 @@ pub struct Routine {
 }
 
 /// Which procedure of a module it is, by its number in its list.
-#[derive(Clone, Copy, Debug, PartialEq, Eq)]
+#[derive(Clone, Copy, PartialEq, Eq)]
 pub enum Which {
     /// One of `TypedModule::procedures`.
     Module(usize),

@@ -4,7 +4,7 @@ ghost use Rattle.std.specs.Prelude.{◌≡◌};
 ghost use Rattle.m2_typed.specs.Types.{is_one_home, are_same, is_integer, is_numeric};
 
 /// Where a type is made.
-#[derive(Clone, Copy, Debug, PartialEq, Eq)]
+#[derive(Clone, Copy, PartialEq, Eq)]
 pub enum Home {
     /// Around all modules.
     Predeclared,
@@ -13,7 +13,7 @@ pub enum Home {
 }
 
 /// A type: where it is made, and its number among the types that are made there. Types are the same where these agree.
-#[derive(Clone, Copy, Debug, PartialEq, Eq)]
+#[derive(Clone, Copy, PartialEq, Eq)]
 pub struct TypeNo {
     pub home: Home,
     pub number: usize,

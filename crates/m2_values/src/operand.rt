@@ -6,7 +6,7 @@ ghost use Rattle.m2_values.specs.Operands.{letter, letter_operand, operand_of, v
 use m2_typed::{BOOLEAN, CHAR, ScalarValue, TypeNo, Value, are_same, is_numeric};
 
 /// A scalar constant in its base type.
-#[derive(Clone, Copy, Debug, PartialEq, Eq)]
+#[derive(Clone, Copy, PartialEq, Eq)]
 pub struct Ordinal {
     /// Its base type, if it is no number without a type.
     pub sort: Option<TypeNo>,
@@ -14,7 +14,7 @@ pub struct Ordinal {
 }
 
 /// A constant that operators take.
-#[derive(Clone, Copy, Debug, PartialEq, Eq)]
+#[derive(Clone, Copy, PartialEq, Eq)]
 pub enum Operand {
     Scalar(Ordinal),
     Set(u32),

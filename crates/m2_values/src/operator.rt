@@ -6,7 +6,7 @@ ghost use Rattle.m2_values.specs.Operators.{mul_op, add_op, is_division};
 use m2_tree::{AddOp, MulOp, RelOp};
 
 /// An operator between two operands.
-#[derive(Clone, Copy, Debug, PartialEq, Eq)]
+#[derive(Clone, Copy, PartialEq, Eq)]
 pub enum BinaryOp {
     Plus,
     Minus,

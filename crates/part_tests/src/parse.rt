@@ -66,7 +66,10 @@ fn refuses(rt: HostRuntime) -> Result<(), Fail> {
     ];
     for (text, refusal) in rows.iter() {
         let (line, col, number) = *refusal;
-        assert_eq!(rt; outcome(rt.alloc(), text), refused(line, col, number));
+        assert!(rt;
+            outcome(rt.alloc(), text) == refused(line, col, number),
+            "at {text:?}"
+        );
     }
     Ok(())
 }
@@ -84,7 +87,7 @@ fn accepts(rt: HostRuntime) -> Result<(), Fail> {
         b"MODULE M; TYPE T = ARRAY [0..1], B OF RECORD ; a, b: C.D; END; U = PROCEDURE (VAR ARRAY OF A, B): C; V = PROCEDURE; W = (a, b); X = B[1..2]; CONST c = 'a'; d = 12C; END M.",
     ];
     for text in texts.iter() {
-        assert_eq!(rt; outcome(rt.alloc(), text), Reported::Tree);
+        assert!(rt; outcome(rt.alloc(), text) == Reported::Tree, "at {text:?}");
     }
     Ok(())
 }
@@ -108,9 +111,9 @@ fn counts_nesting(rt: HostRuntime) -> Result<(), Fail> {
     ];
     for (nested, most, col) in rows.iter() {
         let deepest = text_of(rt.alloc(), nested, *most)?;
-        assert_eq!(rt; outcome(rt.alloc(), deepest.as_slice()), Reported::Tree);
+        assert!(rt; outcome(rt.alloc(), deepest.as_slice()) == Reported::Tree);
         let over = text_of(rt.alloc(), nested, most.saturating_add(1))?;
-        assert_eq!(rt; outcome(rt.alloc(), over.as_slice()), refused(1, *col, 12));
+        assert!(rt; outcome(rt.alloc(), over.as_slice()) == refused(1, *col, 12));
     }
     Ok(())
 }

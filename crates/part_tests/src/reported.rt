@@ -5,7 +5,7 @@ use m2_scan::{ScanError, scan};
 use std::alloc::Global;
 
 /// What becomes of a text.
-#[derive(Clone, Copy, Debug, PartialEq)]
+#[derive(Clone, Copy, PartialEq)]
 pub enum Reported {
     Tree,
     Refused { line: u32, col: u32, number: u32 },

@@ -15,7 +15,7 @@ fn reported(alloc: Global, text: &[u8]) -> Result<(u32, u32, u32), AllocError> {
 }
 
 /// What a token says, in short: a name or a string by its length.
-#[derive(Clone, Copy, Debug, PartialEq)]
+#[derive(Clone, Copy, PartialEq)]
 enum Said {
     Name(usize),
     Number(u32),
@@ -172,7 +172,7 @@ fn divides(rt: HostRuntime) -> Result<(), Fail> {
     ];
     for (text, want) in rows {
         let found = all_said(rt.alloc(), text)?;
-        assert_eq!(rt; found.as_slice(), want, "at {text:?}");
+        assert!(rt; found.as_slice() == want, "at {text:?}");
     }
     Ok(())
 }

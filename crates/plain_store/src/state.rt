@@ -44,7 +44,7 @@ pub struct State {
 }
 
 /// Why a part of a program gives no value.
-#[derive(Clone, Copy, Debug, PartialEq, Eq)]
+#[derive(Clone, Copy, PartialEq, Eq)]
 pub enum Stop {
     /// A fault with this number, or the end: 0, or 9 for HALT.
     Ended(u32),
@@ -60,7 +60,7 @@ pub enum Answer<T> {
 }
 
 /// How statements end.
-#[derive(Clone, Copy, Debug, PartialEq, Eq)]
+#[derive(Clone, Copy, PartialEq, Eq)]
 pub enum Outcome {
     /// At their end.
     Went,

@@ -16,7 +16,7 @@ const MAX_PART: usize = 4294967295;
 
 /// Bytes of the binary format, in the order in which they are written. Contracts see the list of them. Where memory is
 /// refused, nothing is appended.
-#[derive(Debug, Drop)]
+#[derive(Drop)]
 pub struct Writer {
     bytes: Vec<u8>,
 }

@@ -44,7 +44,7 @@ pub struct Machine<'a> {
 }
 
 /// What a reduction led to.
-#[derive(Clone, Copy, Debug, PartialEq, Eq)]
+#[derive(Clone, Copy, PartialEq, Eq)]
 pub enum Reduced {
     /// The run goes on.
     On,

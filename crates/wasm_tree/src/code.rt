@@ -10,7 +10,7 @@ use std::marker::Model;
 
 /// An instruction in a list, without those inside it (`Instr` has what each one does). A number beyond the end of the list
 /// counts up to the end.
-#[derive(Clone, Copy, Debug, PartialEq, Eq)]
+#[derive(Clone, Copy, PartialEq, Eq)]
 pub enum Op {
     Unreachable,
     /// The next ones, so many, stand inside.
@@ -41,7 +41,7 @@ pub enum Op {
 }
 
 /// Instructions. Contracts see the trees that the list stands for.
-#[derive(Debug, Drop)]
+#[derive(Drop)]
 pub struct Code {
     ops: Vec<Op>,
 }

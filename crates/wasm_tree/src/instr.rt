@@ -4,7 +4,7 @@ use crate::kinds::ValueType;
 use sqlite_items::Items;
 
 /// How two numbers are compared (Core 1.0, section 2.4.1): as signed or as unsigned ones where that matters.
-#[derive(Clone, Copy, Debug, PartialEq, Eq)]
+#[derive(Clone, Copy, PartialEq, Eq)]
 pub enum Relation {
     Eq,
     Ne,
@@ -19,7 +19,7 @@ pub enum Relation {
 }
 
 /// What is made of two numbers of 64 bits (Core 1.0, section 2.4.1).
-#[derive(Clone, Copy, Debug, PartialEq, Eq)]
+#[derive(Clone, Copy, PartialEq, Eq)]
 pub enum Operation {
     Add,
     Sub,
@@ -36,7 +36,7 @@ pub enum Operation {
 }
 
 /// An instruction that takes numbers off the operand stack and pushes one (Core 1.0, section 2.4.1).
-#[derive(Clone, Copy, Debug, PartialEq, Eq)]
+#[derive(Clone, Copy, PartialEq, Eq)]
 pub enum Numeric {
     /// Pushes 1 where the number of 32 bits is 0, else 0.
     I32Eqz,
@@ -59,7 +59,7 @@ pub enum Numeric {
 }
 
 /// Which bytes are loaded, the lowest first, and how they become 64 bits (Core 1.0, section 2.4.4).
-#[derive(Clone, Copy, Debug, PartialEq, Eq)]
+#[derive(Clone, Copy, PartialEq, Eq)]
 pub enum Load {
     /// Eight bytes.
     I64,
@@ -74,7 +74,7 @@ pub enum Load {
 }
 
 /// How many of the low bytes of 64 bits are stored, the lowest first (Core 1.0, section 2.4.4).
-#[derive(Clone, Copy, Debug, PartialEq, Eq)]
+#[derive(Clone, Copy, PartialEq, Eq)]
 pub enum StoreWidth {
     Eight,
     One,
@@ -83,7 +83,7 @@ pub enum StoreWidth {
 }
 
 /// An instruction. The end of a sequence is no instruction of its own. Labels count from the innermost block, from 0.
-#[derive(Debug, Drop)]
+#[derive(Drop)]
 pub enum Instr {
     /// Traps.
     Unreachable,

@@ -3,34 +3,34 @@
 use sqlite_items::Items;
 
 /// The type of a value on the operand stack, of a local or a global.
-#[derive(Clone, Copy, Debug, PartialEq, Eq)]
+#[derive(Clone, Copy, PartialEq, Eq)]
 pub enum ValueType {
     I32,
     I64,
 }
 
 /// What a function takes and gives.
-#[derive(Debug, Drop)]
+#[derive(Drop)]
 pub struct FuncType {
     pub params: Items<ValueType>,
     pub results: Items<ValueType>,
 }
 
 /// The least size, and the greatest where there is one.
-#[derive(Clone, Copy, Debug, PartialEq, Eq)]
+#[derive(Clone, Copy, PartialEq, Eq)]
 pub struct Limits {
     pub min: u32,
     pub max: Option<u32>,
 }
 
 /// A table of functions, its size in entries.
-#[derive(Clone, Copy, Debug, PartialEq, Eq)]
+#[derive(Clone, Copy, PartialEq, Eq)]
 pub struct TableType {
     pub limits: Limits,
 }
 
 /// A memory, its size in pages of 65536 bytes.
-#[derive(Clone, Copy, Debug, PartialEq, Eq)]
+#[derive(Clone, Copy, PartialEq, Eq)]
 pub struct MemoryType {
     pub limits: Limits,
 }

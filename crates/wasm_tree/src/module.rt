@@ -5,7 +5,7 @@ use crate::kinds::{FuncType, Limits, MemoryType, TableType, ValueType};
 use sqlite_items::Items;
 
 /// What an import asks for.
-#[derive(Clone, Copy, Debug, PartialEq, Eq)]
+#[derive(Clone, Copy, PartialEq, Eq)]
 pub enum ImportKind {
     /// A function of the type of this index.
     Function(u32),
@@ -16,7 +16,7 @@ pub enum ImportKind {
 }
 
 /// An import, by the name of a module and a name in it, both in UTF-8.
-#[derive(Debug, Drop)]
+#[derive(Drop)]
 pub struct Import {
     pub module_name: Items<u8>,
     pub name: Items<u8>,
@@ -24,14 +24,14 @@ pub struct Import {
 }
 
 /// A constant global and the code of its value.
-#[derive(Debug, Drop)]
+#[derive(Drop)]
 pub struct Global {
     pub value_type: ValueType,
     pub value: Code,
 }
 
 /// What is exported, by its index among the module's things of that kind, imported ones first.
-#[derive(Clone, Copy, Debug, PartialEq, Eq)]
+#[derive(Clone, Copy, PartialEq, Eq)]
 pub enum ExportKind {
     Function(u32),
     Table(u32),
@@ -40,14 +40,14 @@ pub enum ExportKind {
 }
 
 /// An export under a name in UTF-8.
-#[derive(Debug, Drop)]
+#[derive(Drop)]
 pub struct Export {
     pub name: Items<u8>,
     pub kind: ExportKind,
 }
 
 /// Functions, by their indices, for the slots of a table from an offset on.
-#[derive(Debug, Drop)]
+#[derive(Drop)]
 pub struct Element {
     pub table: u32,
     pub offset: Code,
@@ -55,28 +55,28 @@ pub struct Element {
 }
 
 /// So many locals of one type, one after another.
-#[derive(Clone, Copy, Debug, PartialEq, Eq)]
+#[derive(Clone, Copy, PartialEq, Eq)]
 pub struct Locals {
     pub count: u32,
     pub value_type: ValueType,
 }
 
 /// The locals that a function declares, in groups, and its code.
-#[derive(Debug, Drop)]
+#[derive(Drop)]
 pub struct Body {
     pub locals: Items<Locals>,
     pub code: Code,
 }
 
 /// A function, its type by its index.
-#[derive(Debug, Drop)]
+#[derive(Drop)]
 pub struct Function {
     pub type_index: u32,
     pub body: Body,
 }
 
 /// Bytes for a memory from an offset on.
-#[derive(Debug, Drop)]
+#[derive(Drop)]
 pub struct Data {
     pub memory: u32,
     pub offset: Code,
@@ -84,7 +84,7 @@ pub struct Data {
 }
 
 /// A module, its parts in the order of their sections.
-#[derive(Debug, Drop)]
+#[derive(Drop)]
 pub struct WModule {
     pub types: Items<FuncType>,
     pub imports: Items<Import>,

@@ -3,14 +3,14 @@
 use sqlite_items::Items;
 
 /// A value on the operand stack, in a local or a global: a number of 32 or of 64 bits, given by its bits.
-#[derive(Clone, Copy, Debug, PartialEq, Eq)]
+#[derive(Clone, Copy, PartialEq, Eq)]
 pub enum Value {
     I32(u32),
     I64(u64),
 }
 
 /// A function that can be called.
-#[derive(Clone, Copy, Debug, PartialEq, Eq)]
+#[derive(Clone, Copy, PartialEq, Eq)]
 pub enum Callee {
     /// The host's `put`: prints the low byte of its argument.
     Put,
@@ -21,21 +21,21 @@ pub enum Callee {
 }
 
 /// A table: in each slot nothing, or the address of a function.
-#[derive(Debug, Drop)]
+#[derive(Drop)]
 pub struct Table {
     pub slots: Items<Option<usize>>,
     pub max: Option<u32>,
 }
 
 /// A memory: its bytes, 65536 to a page.
-#[derive(Debug, Drop)]
+#[derive(Drop)]
 pub struct Memory {
     pub bytes: Items<u8>,
     pub max: Option<u32>,
 }
 
 /// What a module's indices stand for: places in the store, one list for each kind.
-#[derive(Debug, Drop)]
+#[derive(Drop)]
 pub struct Instance {
     pub functions: Items<usize>,
     pub tables: Items<usize>,
@@ -44,7 +44,7 @@ pub struct Instance {
 }
 
 /// All that linked modules share, and what each one's indices stand for.
-#[derive(Debug, Drop)]
+#[derive(Drop)]
 pub struct Store {
     pub functions: Items<Callee>,
     pub tables: Items<Table>,
@@ -54,7 +54,7 @@ pub struct Store {
 }
 
 /// What an export or an answered import stands for: a place in the store.
-#[derive(Clone, Copy, Debug, PartialEq, Eq)]
+#[derive(Clone, Copy, PartialEq, Eq)]
 pub enum Extern {
     Function(usize),
     Table(usize),

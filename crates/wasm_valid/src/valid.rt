@@ -263,7 +263,7 @@ fn check_whole(alloc: Global, tree: &WModule) -> Result<(), WFault>
 }
 
 /// A module that is valid.
-#[derive(Debug, Drop)]
+#[derive(Drop)]
 pub struct ValidModule {
     tree: WModule,
 }
