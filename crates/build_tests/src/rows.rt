@@ -11,7 +11,8 @@ use std::thread::Threads;
 /// More reductions than any of the programs makes.
 const STEPS: u64 = 1_000_000;
 
-fn files_of(alloc: Global, texts: &[(&str, &str)]) -> Result<Vec<SourceFile>, AllocError> {
+/// Files with these names and texts.
+pub fn files_of(alloc: Global, texts: &[(&str, &str)]) -> Result<Vec<SourceFile>, AllocError> {
     let mut files = Vec::new(alloc);
     for text in texts {
         files.push(SourceFile {

@@ -1,7 +1,8 @@
 use crate::gates::{Always, Counting, Meeting};
+use crate::rows::files_of;
 use crate::{many, rows};
-use m2c::{BuildFault, Options, Outcome, SourceFile, build};
-use std::alloc::{AllocError, Global};
+use m2c::{BuildFault, Gate, Options, Outcome, SourceFile, build};
+use std::process::Abort;
 use std::test::Fail;
 use std::thread::Threads;
 
@@ -29,28 +30,30 @@ const FIRST: &str = "MODULE M; FROM Console IMPORT Put; BEGIN Put(\"A\") END M."
 
 const EMPTY: &str = "MODULE N; BEGIN END N.";
 
-fn file(alloc: Global, name: &str, text: &str) -> Result<SourceFile, AllocError> {
-    Ok(SourceFile {
-        name: String::from_str(alloc, name)?,
-        bytes: Vec::from_slice(alloc, text.as_bytes())?,
-    })
-}
+/// Two definitions that import nothing, their implementations, and a program that imports both: five jobs in each round.
+const FIVE: [(&str, &str); 5] = [
+    ("A.def", "DEFINITION MODULE A; END A."),
+    ("A.mod", "IMPLEMENTATION MODULE A; END A."),
+    ("B.def", "DEFINITION MODULE B; END B."),
+    ("B.mod", "IMPLEMENTATION MODULE B; END B."),
+    ("P.mod", "MODULE P; IMPORT A, B; END P."),
+];
 
 fn options(workers: usize) -> Options {
     Options { workers, pages: 16 }
 }
 
 /// What is reported of the files, a line for each refusal, or nothing where they are built.
-fn reported<R: Threads + Sync>(
+fn reported<R: Threads + Sync + AllocGlobal, G: Gate + Sync>(
     rt: &R,
-    alloc: Global,
     files: &[SourceFile],
-    workers: usize,
+    options: Options,
+    gate: &G,
 ) -> Result<String, BuildFault> {
+    let alloc = rt.alloc();
     let mut text = String::new(alloc);
-    let outcome = build(rt, alloc, files, options(workers), &Always(true))?;
-    if let Outcome::Refused(refusals) = outcome {
-        for refusal in refusals.as_slice() {
+    if let Outcome::Refused(refusals) = build(rt, alloc, files, options, gate)? {
+        for refusal in &refusals {
             let line = format!(in alloc; "{refusal};")?;
             text.push_str(line.as_str())?;
         }
@@ -58,35 +61,60 @@ fn reported<R: Threads + Sync>(
     Ok(text)
 }
 
-#[test]
-fn builds_the_first_program(rt: HostRuntime) -> Result<(), Fail> {
-    let alloc = rt.alloc();
-    let files = [file(alloc, "m.mod", FIRST)?];
-    let Outcome::Built { link, modules } = build(&rt, alloc, &files, options(4), &Always(true))?
-    else {
-        return Err(Fail::from("refused"));
-    };
-    assert_eq!(rt; link.as_slice(), LINK.as_slice());
-    assert_eq!(rt; modules.len(), 1);
-    assert_eq!(rt; modules[0].0.as_str(), "M");
-    assert!(rt; modules[0].1.as_slice().ends_with(&BODY));
-    Ok(())
+/// Of these files, the names and the texts, this is reported.
+fn expect_with<R: Threads + Sync + Abort + AllocGlobal>(
+    rt: &R,
+    texts: &[(&str, &str)],
+    options: Options,
+    expected: &str,
+) {
+    let files = files_of(rt.alloc(), texts).expect(rt, "memory");
+    let text = reported(rt, &files, options, &Always(true)).expect(rt, "an answer");
+    assert!(rt;
+        text.as_str() == expected,
+        "expected {expected}, reported {text}"
+    );
 }
 
-#[test]
-fn reports_the_second_program(rt: HostRuntime) -> Result<(), Fail> {
+/// The same by one worker and by eight.
+fn expect<R: Threads + Sync + Abort + AllocGlobal>(rt: &R, texts: &[(&str, &str)], expected: &str) {
+    expect_with(rt, texts, options(1), expected);
+    expect_with(rt, texts, options(8), expected);
+}
+
+/// What is built of the first program has these bytes.
+fn expect_first<R: Threads + Sync + Abort + AllocGlobal>(rt: &R, gate: &Always) {
     let alloc = rt.alloc();
-    let files = [file(alloc, "n.mod", EMPTY)?, file(alloc, "m.mod", FIRST)?];
-    for workers in [1, 2] {
-        let text = reported(&rt, alloc, &files, workers)?;
-        assert_eq!(rt; text.as_str(), "n.mod:1:8: refusal 23;");
+    let files = files_of(alloc, &[("m.mod", FIRST)]).expect(rt, "memory");
+    match build(rt, alloc, &files, options(4), gate).expect(rt, "an answer") {
+        Outcome::Refused(_) => assert!(rt; false, "the first program is refused"),
+        Outcome::Built { link, modules } => {
+            assert!(rt; link.as_slice() == LINK.as_slice());
+            assert!(rt; modules.len() == 1);
+            assert!(rt; modules[0].0.as_str() == "M");
+            assert!(rt; modules[0].1.as_slice().ends_with(&BODY));
+        }
     }
-    Ok(())
 }
 
 #[test]
-fn reports_what_is_refused(rt: HostRuntime) -> Result<(), Fail> {
-    let alloc = rt.alloc();
+fn builds_the_first_program(rt: HostRuntime) {
+    expect_first(&rt, &Always(true));
+}
+
+#[test]
+fn who_is_never_let_in_leaves_all_to_the_gatherer(rt: HostRuntime) {
+    expect_first(&rt, &Always(false));
+}
+
+#[test]
+fn reports_the_second_program(rt: HostRuntime) {
+    let texts = [("n.mod", EMPTY), ("m.mod", FIRST)];
+    expect(&rt, &texts, "n.mod:1:8: refusal 23;");
+}
+
+#[test]
+fn reports_what_is_refused(rt: HostRuntime) {
     let rows = [
         ("", "b.mod:1:1: refusal 10;"),
         ("MODULE M; BEGIN", "b.mod:1:16: refusal 10;"),
@@ -104,18 +132,13 @@ fn reports_what_is_refused(rt: HostRuntime) -> Result<(), Fail> {
         ),
     ];
     for (text, expected) in rows {
-        let files = [file(alloc, "b.mod", text)?, file(alloc, "a.mod", EMPTY)?];
-        let reported = reported(&rt, alloc, &files, 1)?;
-        assert_eq!(rt; reported.as_str(), expected, "{text}");
+        expect(&rt, &[("b.mod", text), ("a.mod", EMPTY)], expected);
     }
-    let text = reported(&rt, alloc, &[], 1)?;
-    assert_eq!(rt; text.as_str(), ":1:1: refusal 23;");
-    Ok(())
+    expect(&rt, &[], ":1:1: refusal 23;");
 }
 
 #[test]
-fn reports_nothing_of_what_is_built(rt: HostRuntime) -> Result<(), Fail> {
-    let alloc = rt.alloc();
+fn reports_nothing_of_what_is_built(rt: HostRuntime) {
     let rows = [
         (
             "MODULE M; BEGIN Put(101C) END M.",
@@ -127,65 +150,12 @@ fn reports_nothing_of_what_is_built(rt: HostRuntime) -> Result<(), Fail> {
         ("MODULE M; IMPORT A; END M.", "b.mod:1:18: refusal 20;"),
     ];
     for (text, expected) in rows {
-        let files = [file(alloc, "b.mod", text)?];
-        let reported = reported(&rt, alloc, &files, 1)?;
-        assert_eq!(rt; reported.as_str(), expected, "{text}");
+        expect(&rt, &[("b.mod", text)], expected);
     }
-    Ok(())
 }
 
 #[test]
-fn reports_what_bodies_break(rt: HostRuntime) -> Result<(), Fail> {
-    let alloc = rt.alloc();
-    let files = [
-        file(
-            alloc,
-            "a.mod",
-            "IMPLEMENTATION MODULE A; VAR i: INTEGER; BEGIN i := i + c END A.",
-        )?,
-        file(
-            alloc,
-            "a.def",
-            "DEFINITION MODULE A; VAR c: CARDINAL; END A.",
-        )?,
-        file(
-            alloc,
-            "p.mod",
-            "MODULE P; IMPORT A; BEGIN WHILE TRUE DO EXIT END END P.",
-        )?,
-    ];
-    for workers in [1, 8] {
-        let text = reported(&rt, alloc, &files, workers)?;
-        assert_eq!(rt;
-            text.as_str(),
-            "a.mod:1:55: refusal 40;p.mod:1:41: refusal 45;"
-        );
-    }
-    Ok(())
-}
-
-/// What is reported of one file, for a memory of so many pages.
-fn reported_in<R: Threads + Sync>(
-    rt: &R,
-    alloc: Global,
-    text: &str,
-    pages: u32,
-) -> Result<String, BuildFault> {
-    let files = [file(alloc, "m.mod", text)?];
-    let options = Options { workers: 2, pages };
-    let mut lines = String::new(alloc);
-    if let Outcome::Refused(refusals) = build(rt, alloc, &files, options, &Always(true))? {
-        for refusal in refusals.as_slice() {
-            let line = format!(in alloc; "{refusal};")?;
-            lines.push_str(line.as_str())?;
-        }
-    }
-    Ok(lines)
-}
-
-#[test]
-fn reports_what_does_not_fit(rt: HostRuntime) -> Result<(), Fail> {
-    let alloc = rt.alloc();
+fn reports_what_does_not_fit(rt: HostRuntime) {
     let rows = [
         (
             "MODULE M; VAR a: ARRAY [0..15359] OF CARDINAL; END M.",
@@ -213,241 +183,185 @@ fn reports_what_does_not_fit(rt: HostRuntime) -> Result<(), Fail> {
         ),
     ];
     for (text, pages, expected) in rows {
-        let reported = reported_in(&rt, alloc, text, pages)?;
-        assert_eq!(rt; reported.as_str(), expected, "{text}");
+        let options = Options { workers: 2, pages };
+        expect_with(&rt, &[("m.mod", text)], options, expected);
     }
-    Ok(())
 }
 
 #[test]
-fn reports_a_cycle_once(rt: HostRuntime) -> Result<(), Fail> {
-    let alloc = rt.alloc();
-    let files = [
-        file(alloc, "P.mod", "MODULE P; END P.")?,
-        file(alloc, "B.mod", "IMPLEMENTATION MODULE B; END B.")?,
-        file(alloc, "B.def", "DEFINITION MODULE B; IMPORT A; END B.")?,
-        file(alloc, "A.mod", "IMPLEMENTATION MODULE A; END A.")?,
-        file(alloc, "A.def", "DEFINITION MODULE A; IMPORT B; END A.")?,
-    ];
-    let text = reported(&rt, alloc, &files, 2)?;
-    assert_eq!(rt; text.as_str(), "A.def:1:29: refusal 22;");
-    Ok(())
-}
-
-#[test]
-fn a_blocked_job_reports_nothing(rt: HostRuntime) -> Result<(), Fail> {
-    let alloc = rt.alloc();
-    let files = [
-        file(alloc, "P.mod", "MODULE P; IMPORT A; VAR v: CHAR; END P.")?,
-        file(
-            alloc,
-            "A.mod",
-            "IMPLEMENTATION MODULE A; VAR v: CHAR; END A.",
-        )?,
-        file(alloc, "A.def", "DEFINITION MODULE A; VAR v: T; END A.")?,
-    ];
-    let text = reported(&rt, alloc, &files, 2)?;
-    assert_eq!(rt; text.as_str(), "A.def:1:29: refusal 30;");
-    Ok(())
-}
-
-#[test]
-fn reports_what_definitions_break(rt: HostRuntime) -> Result<(), Fail> {
-    let alloc = rt.alloc();
-    let files = [
-        file(alloc, "p.mod", "MODULE P; END P.")?,
-        file(alloc, "b.def", "DEFINITION MODULE B; VAR v: T; END B.")?,
-        file(alloc, "b.mod", "IMPLEMENTATION MODULE B; END B.")?,
-        file(alloc, "c.mod", "IMPLEMENTATION MODULE C; END C.")?,
-        file(
-            alloc,
-            "c.def",
-            "DEFINITION MODULE C; TYPE T = [5..2]; END C.",
-        )?,
-        file(
-            alloc,
-            "d.def",
-            "DEFINITION MODULE D; IMPORT B; VAR v: T; END D.",
-        )?,
-        file(alloc, "d.mod", "IMPLEMENTATION MODULE D; END D.")?,
-    ];
-    for workers in [1, 8] {
-        let text = reported(&rt, alloc, &files, workers)?;
-        assert_eq!(rt;
-            text.as_str(),
-            "b.def:1:29: refusal 30;c.def:1:32: refusal 35;"
-        );
-    }
-    Ok(())
-}
-
-#[test]
-fn reports_files_of_one_name_as_they_are_given(rt: HostRuntime) -> Result<(), Fail> {
-    let alloc = rt.alloc();
-    let files = [
-        file(alloc, "p.mod", "MODULE P; END P.")?,
-        file(alloc, "x", "DEFINITION MODULE C; VAR v: T; END C.")?,
-        file(
-            alloc,
-            "x",
-            "DEFINITION MODULE B; IMPORT A; VAR v: A.T; END B.",
-        )?,
-        file(alloc, "x", "DEFINITION MODULE A; CONST c = 1 DIV 0; END A.")?,
-        file(alloc, "x", "DEFINITION MODULE D; TYPE T = [5..2]; END D.")?,
-        file(alloc, "a.mod", "IMPLEMENTATION MODULE A; END A.")?,
-        file(alloc, "b.mod", "IMPLEMENTATION MODULE B; END B.")?,
-        file(alloc, "c.mod", "IMPLEMENTATION MODULE C; END C.")?,
-        file(alloc, "d.mod", "IMPLEMENTATION MODULE D; END D.")?,
-    ];
-    for workers in [1, 8] {
-        let text = reported(&rt, alloc, &files, workers)?;
-        assert_eq!(rt;
-            text.as_str(),
-            "x:1:29: refusal 30;x:1:34: refusal 52;x:1:32: refusal 35;"
-        );
-    }
-    Ok(())
-}
-
-#[test]
-fn takes_the_table_of_the_module_that_is_named(rt: HostRuntime) -> Result<(), Fail> {
-    let alloc = rt.alloc();
-    let files = [
-        file(alloc, "p.mod", "MODULE P; END P.")?,
-        file(alloc, "a.def", "DEFINITION MODULE A; CONST c = 3; END A.")?,
-        file(alloc, "b.def", "DEFINITION MODULE B; CONST c = 300; END B.")?,
-        file(
-            alloc,
-            "c.def",
-            "DEFINITION MODULE C; IMPORT B, A; TYPE T = [0..A.c]; S = [A.c..B.c]; R = [B.c..A.c]; END C.",
-        )?,
-        file(alloc, "a.mod", "IMPLEMENTATION MODULE A; END A.")?,
-        file(alloc, "b.mod", "IMPLEMENTATION MODULE B; END B.")?,
-        file(alloc, "c.mod", "IMPLEMENTATION MODULE C; END C.")?,
-    ];
-    for workers in [1, 8] {
-        let text = reported(&rt, alloc, &files, workers)?;
-        assert_eq!(rt; text.as_str(), "c.def:1:75: refusal 35;");
-    }
-    Ok(())
-}
-
-#[test]
-fn hands_out_what_is_reached_in_start_order(rt: HostRuntime) -> Result<(), Fail> {
-    let alloc = rt.alloc();
-    let files = [
-        file(alloc, "P.mod", "MODULE P; IMPORT A; END P.")?,
-        file(alloc, "A.mod", "IMPLEMENTATION MODULE A; IMPORT B; END A.")?,
-        file(alloc, "A.def", "DEFINITION MODULE A; END A.")?,
-        file(alloc, "B.mod", "IMPLEMENTATION MODULE B; IMPORT A; END B.")?,
-        file(alloc, "B.def", "DEFINITION MODULE B; END B.")?,
-        file(alloc, "C.mod", "IMPLEMENTATION MODULE C; END C.")?,
-        file(alloc, "C.def", "DEFINITION MODULE C; END C.")?,
-    ];
-    let Outcome::Built { link: _, modules } = build(&rt, alloc, &files, options(4), &Always(true))?
-    else {
-        return Err(Fail::from("refused"));
-    };
-    let mut names = String::new(alloc);
-    for module in modules.as_slice() {
-        names.push_str(module.0.as_str())?;
-    }
-    assert_eq!(rt; names.as_str(), "BAP");
-    Ok(())
-}
-
-#[test]
-fn reports_files_in_order_of_their_names(rt: HostRuntime) -> Result<(), Fail> {
-    let alloc = rt.alloc();
-    let files = [
-        file(alloc, "c.mod", "MODULE")?,
-        file(alloc, "b.mod", "DEFINITION MODULE M; END M.")?,
-        file(alloc, "a.mod", "x_y")?,
-        file(alloc, "a.mod", "8B")?,
-    ];
-    let text = reported(&rt, alloc, &files, 1)?;
-    assert_eq!(rt;
-        text.as_str(),
-        "a.mod:1:2: refusal 2;a.mod:1:1: refusal 5;c.mod:1:7: refusal 10;"
-    );
-    Ok(())
-}
-
-#[test]
-fn compiles_programs_without_statements(rt: HostRuntime) -> Result<(), Fail> {
-    let alloc = rt.alloc();
+fn compiles_programs_without_statements(rt: HostRuntime) {
     let texts = [
         "MODULE N; END N.",
         "MODULE N; (* no statement *) BEGIN ; END N.",
         "MODULE N; FROM Console IMPORT Put; END N.",
     ];
     for text in texts {
-        let reported = reported(&rt, alloc, &[file(alloc, "n.mod", text)?], 64)?;
-        assert_eq!(rt; reported.as_str(), "", "{text}");
+        expect_with(&rt, &[("n.mod", text)], options(64), "");
     }
-    Ok(())
 }
 
 #[test]
-fn workers_meet_at_the_gate(rt: HostRuntime) -> Result<(), Fail> {
-    let alloc = rt.alloc();
-    let files = [file(alloc, "n.mod", EMPTY)?, file(alloc, "m.mod", FIRST)?];
-    let gate = Meeting::after(0);
-    let Outcome::Refused(refusals) = build(&rt, alloc, &files, options(2), &gate)? else {
-        return Err(Fail::from("built"));
-    };
-    assert_eq!(rt; refusals.len(), 1);
-    assert_eq!(rt;
-        format!(in alloc; "{}", refusals[0])?.as_str(),
-        "n.mod:1:8: refusal 23"
+fn reports_what_bodies_break(rt: HostRuntime) {
+    let texts = [
+        (
+            "a.mod",
+            "IMPLEMENTATION MODULE A; VAR i: INTEGER; BEGIN i := i + c END A.",
+        ),
+        ("a.def", "DEFINITION MODULE A; VAR c: CARDINAL; END A."),
+        (
+            "p.mod",
+            "MODULE P; IMPORT A; BEGIN WHILE TRUE DO EXIT END END P.",
+        ),
+    ];
+    expect(
+        &rt,
+        &texts,
+        "a.mod:1:55: refusal 40;p.mod:1:41: refusal 45;",
     );
-    assert!(rt; gate.met());
-    Ok(())
-}
-
-/// Two definitions that import nothing, their implementations, and a program that imports both: five jobs in each round.
-fn five(alloc: Global) -> Result<[SourceFile; 5], AllocError> {
-    Ok([
-        file(alloc, "A.def", "DEFINITION MODULE A; END A.")?,
-        file(alloc, "A.mod", "IMPLEMENTATION MODULE A; END A.")?,
-        file(alloc, "B.def", "DEFINITION MODULE B; END B.")?,
-        file(alloc, "B.mod", "IMPLEMENTATION MODULE B; END B.")?,
-        file(alloc, "P.mod", "MODULE P; IMPORT A, B; END P.")?,
-    ])
 }
 
 #[test]
-fn each_job_of_both_rounds_comes_to_the_gate(rt: HostRuntime) -> Result<(), Fail> {
-    let alloc = rt.alloc();
+fn reports_a_cycle_once(rt: HostRuntime) {
+    let texts = [
+        ("P.mod", "MODULE P; END P."),
+        ("B.mod", "IMPLEMENTATION MODULE B; END B."),
+        ("B.def", "DEFINITION MODULE B; IMPORT A; END B."),
+        ("A.mod", "IMPLEMENTATION MODULE A; END A."),
+        ("A.def", "DEFINITION MODULE A; IMPORT B; END A."),
+    ];
+    expect(&rt, &texts, "A.def:1:29: refusal 22;");
+}
+
+#[test]
+fn a_blocked_job_reports_nothing(rt: HostRuntime) {
+    let texts = [
+        ("P.mod", "MODULE P; IMPORT A; VAR v: CHAR; END P."),
+        ("A.mod", "IMPLEMENTATION MODULE A; VAR v: CHAR; END A."),
+        ("A.def", "DEFINITION MODULE A; VAR v: T; END A."),
+    ];
+    expect(&rt, &texts, "A.def:1:29: refusal 30;");
+}
+
+#[test]
+fn reports_what_definitions_break(rt: HostRuntime) {
+    let texts = [
+        ("p.mod", "MODULE P; END P."),
+        ("b.def", "DEFINITION MODULE B; VAR v: T; END B."),
+        ("b.mod", "IMPLEMENTATION MODULE B; END B."),
+        ("c.mod", "IMPLEMENTATION MODULE C; END C."),
+        ("c.def", "DEFINITION MODULE C; TYPE T = [5..2]; END C."),
+        ("d.def", "DEFINITION MODULE D; IMPORT B; VAR v: T; END D."),
+        ("d.mod", "IMPLEMENTATION MODULE D; END D."),
+    ];
+    expect(
+        &rt,
+        &texts,
+        "b.def:1:29: refusal 30;c.def:1:32: refusal 35;",
+    );
+}
+
+#[test]
+fn reports_files_of_one_name_as_they_are_given(rt: HostRuntime) {
+    let texts = [
+        ("p.mod", "MODULE P; END P."),
+        ("x", "DEFINITION MODULE C; VAR v: T; END C."),
+        ("x", "DEFINITION MODULE B; IMPORT A; VAR v: A.T; END B."),
+        ("x", "DEFINITION MODULE A; CONST c = 1 DIV 0; END A."),
+        ("x", "DEFINITION MODULE D; TYPE T = [5..2]; END D."),
+        ("a.mod", "IMPLEMENTATION MODULE A; END A."),
+        ("b.mod", "IMPLEMENTATION MODULE B; END B."),
+        ("c.mod", "IMPLEMENTATION MODULE C; END C."),
+        ("d.mod", "IMPLEMENTATION MODULE D; END D."),
+    ];
+    expect(
+        &rt,
+        &texts,
+        "x:1:29: refusal 30;x:1:34: refusal 52;x:1:32: refusal 35;",
+    );
+}
+
+#[test]
+fn takes_the_table_of_the_module_that_is_named(rt: HostRuntime) {
+    let texts = [
+        ("p.mod", "MODULE P; END P."),
+        ("a.def", "DEFINITION MODULE A; CONST c = 3; END A."),
+        ("b.def", "DEFINITION MODULE B; CONST c = 300; END B."),
+        (
+            "c.def",
+            "DEFINITION MODULE C; IMPORT B, A; TYPE T = [0..A.c]; S = [A.c..B.c]; R = [B.c..A.c]; END C.",
+        ),
+        ("a.mod", "IMPLEMENTATION MODULE A; END A."),
+        ("b.mod", "IMPLEMENTATION MODULE B; END B."),
+        ("c.mod", "IMPLEMENTATION MODULE C; END C."),
+    ];
+    expect(&rt, &texts, "c.def:1:75: refusal 35;");
+}
+
+#[test]
+fn reports_files_in_order_of_their_names(rt: HostRuntime) {
+    let texts = [
+        ("c.mod", "MODULE"),
+        ("b.mod", "DEFINITION MODULE M; END M."),
+        ("a.mod", "x_y"),
+        ("a.mod", "8B"),
+    ];
+    expect(
+        &rt,
+        &texts,
+        "a.mod:1:2: refusal 2;a.mod:1:1: refusal 5;c.mod:1:7: refusal 10;",
+    );
+}
+
+#[test]
+fn hands_out_what_is_reached_in_start_order(rt: HostRuntime) {
+    let texts = [
+        ("P.mod", "MODULE P; IMPORT A; END P."),
+        ("A.mod", "IMPLEMENTATION MODULE A; IMPORT B; END A."),
+        ("A.def", "DEFINITION MODULE A; END A."),
+        ("B.mod", "IMPLEMENTATION MODULE B; IMPORT A; END B."),
+        ("B.def", "DEFINITION MODULE B; END B."),
+        ("C.mod", "IMPLEMENTATION MODULE C; END C."),
+        ("C.def", "DEFINITION MODULE C; END C."),
+    ];
+    let files = files_of(rt.alloc(), &texts).expect(&rt, "memory");
+    match build(&rt, rt.alloc(), &files, options(4), &Always(true)).expect(&rt, "an answer") {
+        Outcome::Refused(_) => assert!(rt; false, "the files are refused"),
+        Outcome::Built { link: _, modules } => {
+            let wanted = ["B", "A", "P"];
+            assert!(rt; modules.len() == wanted.len());
+            for (module, name) in modules.iter().zip(wanted) {
+                assert!(rt; module.0.as_str() == name);
+            }
+        }
+    }
+}
+
+#[test]
+fn workers_meet_at_the_gate(rt: HostRuntime) {
+    let texts = [("n.mod", EMPTY), ("m.mod", FIRST)];
+    let files = files_of(rt.alloc(), &texts).expect(&rt, "memory");
+    let gate = Meeting::after(0);
+    let text = reported(&rt, &files, options(2), &gate).expect(&rt, "an answer");
+    assert!(rt; text.as_str() == "n.mod:1:8: refusal 23;");
+    assert!(rt; gate.met());
+}
+
+#[test]
+fn each_job_of_both_rounds_comes_to_the_gate(rt: HostRuntime) {
+    let files = files_of(rt.alloc(), &FIVE).expect(&rt, "memory");
     for workers in [1, 2] {
         let gate = Counting::new();
-        build(&rt, alloc, &five(alloc)?, options(workers), &gate)?;
-        assert_eq!(rt; gate.asked(), 10, "{workers}");
+        let text = reported(&rt, &files, options(workers), &gate);
+        assert!(rt; text.is_ok() && gate.asked() == 10, "{workers}");
     }
-    Ok(())
 }
 
 #[test]
-fn workers_meet_in_the_second_round(rt: HostRuntime) -> Result<(), Fail> {
-    let alloc = rt.alloc();
+fn workers_meet_in_the_second_round(rt: HostRuntime) {
+    let files = files_of(rt.alloc(), &FIVE).expect(&rt, "memory");
     let gate = Meeting::after(5);
-    build(&rt, alloc, &five(alloc)?, options(2), &gate)?;
-    assert!(rt; gate.met());
-    Ok(())
-}
-
-#[test]
-fn who_is_never_let_in_leaves_all_to_the_gatherer(rt: HostRuntime) -> Result<(), Fail> {
-    let alloc = rt.alloc();
-    let files = [file(alloc, "m.mod", FIRST)?];
-    let outcome = build(&rt, alloc, &files, options(4), &Always(false))?;
-    let Outcome::Built { link, modules } = outcome else {
-        return Err(Fail::from("refused"));
-    };
-    assert_eq!(rt; link.as_slice(), LINK.as_slice());
-    assert_eq!(rt; modules.len(), 1);
-    assert!(rt; modules[0].1.as_slice().ends_with(&BODY));
-    Ok(())
+    let text = reported(&rt, &files, options(2), &gate);
+    assert!(rt; text.is_ok() && gate.met());
 }
 
 #[test]

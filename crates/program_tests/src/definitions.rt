@@ -75,20 +75,6 @@ fn with_import(alloc: Global, row: &mut Row) -> Result<()> {
     Ok(())
 }
 
-/// What is reported of a row's last text, if it is not what is expected.
-fn difference(alloc: Global, row: &Row) -> Result<Option<String>> {
-    let elaborated = compiled(alloc, &row.tables, row.text.as_bytes())?;
-    let answer = reported(alloc, &elaborated)?;
-    if answer.as_str() == row.expected.as_str() {
-        return Ok(None);
-    }
-    let line = format!(in alloc;
-        "expected {}, reported {answer}: {}",
-        row.expected, row.text
-    )?;
-    Ok(Some(line))
-}
-
 fn with_line(row: &mut Row, line: &str) -> Result<()> {
     if row.expected.is_empty() {
         row.expected.push_str(line)?;
@@ -99,30 +85,43 @@ fn with_line(row: &mut Row, line: &str) -> Result<()> {
     Ok(())
 }
 
+/// Compares what is reported of a row's last text with what is expected.
 fn counted(rt: &HostRuntime, count: Count, row: &Row) -> Result<Count> {
-    let wrong = difference(rt.alloc(), row)?;
-    if let Some(line) = &wrong {
-        eprintln!(rt; "{line}")?;
+    let alloc = rt.alloc();
+    let elaborated = compiled(alloc, &row.tables, row.text.as_bytes())?;
+    let answer = reported(alloc, &elaborated)?;
+    let is_right = answer.as_str() == row.expected.as_str();
+    if !is_right {
+        eprintln!(rt;
+            "expected {}, reported {answer}: {}",
+            row.expected, row.text
+        )?;
     }
-    Ok(count.with(wrong.is_none()))
+    Ok(count.with(is_right))
+}
+
+/// Takes a line, or compiles the definition at the end of a row.
+fn with_next(rt: &HostRuntime, row: &mut Row, count: Count, line: &str) -> Result<Count> {
+    match line {
+        "%+" => with_import(rt.alloc(), row)?,
+        "%%" => {
+            let count = counted(rt, count, row)?;
+            *row = empty_row(rt.alloc());
+            return Ok(count);
+        }
+        _ => with_line(row, line)?,
+    }
+    Ok(count)
 }
 
 /// Compiles each row, and compares what is reported of its last definition.
 pub fn check_all(rt: &HostRuntime) -> Result<Count> {
-    let alloc = rt.alloc();
     let bytes = fs::read(rt, "definitions.txt").context("cannot read the rows")?;
     let all = String::from_utf8(bytes)?;
     let mut count = Count::none();
-    let mut row = empty_row(alloc);
+    let mut row = empty_row(rt.alloc());
     for line in all.as_str().lines() {
-        if line == "%+" {
-            with_import(alloc, &mut row)?;
-        } else if line == "%%" {
-            count = counted(rt, count, &row)?;
-            row = empty_row(alloc);
-        } else {
-            with_line(&mut row, line)?;
-        }
+        count = with_next(rt, &mut row, count, line)?;
     }
     Ok(count)
 }

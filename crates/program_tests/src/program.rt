@@ -10,6 +10,9 @@ use std::thread::Threads;
 /// More reductions than any of the programs makes.
 const STEPS: u64 = 1_000_000_000;
 
+/// The status of modules that still run.
+const RUNNING: u8 = 4;
+
 /// Lets each worker in.
 pub struct Always;
 
@@ -56,47 +59,6 @@ pub fn no_program(alloc: Global) -> Program {
     }
 }
 
-/// What is wrong with a module that was built, if something is.
-fn compared(
-    alloc: Global,
-    expected: &[Expected],
-    name: &str,
-    bytes: &[u8],
-) -> Result<Option<String>> {
-    for module in expected {
-        if is_name_of(module.name.as_str(), name) {
-            if module.bytes.as_slice() == bytes {
-                return Ok(None);
-            }
-            return Ok(Some(format!(in alloc; "{name}.wasm has other bytes")?));
-        }
-    }
-    Ok(Some(format!(in alloc; "{name}.wasm is not expected")?))
-}
-
-fn compared_all(
-    alloc: Global,
-    program: &Program,
-    link: &[u8],
-    modules: &[(String, Vec<u8>)],
-) -> Result<Option<String>> {
-    if program.modules.is_empty() {
-        return Ok(None);
-    }
-    if let Some(wrong) = compared(alloc, &program.modules, "link", link)? {
-        return Ok(Some(wrong));
-    }
-    for module in modules {
-        if let Some(wrong) = compared(alloc, &program.modules, module.0.as_str(), &module.1)? {
-            return Ok(Some(wrong));
-        }
-    }
-    if modules.len() + 1 != program.modules.len() {
-        return Ok(Some(format!(in alloc; "some modules are missing")?));
-    }
-    Ok(None)
-}
-
 fn is_name_of(file: &str, name: &str) -> bool {
     file.len() == name.len() + 5 && file.starts_with(name)
 }
@@ -105,47 +67,68 @@ fn stands_in(piece: &[u8], bytes: &[u8]) -> bool {
     piece.is_empty() || bytes.windows(piece.len()).any(|it| it == piece)
 }
 
-/// The first piece that is to stand in a module, and does not.
-fn lacking(alloc: Global, pieces: &[Expected], name: &str, bytes: &[u8]) -> Result<Option<String>> {
-    for piece in pieces {
-        if is_name_of(piece.name.as_str(), name) && !stands_in(piece.bytes.as_slice(), bytes) {
-            return Ok(Some(format!(in alloc; "{name}.wasm lacks a piece")?));
+/// Whether these bytes are expected of the module of this name.
+fn is_expected(expected: &[Expected], name: &str, bytes: &[u8]) -> bool {
+    for module in expected {
+        if is_name_of(module.name.as_str(), name) {
+            return module.bytes.as_slice() == bytes;
         }
     }
-    Ok(None)
+    false
 }
 
-fn lacking_all(
-    alloc: Global,
+/// Whether the pieces that are to stand in the module of this name stand in these bytes.
+fn has_pieces(pieces: &[Expected], name: &str, bytes: &[u8]) -> bool {
+    for piece in pieces {
+        if is_name_of(piece.name.as_str(), name) && !stands_in(piece.bytes.as_slice(), bytes) {
+            return false;
+        }
+    }
+    true
+}
+
+/// What is wrong with a module that was built, if something is.
+fn compared(program: &Program, name: &str, bytes: &[u8]) -> Option<&'static str> {
+    if !program.modules.is_empty() && !is_expected(&program.modules, name, bytes) {
+        return Some("a module has other bytes, or is not expected");
+    }
+    if !has_pieces(&program.pieces, name, bytes) {
+        return Some("a module lacks a piece");
+    }
+    None
+}
+
+/// What is wrong with the modules that were built, if something is.
+fn compared_all(
     program: &Program,
     link: &[u8],
     modules: &[(String, Vec<u8>)],
-) -> Result<Option<String>> {
-    if let Some(wrong) = lacking(alloc, &program.pieces, "link", link)? {
-        return Ok(Some(wrong));
+) -> Option<&'static str> {
+    if !program.modules.is_empty() && modules.len() + 1 != program.modules.len() {
+        return Some("some modules are missing");
     }
     for module in modules {
-        if let Some(wrong) = lacking(alloc, &program.pieces, module.0.as_str(), &module.1)? {
-            return Ok(Some(wrong));
+        let wrong = compared(program, module.0.as_str(), &module.1);
+        if wrong.is_some() {
+            return wrong;
         }
     }
-    Ok(None)
+    compared(program, "link", link)
 }
 
 /// The line on standard error with which a program of this end ends.
-fn last_words(alloc: Global, end: u8) -> Result<String> {
-    let words = match end {
-        1 => "range",
-        2 => "overflow",
-        3 => "index",
-        4 => "divisor",
-        5 => "case",
-        6 => "no return",
-        7 => "empty procedure",
-        8 => "storage",
-        _ => return Ok(String::new(alloc)),
-    };
-    Ok(format!(in alloc; "fault {end}: {words}\n")?)
+fn last_words(end: u8) -> &'static str {
+    match end {
+        1 => "fault 1: range\n",
+        2 => "fault 2: overflow\n",
+        3 => "fault 3: index\n",
+        4 => "fault 4: divisor\n",
+        5 => "fault 5: case\n",
+        6 => "fault 6: no return\n",
+        7 => "fault 7: empty procedure\n",
+        8 => "fault 8: storage\n",
+        _ => "",
+    }
 }
 
 /// Whether these are the bytes of the piece, once or several times; none are for the empty piece alone.
@@ -156,24 +139,26 @@ fn is_repeated(bytes: &[u8], piece: &[u8]) -> bool {
     !bytes.is_empty() && bytes.chunks(piece.len()).all(|it| piece.starts_with(it))
 }
 
+/// What is wrong with how the modules ended, if something is.
+fn ended(program: &Program, status: u8, out: &[u8], err: &[u8]) -> Option<&'static str> {
+    if status > 1 || err != last_words(program.end).as_bytes() {
+        return Some("it ends otherwise");
+    }
+    if out != program.printed.as_slice() {
+        return Some("it prints something else");
+    }
+    None
+}
+
 /// What is wrong with modules that are to go on, if something is.
-fn executed_on(
-    alloc: Global,
-    program: &Program,
-    link: &[u8],
-    modules: &[(String, Vec<u8>)],
-) -> Result<Option<String>> {
-    let mut folder = Folder { link, modules };
-    let mut out = Screen::new(alloc);
-    let mut err = Screen::new(alloc);
-    let status = execute(alloc, &mut folder, program.goes_on, &mut out, &mut err);
-    if status != 4 || !err.bytes.is_empty() {
-        return Ok(Some(format!(in alloc; "it does not go on, with status {status}")?));
+fn went_on(program: &Program, status: u8, out: &[u8], err: &[u8]) -> Option<&'static str> {
+    if status != RUNNING || !err.is_empty() {
+        return Some("it does not go on");
     }
-    if !is_repeated(out.bytes.as_slice(), program.printed.as_slice()) {
-        return Ok(Some(format!(in alloc; "it prints something else")?));
+    if !is_repeated(out, program.printed.as_slice()) {
+        return Some("it prints something else");
     }
-    Ok(None)
+    None
 }
 
 /// What is wrong with what modules do, if something is.
@@ -182,45 +167,48 @@ fn executed(
     program: &Program,
     link: &[u8],
     modules: &[(String, Vec<u8>)],
-) -> Result<Option<String>> {
+) -> Option<&'static str> {
+    let goes_on = program.goes_on > 0;
+    let steps = if goes_on { program.goes_on } else { STEPS };
     let mut folder = Folder { link, modules };
     let mut out = Screen::new(alloc);
     let mut err = Screen::new(alloc);
-    let status = execute(alloc, &mut folder, STEPS, &mut out, &mut err);
-    let words = last_words(alloc, program.end)?;
-    if status > 1 || err.bytes.as_slice() != words.as_bytes() {
-        return Ok(Some(format!(in alloc; "it ends otherwise, with status {status}")?));
+    let status = execute(alloc, &mut folder, steps, &mut out, &mut err);
+    if goes_on {
+        return went_on(program, status, out.bytes.as_slice(), err.bytes.as_slice());
     }
-    if out.bytes.as_slice() != program.printed.as_slice() {
-        return Ok(Some(format!(in alloc; "it prints something else")?));
+    ended(program, status, out.bytes.as_slice(), err.bytes.as_slice())
+}
+
+/// What is wrong with what was built, if something is.
+fn decided_built(
+    alloc: Global,
+    program: &Program,
+    link: &[u8],
+    modules: &[(String, Vec<u8>)],
+) -> Option<&'static str> {
+    let wrong = compared_all(program, link, modules);
+    if wrong.is_some() {
+        return wrong;
     }
-    Ok(None)
+    executed(alloc, program, link, modules)
 }
 
 /// What is wrong with a program, if something is: it is built with so many workers, compared and executed.
-pub fn decided<R: Threads + Sync>(
+pub fn decided<R: Threads + Sync + Eprint>(
     rt: &R,
     alloc: Global,
     program: &Program,
     workers: usize,
-) -> Result<Option<String>> {
+) -> Result<Option<&'static str>> {
     let options = Options { workers, pages: 16 };
     match build(rt, alloc, &program.files, options, &Always)? {
         Outcome::Refused(refusals) => {
-            let mut text = String::from_str(alloc, "refused:")?;
-            for refusal in refusals.as_slice() {
-                text.push_str(" ")?;
-                text.push_str(format!(in alloc; "{refusal}")?.as_str())?;
+            for refusal in &refusals {
+                eprintln!(rt; "{refusal}")?;
             }
-            Ok(Some(text))
+            Ok(Some("it is refused"))
         }
-        Outcome::Built { link, modules } => match compared_all(alloc, program, &link, &modules)? {
-            Some(wrong) => Ok(Some(wrong)),
-            None => match lacking_all(alloc, program, &link, &modules)? {
-                Some(wrong) => Ok(Some(wrong)),
-                None if program.goes_on > 0 => executed_on(alloc, program, &link, &modules),
-                None => executed(alloc, program, &link, &modules),
-            },
-        },
+        Outcome::Built { link, modules } => Ok(decided_built(alloc, program, &link, &modules)),
     }
 }

@@ -112,6 +112,23 @@ fn counted<R: Threads + Sync + Eprint>(
     Ok(count.with(true))
 }
 
+/// Takes a line, or decides the program at its end.
+fn with_next<R: Threads + Sync + Eprint>(
+    rt: &R,
+    alloc: Global,
+    reading: &mut Reading,
+    count: Count,
+    line: &str,
+) -> Result<Count> {
+    if line != "%%" {
+        with_line(alloc, reading, line)?;
+        return Ok(count);
+    }
+    let count = counted(rt, alloc, count, &reading.program)?;
+    *reading = begun(alloc);
+    Ok(count)
+}
+
 /// Decides each program.
 pub fn check_all<R: Threads + Sync + Files + Eprint + AllocGlobal>(rt: &R) -> Result<Count> {
     let alloc = rt.alloc();
@@ -120,12 +137,7 @@ pub fn check_all<R: Threads + Sync + Files + Eprint + AllocGlobal>(rt: &R) -> Re
     let mut count = Count::none();
     let mut reading = begun(alloc);
     for line in all.as_str().lines() {
-        if line == "%%" {
-            count = counted(rt, alloc, count, &reading.program)?;
-            reading = begun(alloc);
-        } else {
-            with_line(alloc, &mut reading, line)?;
-        }
+        count = with_next(rt, alloc, &mut reading, count, line)?;
     }
     Ok(count)
 }

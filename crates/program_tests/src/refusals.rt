@@ -88,6 +88,24 @@ fn counted<R: Threads + Sync + Eprint>(
     Ok(count.with(is_right))
 }
 
+/// Takes a line, or builds the files at the end of a row.
+fn with_next<R: Threads + Sync + Eprint>(
+    rt: &R,
+    alloc: Global,
+    row: &mut Row,
+    count: Count,
+    line: &str,
+) -> Result<Count> {
+    if line != "%%" {
+        with_line(alloc, row, line)?;
+        return Ok(count);
+    }
+    with_file(alloc, row)?;
+    let count = counted(rt, alloc, count, row)?;
+    *row = empty_row(alloc);
+    Ok(count)
+}
+
 /// Builds the files of each row, and compares what is reported of them.
 pub fn check_all<R: Threads + Sync + Files + Eprint + AllocGlobal>(rt: &R) -> Result<Count> {
     let alloc = rt.alloc();
@@ -96,13 +114,7 @@ pub fn check_all<R: Threads + Sync + Files + Eprint + AllocGlobal>(rt: &R) -> Re
     let mut count = Count::none();
     let mut row = empty_row(alloc);
     for line in all.as_str().lines() {
-        if line == "%%" {
-            with_file(alloc, &mut row)?;
-            count = counted(rt, alloc, count, &row)?;
-            row = empty_row(alloc);
-        } else {
-            with_line(alloc, &mut row, line)?;
-        }
+        count = with_next(rt, alloc, &mut row, count, line)?;
     }
     Ok(count)
 }
