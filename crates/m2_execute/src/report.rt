@@ -4,7 +4,7 @@ use wasm_engine::{End, RunFault};
 use wasm_tree::WFault;
 
 /// What comes of the modules of a directory.
-#[derive(Clone, Copy, Debug)]
+#[derive(Clone, Copy)]
 pub enum Report<'a> {
     /// They were linked and executed up to here.
     Ran(End),

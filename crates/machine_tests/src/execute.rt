@@ -134,7 +134,7 @@ fn executes_the_first_program(rt: HostRuntime) -> Result<(), Fail> {
     ];
     for (steps, room, expected) in rows {
         let text = reported(alloc, &mut two(alloc, &LINK, &BODY), steps, room)?;
-        assert_eq!(rt; text.as_str(), expected, "{steps}");
+        assert!(rt; text.as_str() == expected, "{steps}: {text}");
     }
     Ok(())
 }
@@ -150,7 +150,7 @@ fn reports_what_is_wrong_with_files(rt: HostRuntime) -> Result<(), Fail> {
     ];
     for (link, body, expected) in rows {
         let text = reported(alloc, &mut two(alloc, link, body), 100, 100)?;
-        assert_eq!(rt; text.as_str(), expected);
+        assert!(rt; text.as_str() == expected, "{text}");
     }
     Ok(())
 }
@@ -227,7 +227,7 @@ fn reads_a_module_after_the_one_before_is_valid(rt: HostRuntime) -> Result<(), F
     ];
     for (link, first, second, expected) in rows {
         let text = asked(alloc, link, first, second)?;
-        assert_eq!(rt; text.as_str(), expected);
+        assert!(rt; text.as_str() == expected, "{text}");
     }
     Ok(())
 }

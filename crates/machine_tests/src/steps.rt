@@ -41,7 +41,7 @@ fn run_function(rt: &impl Abort, alloc: Global, code: &[Op]) -> Function {
 /// The module above with this code in `run`.
 fn module_of(rt: &impl Abort, alloc: Global, code: &[Op]) -> WModule {
     let mut tree = read_module(alloc, AROUND).expect(rt, "a module");
-    assert_eq!(rt; tree.functions.len(), 3);
+    assert!(rt; tree.functions.len() == 3);
     tree.functions.set(0, run_function(rt, alloc, code));
     tree
 }
@@ -62,8 +62,7 @@ fn expect_of(rt: &impl Abort, alloc: Global, modules: &[ValidModule], end: End, 
     let mut instances = Instances::link(alloc, modules).expect(rt, "linked");
     let mut out = Screen::with_room(alloc, 1000);
     let answer = instances.run(60, &mut out).expect(rt, "a run");
-    assert_eq!(rt; answer, end);
-    assert_eq!(rt; out.bytes.as_slice(), printed);
+    assert!(rt; answer == end && out.bytes.as_slice() == printed);
 }
 
 /// The same of the module above with this code in `run`.

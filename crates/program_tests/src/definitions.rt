@@ -34,9 +34,10 @@ fn compiled(
     tables: &Items<Shared<Table>>,
     text: &[u8],
 ) -> Result<Elaborated<Table>> {
-    let tree = tree_of(alloc, text)?;
     let number = u32::try_from(tables.len())?;
-    Ok(compile_definition(alloc, number, &tree, shared(alloc, tables)?)?)
+    let tables = shared(alloc, tables)?;
+    let tree = tree_of(alloc, text)?;
+    Ok(compile_definition(alloc, number, &tree, tables)?)
 }
 
 fn reported(alloc: Global, elaborated: &Elaborated<Table>) -> Result<String> {
@@ -85,11 +86,15 @@ fn with_line(row: &mut Row, line: &str) -> Result<()> {
     Ok(())
 }
 
+/// What is reported of a row's last text.
+fn answer_to(alloc: Global, row: &Row) -> Result<String> {
+    let elaborated = compiled(alloc, &row.tables, row.text.as_bytes())?;
+    reported(alloc, &elaborated)
+}
+
 /// Compares what is reported of a row's last text with what is expected.
 fn counted(rt: &HostRuntime, count: Count, row: &Row) -> Result<Count> {
-    let alloc = rt.alloc();
-    let elaborated = compiled(alloc, &row.tables, row.text.as_bytes())?;
-    let answer = reported(alloc, &elaborated)?;
+    let answer = answer_to(rt.alloc(), row)?;
     let is_right = answer.as_str() == row.expected.as_str();
     if !is_right {
         eprintln!(rt;

@@ -30,7 +30,6 @@ pub struct Expected {
 }
 
 /// A program, and what is to become of it.
-#[derive(Drop)]
 pub struct Program {
     pub name: String,
     pub files: Vec<SourceFile>,
@@ -44,6 +43,26 @@ pub struct Program {
     pub end: u8,
     /// The reductions after which it still runs; 0 for a program that ends.
     pub goes_on: u64,
+}
+
+// Written by hand, so that a drop is one call in proofs.
+impl Drop for Program {
+    fn drop(self) {
+        let Program {
+            name,
+            files,
+            modules,
+            pieces,
+            printed,
+            end: _,
+            goes_on: _,
+        } = self;
+        drop(name);
+        drop(files);
+        drop(modules);
+        drop(pieces);
+        drop(printed);
+    }
 }
 
 /// A program of which nothing is known.

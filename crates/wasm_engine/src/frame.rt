@@ -14,7 +14,6 @@ pub struct Label<'a> {
 }
 
 /// A function that runs, or waits for one that it called. The last label is the innermost one.
-#[derive(Drop)]
 pub struct Frame<'a> {
     pub instance: usize,
     pub arity: usize,
@@ -22,6 +21,23 @@ pub struct Frame<'a> {
     pub labels: Vec<Label<'a>>,
     pub rest: &'a [Op],
     pub stack: Operands,
+}
+
+// Written by hand, so that proofs above take a drop as one call, and not as one for each field.
+impl Drop for Frame<'_> {
+    fn drop(self) {
+        let Frame {
+            instance: _,
+            arity: _,
+            locals,
+            labels,
+            rest: _,
+            stack,
+        } = self;
+        drop(locals);
+        drop(labels);
+        drop(stack);
+    }
 }
 
 /// A memory while the run goes on: its bytes, and the most pages that it may have.
@@ -33,7 +49,6 @@ pub struct Pages {
 
 /// Linked modules while their run goes on. The memories and the values of globals stand apart from the store. The spare frames are those that were
 /// left: what they hold means nothing, and the room that they have is used by later calls.
-#[derive(Drop)]
 pub struct Machine<'a> {
     pub store: Store,
     pub memories: Vec<Pages>,
@@ -41,6 +56,26 @@ pub struct Machine<'a> {
     pub now: Frame<'a>,
     pub callers: Vec<Frame<'a>>,
     pub spare: Vec<Frame<'a>>,
+}
+
+// Written by hand, as that of a frame.
+impl Drop for Machine<'_> {
+    fn drop(self) {
+        let Machine {
+            store,
+            memories,
+            globals,
+            now,
+            callers,
+            spare,
+        } = self;
+        drop(store);
+        drop(memories);
+        drop(globals);
+        drop(now);
+        drop(callers);
+        drop(spare);
+    }
 }
 
 /// What a reduction led to.
