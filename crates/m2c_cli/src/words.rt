@@ -89,7 +89,7 @@ fn strings_of(alloc: Global, texts: &[&str]) -> Result<Vec<String>> {
 }
 
 /// What the options and names ask for. Numbers that they cannot take are reported.
-fn asked<R: Eprint + AllocGlobal>(rt: &R, matches: &ArgMatches) -> Result<Words> {
+fn requested<R: Eprint + AllocGlobal>(rt: &R, matches: &ArgMatches) -> Result<Words> {
     let alloc = rt.alloc();
     let Some(workers) = number_of(rt, matches, "workers", MAX_WORKERS as u64) else {
         return Ok(Words::Reported(COMMAND_LINE));
@@ -113,7 +113,7 @@ fn asked<R: Eprint + AllocGlobal>(rt: &R, matches: &ArgMatches) -> Result<Words>
 /// What the words ask for; help and the version go to standard output, and what is wrong with them to standard error.
 fn read_words<R: Print + Eprint + AllocGlobal>(rt: &R, words: &[String]) -> Result<Words> {
     match command(rt.alloc())?.try_get_matches_from(words) {
-        Ok(matches) => asked(rt, &matches),
+        Ok(matches) => requested(rt, &matches),
         Err(error) => {
             error.print(rt)?;
             let status = if error.use_stderr() { COMMAND_LINE } else { 0 };
