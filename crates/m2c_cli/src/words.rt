@@ -44,66 +44,82 @@ fn number_of(rt: &impl Eprint, matches: &ArgMatches, option: &str, most: u64) ->
 }
 
 fn command<'a>(alloc: Global) -> Result<Command<'a>> {
-    let workers = Arg::new(alloc, "workers")
-        .long("workers")
-        .value_name("N")
-        .default_value("4")
-        .help("How many threads compile, from 1 to 64");
-    let memory = Arg::new(alloc, "memory")
-        .long("memory")
-        .value_name("PAGES")
-        .default_value("16")
-        .help("The pages of 65536 bytes of the program's memory, from 1 to 1024");
-    let out = Arg::new(alloc, "out")
-        .long("out")
-        .value_name("DIR")
-        .required(true)
-        .help("The folder into which the modules are written");
-    let files = Arg::new(alloc, "FILE")
-        .required(true)
-        .action(ArgAction::Append)
-        .num_args(1..)
-        .help("The files of the program's modules");
     Ok(
         Command::new(alloc, "m2c")
             .version(VERSION)
             .about("Compiles Modula-2 to WebAssembly modules, link.wasm last")
-            .arg(workers)?
-            .arg(memory)?
-            .arg(out)?
-            .arg(files)?,
+            .arg(
+                Arg::new(alloc, "workers")
+                    .long("workers")
+                    .value_name("N")
+                    .default_value("4")
+                    .help("How many threads compile, from 1 to 64"),
+            )?
+            .arg(
+                Arg::new(alloc, "memory")
+                    .long("memory")
+                    .value_name("PAGES")
+                    .default_value("16")
+                    .help("The pages of 65536 bytes of the program's memory, from 1 to 1024"),
+            )?
+            .arg(
+                Arg::new(alloc, "out")
+                    .long("out")
+                    .value_name("DIR")
+                    .required(true)
+                    .help("The folder into which the modules are written"),
+            )?
+            .arg(
+                Arg::new(alloc, "FILE")
+                    .required(true)
+                    .action(ArgAction::Append)
+                    .num_args(1..)
+                    .help("The files of the program's modules"),
+            )?,
     )
+}
+
+/// The same texts once more.
+fn strings_of(alloc: Global, texts: &[&str]) -> Result<Vec<String>> {
+    let mut strings = Vec::new(alloc);
+    for text in texts {
+        strings.push(String::from_str(alloc, text)?)?;
+    }
+    Ok(strings)
+}
+
+/// What the options and names ask for. Numbers that they cannot take are reported.
+fn requested<R: Eprint + AllocGlobal>(rt: &R, matches: &ArgMatches) -> Result<Words> {
+    let alloc = rt.alloc();
+    let Some(workers) = number_of(rt, matches, "workers", MAX_WORKERS as u64) else {
+        return Ok(Words::Reported(COMMAND_LINE));
+    };
+    let Some(pages) = number_of(rt, matches, "memory", u64::from(MAX_PAGES)) else {
+        return Ok(Words::Reported(COMMAND_LINE));
+    };
+    let out = String::from_str(alloc, matches.get_str("out").unwrap_or(""))?;
+    let files = strings_of(alloc, matches.get_strs("FILE").unwrap_or(&[]))?;
+    let options = Options {
+        workers: workers as usize,
+        pages: pages as u32,
+    };
+    Ok(Words::Asked(Asked {
+        options,
+        out,
+        files,
+    }))
 }
 
 /// What the words ask for; help and the version go to standard output, and what is wrong with them to standard error.
 fn read_words<R: Print + Eprint + AllocGlobal>(rt: &R, words: &[String]) -> Result<Words> {
-    let alloc = rt.alloc();
-    let matches = match command(alloc)?.try_get_matches_from(words) {
-        Ok(matches) => matches,
+    match command(rt.alloc())?.try_get_matches_from(words) {
+        Ok(matches) => requested(rt, &matches),
         Err(error) => {
             error.print(rt)?;
             let status = if error.use_stderr() { COMMAND_LINE } else { 0 };
-            return Ok(Words::Reported(status));
+            Ok(Words::Reported(status))
         }
-    };
-    let Some(workers) = number_of(rt, &matches, "workers", MAX_WORKERS as u64) else {
-        return Ok(Words::Reported(COMMAND_LINE));
-    };
-    let Some(pages) = number_of(rt, &matches, "memory", u64::from(MAX_PAGES)) else {
-        return Ok(Words::Reported(COMMAND_LINE));
-    };
-    let mut files = Vec::new(alloc);
-    for file in matches.get_strs("FILE").unwrap_or(&[]) {
-        files.push(String::from_str(alloc, file)?)?;
     }
-    Ok(Words::Asked(Asked {
-        options: Options {
-            workers: workers as usize,
-            pages: pages as u32,
-        },
-        out: String::from_str(alloc, matches.get_str("out").unwrap_or(""))?,
-        files,
-    }))
 }
 
 /// What the command line asks for.

@@ -198,26 +198,31 @@ fn refuses(rt: HostRuntime) -> Result<(), Fail> {
     Ok(())
 }
 
-/// Whether the last of so many files is reported as one too many.
-fn is_one_too_many(alloc: Global, count: usize) -> Result<bool, AllocError> {
-    let tree = tree_of(alloc, ("p.mod", Part::Body, "P", ""))?;
-    let mut files = Vec::new(alloc);
-    for _ in 0..count {
-        files.push(("p.mod", &tree))?;
-    }
-    match Graph::of(alloc, &files) {
+/// Whether the last of these files is reported as one too many.
+fn is_one_too_many(alloc: Global, files: &[(&str, &Module)]) -> bool {
+    match Graph::of(alloc, files) {
         Err(GraphError::Refused(refusals)) => match refusals.as_slice() {
-            [.., last] => Ok(is_refusal(last, "p.mod", 1, 25)),
-            [] => Ok(false),
+            [.., last] => is_refusal(last, "p.mod", 1, 25),
+            [] => false,
         },
-        Err(GraphError::NoMemory) => Err(AllocError),
-        Ok(_) => Ok(false),
+        Err(GraphError::NoMemory) => false,
+        Ok(_) => false,
     }
 }
 
+/// The same of so many files with this tree.
+fn are_too_many(alloc: Global, tree: &Module, count: usize) -> Result<bool, AllocError> {
+    let mut files = Vec::new(alloc);
+    for _ in 0..count {
+        files.push(("p.mod", tree))?;
+    }
+    Ok(is_one_too_many(alloc, &files))
+}
+
 #[test]
-fn a_thousand_and_twenty_four_files_are_enough(rt: HostRuntime) -> Result<(), Fail> {
-    assert!(rt; !is_one_too_many(rt.alloc(), 1024)?);
-    assert!(rt; is_one_too_many(rt.alloc(), 1025)?);
-    Ok(())
+fn a_thousand_and_twenty_four_files_are_enough(rt: HostRuntime) {
+    let tree = tree_of(rt.alloc(), ("p.mod", Part::Body, "P", "")).expect(&rt, "memory");
+    let enough = are_too_many(rt.alloc(), &tree, 1024).expect(&rt, "memory");
+    let too_many = are_too_many(rt.alloc(), &tree, 1025).expect(&rt, "memory");
+    assert!(rt; !enough && too_many);
 }

@@ -1,6 +1,8 @@
 use crate::in_out;
 use crate::reported::{Reported, outcome};
-use crate::samples::{self, text_of};
+use crate::samples::{self, Nested, text_of};
+use std::alloc::Global;
+use std::process::Abort;
 use std::test::Fail;
 
 /// What is reported of a text that is refused.
@@ -10,65 +12,65 @@ fn refused(line: u32, col: u32, number: u32) -> Reported {
 
 #[test]
 fn refuses(rt: HostRuntime) -> Result<(), Fail> {
-    let rows: [(&[u8], (u32, u32, u32)); 40] = [
-        (b"", (1, 1, 10)),
-        (b"MODULE", (1, 7, 10)),
-        (b"\tMODULE M\r\n", (2, 1, 10)),
-        (b"EXPORT", (1, 1, 13)),
-        (b"MODULE MODULE", (1, 8, 13)),
-        (b"MODULE M.", (1, 9, 10)),
-        (b"DEFINITION IMPLEMENTATION MODULE", (1, 12, 10)),
-        (b"DEFINITION SET", (1, 12, 13)),
-        (b"MODULE M; IMPORT ; END M.", (1, 18, 10)),
-        (b"MODULE M; FROM A FROM", (1, 18, 10)),
-        (b"MODULE M; VAR x: CHAR; IMPORT A; END M.", (1, 24, 10)),
-        (b"MODULE M; CONST c := 1; END M.", (1, 19, 10)),
-        (b"MODULE M; CONST c = ; END M.", (1, 21, 10)),
-        (b"MODULE M; CONST c = 1 END M.", (1, 23, 10)),
-        (b"MODULE M; TYPE T = SET OF CHAR; END M.", (1, 20, 13)),
-        (b"MODULE M; TYPE T = POINTER TO T; END M.", (1, 20, 13)),
+    let rows: [(&str, (u32, u32, u32)); 40] = [
+        ("", (1, 1, 10)),
+        ("MODULE", (1, 7, 10)),
+        ("\tMODULE M\r\n", (2, 1, 10)),
+        ("EXPORT", (1, 1, 13)),
+        ("MODULE MODULE", (1, 8, 13)),
+        ("MODULE M.", (1, 9, 10)),
+        ("DEFINITION IMPLEMENTATION MODULE", (1, 12, 10)),
+        ("DEFINITION SET", (1, 12, 13)),
+        ("MODULE M; IMPORT ; END M.", (1, 18, 10)),
+        ("MODULE M; FROM A FROM", (1, 18, 10)),
+        ("MODULE M; VAR x: CHAR; IMPORT A; END M.", (1, 24, 10)),
+        ("MODULE M; CONST c := 1; END M.", (1, 19, 10)),
+        ("MODULE M; CONST c = ; END M.", (1, 21, 10)),
+        ("MODULE M; CONST c = 1 END M.", (1, 23, 10)),
+        ("MODULE M; TYPE T = SET OF CHAR; END M.", (1, 20, 13)),
+        ("MODULE M; TYPE T = POINTER TO T; END M.", (1, 20, 13)),
         (
-            b"MODULE M; TYPE T = RECORD a: CHAR b: CHAR END; END M.",
+            "MODULE M; TYPE T = RECORD a: CHAR b: CHAR END; END M.",
             (1, 35, 10),
         ),
-        (b"MODULE M; TYPE T = (a; b); END M.", (1, 22, 10)),
-        (b"MODULE M; TYPE T = [1, 2]; END M.", (1, 22, 10)),
+        ("MODULE M; TYPE T = (a; b); END M.", (1, 22, 10)),
+        ("MODULE M; TYPE T = [1, 2]; END M.", (1, 22, 10)),
         (
-            b"MODULE M; TYPE T = PROCEDURE (x: CHAR); END M.",
+            "MODULE M; TYPE T = PROCEDURE (x: CHAR); END M.",
             (1, 32, 10),
         ),
-        (b"MODULE M; TYPE T = PROCEDURE : CHAR; END M.", (1, 30, 10)),
+        ("MODULE M; TYPE T = PROCEDURE : CHAR; END M.", (1, 30, 10)),
         (
-            b"MODULE M; PROCEDURE P: CHAR; BEGIN END P; END M.",
+            "MODULE M; PROCEDURE P: CHAR; BEGIN END P; END M.",
             (1, 22, 10),
         ),
         (
-            b"MODULE M; PROCEDURE P(a: CHAR;); BEGIN END P; END M.",
+            "MODULE M; PROCEDURE P(a: CHAR;); BEGIN END P; END M.",
             (1, 31, 10),
         ),
-        (b"MODULE M; BEGIN x = 1 END M.", (1, 19, 10)),
-        (b"MODULE M; BEGIN x(1)(2) END M.", (1, 21, 10)),
-        (b"MODULE M; BEGIN x(1).y END M.", (1, 21, 10)),
-        (b"MODULE M; BEGIN x := a[] END M.", (1, 24, 10)),
-        (b"MODULE M; BEGIN x := NOT -a END M.", (1, 26, 10)),
-        (b"MODULE M; BEGIN CASE x OF 1 END END M.", (1, 29, 10)),
-        (b"MODULE M; BEGIN REPEAT END M.", (1, 24, 10)),
-        (b"MODULE M; BEGIN WITH 1 DO END END M.", (1, 22, 10)),
-        (b"MODULE M; BEGIN WITH f(x) DO END END M.", (1, 23, 10)),
-        (b"MODULE M; END M. MODULE", (1, 18, 13)),
-        (b"MODULE M; END m x", (1, 15, 11)),
-        (b"DEFINITION MODULE D; END E.", (1, 26, 11)),
-        (b"MODULE M; PROCEDURE P; BEGIN END P. END M.", (1, 35, 10)),
-        (b"MODULE M; BEGIN", (1, 16, 10)),
-        (b"MODULE M; VAR p: POINTER TO CHAR; END M.", (1, 18, 13)),
-        (b"MODULE M; MODULE", (1, 11, 13)),
-        (b"MODULE M; END N.", (1, 15, 11)),
+        ("MODULE M; BEGIN x = 1 END M.", (1, 19, 10)),
+        ("MODULE M; BEGIN x(1)(2) END M.", (1, 21, 10)),
+        ("MODULE M; BEGIN x(1).y END M.", (1, 21, 10)),
+        ("MODULE M; BEGIN x := a[] END M.", (1, 24, 10)),
+        ("MODULE M; BEGIN x := NOT -a END M.", (1, 26, 10)),
+        ("MODULE M; BEGIN CASE x OF 1 END END M.", (1, 29, 10)),
+        ("MODULE M; BEGIN REPEAT END M.", (1, 24, 10)),
+        ("MODULE M; BEGIN WITH 1 DO END END M.", (1, 22, 10)),
+        ("MODULE M; BEGIN WITH f(x) DO END END M.", (1, 23, 10)),
+        ("MODULE M; END M. MODULE", (1, 18, 13)),
+        ("MODULE M; END m x", (1, 15, 11)),
+        ("DEFINITION MODULE D; END E.", (1, 26, 11)),
+        ("MODULE M; PROCEDURE P; BEGIN END P. END M.", (1, 35, 10)),
+        ("MODULE M; BEGIN", (1, 16, 10)),
+        ("MODULE M; VAR p: POINTER TO CHAR; END M.", (1, 18, 13)),
+        ("MODULE M; MODULE", (1, 11, 13)),
+        ("MODULE M; END N.", (1, 15, 11)),
     ];
     for (text, refusal) in rows.iter() {
         let (line, col, number) = *refusal;
         assert!(rt;
-            outcome(rt.alloc(), text) == refused(line, col, number),
-            "at {text:?}"
+            outcome(rt.alloc(), text.as_bytes()) == refused(line, col, number),
+            "{text}"
         );
     }
     Ok(())
@@ -92,10 +94,16 @@ fn accepts(rt: HostRuntime) -> Result<(), Fail> {
     Ok(())
 }
 
+/// A part that comes so many times comes to this.
+fn expect_nested(rt: &impl Abort, alloc: Global, nested: &Nested, times: u32, expected: Reported) {
+    let text = text_of(alloc, nested, times).expect(rt, "memory");
+    assert!(rt; outcome(alloc, text.as_slice()) == expected, "{times}");
+}
+
 /// The most levels that are accepted, and the column of line 1 where one too many begins. The fields of a record and the
 /// elements of an array are a level more.
 #[test]
-fn counts_nesting(rt: HostRuntime) -> Result<(), Fail> {
+fn counts_nesting(rt: HostRuntime) {
     let rows = [
         (samples::IFS, 200, 2017),
         (samples::ELSIFS, 199, 2614),
@@ -110,10 +118,13 @@ fn counts_nesting(rt: HostRuntime) -> Result<(), Fail> {
         (samples::DIMENSIONS, 198, 628),
     ];
     for (nested, most, col) in rows.iter() {
-        let deepest = text_of(rt.alloc(), nested, *most)?;
-        assert!(rt; outcome(rt.alloc(), deepest.as_slice()) == Reported::Tree);
-        let over = text_of(rt.alloc(), nested, most.saturating_add(1))?;
-        assert!(rt; outcome(rt.alloc(), over.as_slice()) == refused(1, *col, 12));
+        expect_nested(&rt, rt.alloc(), nested, *most, Reported::Tree);
+        expect_nested(
+            &rt,
+            rt.alloc(),
+            nested,
+            most.saturating_add(1),
+            refused(1, *col, 12),
+        );
     }
-    Ok(())
 }

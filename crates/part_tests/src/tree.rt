@@ -1,6 +1,7 @@
 use m2_tree::{Boxed, Expr, Item, Items, Name, Pos, Quoted, Refusal, Token, are_equal};
 use std::alloc::{AllocError, Global};
 use std::mem::size_of;
+use std::process::Abort;
 use std::test::Fail;
 
 #[test]
@@ -25,17 +26,29 @@ fn orders_places(rt: HostRuntime) {
     assert!(rt; first < second && second < third && first < third);
 }
 
+/// A copy of the name has these bytes.
+fn expect_name(rt: &impl Abort, name: Name, bytes: &[u8]) {
+    let copy = name.clone().expect(rt, "memory");
+    assert!(rt; copy.as_bytes() == bytes);
+}
+
+/// A copy of what was quoted has these bytes.
+fn expect_quoted(rt: &impl Abort, quoted: Quoted, bytes: &[u8]) {
+    let copy = quoted.clone().expect(rt, "memory");
+    assert!(rt; copy.as_bytes() == bytes);
+}
+
 #[test]
-fn keeps_bytes(rt: HostRuntime) -> Result<(), Fail> {
-    let longest = Name::new(rt.alloc(), &[b'x'; 64])?;
-    assert!(rt; longest.clone()?.as_bytes() == [b'x'; 64].as_slice());
-    let put = Name::new(rt.alloc(), b"Put")?;
-    assert!(rt; put.clone()?.as_bytes() == b"Put".as_slice());
-    let short = Quoted::new(rt.alloc(), b"a'b")?;
-    assert!(rt; short.clone()?.as_bytes() == b"a'b".as_slice());
-    let long = Quoted::new(rt.alloc(), &[b'"'; 1000])?;
-    assert!(rt; long.clone()?.as_bytes() == [b'"'; 1000].as_slice());
-    Ok(())
+fn keeps_bytes(rt: HostRuntime) {
+    let alloc = rt.alloc();
+    let longest = Name::new(alloc, &[b'x'; 64]).expect(&rt, "memory");
+    expect_name(&rt, longest, &[b'x'; 64]);
+    let put = Name::new(alloc, b"Put").expect(&rt, "memory");
+    expect_name(&rt, put, b"Put");
+    let short = Quoted::new(alloc, b"a'b").expect(&rt, "memory");
+    expect_quoted(&rt, short, b"a'b");
+    let long = Quoted::new(alloc, &[b'"'; 1000]).expect(&rt, "memory");
+    expect_quoted(&rt, long, &[b'"'; 1000]);
 }
 
 #[test]
@@ -67,12 +80,12 @@ fn compares_trees(rt: HostRuntime) -> Result<(), Fail> {
 }
 
 #[test]
-fn keeps_lists(rt: HostRuntime) -> Result<(), Fail> {
-    let mut items = Items::from_slice(rt.alloc(), &[1u8, 2, 3])?;
-    items.push(4)?;
-    items.append(Items::from_slice(rt.alloc(), &[5, 6])?)?;
+fn keeps_lists(rt: HostRuntime) {
+    let mut items = Items::from_slice(rt.alloc(), &[1u8, 2, 3]).expect(&rt, "memory");
+    items.push(4).expect(&rt, "memory");
+    let more = Items::from_slice(rt.alloc(), &[5, 6]).expect(&rt, "memory");
+    items.append(more).expect(&rt, "memory");
     assert!(rt; items.as_slice() == [1, 2, 3, 4, 5, 6].as_slice());
-    let boxed = Boxed::new(rt.alloc(), 7u8)?;
+    let boxed = Boxed::new(rt.alloc(), 7u8).expect(&rt, "memory");
     assert!(rt; boxed.into_inner() == 7);
-    Ok(())
 }

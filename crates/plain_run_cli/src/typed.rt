@@ -131,15 +131,18 @@ impl Bodies {
     }
 }
 
-/// The typed bodies of a program that breaks no rule, in start order.
-pub fn typed_program(alloc: Global, files: &[SourceFile]) -> Result<Vec<TypedModule>> {
-    let trees = read_all(alloc, files)?;
-    let named = named_trees(alloc, files, &trees)?;
-    let graph = match Graph::of(alloc, &named) {
-        Ok(graph) => graph,
+/// The graph of files with these trees.
+fn graph_of(alloc: Global, files: &[SourceFile], trees: &[Arc<Module>]) -> Result<Graph> {
+    let named = named_trees(alloc, files, trees)?;
+    match Graph::of(alloc, &named) {
+        Ok(graph) => Ok(graph),
         Err(GraphError::Refused(_)) => bail!("imports are refused"),
         Err(GraphError::NoMemory) => bail!("out of memory"),
-    };
+    }
+}
+
+/// The typed bodies of the graph's files, in the order of its jobs.
+fn bodies_of(alloc: Global, graph: &Graph, trees: &[Arc<Module>]) -> Result<Bodies> {
     let mut bodies = Bodies {
         alloc,
         done: Vec::new(alloc),
@@ -150,11 +153,24 @@ pub fn typed_program(alloc: Global, files: &[SourceFile]) -> Result<Vec<TypedMod
             bodies.add(*file, tree, needs)?;
         }
     }
+    Ok(bodies)
+}
+
+/// The bodies of these files, in their order.
+fn in_order(alloc: Global, files: &[usize], bodies: &mut Bodies) -> Result<Vec<TypedModule>> {
     let mut program = Vec::new(alloc);
-    for file in graph.start_order() {
+    for file in files {
         if let Some(typed) = bodies.take(*file) {
             program.push(typed)?;
         }
     }
     Ok(program)
+}
+
+/// The typed bodies of a program that breaks no rule, in start order.
+pub fn typed_program(alloc: Global, files: &[SourceFile]) -> Result<Vec<TypedModule>> {
+    let trees = read_all(alloc, files)?;
+    let graph = graph_of(alloc, files, &trees)?;
+    let mut bodies = bodies_of(alloc, &graph, &trees)?;
+    in_order(alloc, graph.start_order(), &mut bodies)
 }

@@ -54,57 +54,72 @@ fn number_of(rt: &impl Eprint, matches: &ArgMatches, option: &str, most: u64) ->
 
 /// The words that are known.
 fn command<'a>(alloc: Global) -> Result<Command<'a>> {
-    let memory = Arg::new(alloc, "memory")
-        .long("memory")
-        .value_name("PAGES")
-        .default_value("16")
-        .help("The pages of 65536 bytes of the program's memory, from 1 to 1024");
-    let bound = Arg::new(alloc, "bound")
-        .long("bound")
-        .value_name("N")
-        .default_value("1000000")
-        .help("The most turns of each loop, and how deep calls nest, from 1 to 1000000000");
-    let files = Arg::new(alloc, "FILE")
-        .required(true)
-        .action(ArgAction::Append)
-        .num_args(1..)
-        .help("The files of the program's modules");
     Ok(
         Command::new(alloc, "plain_run")
             .version(VERSION)
             .about("Runs Modula-2 slowly, by the definition of what programs do")
-            .arg(memory)?
-            .arg(bound)?
-            .arg(files)?,
+            .arg(
+                Arg::new(alloc, "memory")
+                    .long("memory")
+                    .value_name("PAGES")
+                    .default_value("16")
+                    .help("The pages of 65536 bytes of the program's memory, from 1 to 1024"),
+            )?
+            .arg(
+                Arg::new(alloc, "bound")
+                    .long("bound")
+                    .value_name("N")
+                    .default_value("1000000")
+                    .help(
+                        "The most turns of each loop, and how deep calls nest, from 1 to 1000000000",
+                    ),
+            )?
+            .arg(
+                Arg::new(alloc, "FILE")
+                    .required(true)
+                    .action(ArgAction::Append)
+                    .num_args(1..)
+                    .help("The files of the program's modules"),
+            )?,
     )
 }
 
-/// What the words ask for; help and the version go to standard output, and what is wrong with them to standard error.
-fn read_words<R: Print + Eprint + AllocGlobal>(rt: &R, words: &[String]) -> Result<Words> {
-    let alloc = rt.alloc();
-    let matches = match command(alloc)?.try_get_matches_from(words) {
-        Ok(matches) => matches,
-        Err(error) => {
-            error.print(rt)?;
-            let status = if error.use_stderr() { COMMAND_LINE } else { 0 };
-            return Ok(Words::Reported(status));
-        }
-    };
-    let Some(pages) = number_of(rt, &matches, "memory", u64::from(MAX_PAGES)) else {
-        return Ok(Words::Reported(COMMAND_LINE));
-    };
-    let Some(bound) = number_of(rt, &matches, "bound", MAX_BOUND) else {
-        return Ok(Words::Reported(COMMAND_LINE));
-    };
-    let mut files = Vec::new(alloc);
-    for file in matches.get_strs("FILE").unwrap_or(&[]) {
-        files.push(String::from_str(alloc, file)?)?;
+/// The same texts once more.
+fn strings_of(alloc: Global, texts: &[&str]) -> Result<Vec<String>> {
+    let mut strings = Vec::new(alloc);
+    for text in texts {
+        strings.push(String::from_str(alloc, text)?)?;
     }
+    Ok(strings)
+}
+
+/// What the options and names ask for. Numbers that they cannot take are reported.
+fn requested<R: Eprint + AllocGlobal>(rt: &R, matches: &ArgMatches) -> Result<Words> {
+    let alloc = rt.alloc();
+    let Some(pages) = number_of(rt, matches, "memory", u64::from(MAX_PAGES)) else {
+        return Ok(Words::Reported(COMMAND_LINE));
+    };
+    let Some(bound) = number_of(rt, matches, "bound", MAX_BOUND) else {
+        return Ok(Words::Reported(COMMAND_LINE));
+    };
+    let files = strings_of(alloc, matches.get_strs("FILE").unwrap_or(&[]))?;
     Ok(Words::Asked(Asked {
         pages: pages as u32,
         bound: bound as usize,
         files,
     }))
+}
+
+/// What the words ask for; help and the version go to standard output, and what is wrong with them to standard error.
+fn read_words<R: Print + Eprint + AllocGlobal>(rt: &R, words: &[String]) -> Result<Words> {
+    match command(rt.alloc())?.try_get_matches_from(words) {
+        Ok(matches) => requested(rt, &matches),
+        Err(error) => {
+            error.print(rt)?;
+            let status = if error.use_stderr() { COMMAND_LINE } else { 0 };
+            Ok(Words::Reported(status))
+        }
+    }
 }
 
 /// What the command line asks for.
