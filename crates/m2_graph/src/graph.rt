@@ -20,7 +20,6 @@ use sqlite_items::Items;
 use std::alloc::{AllocError, Global};
 
 /// The jobs of a program, and the order in which its bodies start. Files go by how many were given before them.
-#[derive(Drop)]
 pub struct Graph {
     /// For each job the file that it compiles.
     files: Vec<usize>,
@@ -29,6 +28,20 @@ pub struct Graph {
     /// The files of the bodies that start, in order.
     starts: Vec<usize>,
     ghost are_jobs: { AreJobs (map (λ job. job.items) jobs.items) },
+}
+
+// Written by hand, so that proofs above take a drop as one call, and not as one for each field.
+impl Drop for Graph {
+    fn drop(self) {
+        let Graph {
+            files,
+            jobs,
+            starts,
+        } = self;
+        drop(files);
+        drop(jobs);
+        drop(starts);
+    }
 }
 
 /// The graph of files in order, where these definitions have numbers, this is the program module, and nothing is refused.

@@ -41,7 +41,6 @@ pub struct Imported {
 }
 
 /// The body of a program or an implementation module in which no rule is broken.
-#[derive(Drop)]
 pub struct TypedModule {
     pub name: Name,
     /// The place of the name behind MODULE.
@@ -59,4 +58,29 @@ pub struct TypedModule {
     /// All procedures in the order in which their bodies end.
     pub order: Items<Which>,
     pub body: Items<TypedStmt>,
+}
+
+// Written by hand, so that proofs above take a drop as one call, and not as one for each field.
+impl Drop for TypedModule {
+    fn drop(self) {
+        let TypedModule {
+            name,
+            pos: _,
+            imports,
+            types,
+            variables,
+            procedures,
+            locals,
+            order,
+            body,
+        } = self;
+        drop(name);
+        drop(imports);
+        drop(types);
+        drop(variables);
+        drop(procedures);
+        drop(locals);
+        drop(order);
+        drop(body);
+    }
 }

@@ -84,7 +84,6 @@ pub struct Data {
 }
 
 /// A module, its parts in the order of their sections.
-#[derive(Drop)]
 pub struct WModule {
     pub types: Items<FuncType>,
     pub imports: Items<Import>,
@@ -95,4 +94,30 @@ pub struct WModule {
     pub exports: Items<Export>,
     pub elements: Items<Element>,
     pub data: Items<Data>,
+}
+
+// Written by hand, so that proofs above take a drop as one call, and not as one for each field.
+impl Drop for WModule {
+    fn drop(self) {
+        let WModule {
+            types,
+            imports,
+            functions,
+            tables,
+            memories,
+            globals,
+            exports,
+            elements,
+            data,
+        } = self;
+        drop(types);
+        drop(imports);
+        drop(functions);
+        drop(tables);
+        drop(memories);
+        drop(globals);
+        drop(exports);
+        drop(elements);
+        drop(data);
+    }
 }

@@ -263,9 +263,16 @@ fn check_whole(alloc: Global, tree: &WModule) -> Result<(), WFault>
 }
 
 /// A module that is valid.
-#[derive(Drop)]
 pub struct ValidModule {
     tree: WModule,
+}
+
+// Written by hand, as that of a tree.
+impl Drop for ValidModule {
+    fn drop(self) {
+        let ValidModule { tree } = self;
+        drop(tree);
+    }
 }
 
 impl Model for ValidModule {
