@@ -1,15 +1,21 @@
 //! The words of a command line, as the programs read them.
 #![tactic(auto)]
 
+mod options;
+
 ghost use Rattle.command_words.specs.Words.{number_of};
 ghost use Rattle.std.specs.Option.{IfSome};
 ghost use Rattle.std.specs.Prelude.{◌≡◌, ◌≤◌};
 ghost use Rattle.std.specs.Char.{is_ascii_digit};
 ghost use Rattle.std.specs.List.{list_all};
 
+pub use options::{matches_of, number_option, strings_of};
 use std::env::FillError;
 use std::rt::Env;
 use std::{env, io, str};
+
+/// The status of a command line that asks for nothing that can be done.
+pub const COMMAND_LINE: u8 = 2;
 
 /// The most bytes of a word that is searched for what is no text.
 const LONGEST_WORD: usize = 4096;
@@ -22,7 +28,6 @@ fn are_digits(text: &[u8]) -> bool
 }
 
 /// A number of decimal digits alone, from 1 to a bound. Nothing for any other text.
-
 pub fn number(text: &str, most: u64) -> Option<u64>
     ensures exact { result ≡ number_of text.now most }
     ensures most { IfSome result (λ n. n ≤ most) }
@@ -42,13 +47,13 @@ pub fn number(text: &str, most: u64) -> Option<u64>
     }
 }
 
-/// What a command line holds.
+/// What reading the command line comes to.
 #[derive(Drop)]
-pub enum CommandLine {
-    /// The program's name, and its words.
-    Words(Vec<String>),
-    /// The word at this place is no UTF-8 text. The program's name stands at place 0.
-    NoText(usize),
+pub enum Words<T> {
+    /// What is read of it.
+    Read(T),
+    /// Nothing is to be done, and it is reported why: the status.
+    Reported(u8),
 }
 
 /// Where the first word stands that is no UTF-8 text. A word longer than 4096 bytes is passed over.
@@ -68,13 +73,20 @@ fn first_that_is_no_text<R: Env + AllocGlobal>(rt: &R) -> Option<usize> {
     None
 }
 
-/// The words of the command line. The only error is that memory ran out.
-pub fn command_line<R: Env + AllocGlobal>(rt: &R) -> io::Result<CommandLine> {
+/// The words of the command line of this program, of which the first is its name. A word that is no UTF-8 text is reported
+/// on standard error, by its place; the name stands at place 0. The only error is that memory ran out.
+pub fn command_line<R: Env + Eprint + AllocGlobal>(
+    rt: &R,
+    program: &str,
+) -> io::Result<Words<Vec<String>>> {
     match env::args(rt) {
-        Ok(words) => Ok(CommandLine::Words(words.collect(rt.alloc())?)),
+        Ok(words) => Ok(Words::Read(words.collect(rt.alloc())?)),
         Err(error) => match first_that_is_no_text(rt) {
             None => Err(error),
-            Some(at) => Ok(CommandLine::NoText(at)),
+            Some(at) => {
+                let _ = eprintln!(rt; "{program}: word {at} of the command line is no UTF-8 text");
+                Ok(Words::Reported(COMMAND_LINE))
+            }
         },
     }
 }

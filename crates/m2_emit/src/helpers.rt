@@ -194,11 +194,11 @@ fn mod_function(alloc: Global) -> Result<Function, AllocError>
 pub fn helpers(alloc: Global) -> Result<Items<Function>, AllocError>
     ensures { IfOk result (λ functions. functions ≡ helpers) }
 {
-    let copy = helper(alloc, 1, copy_code(alloc)?);
-    let fill = helper(alloc, 2, fill_code(alloc)?);
-    let check = helper(alloc, 3, check_code(alloc)?);
-    let div = helper(alloc, 4, div_code(alloc)?);
-    let remainder = mod_function(alloc)?;
-    let functions = vec![in alloc; copy, fill, check, div, remainder]?;
-    Ok(Items::from_vec(functions))
+    let mut functions = Items::new(alloc);
+    functions.push(helper(alloc, 1, copy_code(alloc)?))?;
+    functions.push(helper(alloc, 2, fill_code(alloc)?))?;
+    functions.push(helper(alloc, 3, check_code(alloc)?))?;
+    functions.push(helper(alloc, 4, div_code(alloc)?))?;
+    functions.push(mod_function(alloc)?)?;
+    Ok(functions)
 }

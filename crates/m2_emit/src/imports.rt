@@ -3,6 +3,7 @@
 ghost use Rattle.std.specs.Prelude.{◌≡◌, ◌++◌, ◌∷◌, [], IfOk, OnOk, map};
 ghost use Rattle.m2_scheme.specs.Scheme.{base_name, from_host, from_link, host_imports, imported_globals, own_imports, tab_name};
 ghost use Rattle.m2_scheme.specs.Modules.{imports};
+ghost use Rattle.m2_emit.specs.OwnImports.{linked_as, own_globals, stores};
 
 use crate::parts::{AT_LEAST_ONE, joined};
 use m2_typed::{Imported, TypedModule};
@@ -30,30 +31,62 @@ fn from_host(alloc: Global, name: &[u8]) -> Result<Import, AllocError>
     })
 }
 
+/// What link exports under this name.
+fn push_from_link(
+    alloc: Global,
+    imports: &mut Items<Import>,
+    name: &[u8],
+    kind: ImportKind,
+) -> Result<(), AllocError>
+    ensures { OnOk result (imports.new ≡ imports.old ++ linked_as name.now kind ∷ []) }
+{
+    imports.push(Import {
+        module_name: Items::from_slice(alloc, b"link")?,
+        name: Items::from_slice(alloc, name)?,
+        kind,
+    })
+}
+
+/// The memory and the table.
+fn push_stores(alloc: Global, imports: &mut Items<Import>) -> Result<(), AllocError>
+    ensures { OnOk result (imports.new ≡ imports.old ++ stores) }
+{
+    let limits = AT_LEAST_ONE;
+    let memory = ImportKind::Memory(MemoryType { limits });
+    push_from_link(alloc, imports, b"memory", memory)?;
+    let table = ImportKind::Table(TableType { limits });
+    push_from_link(alloc, imports, b"table", table)
+}
+
+/// A global that link exports under this name.
+fn push_from(alloc: Global, imports: &mut Items<Import>, name: Items<u8>) -> Result<(), AllocError>
+    ensures { OnOk result (imports.new ≡ imports.old ++ from_link name ∷ []) }
+{
+    imports.push(from_link(alloc, name)?)
+}
+
+/// The limit of the storage, and where the module's own data, texts and slots begin.
+fn push_own_globals(
+    alloc: Global,
+    imports: &mut Items<Import>,
+    name: &[u8],
+) -> Result<(), AllocError>
+    ensures { OnOk result (imports.new ≡ imports.old ++ own_globals name.now) }
+{
+    push_from(alloc, imports, Items::from_slice(alloc, b"limit")?)?;
+    push_from(alloc, imports, joined(alloc, b"base.", name)?)?;
+    push_from(alloc, imports, joined(alloc, b"text.", name)?)?;
+    push_from(alloc, imports, joined(alloc, b"tab.", name)?)
+}
+
 /// The memory, the table, and where the module's own data and slots begin.
 fn own_imports(alloc: Global, name: &[u8]) -> Result<Items<Import>, AllocError>
     ensures { IfOk result (λ imports. imports ≡ own_imports name.now) }
 {
-    let memory = Import {
-        module_name: Items::from_slice(alloc, b"link")?,
-        name: Items::from_slice(alloc, b"memory")?,
-        kind: ImportKind::Memory(MemoryType {
-            limits: AT_LEAST_ONE,
-        }),
-    };
-    let table = Import {
-        module_name: Items::from_slice(alloc, b"link")?,
-        name: Items::from_slice(alloc, b"table")?,
-        kind: ImportKind::Table(TableType {
-            limits: AT_LEAST_ONE,
-        }),
-    };
-    let limit = from_link(alloc, Items::from_slice(alloc, b"limit")?)?;
-    let base = from_link(alloc, joined(alloc, b"base.", name)?)?;
-    let text = from_link(alloc, joined(alloc, b"text.", name)?)?;
-    let tab = from_link(alloc, joined(alloc, b"tab.", name)?)?;
-    let imports = vec![in alloc; memory, table, limit, base, text, tab]?;
-    Ok(Items::from_vec(imports))
+    let mut imports = Items::new(alloc);
+    push_stores(alloc, &mut imports)?;
+    push_own_globals(alloc, &mut imports, name)?;
+    Ok(imports)
 }
 
 /// Where the data and the slots of another module begin.

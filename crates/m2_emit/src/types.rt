@@ -1,8 +1,8 @@
 //! The types of functions of a module.
 
-ghost use Rattle.std.specs.Prelude.{◌≡◌, ◌++◌, ◌∷◌, IfOk, OnOk, map};
+ghost use Rattle.std.specs.Prelude.{◌≡◌, ◌++◌, ◌∷◌, [], IfOk, OnOk, map};
 ghost use Rattle.wasm_tree.specs.declared.kinds.ValueType.TheVariants.{I32};
-ghost use Rattle.m2_scheme.specs.Scheme.{body_types};
+ghost use Rattle.m2_scheme.specs.Scheme.{body_types, type_from};
 ghost use Rattle.m2_scheme.specs.Signatures.{so_many, results_of, type_of};
 ghost use Rattle.m2_signatures.specs.Seen.{seen};
 
@@ -12,28 +12,37 @@ use sqlite_items::Items;
 use std::alloc::{AllocError, Global};
 use wasm_tree::{FuncType, ValueType};
 
+/// One type more.
+fn push_type(
+    alloc: Global,
+    types: &mut Items<FuncType>,
+    params: &[ValueType],
+    results: &[ValueType],
+) -> Result<(), AllocError>
+    ensures { OnOk result (types.new ≡ types.old ++ type_from params.now results.now ∷ []) }
+{
+    types.push(type_from(alloc, params, results)?)
+}
+
 /// The types of the helpers and of the body.
 fn body_types(alloc: Global) -> Result<Items<FuncType>, AllocError>
     ensures { IfOk result (λ types. types ≡ body_types) }
 {
-    let put = type_from(alloc, &[ValueType::I64], &[])?;
-    let copy = type_from(
+    let address = ValueType::I32;
+    let number = ValueType::I64;
+    let mut types = Items::new(alloc);
+    push_type(alloc, &mut types, &[number], &[])?;
+    push_type(alloc, &mut types, &[address, address, address], &[])?;
+    push_type(alloc, &mut types, &[address, address], &[])?;
+    push_type(
         alloc,
-        &[ValueType::I32, ValueType::I32, ValueType::I32],
-        &[],
+        &mut types,
+        &[number, number, number, number],
+        &[number],
     )?;
-    let fill = type_from(alloc, &[ValueType::I32, ValueType::I32], &[])?;
-    let wide = [
-        ValueType::I64,
-        ValueType::I64,
-        ValueType::I64,
-        ValueType::I64,
-    ];
-    let check = type_from(alloc, &wide, &[ValueType::I64])?;
-    let divide = type_from(alloc, &[ValueType::I64, ValueType::I64], &[ValueType::I64])?;
-    let body = type_from(alloc, &[ValueType::I32], &[])?;
-    let types = vec![in alloc; put, copy, fill, check, divide, body]?;
-    Ok(Items::from_vec(types))
+    push_type(alloc, &mut types, &[number, number], &[number])?;
+    push_type(alloc, &mut types, &[address], &[])?;
+    Ok(types)
 }
 
 /// A frame's address, and so many numbers.

@@ -1,6 +1,7 @@
 -- The procedures of a module with their bodies, and the module of them.
 use Rattle.std.specs.Prelude.{ℕ, ◌==◌, cond, List, [], ◌∷◌, ◌++◌, map, drop, Option, Some, None, Result, Ok, Err, slice_set}
 use Rattle.m2_tree.specs.declared.name.Ident.{Ident}
+use Rattle.m2_tree.specs.declared.pos.Pos.{Pos}
 use Rattle.m2_tree.specs.declared.decl.Module.{Module}
 use Rattle.m2_typed.specs.declared.types.TypeNo.{TypeNo}
 use Rattle.m2_typed.specs.declared.meaning.Meaning.{Meaning}
@@ -10,6 +11,7 @@ use Rattle.m2_typed.specs.declared.table.Table.{Table}
 use Rattle.m2_typed.specs.declared.typed_module.Routine.{Routine}
 use Rattle.m2_typed.specs.declared.typed_module.Which.{Which}
 use Rattle.m2_typed.specs.declared.typed_module.Which.TheVariants as which
+use Rattle.m2_typed.specs.declared.typed_module.Imported.{Imported}
 use Rattle.m2_typed.specs.declared.typed_module.TypedModule.{TypedModule}
 use Rattle.m2_typed.specs.Types.{integer}
 use Rattle.m2_typed.specs.Names.{found}
@@ -74,11 +76,14 @@ routine s name p around formals body =
 
 -- ---- the module
 
-abbrev pub typed_module : {T : Type 0} → Scope T → (modules : List (List ℕ × ℕ)) → Option Table → Module → Bodies → List TypedStmt → TypedModule
-typed_module s modules own m rs body = record {
-  name = m.name.name;
-  pos = m.name.pos;
-  imports = typed_imports modules s.tables (all_imports modules s.tables own m.imports);
+abbrev pub imports_of : {T : Type 0} → Scope T → (modules : List (List ℕ × ℕ)) → Option Table → Module → List Imported
+imports_of s modules own m = typed_imports modules s.tables (all_imports modules s.tables own m.imports)
+
+abbrev pub with_scope : {T : Type 0} → (name : List ℕ) → Pos → List Imported → Scope T → Bodies → List TypedStmt → TypedModule
+with_scope name pos imports s rs body = record {
+  name = name;
+  pos = pos;
+  imports = imports;
   types = s.types;
   variables = s.variables;
   procedures = rs.procedures;
@@ -86,3 +91,6 @@ typed_module s modules own m rs body = record {
   order = rs.order;
   body = body;
 }
+
+abbrev pub typed_module : {T : Type 0} → Scope T → (modules : List (List ℕ × ℕ)) → Option Table → Module → Bodies → List TypedStmt → TypedModule
+typed_module s modules own m rs body = with_scope m.name.name m.name.pos (imports_of s modules own m) s rs body

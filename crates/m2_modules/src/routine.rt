@@ -2,13 +2,13 @@
 
 ghost use Rattle.std.specs.Prelude.{◌≡◌, [], map, drop, slice_set, IfOk, OnOk};
 ghost use Rattle.std.specs.Option.{option_copied};
-ghost use Rattle.m2_modules.specs.Routines.{numbered_by, numbered_elaborated, numbered_known, procedure_named, unfilled, no_bodies, begun_at, filled, routine, typed_module};
+ghost use Rattle.m2_modules.specs.Routines.{numbered_by, numbered_elaborated, numbered_known, procedure_named, unfilled, no_bodies, begun_at, filled, routine, imports_of, with_scope, typed_module};
 
 use crate::imports::{all_imports, typed_imports};
 use m2_scopes::{Elaborated, Fault, Known, Scope};
-use m2_tree::{Ident, Items, Module, Pos};
+use m2_tree::{Ident, Items, Module, Name, Pos};
 use m2_typed::{
-    Dictionary, INTEGER, Meaning, Routine, Table, TypeNo, TypedModule, TypedStmt, Which,
+    Dictionary, INTEGER, Imported, Meaning, Routine, Table, TypeNo, TypedModule, TypedStmt, Which,
 };
 use std::alloc::{AllocError, Global};
 
@@ -188,6 +188,52 @@ pub fn routine_of(
 
 // ---- the module
 
+/// The modules that a body imports, from the scope where its block ends.
+fn imports_of(
+    alloc: Global,
+    scope: &Scope<Fault>,
+    modules: &Dictionary<usize>,
+    own: Option<&Table>,
+    tree: &Module,
+) -> Result<Items<Imported>, AllocError>
+    ensures { let own = option_copied own.entry in
+        IfOk result (λ is. is ≡ imports_of scope.now modules.now own tree.now) }
+{
+    let names = all_imports(alloc, modules, &scope.tables, own, tree.imports.as_slice())?;
+    typed_imports(alloc, modules, &scope.tables, &names)
+}
+
+/// A module with this name and these imports, from the scope where its block ends.
+fn with_scope(
+    alloc: Global,
+    name: Name,
+    pos: Pos,
+    imports: Items<Imported>,
+    scope: Scope<Fault>,
+    bodies: Bodies,
+    body: Items<TypedStmt>,
+) -> TypedModule
+    ensures { result ≡ with_scope name pos imports scope bodies body }
+{
+    let (types, variables) = scope.into_types(alloc);
+    let Bodies {
+        procedures,
+        locals,
+        order,
+    } = bodies;
+    TypedModule {
+        name,
+        pos,
+        imports,
+        types,
+        variables,
+        procedures,
+        locals,
+        order,
+        body,
+    }
+}
+
 /// The module of a body, from the scope where its block ends. The only error is that memory ran out.
 pub fn typed_module(
     alloc: Global,
@@ -200,28 +246,8 @@ pub fn typed_module(
 ) -> Result<TypedModule, AllocError>
     ensures { IfOk result (λ m. m ≡ typed_module scope modules.now (option_copied own.entry) tree.now bodies body) }
 {
-    let names = all_imports(alloc, modules, &scope.tables, own, tree.imports.as_slice())?;
-    let imports = typed_imports(alloc, modules, &scope.tables, &names)?;
+    let imports = imports_of(alloc, &scope, modules, own, tree)?;
     let name = tree.name.name.clone()?;
-    let Scope {
-        types,
-        variables,
-        ..
-    } = scope;
-    let Bodies {
-        procedures,
-        locals,
-        order,
-    } = bodies;
-    Ok(TypedModule {
-        name,
-        pos: tree.name.pos,
-        imports,
-        types,
-        variables,
-        procedures,
-        locals,
-        order,
-        body,
-    })
+    let pos = tree.name.pos;
+    Ok(with_scope(alloc, name, pos, imports, scope, bodies, body))
 }

@@ -10,9 +10,10 @@ use crate::fault::{Elaborated, Fault, reported};
 use crate::known::{Known, Origin};
 use m2_tree::{Ident, Items, Pos};
 use m2_typed::{
-    Dictionary, Made, Meaning, OpenedField, Shape, Shared, Table, TypeNo, Types, made_of,
+    Dictionary, Made, Meaning, OpenedField, Reached, Shape, Shared, Table, TypeNo, Types, made_of,
 };
 use std::alloc::{AllocError, Global};
+use std::mem;
 
 /// The names of a block around the innermost one.
 #[derive(Drop)]
@@ -31,7 +32,6 @@ pub struct OpenedRecord {
 }
 
 /// What is known at a place of a module.
-#[derive(Drop)]
 pub struct Scope<T> {
     /// The tables of the definitions that the module imports.
     pub tables: Items<Shared<Table>>,
@@ -48,6 +48,46 @@ pub struct Scope<T> {
     pub outer: Items<Block<T>>,
     /// The records of the WITHs around the place, the outermost first. Their fields come before all other names.
     pub withs: Items<OpenedRecord>,
+}
+
+// Written by hand, so that proofs above take a drop as one call, and not as one for each field.
+impl<T: Drop> Drop for Scope<T> {
+    fn drop(self) {
+        let Scope {
+            tables,
+            types,
+            variables,
+            procedures,
+            level: _,
+            own,
+            outer,
+            withs,
+        } = self;
+        drop(tables);
+        drop(types);
+        drop(variables);
+        drop(procedures);
+        drop(own);
+        drop(outer);
+        drop(withs);
+    }
+}
+
+impl Scope<Fault> {
+    /// The types that are known, and those of the module's variables. What else is known is dropped.
+    pub fn into_types(self, alloc: Global) -> (Types, Items<TypeNo>)
+        ensures { result ≡ (self.types, self.variables) }
+    {
+        let mut scope = self;
+        let none = Types {
+            home: 0,
+            own: Items::new(alloc),
+            others: Reached::new(alloc),
+        };
+        let types = mem::replace(&mut scope.types, none);
+        let variables = mem::replace(&mut scope.variables, Items::new(alloc));
+        (types, variables)
+    }
 }
 
 /// What is known of a name, and whether it stands before the procedure in which it is used.

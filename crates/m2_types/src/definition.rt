@@ -40,7 +40,7 @@ fn table_of(
     let exported = exports(alloc, &scope.own)?;
     let number = scope.types.home;
     let name = tree.name.name.clone()?;
-    let Scope { types, .. } = scope;
+    let (types, _) = scope.into_types(alloc);
     let reached = reached_of(alloc, types)?;
     Ok(Table {
         number,

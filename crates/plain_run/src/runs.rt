@@ -3,12 +3,13 @@
 ghost use Rattle.std.specs.Prelude.{◌≡◌, suc, map, IfOk, MatchOption};
 ghost use Rattle.std.specs.Option.{option_map};
 ghost use Rattle.m2_meaning.specs.Calls.{runs, calling};
+ghost use Rattle.m2_typed.specs.declared.statement.TypedStmt.TheVariants.{If, Case, With};
 ghost use Rattle.plain_store.specs.Seen.{seen, answered, ended};
 ghost use Rattle.plain_values.specs.Surroundings.{modules_of, callee_of, sent, value_in, located_in, called_in, linked_in, links_in, reached_in, components_in, given_in, all_given_in, does_in, steps_in};
-ghost use Rattle.plain_steps.specs.Parts.{answered_sent, answered_all, pair_in, in_in, target_in, ends_in, asked_in, while_in, repeat_in, loop_in, for_in, turns_in};
+ghost use Rattle.plain_steps.specs.Parts.{answered_sent, answered_all, pair_in, in_in, target_in, ends_in, asked_in, while_in, repeat_in, loop_in, for_in, for_begun, turns_in};
 
 use m2_tree::Items;
-use m2_typed::{Argument, Call, Component, Link, Place, TypeNo, TypedExpr, TypedStmt};
+use m2_typed::{Argument, Call, Component, Link, Place, TypeNo, TypedArm, TypedExpr, TypedStmt};
 use plain_steps::callees::{module_callee, nested_callee, procedure_value, variable_callee};
 use plain_steps::entering::{Request, around_body, enter, rest_of, result};
 use plain_steps::passing::{
@@ -59,6 +60,23 @@ pub fn value<'a>(
             Ok(included(*o, operands(around, room, a.get(), b.get(), st)?, st))
         }
         TypedExpr::In(a, b) => in_value(around, room, a.get(), b.get(), st),
+        _ => function_value(around, room, e, st),
+    }
+}
+
+/// The value of a function's call, of a standard function or of another. Of any other expression it is the value too.
+#[cycle(runs)]
+#[tactic(auto, using(crate::proofs::Variants::variants))]
+fn function_value<'a>(
+    around: &Around<'a>,
+    room: usize,
+    e: &TypedExpr,
+    st: &mut State,
+) -> Result<Answer<i64>, RunFault>
+    ensures { IfOk result (λ j. answered j st.new ≡ value_in around.now e.now (seen st.old)) }
+{
+    let room = deeper(room)?;
+    match e {
         TypedExpr::Abs(t, a) => distance(around, *t, value(around, room, a.get(), st)?, st),
         TypedExpr::Cap(a) => capital(value(around, room, a.get(), st)?, st),
         TypedExpr::Chr(a) => Ok(character(value(around, room, a.get(), st)?, st)),
@@ -67,6 +85,7 @@ pub fn value<'a>(
         TypedExpr::Val(t, a) => Ok(taken(around, *t, value(around, room, a.get(), st)?, st)),
         TypedExpr::High(slot) => Ok(Answer::Gave(whole(slot_high(around, *slot))?)),
         TypedExpr::Call(_, call) => called(around, room, call.get(), st),
+        _ => value(around, room, e, st),
     }
 }
 
@@ -446,28 +465,8 @@ fn step<'a>(
             membership(around, *o, target(around, room, d, e, st)?, st)
         }
         TypedStmt::Halt => Ok(Outcome::Stopped(Stop::Ended(9))),
-        TypedStmt::If(e, body, others) => match value(around, room, e, st)? {
-            Answer::Gave(v) => {
-                if is_true(v) {
-                    return steps(around, room, body.as_slice(), st);
-                }
-                match others {
-                    None => Ok(Outcome::Went),
-                    Some(others) => steps(around, room, others.as_slice(), st),
-                }
-            }
-            Answer::Stopped(stop) => Ok(Outcome::Stopped(stop)),
-        },
-        TypedStmt::Case(e, arms, others) => match value(around, room, e, st)? {
-            Answer::Gave(v) => match chosen_arm(v, arms.as_slice()) {
-                Some(arm) => steps(around, room, arm.body.as_slice(), st),
-                None => match others {
-                    None => Ok(Outcome::Stopped(Stop::Ended(5))),
-                    Some(others) => steps(around, room, others.as_slice(), st),
-                },
-            },
-            Answer::Stopped(stop) => Ok(Outcome::Stopped(stop)),
-        },
+        TypedStmt::If(e, body, others) => if_run(around, room, e, body, others, st),
+        TypedStmt::Case(e, arms, others) => case_run(around, room, e, arms, others, st),
         TypedStmt::While(e, body) => while_turns(around, room, e, body.as_slice(), st),
         TypedStmt::Repeat(body, e) => repeat_turns(around, room, body.as_slice(), e, st),
         TypedStmt::Loop(body) => loop_turns(around, room, body.as_slice(), st),
@@ -476,23 +475,112 @@ fn step<'a>(
         TypedStmt::Give(t, e) => Ok(give(around, *t, value(around, room, e, st)?, st)),
         TypedStmt::For(d, t, start, limit, by, body) => {
             match turns(around, room, d, *t, start, limit, st)? {
-                Answer::Gave(of) => {
-                    if begin_for(around, by, &of, st)? {
-                        return Ok(Outcome::Went);
-                    }
-                    for_turns(around, room, *t, by, body.as_slice(), &of, st)
-                }
+                Answer::Gave(of) => for_run(around, room, *t, by, body.as_slice(), &of, st),
                 Answer::Stopped(stop) => Ok(Outcome::Stopped(stop)),
             }
         }
-        TypedStmt::With(d, body) => match located(around, room, d, st)? {
-            Answer::Gave(l) => {
-                let inner = under(around, l)?;
-                steps(&inner, room, body.as_slice(), st)
-            }
-            Answer::Stopped(stop) => Ok(Outcome::Stopped(stop)),
-        },
+        TypedStmt::With(d, body) => with_run(around, room, d, body, st),
     }
+}
+
+/// An IF.
+#[cycle(runs)]
+#[tactic(auto, using(crate::proofs::Stepped::variants))]
+fn if_run<'a>(
+    around: &Around<'a>,
+    room: usize,
+    e: &TypedExpr,
+    body: &Items<TypedStmt>,
+    others: &Option<Items<TypedStmt>>,
+    st: &mut State,
+) -> Result<Outcome, RunFault>
+    ensures { let s = If e.now body.now others.now in
+        IfOk result (λ o. ended o st.new ≡ does_in around.now s (seen st.old)) }
+{
+    let room = deeper(room)?;
+    match value(around, room, e, st)? {
+        Answer::Gave(v) => {
+            if is_true(v) {
+                return steps(around, room, body.as_slice(), st);
+            }
+            match others {
+                None => Ok(Outcome::Went),
+                Some(others) => steps(around, room, others.as_slice(), st),
+            }
+        }
+        Answer::Stopped(stop) => Ok(Outcome::Stopped(stop)),
+    }
+}
+
+/// A CASE.
+#[cycle(runs)]
+#[tactic(auto, using(crate::proofs::Stepped::variants))]
+fn case_run<'a>(
+    around: &Around<'a>,
+    room: usize,
+    e: &TypedExpr,
+    arms: &Items<TypedArm>,
+    others: &Option<Items<TypedStmt>>,
+    st: &mut State,
+) -> Result<Outcome, RunFault>
+    ensures { let s = Case e.now arms.now others.now in
+        IfOk result (λ o. ended o st.new ≡ does_in around.now s (seen st.old)) }
+{
+    let room = deeper(room)?;
+    match value(around, room, e, st)? {
+        Answer::Gave(v) => match chosen_arm(v, arms.as_slice()) {
+            Some(arm) => steps(around, room, arm.body.as_slice(), st),
+            None => match others {
+                None => Ok(Outcome::Stopped(Stop::Ended(5))),
+                Some(others) => steps(around, room, others.as_slice(), st),
+            },
+        },
+        Answer::Stopped(stop) => Ok(Outcome::Stopped(stop)),
+    }
+}
+
+/// A WITH.
+#[cycle(runs)]
+#[tactic(auto, using(crate::proofs::Stepped::variants))]
+fn with_run<'a>(
+    around: &Around<'a>,
+    room: usize,
+    d: &Place,
+    body: &Items<TypedStmt>,
+    st: &mut State,
+) -> Result<Outcome, RunFault>
+    ensures { let s = With d.now body.now in
+        IfOk result (λ o. ended o st.new ≡ does_in around.now s (seen st.old)) }
+{
+    let room = deeper(room)?;
+    match located(around, room, d, st)? {
+        Answer::Gave(l) => {
+            let inner = under(around, l)?;
+            steps(&inner, room, body.as_slice(), st)
+        }
+        Answer::Stopped(stop) => Ok(Outcome::Stopped(stop)),
+    }
+}
+
+/// The turns of a FOR, from its start on.
+#[cycle(runs)]
+#[tactic(auto, using(crate::proofs::Stepped::variants))]
+fn for_run<'a>(
+    around: &Around<'a>,
+    room: usize,
+    t: TypeNo,
+    by: &i64,
+    body: &[TypedStmt],
+    of: &Turns,
+    st: &mut State,
+) -> Result<Outcome, RunFault>
+    ensures { IfOk result (λ o. ended o st.new ≡ for_begun around.now t by.now body.now of.now (seen st.old)) }
+{
+    let room = deeper(room)?;
+    if begin_for(around, by, of, st)? {
+        return Ok(Outcome::Went);
+    }
+    for_turns(around, room, t, by, body, of, st)
 }
 
 /// A location, and then the value behind it.

@@ -9,8 +9,9 @@ mod typed;
 mod words;
 
 use crate::typed::typed_program;
-use crate::words::{Asked, Words, read_command_line};
+use crate::words::{Asked, read_command_line};
 use anyhow::{Context, Result};
+use command_words::Words;
 use m2c::{Gate, Options, Outcome, SourceFile, build};
 use plain_run::{Report, Stop, run as run_program};
 use std::fmt::Display;
@@ -132,7 +133,7 @@ fn elaborate<R: Files + Print + Eprint + AllocGlobal + Threads + Sync>(
 fn run<R: Files + Env + Print + Eprint + AllocGlobal + Threads + Sync>(rt: &R) -> Result<u8> {
     match read_command_line(rt)? {
         Words::Reported(status) => Ok(status),
-        Words::Asked(asked) => elaborate(rt, &asked),
+        Words::Read(asked) => elaborate(rt, &asked),
     }
 }
 

@@ -90,3 +90,18 @@ invariant-loop_turns-loop l = loop_in l.around l.body (l.around.program.now.boun
 
 abbrev pub invariant-for_turns-loop : goal.invariant-for_turns-loop
 invariant-for_turns-loop l = for_in l.around l.t l.by l.body l.of.l l.of.last (l.around.program.now.bound - l.counter) (seen l.st) ≡ for_in l.around l.t l.by l.body l.of.l l.of.last l.around.program.now.bound (seen l.initial.st)
+
+abbrev pub decreases-function_value : goal.decreases-function_value
+decreases-function_value l = l.room
+
+abbrev pub decreases-if_run : goal.decreases-if_run
+decreases-if_run l = l.room
+
+abbrev pub decreases-case_run : goal.decreases-case_run
+decreases-case_run l = l.room
+
+abbrev pub decreases-with_run : goal.decreases-with_run
+decreases-with_run l = l.room
+
+abbrev pub decreases-for_run : goal.decreases-for_run
+decreases-for_run l = l.room

@@ -1,0 +1,55 @@
+//! The options and names of a command line.
+
+ghost use Rattle.std.specs.Option.{IfSome};
+ghost use Rattle.std.specs.Prelude.{◌≤◌};
+
+use crate::{COMMAND_LINE, Words, number};
+use anyhow::Result;
+use clap::{ArgMatches, Command};
+use std::alloc::{AllocError, Global};
+
+/// What words ask for by this command, the first the program's name. Help and the version go to standard output, and what
+/// is wrong with the words to standard error. An error where memory ran out or that could not be written.
+pub fn matches_of<'a, R: Print + Eprint>(
+    rt: &R,
+    command: Command<'a>,
+    words: &'a [String],
+) -> Result<Words<ArgMatches<'a>>> {
+    match command.try_get_matches_from(words) {
+        Ok(matches) => Ok(Words::Read(matches)),
+        Err(error) => {
+            error.print(rt)?;
+            let status = if error.use_stderr() { COMMAND_LINE } else { 0 };
+            Ok(Words::Reported(status))
+        }
+    }
+}
+
+/// The number of an option of this program, from 1 to a bound. Any other is reported on standard error.
+pub fn number_option(
+    rt: &impl Eprint,
+    program: &str,
+    matches: &ArgMatches,
+    option: &str,
+    most: u64,
+) -> Option<u64>
+    ensures { IfSome result (λ n. n ≤ most) }
+{
+    let text = matches.get_str(option).unwrap_or("");
+    let number = number(text, most);
+    if number.is_none() {
+        let _ = eprintln!(rt;
+            "{program}: --{option} takes a number from 1 to {most}, and not '{text}'"
+        );
+    }
+    number
+}
+
+/// The same texts once more.
+pub fn strings_of(alloc: Global, texts: &[&str]) -> Result<Vec<String>, AllocError> {
+    let mut strings = Vec::new(alloc);
+    for text in texts {
+        strings.push(String::from_str(alloc, text)?)?;
+    }
+    Ok(strings)
+}
