@@ -1,7 +1,8 @@
 //! The options and names of a command line.
 
+ghost use Rattle.command_words.specs.Words.{number_of};
 ghost use Rattle.std.specs.Option.{IfSome};
-ghost use Rattle.std.specs.Prelude.{◌≤◌};
+ghost use Rattle.std.specs.Prelude.{◌≡◌, ◌≤◌, map, IfOk, string_bytes};
 
 use crate::{COMMAND_LINE, Words, number};
 use anyhow::Result;
@@ -25,17 +26,18 @@ pub fn matches_of<'a, R: Print + Eprint>(
     }
 }
 
-/// The number of an option of this program, from 1 to a bound. Any other is reported on standard error.
+/// The number that an option of this program has, from this text. A text that is no number from 1 to the bound is reported on
+/// standard error.
 pub fn number_option(
     rt: &impl Eprint,
     program: &str,
-    matches: &ArgMatches,
     option: &str,
+    text: &str,
     most: u64,
 ) -> Option<u64>
-    ensures { IfSome result (λ n. n ≤ most) }
+    ensures exact { result ≡ number_of text.now most }
+    ensures most { IfSome result (λ n. n ≤ most) }
 {
-    let text = matches.get_str(option).unwrap_or("");
     let number = number(text, most);
     if number.is_none() {
         let _ = eprintln!(rt;
@@ -45,8 +47,10 @@ pub fn number_option(
     number
 }
 
-/// The same texts once more.
-pub fn strings_of(alloc: Global, texts: &[&str]) -> Result<Vec<String>, AllocError> {
+/// The same texts once more. The only error is that memory ran out.
+pub fn strings_of(alloc: Global, texts: &[&str]) -> Result<Vec<String>, AllocError>
+    ensures { IfOk result (λ v. map string_bytes v.items ≡ map (λ t. t.now) texts.now) }
+{
     let mut strings = Vec::new(alloc);
     for text in texts {
         strings.push(String::from_str(alloc, text)?)?;

@@ -58,10 +58,12 @@ fn command<'a>(alloc: Global) -> Result<Command<'a>> {
 /// What the options and names ask for. Numbers that they cannot take are reported.
 fn requested<R: Eprint + AllocGlobal>(rt: &R, matches: &ArgMatches) -> Result<Words<Asked>> {
     let alloc = rt.alloc();
-    let Some(workers) = number_option(rt, PROGRAM, matches, "workers", MAX_WORKERS as u64) else {
+    let text = matches.get_str("workers").unwrap_or("");
+    let Some(workers) = number_option(rt, PROGRAM, "workers", text, MAX_WORKERS as u64) else {
         return Ok(Words::Reported(COMMAND_LINE));
     };
-    let Some(pages) = number_option(rt, PROGRAM, matches, "memory", u64::from(MAX_PAGES)) else {
+    let text = matches.get_str("memory").unwrap_or("");
+    let Some(pages) = number_option(rt, PROGRAM, "memory", text, u64::from(MAX_PAGES)) else {
         return Ok(Words::Reported(COMMAND_LINE));
     };
     let out = String::from_str(alloc, matches.get_str("out").unwrap_or(""))?;

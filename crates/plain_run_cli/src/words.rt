@@ -62,10 +62,12 @@ fn command<'a>(alloc: Global) -> Result<Command<'a>> {
 /// What the options and names ask for. Numbers that they cannot take are reported.
 fn requested<R: Eprint + AllocGlobal>(rt: &R, matches: &ArgMatches) -> Result<Words<Asked>> {
     let alloc = rt.alloc();
-    let Some(pages) = number_option(rt, PROGRAM, matches, "memory", u64::from(MAX_PAGES)) else {
+    let text = matches.get_str("memory").unwrap_or("");
+    let Some(pages) = number_option(rt, PROGRAM, "memory", text, u64::from(MAX_PAGES)) else {
         return Ok(Words::Reported(COMMAND_LINE));
     };
-    let Some(bound) = number_option(rt, PROGRAM, matches, "bound", MAX_BOUND) else {
+    let text = matches.get_str("bound").unwrap_or("");
+    let Some(bound) = number_option(rt, PROGRAM, "bound", text, MAX_BOUND) else {
         return Ok(Words::Reported(COMMAND_LINE));
     };
     let files = strings_of(alloc, matches.get_strs("FILE").unwrap_or(&[]))?;
