@@ -199,14 +199,14 @@ fn refuses(rt: HostRuntime) -> Result<(), Fail> {
 }
 
 /// Whether the last of these files is reported as one too many.
-fn is_one_too_many(alloc: Global, files: &[(&str, &Module)]) -> bool {
+fn is_one_too_many(alloc: Global, files: &[(&str, &Module)]) -> Result<bool, AllocError> {
     match Graph::of(alloc, files) {
         Err(GraphError::Refused(refusals)) => match refusals.as_slice() {
-            [.., last] => is_refusal(last, "p.mod", 1, 25),
-            [] => false,
+            [.., last] => Ok(is_refusal(last, "p.mod", 1, 25)),
+            [] => Ok(false),
         },
-        Err(GraphError::NoMemory) => false,
-        Ok(_) => false,
+        Err(GraphError::NoMemory) => Err(AllocError),
+        Ok(_) => Ok(false),
     }
 }
 
@@ -216,7 +216,7 @@ fn are_too_many(alloc: Global, tree: &Module, count: usize) -> Result<bool, Allo
     for _ in 0..count {
         files.push(("p.mod", tree))?;
     }
-    Ok(is_one_too_many(alloc, &files))
+    is_one_too_many(alloc, &files)
 }
 
 #[test]
