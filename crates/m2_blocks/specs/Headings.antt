@@ -17,7 +17,7 @@ use Rattle.m2_scopes.specs.declared.known.Known.TheVariants.{Later, Ahead, Begun
 use Rattle.m2_scopes.specs.declared.scope.Scope.{Scope}
 use Rattle.m2_scopes.specs.Scopes.{State, with_known}
 use Rattle.m2_scopes.specs.Elaborated.{Gathers, reported, reported_where, beside, ◌▷◌}
-use Rattle.m2_made.specs.Headings.{heading_of}
+use Rattle.m2_made.specs.Headings.{heading_of, names_of}
 use Rattle.m2_made.specs.Made.{nothing_of, with_made}
 use Rattle.m2_types.specs.Declare.{procedure_meaning, with_procedure_type}
 use Rattle.m2_blocks.specs.declared.heading.Standing.{Standing}
@@ -96,4 +96,6 @@ headed_as g s h n made Taken = (s, beside g (nothing_made made) (reported g h.na
 
 -- a heading in a block; the number is for a procedure in a procedure
 abbrev pub with_heading : (g : Gathers) → Scope g.Reported → (number : ℕ) → Heading → State (Unit {0}) g.Reported
-with_heading g s n h = headed_as g s h n (heading_of g s h) (name_standing (found h.name.name s.own))
+with_heading g s n h =
+    let st = headed_as g s h n (heading_of g s h) (name_standing (found h.name.name s.own)) in
+    (st.0, beside g (names_of g h) st.1)

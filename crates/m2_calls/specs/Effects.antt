@@ -11,7 +11,8 @@ use Rattle.m2_typed.specs.declared.statement.TypedStmt.{TypedStmt}
 use Rattle.m2_typed.specs.declared.statement.TypedStmt.TheVariants as step
 use Rattle.m2_typed.specs.declared.known_types.Types.{Types}
 use Rattle.m2_typed.specs.Types.{is_numeric, integer, cardinal, char}
-use Rattle.m2_scopes.specs.Elaborated.{Gathers, reported, reported_where, both, ◌▷◌}
+use Rattle.m2_scopes.specs.declared.meaningless.Meaningless.{Meaningless}
+use Rattle.m2_scopes.specs.Elaborated.{Gathers, reported, reported_where, both, of_sort, ◌▷◌}
 use Rattle.m2_values.specs.declared.operand.Ordinal.{Ordinal}
 use Rattle.m2_values.specs.Numbers.{is_between}
 use Rattle.m2_values.specs.Standards.{whole_number}
@@ -41,8 +42,8 @@ target_of g at (designated.Nested p) = reported g at 40
 target_of g at (designated.Standard f) = reported g at 40
 target_of g at (designated.Module k) = reported g at 40
 
-abbrev pub target_at : (g : Gathers) → Pos → Result Designated g.Reported → Result Target g.Reported
-target_at g at d = d ▷ target_of g at
+abbrev pub target_at : (g : Gathers) → Pos → Result Designated (Meaningless g.Reported) → Result Target g.Reported
+target_at g at d = of_sort g at 40 d ▷ target_of g at
 
 abbrev pub stored : TypeNo → Place → Accepted → TypedStmt
 stored t d (accepted.Value e) = step.Assign d t e

@@ -38,16 +38,21 @@ abbrev pub scalar_type : (g : Gathers) → Pos → TypeNo → Option Scalar → 
 scalar_type g at t None = reported g at 33
 scalar_type g at t (Some s) = Ok (t, s)
 
-abbrev pub type_part : (g : Gathers) → Types → Pos → Denoted → Result (TypeNo × Scalar) g.Reported
-type_part g types at (denoted.Type t) = scalar_type g at t (scalar_at types t)
-type_part g types at (denoted.Value v) = reported g at 33
-type_part g types at denoted.Variable = reported g at 33
-type_part g types at denoted.Procedure = reported g at 33
-type_part g types at (denoted.Standard f) = reported g at 33
-type_part g types at (denoted.Module k) = reported g at 33
+-- the type that stands there, if it is one
+abbrev pub type_in : Denoted → Option TypeNo
+type_in (denoted.Type t) = Some t
+type_in (denoted.Value v) = None
+type_in denoted.Variable = None
+type_in denoted.Procedure = None
+type_in (denoted.Standard f) = None
+type_in (denoted.Module k) = None
 
-abbrev pub type_argument : (g : Gathers) → Types → Pos → Result Denoted g.Reported → Result (TypeNo × Scalar) g.Reported
-type_argument g types at d = d ▷ type_part g types at
+abbrev pub named_scalar : (g : Gathers) → Types → Pos → Option TypeNo → Result (TypeNo × Scalar) g.Reported
+named_scalar g types at None = reported g at 33
+named_scalar g types at (Some t) = scalar_type g at t (scalar_at types t)
+
+abbrev pub type_argument : (g : Gathers) → Types → Pos → Result (Option TypeNo) g.Reported → Result (TypeNo × Scalar) g.Reported
+type_argument g types at t = t ▷ named_scalar g types at
 
 -- ---- what they give
 

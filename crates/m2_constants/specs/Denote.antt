@@ -9,6 +9,8 @@ use Rattle.m2_typed.specs.declared.meaning.Meaning.TheVariants as meaning
 use Rattle.m2_typed.specs.declared.table.Table.{Table}
 use Rattle.m2_typed.specs.Types.{are_same, bitset}
 use Rattle.m2_typed.specs.Names.{found}
+use Rattle.m2_scopes.specs.declared.meaningless.Meaningless.{Meaningless}
+use Rattle.m2_scopes.specs.declared.meaningless.Meaningless.TheVariants.{Broken, Headless}
 use Rattle.m2_scopes.specs.Elaborated.{Gathers, reported, reported_where, ◌▷◌}
 use Rattle.m2_constants.specs.declared.denoted.Denoted.{Denoted}
 use Rattle.m2_constants.specs.declared.denoted.Denoted.TheVariants as denoted
@@ -24,6 +26,12 @@ denoted_by (meaning.LocalProcedure p) = denoted.Procedure
 denoted_by meaning.Ahead = denoted.Procedure
 denoted_by (meaning.Standard f) = denoted.Standard f
 denoted_by (meaning.Module k) = denoted.Module k
+
+-- a procedure is no constant, whatever its heading
+abbrev pub denoted_of : {T : Type 0} → Result Meaning (Meaningless T) → Result Denoted T
+denoted_of (Ok m) = Ok (denoted_by m)
+denoted_of (Err (Broken e)) = Err e
+denoted_of (Err (Headless e)) = Ok denoted.Procedure
 
 -- ---- constants
 
@@ -55,13 +63,13 @@ is_bitset g at (meaning.Module k) = reported g at 33
 
 -- ---- components, and names of modules
 
--- only variables have components
+-- Constants and modules have no components. A type or a procedure with selectors is no constant.
 abbrev pub component : (g : Gathers) → Pos → Denoted → Result Denoted g.Reported
 component g at denoted.Variable = Ok denoted.Variable
 component g at (denoted.Value v) = reported g at 40
-component g at (denoted.Type t) = reported g at 40
-component g at denoted.Procedure = reported g at 40
-component g at (denoted.Standard f) = reported g at 40
+component g at (denoted.Type t) = Ok denoted.Variable
+component g at denoted.Procedure = Ok denoted.Variable
+component g at (denoted.Standard f) = Ok denoted.Variable
 component g at (denoted.Module k) = reported g at 40
 
 abbrev pub exported_by : List ℕ → Option Table → Option Meaning

@@ -1,5 +1,5 @@
 -- What constant expressions mean.
-use Rattle.std.specs.Prelude.{ℕ, ℤ, pos, List, [], ◌∷◌, map, bit_or, Option, Some, None, Result, Ok, Err}
+use Rattle.std.specs.Prelude.{ℕ, pos, List, [], ◌∷◌, bit_or, Option, Some, None, Result, Ok}
 use Rattle.std.specs.List.{fold}
 use Rattle.m2_tree.specs.declared.pos.Pos.{Pos}
 use Rattle.m2_tree.specs.declared.name.Ident.{Ident}
@@ -8,18 +8,17 @@ use Rattle.m2_tree.specs.declared.expr.AddOp.{AddOp}
 use Rattle.m2_tree.specs.declared.expr.RelOp.{RelOp}
 use Rattle.m2_tree.specs.declared.expr.Sign.{Sign}
 use Rattle.m2_tree.specs.declared.expr.Operator.{Operator}
-use Rattle.m2_tree.specs.declared.expr.Expr.{Expr, Expr-F, fold-Expr}
+use Rattle.m2_tree.specs.declared.expr.Expr.{Expr-F}
 use Rattle.m2_tree.specs.declared.expr.Expr.TheOpen as layer
-use Rattle.m2_tree.specs.declared.expr.Selector.{Selector, Selector-F, fold-Selector}
-use Rattle.m2_tree.specs.declared.expr.Designator.{Designator, Designator-F, fold-Designator}
-use Rattle.m2_tree.specs.declared.expr.Item.{Item, Item-F, fold-Item}
+use Rattle.m2_tree.specs.declared.expr.Selector.{Selector-F}
+use Rattle.m2_tree.specs.declared.expr.Item.{Item-F}
 use Rattle.m2_typed.specs.declared.types.TypeNo.{TypeNo}
 use Rattle.m2_typed.specs.declared.shape.Scalar.{Scalar}
 use Rattle.m2_typed.specs.declared.meaning.Value.{Value}
 use Rattle.m2_typed.specs.declared.meaning.Value.TheVariants as value
 use Rattle.m2_typed.specs.declared.meaning.Standard.{Standard}
 use Rattle.m2_typed.specs.Types.{char}
-use Rattle.m2_scopes.specs.Elaborated.{Gathers, least, reported, both, ◌▷◌}
+use Rattle.m2_scopes.specs.Elaborated.{Gathers, reported, both, of_sort, ◌▷◌}
 use Rattle.m2_scopes.specs.declared.scope.Scope.{Scope}
 use Rattle.m2_scopes.specs.Scopes.{looked_up}
 use Rattle.m2_values.specs.declared.operand.Ordinal.{Ordinal}
@@ -32,13 +31,22 @@ use Rattle.m2_constants.specs.declared.denoted.Denoted.{Denoted}
 use Rattle.m2_constants.specs.declared.denoted.Denoted.TheVariants as denoted
 use Rattle.m2_constants.specs.declared.call.Sort.{Sort}
 use Rattle.m2_constants.specs.declared.call.Sort.TheVariants.{Unary, Bound, Conversion, Never}
-use Rattle.m2_constants.specs.Denote.{denoted_by, constant_by, of_value, is_bitset, component, member}
-use Rattle.m2_constants.specs.Calls.{sort_of, type_argument, unary, bound, converted_by}
+use Rattle.m2_constants.specs.Denote.{denoted_by, denoted_of, constant_by, of_value, is_bitset, component, member}
+use Rattle.m2_constants.specs.Calls.{sort_of, type_in, type_argument, unary, bound, converted_by}
 
--- an expression or a designator: the place of its first token, and what it stands for in a scope
+-- an expression or a designator: the place of its first token, what it stands for in a scope, and the type that it names
+-- there, if it names one
 pub record Part (T : Type 0) : Type 0 where
   pub at : Pos
   pub denotes : Scope T → Result Denoted T
+  pub names : Scope T → Result (Option TypeNo) T
+
+abbrev pub named_type : {T : Type 0} → Result Denoted T → Result (Option TypeNo) T
+named_type d = d ▷ λ x. Ok (type_in x)
+
+-- what names a type where it stands for one
+abbrev pub standing : {T : Type 0} → Pos → (Scope T → Result Denoted T) → Part T
+standing at means = record { at = at; denotes = means; names = λ s. named_type (means s) }
 
 -- a selector: what it picks of what stands before it
 abbrev pub Pick : Type 0 → Type 0
@@ -78,7 +86,7 @@ signed_first g (Some o) v = signed g o.op o.pos v
 
 abbrev pub set_type : (g : Gathers) → Scope g.Reported → Option Ident → Result (Unit {0}) g.Reported
 set_type g s None = Ok tt
-set_type g s (Some name) = looked_up g s name ▷ is_bitset g name.pos
+set_type g s (Some name) = of_sort g name.pos 33 (looked_up g s name) ▷ is_bitset g name.pos
 
 abbrev pub set_of : (g : Gathers) → Result (Unit {0}) g.Reported → Result ℕ g.Reported → Result Denoted g.Reported
 set_of g t bits = both g t bits ▷ λ p. Ok (denoted.Value (value.Set p.1))
@@ -89,7 +97,7 @@ related g o at a at' b = of_value (combined g (op.Relation o.op) o.pos at a at' 
 -- ---- designators
 
 abbrev pub named : (g : Gathers) → Scope g.Reported → Ident → Result Denoted g.Reported
-named g s name = looked_up g s name ▷ λ m. Ok (denoted_by m)
+named g s name = denoted_of (looked_up g s name)
 
 abbrev pub member_of : (g : Gathers) → Scope g.Reported → ℕ → Ident → Result Denoted g.Reported
 member_of g s k name = member g s.tables k name ▷ λ m. Ok (denoted_by m)
@@ -116,13 +124,13 @@ module _ (g : Gathers) where
 
   abbrev pub type_only : Scope g.Reported → Pos → List (Part g.Reported) → Result (TypeNo × Scalar) g.Reported
   type_only s at [] = reported g at 42
-  type_only s at (x ∷ []) = type_argument g s.types x.at (x.denotes s)
+  type_only s at (x ∷ []) = type_argument g s.types x.at (x.names s)
   type_only s at (x ∷ y ∷ xs) = reported g at 42
 
   abbrev pub conversion : Scope g.Reported → Pos → List (Part g.Reported) → Result Value g.Reported
   conversion s at [] = reported g at 42
   conversion s at (t ∷ []) = reported g at 42
-  conversion s at (t ∷ x ∷ []) = converted_by g (type_argument g s.types t.at (t.denotes s)) x.at (constant s x)
+  conversion s at (t ∷ x ∷ []) = converted_by g (type_argument g s.types t.at (t.names s)) x.at (constant s x)
   conversion s at (t ∷ x ∷ y ∷ xs) = reported g at 42
 
   abbrev pub by_sort : Scope g.Reported → Pos → Standard → List (Part g.Reported) → Sort → Result Value g.Reported
@@ -142,9 +150,9 @@ module _ (g : Gathers) where
   abbrev pub called : Scope g.Reported → Pos → Result Denoted g.Reported → List (Part g.Reported) → Result Value g.Reported
   called s at d args = d ▷ λ x. called_as s at x args
 
-  abbrev pub used_with : Scope g.Reported → Part g.Reported → Option (List (Part g.Reported)) → Result Denoted g.Reported
-  used_with s d None = d.denotes s
-  used_with s d (Some args) = of_value (called s d.at (d.denotes s) args)
+  abbrev pub used_with : Part g.Reported → Option (List (Part g.Reported)) → Part g.Reported
+  used_with d None = d
+  used_with d (Some args) = standing d.at (λ s. of_value (called s d.at (d.denotes s) args))
 
   -- ---- operators
 
@@ -166,56 +174,24 @@ module _ (g : Gathers) where
   -- ---- the layers
 
   abbrev pub expr_layer : Expr-F (Part g.Reported) (Pick g.Reported) (Part g.Reported) (Adds g.Reported) → Part g.Reported
-  expr_layer (layer.Number at n) = record { at = at; denotes = λ s. Ok (denoted.Value (value.Number (pos n))) }
-  expr_layer (layer.Char at c) = record { at = at; denotes = λ s. Ok (denoted.Value (valued (Some char) (pos c))) }
-  expr_layer (layer.Text at t) = record { at = at; denotes = λ s. Ok (denoted.Value (value.Text t)) }
-  expr_layer (layer.Set name at items) = record { at = set_place name at; denotes = λ s. set_of g (set_type g s name) (fold (with_item s) (Ok 0) items) }
-  expr_layer (layer.Not at e) = record { at = at; denotes = λ s. of_value (negated g at (constant s e)) }
-  expr_layer (layer.Bracketed at e) = record { at = at; denotes = λ s. of_value (constant s e) }
-  expr_layer (layer.Use d args) = record { at = d.at; denotes = λ s. used_with s d args }
-  expr_layer (layer.Term e rest) = record { at = e.at; denotes = λ s. of_value (fold (factor s e.at) (constant s e) rest) }
-  expr_layer (layer.Sum sign e rest) = record { at = sign_place sign e.at; denotes = λ s. of_value (fold (term s (sign_place sign e.at)) (signed_first g sign (constant s e)) rest) }
-  expr_layer (layer.Relation a o b) = record { at = a.at; denotes = λ s. related g o a.at (constant s a) b.at (constant s b) }
+  expr_layer (layer.Number at n) = standing at (λ s. Ok (denoted.Value (value.Number (pos n))))
+  expr_layer (layer.Char at c) = standing at (λ s. Ok (denoted.Value (valued (Some char) (pos c))))
+  expr_layer (layer.Text at t) = standing at (λ s. Ok (denoted.Value (value.Text t)))
+  expr_layer (layer.Set name at items) = standing (set_place name at) (λ s. set_of g (set_type g s name) (fold (with_item s) (Ok 0) items))
+  expr_layer (layer.Not at e) = standing at (λ s. of_value (negated g at (constant s e)))
+  expr_layer (layer.Bracketed at e) = standing at (λ s. of_value (constant s e))
+  expr_layer (layer.Use d args) = used_with d args
+  expr_layer (layer.Term e rest) = standing e.at (λ s. of_value (fold (factor s e.at) (constant s e) rest))
+  expr_layer (layer.Sum sign e rest) = standing (sign_place sign e.at) (λ s. of_value (fold (term s (sign_place sign e.at)) (signed_first g sign (constant s e)) rest))
+  expr_layer (layer.Relation a o b) = standing a.at (λ s. related g o a.at (constant s a) b.at (constant s b))
 
   abbrev pub selector_layer : Selector-F (Part g.Reported) (Pick g.Reported) (Part g.Reported) (Adds g.Reported) → Pick g.Reported
   selector_layer (layer.Field at name) = λ s d. d ▷ field_of g s at name
   selector_layer (layer.Index at index) = λ s d. d ▷ component g at
 
-  abbrev pub designator_layer : Designator-F (Part g.Reported) (Pick g.Reported) (Part g.Reported) (Adds g.Reported) → Part g.Reported
-  designator_layer d = record { at = d.name.pos; denotes = λ s. fold (λ x p. p s x) (named g s d.name) d.selectors }
+  -- what a name with selectors stands for
+  abbrev pub picked : Scope g.Reported → Ident → List (Pick g.Reported) → Result Denoted g.Reported
+  picked s name picks = fold (λ x p. p s x) (named g s name) picks
 
   abbrev pub item_layer : Item-F (Part g.Reported) (Pick g.Reported) (Part g.Reported) (Adds g.Reported) → Adds g.Reported
   item_layer i = λ s. added s i.low i.high
-
-  unfoldable pub part : Expr → Part g.Reported
-  part = fold-Expr (Part g.Reported) (Pick g.Reported) (Part g.Reported) (Adds g.Reported) expr_layer selector_layer designator_layer item_layer
-
-  unfoldable pub pick : Selector → Pick g.Reported
-  pick = fold-Selector (Part g.Reported) (Pick g.Reported) (Part g.Reported) (Adds g.Reported) expr_layer selector_layer designator_layer item_layer
-
-  unfoldable pub head : Designator → Part g.Reported
-  head = fold-Designator (Part g.Reported) (Pick g.Reported) (Part g.Reported) (Adds g.Reported) expr_layer selector_layer designator_layer item_layer
-
-  unfoldable pub item : Item → Adds g.Reported
-  item = fold-Item (Part g.Reported) (Pick g.Reported) (Part g.Reported) (Adds g.Reported) expr_layer selector_layer designator_layer item_layer
-
--- ---- the same, step by step
-
-abbrev pub factor_in : Scope (least).Reported → Pos → Result Value (least).Reported → Operator MulOp × Expr → Result Value (least).Reported
-factor_in s at v x = factor least s at v (x.0, part least x.1)
-
-abbrev pub term_in : Scope (least).Reported → Pos → Result Value (least).Reported → Operator AddOp × Expr → Result Value (least).Reported
-term_in s at v x = term least s at v (x.0, part least x.1)
-
-abbrev pub pick_in : Scope (least).Reported → Result Denoted (least).Reported → Selector → Result Denoted (least).Reported
-pick_in s d x = pick least x s d
-
-abbrev pub item_in : Scope (least).Reported → Result ℕ (least).Reported → Item → Result ℕ (least).Reported
-item_in s so i = with_item least s so (item least i)
-
-abbrev pub mapped : Option (List Expr) → Option (List (Part (least).Reported))
-mapped None = None
-mapped (Some es) = Some (map (part least) es)
-
-abbrev pub used : Scope (least).Reported → Part (least).Reported → Option (List Expr) → Result Denoted (least).Reported
-used s d args = used_with least s d (mapped args)

@@ -1,5 +1,5 @@
 -- What expressions of bodies mean: each has a value, or names what has none, or breaks rules.
-use Rattle.std.specs.Prelude.{ℕ, List, [], ◌∷◌, map, length, Option, Some, None, Result, Ok, Err}
+use Rattle.std.specs.Prelude.{ℕ, cond, List, [], ◌∷◌, map, length, Option, Some, None, Result, Ok}
 use Rattle.std.specs.List.{fold}
 use Rattle.m2_tree.specs.declared.pos.Pos.{Pos}
 use Rattle.m2_tree.specs.declared.name.Ident.{Ident}
@@ -17,16 +17,20 @@ use Rattle.m2_typed.specs.declared.types.TypeNo.{TypeNo}
 use Rattle.m2_typed.specs.declared.computed.Argument.{Argument}
 use Rattle.m2_typed.specs.declared.computed.TypedExpr.TheVariants as expr
 use Rattle.m2_typed.specs.declared.shape.Formal.{Formal}
+use Rattle.m2_typed.specs.declared.shape.Scalar.{Scalar as Range}
+use Rattle.m2_typed.specs.declared.meaning.Value.{Value}
 use Rattle.m2_typed.specs.declared.shape.Signature.{Signature}
 use Rattle.m2_typed.specs.declared.meaning.Standard.{Standard}
 use Rattle.m2_typed.specs.declared.known_types.Types.{Types}
-use Rattle.m2_scopes.specs.Elaborated.{Gathers, least, reported, both, ◌▷◌}
+use Rattle.m2_scopes.specs.declared.meaningless.Meaningless.{Meaningless}
+use Rattle.m2_scopes.specs.Elaborated.{Gathers, least, reported, reported_beside, both, beside, ahead, of_sort, of_heading, plain, ◌▷◌}
 use Rattle.m2_scopes.specs.declared.scope.Scope.{Scope}
 use Rattle.m2_scopes.specs.Scopes.{looked_up}
 use Rattle.m2_values.specs.declared.operator.BinaryOp.TheVariants as op
 use Rattle.m2_values.specs.Operators.{mul_op, add_op}
+use Rattle.m2_constants.specs.declared.denoted.Denoted.{Denoted}
 use Rattle.m2_constants.specs.Denote.{member}
-use Rattle.m2_constants.specs.Parts.{Part, Pick, Adds, constant, sign_place}
+use Rattle.m2_constants.specs.Parts.{Part, Pick, Adds, constant, named_type, sign_place}
 use Rattle.m2_constants.specs.Parts as constants
 use Rattle.m2_computed.specs.declared.computed.Computed.{Computed}
 use Rattle.m2_computed.specs.declared.computed.Computed.TheVariants as value
@@ -51,20 +55,20 @@ use Rattle.m2_calls.specs.Functions.{form_of, unary_at, type_named, bound_at, co
 -- for in a scope
 pub record Meant (T : Type 0) : Type 0 where
   pub fixed : Part T
-  pub means : Scope T → Result Designated T
+  pub means : Scope T → Result Designated (Meaningless T)
 
 -- a selector: the same, of what stands before it
 pub record Picks (T : Type 0) : Type 0 where
   pub fixed : Pick T
-  pub picks : Scope T → Result Designated T → Result Designated T
+  pub picks : Scope T → Result Designated (Meaningless T) → Result Designated (Meaningless T)
 
 -- ---- pieces
 
-abbrev pub of_computed : {T : Type 0} → Result Computed T → Result Designated T
-of_computed x = x ▷ λ v. Ok (designated.Value v)
+abbrev pub of_computed : {T : Type 0} → Result Computed T → Result Designated (Meaningless T)
+of_computed x = plain (x ▷ λ v. Ok (designated.Value v))
 
-abbrev pub taken_at : (g : Gathers) → Types → Pos → Result Designated g.Reported → Result Computed g.Reported
-taken_at g types at d = d ▷ taken g types at
+abbrev pub taken_at : (g : Gathers) → Types → Pos → Result Designated (Meaningless g.Reported) → Result Computed g.Reported
+taken_at g types at d = of_heading d ▷ taken g types at
 
 abbrev pub signed_first : (g : Gathers) → Option (Operator Sign) → Result Computed g.Reported → Result Computed g.Reported
 signed_first g None x = x
@@ -75,8 +79,8 @@ related g types o at x at' y = combined g types (op.Relation o.op) o.pos at x at
 
 -- ---- designators
 
-abbrev pub named : (g : Gathers) → Scope g.Reported → Ident → Result Designated g.Reported
-named g s name = looked_up g s name ▷ designated_by g s.level name.pos
+abbrev pub named : (g : Gathers) → Scope g.Reported → Ident → Result Designated (Meaningless g.Reported)
+named g s name = looked_up g s name ▷ λ m. plain (designated_by g s.level name.pos m)
 
 abbrev pub member_of : (g : Gathers) → Scope g.Reported → ℕ → Ident → Result Designated g.Reported
 member_of g s k name = member g s.tables k name ▷ designated_by g s.level name.pos
@@ -92,12 +96,33 @@ field_of g s at name (designated.Procedure p) = field g s.types at name (designa
 field_of g s at name (designated.Nested p) = field g s.types at name (designated.Nested p)
 field_of g s at name (designated.Standard f) = field g s.types at name (designated.Standard f)
 
-abbrev pub field_at : (g : Gathers) → Scope g.Reported → Pos → Ident → Result Designated g.Reported → Result Designated g.Reported
-field_at g s at name d = d ▷ field_of g s at name
+abbrev pub field_at : (g : Gathers) → Scope g.Reported → Pos → Ident → Result Designated (Meaningless g.Reported) → Result Designated (Meaningless g.Reported)
+field_at g s at name d = plain (of_sort g at 40 d ▷ field_of g s at name)
 
 -- what stands before a bracket is elaborated beside the index
-abbrev pub index_at : (g : Gathers) → Types → Pos → Result Designated g.Reported → Pos → Result Computed g.Reported → Result Designated g.Reported
-index_at g types at d at' x = indexed g types (d ▷ indices g types at) at' x
+abbrev pub index_at : (g : Gathers) → Types → Pos → Result Designated (Meaningless g.Reported) → Pos → Result Computed g.Reported → Result Designated (Meaningless g.Reported)
+index_at g types at d at' x = plain (indexed g types (of_sort g at 40 d ▷ indices g types at) at' x)
+
+-- ---- arguments that name a type
+
+-- the type that stands there, if it is one
+abbrev pub type_in : Designated → Option TypeNo
+type_in (designated.Type t) = Some t
+type_in (designated.Value x) = None
+type_in (designated.Variable t d) = None
+type_in (designated.Open t slot) = None
+type_in (designated.Procedure p) = None
+type_in (designated.Nested p) = None
+type_in (designated.Standard f) = None
+type_in (designated.Module k) = None
+
+abbrev pub type_of : (g : Gathers) → Pos → Result Designated (Meaningless g.Reported) → Result (Option TypeNo) g.Reported
+type_of g at d = of_sort g at 33 d ▷ λ x. Ok (type_in x)
+
+-- a name with selectors is no constant expression
+abbrev pub names_by : {A R : Type 0} → List A → (bare selected : R) → R
+names_by [] bare selected = bare
+names_by (x ∷ xs) bare selected = selected
 
 -- ---- formals
 
@@ -105,23 +130,38 @@ abbrev pub formals_of : Option Signature → List Formal
 formals_of None = []
 formals_of (Some h) = h.formals
 
-abbrev pub argument_by : (g : Gathers) → Types → Option Formal → Pos → Result Designated g.Reported → Result Argument g.Reported
+-- for a VAR formal it counts that a procedure is no variable, for others what it is
+abbrev pub passed_for : (g : Gathers) → Formal → Pos → Result Designated (Meaningless g.Reported) → Result Designated g.Reported
+passed_for g f at d = cond f.is_var (of_sort g at 44 d) (of_heading d)
+
+abbrev pub argument_by : (g : Gathers) → Types → Option Formal → Pos → Result Designated (Meaningless g.Reported) → Result Argument g.Reported
 argument_by g types None at d = reported g at 42
-argument_by g types (Some f) at d = d ▷ actual g types f at
+argument_by g types (Some f) at d = passed_for g f at d ▷ actual g types f at
 
 abbrev pub call_given : (g : Gathers) → Types → TypeNo → Callee → Result (List Argument) g.Reported → Result Computed g.Reported
 call_given g types t c args = args ▷ λ xs. Ok (given types t (expr.Call t (call_by xs c)))
 
 module _ (g : Gathers) where
   -- a constant expression as it stands
-  abbrev pub as_constant : Scope g.Reported → Part g.Reported → Result Designated g.Reported
-  as_constant s x = constant g s x ▷ λ v. Ok (designated.Value (value.Constant v))
+  abbrev pub as_constant : Scope g.Reported → Part g.Reported → Result Designated (Meaningless g.Reported)
+  as_constant s x = plain (constant g s x ▷ λ v. Ok (designated.Value (value.Constant v)))
 
   -- a part taken as a value
   abbrev pub value_of : Scope g.Reported → Meant g.Reported → Result Computed g.Reported
   value_of s x = taken_at g s.types x.fixed.at (x.means s)
 
   -- ---- calls
+
+  -- what is broken in the arguments themselves
+  abbrev pub with_look : Scope g.Reported → Result (Unit {0}) g.Reported → Meant g.Reported → Result (Unit {0}) g.Reported
+  with_look s so x = beside g so (of_heading (x.means s) ▷ λ d. Ok tt)
+
+  abbrev pub looked_at : Scope g.Reported → List (Meant g.Reported) → Result (Unit {0}) g.Reported
+  looked_at s args = fold (with_look s) (Ok tt) args
+
+  -- a wrong number of arguments
+  abbrev pub miscounted : {A : Type 0} → Scope g.Reported → Pos → List (Meant g.Reported) → Result A g.Reported
+  miscounted s at args = reported_beside g at 42 (looked_at s args)
 
   -- the arguments, one after the other, with the formals that are left
   abbrev pub with_actual : Scope g.Reported → List Formal × Result (List Argument) g.Reported → Meant g.Reported → List Formal × Result (List Argument) g.Reported
@@ -133,44 +173,49 @@ module _ (g : Gathers) where
   -- the number of arguments is checked before them
   abbrev pub routine_called : Scope g.Reported → Pos → TypeNo → Callee → List (Meant g.Reported) → Result Computed g.Reported
   routine_called s at h c args =
-      function_of g at (signature_at s.types h) (length args) ▷ λ t. call_given g s.types t c (actuals s (formals_of (signature_at s.types h)) args)
+      ahead g (function_of g at (signature_at s.types h) (length args)) (looked_at s args)
+      (λ t. call_given g s.types t c (actuals s (formals_of (signature_at s.types h)) args))
 
   abbrev pub unary : Scope g.Reported → Pos → Standard → Unary → List (Meant g.Reported) → Result Computed g.Reported
-  unary s at f u [] = reported g at 42
+  unary s at f u [] = miscounted s at []
   unary s at f u (x ∷ []) = value_of s x ▷ unary_at g f u x.fixed.at
-  unary s at f u (x ∷ y ∷ xs) = reported g at 42
+  unary s at f u (x ∷ y ∷ xs) = miscounted s at (x ∷ y ∷ xs)
+
+  abbrev pub scalar_named : Scope g.Reported → Meant g.Reported → Result (TypeNo × Range) g.Reported
+  scalar_named s x = of_sort g x.fixed.at 33 (x.means s) ▷ type_named g s.types x.fixed.at
 
   abbrev pub bound : Scope g.Reported → Pos → Standard → List (Meant g.Reported) → Result Computed g.Reported
-  bound s at f [] = reported g at 42
-  bound s at f (x ∷ []) = bound_at f (x.means s ▷ type_named g s.types x.fixed.at)
-  bound s at f (x ∷ y ∷ xs) = reported g at 42
+  bound s at f [] = miscounted s at []
+  bound s at f (x ∷ []) = bound_at f (scalar_named s x)
+  bound s at f (x ∷ y ∷ xs) = miscounted s at (x ∷ y ∷ xs)
 
   abbrev pub conversion : Scope g.Reported → Pos → List (Meant g.Reported) → Result Computed g.Reported
-  conversion s at [] = reported g at 42
-  conversion s at (t ∷ []) = reported g at 42
-  conversion s at (t ∷ x ∷ []) = conversion_at g (t.means s ▷ type_named g s.types t.fixed.at) x.fixed.at (value_of s x)
-  conversion s at (t ∷ x ∷ y ∷ xs) = reported g at 42
+  conversion s at [] = miscounted s at []
+  conversion s at (t ∷ []) = miscounted s at (t ∷ [])
+  conversion s at (t ∷ x ∷ []) = conversion_at g (scalar_named s t) x.fixed.at (value_of s x)
+  conversion s at (t ∷ x ∷ y ∷ xs) = miscounted s at (t ∷ x ∷ y ∷ xs)
 
   abbrev pub high : Scope g.Reported → Pos → List (Meant g.Reported) → Result Computed g.Reported
-  high s at [] = reported g at 42
-  high s at (x ∷ []) = x.means s ▷ high_of g x.fixed.at
-  high s at (x ∷ y ∷ xs) = reported g at 42
+  high s at [] = miscounted s at []
+  high s at (x ∷ []) = of_sort g x.fixed.at 43 (x.means s) ▷ high_of g x.fixed.at
+  high s at (x ∷ y ∷ xs) = miscounted s at (x ∷ y ∷ xs)
 
   abbrev pub by_form : Scope g.Reported → Pos → Standard → List (Meant g.Reported) → Form → Result Computed g.Reported
   by_form s at f args (form.Unary u) = unary s at f u args
   by_form s at f args form.Bound = bound s at f args
   by_form s at f args form.Conversion = conversion s at args
   by_form s at f args form.High = high s at args
-  by_form s at f args form.Proper = reported g at 40
+  by_form s at f args form.Proper = reported_beside g at 40 (looked_at s args)
 
   abbrev pub called_as : Scope g.Reported → Pos → List (Meant g.Reported) → Called → Result Computed g.Reported
   called_as s at args (called.Routine h c) = routine_called s at h c args
   called_as s at args (called.Standard f) = by_form s at f args (form_of f)
 
-  abbrev pub called_by : Scope g.Reported → Pos → Result Designated g.Reported → List (Meant g.Reported) → Result Computed g.Reported
-  called_by s at d args = d ▷ callee_of g s.types at ▷ called_as s at args
+  -- the arguments are looked at, also if nothing can be called so
+  abbrev pub called_by : Scope g.Reported → Pos → Result Designated (Meaningless g.Reported) → List (Meant g.Reported) → Result Computed g.Reported
+  called_by s at d args = ahead g (of_heading d ▷ callee_of g s.types at) (looked_at s args) (called_as s at args)
 
-  abbrev pub used_with : Scope g.Reported → Meant g.Reported → Option (List (Meant g.Reported)) → Result Designated g.Reported
+  abbrev pub used_with : Scope g.Reported → Meant g.Reported → Option (List (Meant g.Reported)) → Result Designated (Meaningless g.Reported)
   used_with s d None = d.means s
   used_with s d (Some args) = of_computed (called_by s d.fixed.at (d.means s) args)
 
@@ -191,7 +236,7 @@ module _ (g : Gathers) where
   expr_fixed x = constants.expr_layer g (map-Expr (Meant g.Reported) (Picks g.Reported) (Meant g.Reported) (Adds g.Reported) (Part g.Reported) (Pick g.Reported) (Part g.Reported) (Adds g.Reported) (λ e. e.fixed) (λ e. e.fixed) (λ e. e.fixed) (λ e. e) x)
 
   -- what stands for itself is a constant; sets have constant elements
-  abbrev pub expr_means : Expr-F (Meant g.Reported) (Picks g.Reported) (Meant g.Reported) (Adds g.Reported) → Part g.Reported → Scope g.Reported → Result Designated g.Reported
+  abbrev pub expr_means : Expr-F (Meant g.Reported) (Picks g.Reported) (Meant g.Reported) (Adds g.Reported) → Part g.Reported → Scope g.Reported → Result Designated (Meaningless g.Reported)
   expr_means (layer.Number at n) fixed s = as_constant s fixed
   expr_means (layer.Char at c) fixed s = as_constant s fixed
   expr_means (layer.Text at t) fixed s = as_constant s fixed
@@ -209,18 +254,29 @@ module _ (g : Gathers) where
   abbrev pub selector_fixed : Selector-F (Meant g.Reported) (Picks g.Reported) (Meant g.Reported) (Adds g.Reported) → Pick g.Reported
   selector_fixed x = constants.selector_layer g (map-Selector (Meant g.Reported) (Picks g.Reported) (Meant g.Reported) (Adds g.Reported) (Part g.Reported) (Pick g.Reported) (Part g.Reported) (Adds g.Reported) (λ e. e.fixed) (λ e. e.fixed) (λ e. e.fixed) (λ e. e) x)
 
-  abbrev pub selector_picks : Selector-F (Meant g.Reported) (Picks g.Reported) (Meant g.Reported) (Adds g.Reported) → Scope g.Reported → Result Designated g.Reported → Result Designated g.Reported
+  abbrev pub selector_picks : Selector-F (Meant g.Reported) (Picks g.Reported) (Meant g.Reported) (Adds g.Reported) → Scope g.Reported → Result Designated (Meaningless g.Reported) → Result Designated (Meaningless g.Reported)
   selector_picks (layer.Field at name) s d = field_at g s at name d
   selector_picks (layer.Index at x) s d = index_at g s.types at d x.fixed.at (value_of s x)
 
   abbrev pub selector_layer : Selector-F (Meant g.Reported) (Picks g.Reported) (Meant g.Reported) (Adds g.Reported) → Picks g.Reported
   selector_layer x = record { fixed = selector_fixed x; picks = selector_picks x }
 
+  abbrev pub designation : Scope g.Reported → Ident → List (Picks g.Reported) → Result Designated (Meaningless g.Reported)
+  designation s name selectors = fold (λ x p. p.picks s x) (named g s name) selectors
+
+  abbrev pub denotation : Scope g.Reported → Ident → List (Picks g.Reported) → Result Denoted g.Reported
+  denotation s name selectors = constants.picked g s name (map (λ p. p.fixed) selectors)
+
+  -- the type that it names is that of a body, if it has selectors
   abbrev pub designator_fixed : Designator-F (Meant g.Reported) (Picks g.Reported) (Meant g.Reported) (Adds g.Reported) → Part g.Reported
-  designator_fixed x = constants.designator_layer g (map-Designator (Meant g.Reported) (Picks g.Reported) (Meant g.Reported) (Adds g.Reported) (Part g.Reported) (Pick g.Reported) (Part g.Reported) (Adds g.Reported) (λ e. e.fixed) (λ e. e.fixed) (λ e. e.fixed) (λ e. e) x)
+  designator_fixed d = record {
+    at = d.name.pos;
+    denotes = λ s. denotation s d.name d.selectors;
+    names = λ s. names_by d.selectors (named_type (denotation s d.name d.selectors)) (type_of g d.name.pos (designation s d.name d.selectors));
+  }
 
   abbrev pub designator_layer : Designator-F (Meant g.Reported) (Picks g.Reported) (Meant g.Reported) (Adds g.Reported) → Meant g.Reported
-  designator_layer d = record { fixed = designator_fixed d; means = λ s. fold (λ x p. p.picks s x) (named g s d.name) d.selectors }
+  designator_layer d = record { fixed = designator_fixed d; means = λ s. designation s d.name d.selectors }
 
   abbrev pub item_layer : Item-F (Meant g.Reported) (Picks g.Reported) (Meant g.Reported) (Adds g.Reported) → Adds g.Reported
   item_layer i = constants.item_layer g (map-Item (Meant g.Reported) (Picks g.Reported) (Meant g.Reported) (Adds g.Reported) (Part g.Reported) (Pick g.Reported) (Part g.Reported) (Adds g.Reported) (λ e. e.fixed) (λ e. e.fixed) (λ e. e.fixed) (λ e. e) i)
@@ -237,7 +293,24 @@ module _ (g : Gathers) where
   unfoldable pub item : Item → Adds g.Reported
   item = fold-Item (Meant g.Reported) (Picks g.Reported) (Meant g.Reported) (Adds g.Reported) expr_layer selector_layer designator_layer item_layer
 
+-- ---- constant expressions
+
+abbrev pub part : (g : Gathers) → Expr → Part g.Reported
+part g e = (meant g e).fixed
+
 -- ---- the same, step by step
+
+abbrev pub constant_factor_in : Scope (least).Reported → Pos → Result Value (least).Reported → Operator MulOp × Expr → Result Value (least).Reported
+constant_factor_in s at v x = constants.factor least s at v (x.0, part least x.1)
+
+abbrev pub constant_term_in : Scope (least).Reported → Pos → Result Value (least).Reported → Operator AddOp × Expr → Result Value (least).Reported
+constant_term_in s at v x = constants.term least s at v (x.0, part least x.1)
+
+abbrev pub constant_pick_in : Scope (least).Reported → Result Denoted (least).Reported → Selector → Result Denoted (least).Reported
+constant_pick_in s d x = (picks least x).fixed s d
+
+abbrev pub item_in : Scope (least).Reported → Result ℕ (least).Reported → Item → Result ℕ (least).Reported
+item_in s so i = constants.with_item least s so (item least i)
 
 abbrev pub factor_in : Scope (least).Reported → Pos → Result Computed (least).Reported → Operator MulOp × Expr → Result Computed (least).Reported
 factor_in s at v x = factor least s at v (x.0, meant least x.1)
@@ -245,7 +318,7 @@ factor_in s at v x = factor least s at v (x.0, meant least x.1)
 abbrev pub term_in : Scope (least).Reported → Pos → Result Computed (least).Reported → Operator AddOp × Expr → Result Computed (least).Reported
 term_in s at v x = term least s at v (x.0, meant least x.1)
 
-abbrev pub pick_in : Scope (least).Reported → Result Designated (least).Reported → Selector → Result Designated (least).Reported
+abbrev pub pick_in : Scope (least).Reported → Result Designated (Meaningless (least).Reported) → Selector → Result Designated (Meaningless (least).Reported)
 pick_in s d x = (picks least x).picks s d
 
 abbrev pub actual_in : Scope (least).Reported → List Formal × Result (List Argument) (least).Reported → Expr → List Formal × Result (List Argument) (least).Reported
@@ -255,5 +328,8 @@ abbrev pub mapped : Option (List Expr) → Option (List (Meant (least).Reported)
 mapped None = None
 mapped (Some es) = Some (map (meant least) es)
 
-abbrev pub used : Scope (least).Reported → Meant (least).Reported → Option (List Expr) → Result Designated (least).Reported
+abbrev pub used : Scope (least).Reported → Meant (least).Reported → Option (List Expr) → Result Designated (Meaningless (least).Reported)
 used s d args = used_with least s d (mapped args)
+
+abbrev pub look_in : Scope (least).Reported → Result (Unit {0}) (least).Reported → Expr → Result (Unit {0}) (least).Reported
+look_in s so x = with_look least s so (meant least x)

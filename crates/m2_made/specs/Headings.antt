@@ -54,17 +54,16 @@ repeated f names = map (λ n. f) names
 abbrev pub joined_formals : (g : Gathers) → Result (List Formal) g.Reported → Result Formal g.Reported → List Ident → Result (List Formal) g.Reported
 joined_formals g so f names = both g so f ▷ λ p. Ok (p.0 ++ repeated p.1 names)
 
--- the names so far, what is reported of them, and the formals
-abbrev pub with_section : (g : Gathers) → Scope g.Reported → Fields × Result (Unit {0}) g.Reported × Result (List Formal) g.Reported → Section → Fields × Result (Unit {0}) g.Reported × Result (List Formal) g.Reported
-with_section g s st x =
-    let names = fold (with_name g integer 0) (st.0, st.1) x.names in
-    (names.0, names.1, joined_formals g st.2 (formal_of g s x.is_var x.of) x.names)
+abbrev pub with_section : (g : Gathers) → Scope g.Reported → Result (List Formal) g.Reported → Section → Result (List Formal) g.Reported
+with_section g s so x = joined_formals g so (formal_of g s x.is_var x.of) x.names
 
-abbrev pub sections : (g : Gathers) → Scope g.Reported → List Section → Result (Unit {0}) g.Reported × Result (List Formal) g.Reported
-sections g s xs = let st = fold (with_section g s) (no_fields, Ok tt, Ok []) xs in (st.1, st.2)
-
-abbrev pub signed_by : (g : Gathers) → Result (Unit {0}) g.Reported → Result Made g.Reported → Result Made g.Reported
-signed_by g names made = both g names made ▷ λ p. Ok p.1
-
+-- what a heading means, whatever the names of its formals
 abbrev pub heading_of : (g : Gathers) → Scope g.Reported → Heading → Result Made g.Reported
-heading_of g s h = let st = sections g s h.formals in signed_by g st.0 (procedure_made g st.1 (result_of g s h.result))
+heading_of g s h = procedure_made g (fold (with_section g s) (Ok []) h.formals) (result_of g s h.result)
+
+-- the names of the formals so far, and what is reported of them
+abbrev pub with_names : (g : Gathers) → Fields × Result (Unit {0}) g.Reported → Section → Fields × Result (Unit {0}) g.Reported
+with_names g st x = fold (with_name g integer 0) st x.names
+
+abbrev pub names_of : (g : Gathers) → Heading → Result (Unit {0}) g.Reported
+names_of g h = (fold (with_names g) (no_fields, Ok tt) h.formals).1

@@ -24,7 +24,8 @@ use Rattle.m2_typed.specs.Known.{scalar_at, cells_at}
 use Rattle.m2_scopes.specs.Scopes.{State, declared}
 use Rattle.m2_scopes.specs.Elaborated.{Gathers, least, reported, reported_where, both, beside, ◌▷◌}
 use Rattle.m2_values.specs.declared.operand.Ordinal.{Ordinal}
-use Rattle.m2_constants.specs.Parts.{Part, part, constant}
+use Rattle.m2_constants.specs.Parts.{Part, constant}
+use Rattle.m2_exprs.specs.Meanings.{part}
 use Rattle.m2_made.specs.declared.field.Fields.{Fields}
 use Rattle.m2_made.specs.Named.{first_of, named_type}
 use Rattle.m2_made.specs.Cells.{count_at, array_cells, is_index}

@@ -6,7 +6,7 @@ use Rattle.m2_tree.specs.declared.expr.Qualified.{Qualified}
 use Rattle.m2_typed.specs.declared.types.TypeNo.{TypeNo}
 use Rattle.m2_typed.specs.declared.meaning.Meaning.{Meaning}
 use Rattle.m2_typed.specs.declared.meaning.Meaning.TheVariants as meaning
-use Rattle.m2_scopes.specs.Elaborated.{Gathers, reported, ◌▷◌}
+use Rattle.m2_scopes.specs.Elaborated.{Gathers, reported, of_sort, ◌▷◌}
 use Rattle.m2_scopes.specs.declared.scope.Scope.{Scope}
 use Rattle.m2_scopes.specs.Scopes.{looked_up}
 use Rattle.m2_constants.specs.Denote.{member}
@@ -45,8 +45,8 @@ in_module g s at name meaning.Ahead = reported g at 33
 in_module g s at name (meaning.Standard f) = reported g at 33
 
 abbrev pub of_module : (g : Gathers) → Scope g.Reported → Option Ident → Ident → Result TypeNo g.Reported
-of_module g s None name = looked_up g s name ▷ type_meant g name.pos
-of_module g s (Some home) name = looked_up g s home ▷ in_module g s home.pos name
+of_module g s None name = of_sort g name.pos 33 (looked_up g s name) ▷ type_meant g name.pos
+of_module g s (Some home) name = of_sort g home.pos 33 (looked_up g s home) ▷ in_module g s home.pos name
 
 abbrev pub named_type : (g : Gathers) → Scope g.Reported → Qualified → Result TypeNo g.Reported
 named_type g s q = of_module g s q.module q.name

@@ -2,6 +2,8 @@
 use Rattle.std.specs.Prelude.{ℕ, Bool, cond, ◌&&◌, ◌||◌, ◌==◌, nat_lt, List, [], ◌∷◌, ◌++◌, Result, Ok, Err}
 use Rattle.m2_tree.specs.declared.pos.Pos.{Pos}
 use Rattle.m2_scopes.specs.declared.fault.Fault.{Fault}
+use Rattle.m2_scopes.specs.declared.meaningless.Meaningless.{Meaningless}
+use Rattle.m2_scopes.specs.declared.meaningless.Meaningless.TheVariants.{Broken, Headless}
 
 -- how broken rules are gathered
 pub record Gathers : Type 1 where
@@ -47,3 +49,35 @@ both g (Err e) (Err f) = Err (g.join e f)
 -- the same, where only what is reported counts
 abbrev pub beside : (g : Gathers) → Result (Unit {0}) g.Reported → Result (Unit {0}) g.Reported → Result (Unit {0}) g.Reported
 beside g a b = both g a b ▷ λ p. Ok tt
+
+-- ---- what stands behind a part is looked at, also if the part has no meaning
+
+abbrev pub refusal_beside : (g : Gathers) {A : Type 0} → g.Reported → Result (Unit {0}) g.Reported → Result A g.Reported
+refusal_beside g e (Ok fine) = Err e
+refusal_beside g e (Err f) = Err (g.join e f)
+
+abbrev pub reported_beside : (g : Gathers) {A : Type 0} → Pos → ℕ → Result (Unit {0}) g.Reported → Result A g.Reported
+reported_beside g pos number rest = refusal_beside g (g.one (record { pos = pos; number = number })) rest
+
+abbrev pub ahead : (g : Gathers) {A B : Type 0} → Result A g.Reported → Result (Unit {0}) g.Reported → (A → Result B g.Reported) → Result B g.Reported
+ahead g (Ok x) rest f = f x
+ahead g (Err e) rest f = refusal_beside g e rest
+
+-- ---- names of procedures in whose headings rules are broken
+
+-- a rule that looks at what sort of thing a name is speaks of such a procedure too
+abbrev pub of_sort : (g : Gathers) {A : Type 0} → Pos → ℕ → Result A (Meaningless g.Reported) → Result A g.Reported
+of_sort g pos number (Ok x) = Ok x
+of_sort g pos number (Err (Broken e)) = Err e
+of_sort g pos number (Err (Headless e)) = reported g pos number
+
+-- if the heading counts, its own refusals are repeated
+abbrev pub of_heading : {A T : Type 0} → Result A (Meaningless T) → Result A T
+of_heading (Ok x) = Ok x
+of_heading (Err (Broken e)) = Err e
+of_heading (Err (Headless e)) = Err e
+
+-- what is no such procedure
+abbrev pub plain : {A T : Type 0} → Result A T → Result A (Meaningless T)
+plain (Ok x) = Ok x
+plain (Err e) = Err (Broken e)

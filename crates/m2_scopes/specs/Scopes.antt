@@ -1,5 +1,5 @@
 -- Names in scope.
-use Rattle.std.specs.Prelude.{ℕ, Bool, true, false, ◌==◌, nat_lt, cond, List, [], ◌∷◌, Option, Some, None, Result, Ok, slice_get}
+use Rattle.std.specs.Prelude.{ℕ, Bool, true, false, ◌==◌, nat_lt, cond, List, [], ◌∷◌, Option, Some, None, Result, Ok, Err, slice_get}
 use Rattle.std.specs.List.{fold}
 use Rattle.std.specs.Option.{option_map}
 use Rattle.std.specs.Borrow.{Bor}
@@ -19,10 +19,12 @@ use Rattle.m2_scopes.specs.declared.known.Origin.{Origin}
 use Rattle.m2_scopes.specs.declared.known.Origin.TheVariants.{Here, Module, Export}
 use Rattle.m2_scopes.specs.declared.known.Known.{Known}
 use Rattle.m2_scopes.specs.declared.known.Known.TheVariants.{Later, Ahead, Begun, Headed, Declared}
+use Rattle.m2_scopes.specs.declared.meaningless.Meaningless.{Meaningless}
+use Rattle.m2_scopes.specs.declared.meaningless.Meaningless.TheVariants.{Headless}
 use Rattle.m2_scopes.specs.declared.scope.Block.{Block}
 use Rattle.m2_scopes.specs.declared.scope.OpenedRecord.{OpenedRecord}
 use Rattle.m2_scopes.specs.declared.scope.Scope.{Scope}
-use Rattle.m2_scopes.specs.Elaborated.{Gathers, reported}
+use Rattle.m2_scopes.specs.Elaborated.{Gathers, reported, plain}
 
 -- ---- what a name means
 
@@ -59,16 +61,21 @@ or_around (Some k) far = Some (k, true)
 abbrev pub known : {T : Type 0} → List ℕ → Scope T → Sight T
 known name s = or_around (found name s.own) (known_outside name s.outer)
 
--- names are declared before use, but procedures are known in all bodies of their block
-abbrev pub means_seen : (g : Gathers) → Pos → Known g.Reported → (seen : Bool) → Result Meaning g.Reported
-means_seen g at Later seen = reported g at 30
-means_seen g at Ahead seen = Ok meaning.Ahead
-means_seen g at Begun seen = reported g at 30
-means_seen g at (Headed m) seen = m
-means_seen g at (Declared o m) seen = cond seen m (reported g at 30)
+-- a procedure, if rules are broken in its heading, is known to be one
+abbrev pub heading_means : {T : Type 0} → Result Meaning T → Result Meaning (Meaningless T)
+heading_means (Ok m) = Ok m
+heading_means (Err e) = Err (Headless e)
 
-abbrev pub means_as : (g : Gathers) → Pos → Sight g.Reported → Result Meaning g.Reported
-means_as g at None = reported g at 30
+-- names are declared before use, but procedures are known in all bodies of their block
+abbrev pub means_seen : (g : Gathers) → Pos → Known g.Reported → (seen : Bool) → Result Meaning (Meaningless g.Reported)
+means_seen g at Later seen = plain (reported g at 30)
+means_seen g at Ahead seen = Ok meaning.Ahead
+means_seen g at Begun seen = plain (reported g at 30)
+means_seen g at (Headed m) seen = heading_means m
+means_seen g at (Declared o m) seen = plain (cond seen m (reported g at 30))
+
+abbrev pub means_as : (g : Gathers) → Pos → Sight g.Reported → Result Meaning (Meaningless g.Reported)
+means_as g at None = plain (reported g at 30)
 means_as g at (Some k) = means_seen g at k.0 k.1
 
 -- ---- fields under WITH come before all other names
@@ -110,7 +117,7 @@ abbrev pub means_or : {T : Type 0} → Option OpenedField → Result Meaning T �
 means_or (Some f) m = Ok (meaning.Field f)
 means_or None m = m
 
-abbrev pub looked_up : (g : Gathers) → Scope g.Reported → Ident → Result Meaning g.Reported
+abbrev pub looked_up : (g : Gathers) → Scope g.Reported → Ident → Result Meaning (Meaningless g.Reported)
 looked_up g s name = means_or (opened s.types name.name s.withs) (means_as g name.pos (known name.name s))
 
 -- ---- declarations

@@ -1,7 +1,7 @@
 //! Rules that are broken.
 
-ghost use Rattle.std.specs.Prelude.{◌≡◌};
-ghost use Rattle.m2_scopes.specs.Elaborated.{is_less, lesser, least, both, beside};
+ghost use Rattle.std.specs.Prelude.{◌≡◌, Err};
+ghost use Rattle.m2_scopes.specs.Elaborated.{is_less, lesser, least, both, beside, refusal_beside, reported_beside};
 
 use m2_tree::Pos;
 
@@ -60,4 +60,21 @@ pub fn beside(first: Elaborated<()>, second: Elaborated<()>) -> Elaborated<()>
         (Err(f), Ok(_)) => Err(f),
         (Err(f), Err(g)) => Err(lesser(f, g)),
     }
+}
+
+/// A refusal, beside what is reported of the parts that stand behind.
+pub fn refusal_beside<T>(fault: Fault, rest: Elaborated<()>) -> Elaborated<T>
+    ensures { result ≡ refusal_beside least fault rest }
+{
+    match rest {
+        Ok(()) => Err(fault),
+        Err(other) => Err(lesser(fault, other)),
+    }
+}
+
+/// What is reported of a rule that is broken, beside what is reported of the parts that stand behind.
+pub fn reported_beside<T>(pos: Pos, number: u32, rest: Elaborated<()>) -> Elaborated<T>
+    ensures { result ≡ reported_beside least pos number rest }
+{
+    refusal_beside(Fault { pos, number }, rest)
 }

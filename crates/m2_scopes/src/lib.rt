@@ -3,10 +3,12 @@
 
 mod fault;
 mod known;
+mod meaningless;
 mod scope;
 
-pub use fault::{Elaborated, Fault, beside, both, lesser, reported};
+pub use fault::{Elaborated, Fault, beside, both, lesser, refusal_beside, reported, reported_beside};
 pub use known::{Known, Origin};
+pub use meaningless::{Meaningless, Sought, of_heading, of_sort, plain};
 pub use scope::{
     Block, OpenedRecord, Scope, begin, declare, fields_of, finish, import, looked_up, mark,
 };

@@ -3,11 +3,12 @@
 ghost use Rattle.std.specs.Prelude.{◌≡◌, Ok, IfOk, OnOk, Option};
 ghost use Rattle.std.specs.List.{fold};
 ghost use Rattle.std.specs.Option.{option_copied};
-ghost use Rattle.m2_scopes.specs.Elaborated.{least};
-ghost use Rattle.m2_scopes.specs.Scopes.{sighted, seen_at, in_block, nearer, or_outside, known_outside, known, fields_made, fields_at, field_at, field_in, opened, means_seen, means_as, looked_up, is_free, with_known, declared, begun, is_begun, finished, is_one_origin, is_again, imported, marked};
+ghost use Rattle.m2_scopes.specs.Elaborated.{least, plain};
+ghost use Rattle.m2_scopes.specs.Scopes.{sighted, seen_at, in_block, nearer, or_outside, known_outside, known, fields_made, fields_at, field_at, field_in, opened, heading_means, means_seen, means_as, looked_up, is_free, with_known, declared, begun, is_begun, finished, is_one_origin, is_again, imported, marked};
 
 use crate::fault::{Elaborated, Fault, reported};
 use crate::known::{Known, Origin};
+use crate::meaningless::{Meaningless, Sought, plain};
 use m2_tree::{Ident, Items, Pos};
 use m2_typed::{
     Dictionary, Made, Meaning, OpenedField, Reached, Shape, Shared, Table, TypeNo, Types, made_of,
@@ -138,29 +139,46 @@ fn copied(means: &Elaborated<Meaning>) -> Result<Elaborated<Meaning>, AllocError
     }
 }
 
-fn means_seen(at: Pos, known: &Known<Fault>, seen: bool) -> Result<Elaborated<Meaning>, AllocError>
+/// What a declaration says of a name.
+fn declared_means(means: &Elaborated<Meaning>) -> Result<Sought<Meaning>, AllocError>
+    ensures { IfOk result (λ m. m ≡ plain means.now) }
+{
+    Ok(plain(copied(means)?))
+}
+
+/// What a heading says of a procedure.
+fn heading_means(means: &Elaborated<Meaning>) -> Result<Sought<Meaning>, AllocError>
+    ensures { IfOk result (λ m. m ≡ heading_means means.now) }
+{
+    match means {
+        Err(fault) => Ok(Err(Meaningless::Headless(*fault))),
+        Ok(meaning) => Ok(Ok(meaning.copy()?)),
+    }
+}
+
+fn means_seen(at: Pos, known: &Known<Fault>, seen: bool) -> Result<Sought<Meaning>, AllocError>
     ensures { IfOk result (λ m. m ≡ means_seen least at known.now seen) }
 {
     match known {
-        Known::Later | Known::Begun => Ok(reported(at, 30)),
+        Known::Later | Known::Begun => Ok(plain(reported(at, 30))),
         Known::Ahead => Ok(Ok(Meaning::Ahead)),
-        Known::Headed(means) => copied(means),
+        Known::Headed(means) => heading_means(means),
         Known::Declared(_, means) => {
             if seen {
-                copied(means)
+                declared_means(means)
             } else {
-                Ok(reported(at, 30))
+                Ok(plain(reported(at, 30)))
             }
         }
     }
 }
 
-fn means_as(at: Pos, known: Sight<'_>) -> Result<Elaborated<Meaning>, AllocError>
+fn means_as(at: Pos, known: Sight<'_>) -> Result<Sought<Meaning>, AllocError>
     ensures { IfOk result
         (λ m. m ≡ means_as least at (sighted known.entry)) }
 {
     match known {
-        None => Ok(reported(at, 30)),
+        None => Ok(plain(reported(at, 30))),
         Some((known, seen)) => means_seen(at, known, seen),
     }
 }
@@ -224,7 +242,7 @@ fn opened(types: &Types, withs: &[OpenedRecord], name: &[u8]) -> Option<OpenedFi
 }
 
 /// What a name means where it is used.
-pub fn looked_up(scope: &Scope<Fault>, name: &Ident) -> Result<Elaborated<Meaning>, AllocError>
+pub fn looked_up(scope: &Scope<Fault>, name: &Ident) -> Result<Sought<Meaning>, AllocError>
     ensures { IfOk result (λ m. m ≡ looked_up least scope.now name.now) }
 {
     let bytes = name.name.as_bytes();

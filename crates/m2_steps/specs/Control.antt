@@ -16,7 +16,7 @@ use Rattle.m2_typed.specs.declared.statement.TypedStmt.{TypedStmt}
 use Rattle.m2_typed.specs.declared.statement.TypedStmt.TheVariants as step
 use Rattle.m2_typed.specs.declared.known_types.Types.{Types}
 use Rattle.m2_typed.specs.Chains.{rooted}
-use Rattle.m2_scopes.specs.Elaborated.{Gathers, reported, reported_where, both, ◌▷◌}
+use Rattle.m2_scopes.specs.Elaborated.{Gathers, reported, reported_where, both, of_sort, ◌▷◌}
 use Rattle.m2_scopes.specs.declared.scope.Scope.{Scope}
 use Rattle.m2_scopes.specs.Scopes.{looked_up}
 use Rattle.m2_values.specs.declared.operand.Ordinal.{Ordinal}
@@ -67,7 +67,7 @@ control_by g s at (meaning.Standard f) = reported g at 47
 control_by g s at (meaning.Module k) = reported g at 47
 
 abbrev pub control_of : (g : Gathers) → Scope g.Reported → Ident → Result Control g.Reported
-control_of g s name = looked_up g s name ▷ control_by g s name.pos
+control_of g s name = of_sort g name.pos 47 (looked_up g s name) ▷ control_by g s name.pos
 
 -- ---- the start is assigned to it
 

@@ -1,5 +1,6 @@
 -- Lists of statements, and statements around them.
-use Rattle.std.specs.Prelude.{List, [], ◌∷◌, ◌++◌, Option, Some, Result, Ok}
+use Rattle.std.specs.Prelude.{List, [], ◌∷◌, ◌++◌, Option, Some, None, Result, Ok, Err}
+use Rattle.m2_typed.specs.declared.types.TypeNo.{TypeNo}
 use Rattle.m2_typed.specs.declared.computed.Place.{Place}
 use Rattle.m2_typed.specs.declared.computed.TypedExpr.{TypedExpr}
 use Rattle.m2_typed.specs.declared.statement.Label.{Label}
@@ -23,8 +24,13 @@ chosen g c body rest = both g c (both g body rest) ▷ λ p. Ok (step.If p.0 p.1
 abbrev pub chosen_else : {T : Type 0} → Result TypedStmt T → Result (Option (List TypedStmt)) T
 chosen_else s = s ▷ λ x. Ok (Some (x ∷ []))
 
-abbrev pub cased : (g : Gathers) → TypedExpr → Result (List TypedArm) g.Reported → Result (Option (List TypedStmt)) g.Reported → Result TypedStmt g.Reported
-cased g e arms otherwise = both g arms otherwise ▷ λ p. Ok (step.Case e p.0 p.1)
+-- the base type of a selector, if it has a meaning
+abbrev pub base_in : {T : Type 0} → Result (TypeNo × TypedExpr) T → Option TypeNo
+base_in (Ok x) = Some x.0
+base_in (Err e) = None
+
+abbrev pub cased : (g : Gathers) → Result (TypeNo × TypedExpr) g.Reported → Result (List TypedArm) g.Reported → Result (Option (List TypedStmt)) g.Reported → Result TypedStmt g.Reported
+cased g selector arms otherwise = both g selector (both g arms otherwise) ▷ λ p. Ok (step.Case p.0.1 p.1.0 p.1.1)
 
 abbrev pub armed : (g : Gathers) → Result (List Label) g.Reported → Result (List TypedStmt) g.Reported → Result TypedArm g.Reported
 armed g labels body = both g labels body ▷ λ p. Ok (record { labels = p.0; body = p.1 })
@@ -40,3 +46,7 @@ looped body = body ▷ λ x. Ok (step.Loop x)
 
 abbrev pub within : {T : Type 0} → Place → Result (List TypedStmt) T → Result TypedStmt T
 within place body = body ▷ λ x. Ok (step.With place x)
+
+-- what is broken in statements
+abbrev pub reported_in : {T : Type 0} → Result (List TypedStmt) T → Result (Unit {0}) T
+reported_in body = body ▷ λ x. Ok tt

@@ -1,17 +1,24 @@
 -- Statements without others inside, and the parts of statements that stand before others.
-use Rattle.std.specs.Prelude.{true, not, List, [], ◌∷◌, ◌++◌, length, Option, Some, None, Result, Ok}
+use Rattle.std.specs.Prelude.{true, not, cond, List, [], ◌∷◌, ◌++◌, length, Option, Some, None, Result, Ok, Err}
+use Rattle.std.specs.List.{fold}
 use Rattle.std.specs.Option.{is_some}
 use Rattle.m2_tree.specs.declared.pos.Pos.{Pos}
 use Rattle.m2_tree.specs.declared.expr.Expr.{Expr}
+use Rattle.m2_tree.specs.declared.expr.Expr.TheOpen as layer
+use Rattle.m2_tree.specs.declared.expr.Selector.{Selector, Selector-F, out-Selector}
+use Rattle.m2_tree.specs.declared.expr.Designator.{Designator as Designating, out-Designator}
+use Rattle.m2_tree.specs.declared.expr.Item.{Item}
 use Rattle.m2_typed.specs.declared.types.TypeNo.{TypeNo}
 use Rattle.m2_typed.specs.declared.computed.Place.{Place}
+use Rattle.m2_typed.specs.declared.computed.Root.TheVariants as root
+use Rattle.m2_typed.specs.Chains.{rooted}
 use Rattle.m2_typed.specs.declared.computed.TypedExpr.{TypedExpr}
 use Rattle.m2_typed.specs.declared.computed.TypedExpr.TheVariants as expr
 use Rattle.m2_typed.specs.declared.statement.TypedStmt.{TypedStmt}
 use Rattle.m2_typed.specs.declared.statement.TypedStmt.TheVariants as step
 use Rattle.m2_typed.specs.declared.known_types.Types.{Types}
 use Rattle.m2_typed.specs.Types.{boolean}
-use Rattle.m2_scopes.specs.Elaborated.{Gathers, reported, reported_where, both, ◌▷◌}
+use Rattle.m2_scopes.specs.Elaborated.{Gathers, reported, reported_where, reported_beside, both, of_sort, ◌▷◌}
 use Rattle.m2_scopes.specs.declared.scope.Scope.{Scope}
 use Rattle.m2_scopes.specs.Scopes.{fields_at}
 use Rattle.m2_computed.specs.declared.computed.Computed.{Computed}
@@ -21,10 +28,11 @@ use Rattle.m2_computed.specs.declared.side.Amount.{Amount}
 use Rattle.m2_computed.specs.declared.side.Amount.TheVariants.{Known, Run}
 use Rattle.m2_computed.specs.declared.side.Side.{Side}
 use Rattle.m2_computed.specs.declared.side.Side.TheVariants as side
+use Rattle.m2_computed.specs.Classes.{array_at}
 use Rattle.m2_computed.specs.Sides.{side_of}
 use Rattle.m2_computed.specs.Suits.{value_suited}
 use Rattle.m2_calls.specs.Effects.{untyped, target_at, assigned}
-use Rattle.m2_exprs.specs.Meanings.{Meant, meant, value_of}
+use Rattle.m2_exprs.specs.Meanings.{Meant, meant, value_of, named, field_of}
 use Rattle.m2_steps.specs.declared.around.Around.{Around}
 
 -- an expression, if one stands there
@@ -48,7 +56,7 @@ given_back g types t at x = both g t x ▷ λ p. value_suited g 41 types p.0 at 
 -- functions alone give a value, and always
 abbrev pub returned : (g : Gathers) → Scope g.Reported → Pos → Option (Result TypeNo g.Reported) → Option (Meant g.Reported) → Result TypedStmt g.Reported
 returned g s at None None = Ok step.Return
-returned g s at None (Some x) = reported g at 46
+returned g s at None (Some x) = reported_beside g at 46 (value_of g s x ▷ λ v. Ok tt)
 returned g s at (Some t) None = reported g at 46
 returned g s at (Some t) (Some x) = given_back g s.types t x.fixed.at (value_of g s x)
 
@@ -95,11 +103,61 @@ record_by g types at (designated.Standard f) = reported g at 40
 record_by g types at (designated.Module k) = reported g at 40
 
 abbrev pub record_of : (g : Gathers) → Scope g.Reported → Meant g.Reported → Result (TypeNo × Place) g.Reported
-record_of g s d = d.means s ▷ record_by g s.types d.fixed.at
+record_of g s d = of_sort g d.fixed.at 40 (d.means s) ▷ record_by g s.types d.fixed.at
+
+-- ---- The record type that a WITH opens, if its designator has no meaning: that to which it leads whatever its subscripts are.
+
+abbrev pub known_of : {T : Type 0} → Result Designated T → Option Designated
+known_of (Ok d) = Some d
+known_of (Err e) = None
+
+abbrev pub element_in : Place → Option (TypeNo × TypeNo) → Option Designated
+element_in d None = None
+element_in d (Some a) = Some (designated.Variable a.1 d)
+
+abbrev pub element_of : Types → Designated → Option Designated
+element_of types (designated.Variable t d) = element_in d (array_at types t)
+element_of types (designated.Open t slot) = Some (designated.Variable t (rooted (root.Open slot)))
+element_of types (designated.Value x) = None
+element_of types (designated.Type t) = None
+element_of types (designated.Procedure p) = None
+element_of types (designated.Nested p) = None
+element_of types (designated.Standard f) = None
+element_of types (designated.Module k) = None
+
+abbrev pub led_by : (g : Gathers) → Scope g.Reported → Designated → Selector-F Expr Selector Designating Item → Option Designated
+led_by g s d (layer.Field at name) = known_of (field_of g s at name d)
+led_by g s d (layer.Index at x) = element_of s.types d
+
+abbrev pub led : (g : Gathers) → Scope g.Reported → Option Designated → Selector → Option Designated
+led g s None x = None
+led g s (Some d) x = led_by g s d (out-Selector x)
+
+abbrev pub type_led_to : Types → Designated → Option TypeNo
+type_led_to types (designated.Variable t d) = cond (is_some (fields_at types t)) (Some t) None
+type_led_to types (designated.Value x) = None
+type_led_to types (designated.Open t slot) = None
+type_led_to types (designated.Type t) = None
+type_led_to types (designated.Procedure p) = None
+type_led_to types (designated.Nested p) = None
+type_led_to types (designated.Standard f) = None
+type_led_to types (designated.Module k) = None
+
+abbrev pub record_led_to : Types → Option Designated → Option TypeNo
+record_led_to types None = None
+record_led_to types (Some d) = type_led_to types d
+
+abbrev pub opened_type : (g : Gathers) → Scope g.Reported → Designating → Option TypeNo
+opened_type g s d = record_led_to s.types (fold (led g s) (known_of (named g s (out-Designator d).name)) (out-Designator d).selectors)
 
 -- inside, the fields of a record of this type stand for themselves
 abbrev pub opened : {T : Type 0} → Scope T → TypeNo → Scope T
 opened s t = record s { withs = s.withs ++ record { number = length s.withs; of = t } ∷ [] }
+
+-- the same, if there is one
+abbrev pub opened_if : {T : Type 0} → Scope T → Option TypeNo → Scope T
+opened_if s None = s
+opened_if s (Some t) = opened s t
 
 -- all but the last
 abbrev pub front : {A : Type 0} → List A → List A

@@ -20,8 +20,9 @@ use Rattle.m2_typed.specs.declared.meaning.Meaning.TheVariants as meaning
 use Rattle.m2_scopes.specs.declared.scope.Scope.{Scope}
 use Rattle.m2_scopes.specs.Scopes.{State, declared, begun, finished}
 use Rattle.m2_scopes.specs.Elaborated.{Gathers, beside, ◌▷◌}
-use Rattle.m2_constants.specs.Parts.{part, constant}
-use Rattle.m2_made.specs.Headings.{heading_of}
+use Rattle.m2_constants.specs.Parts.{constant}
+use Rattle.m2_exprs.specs.Meanings.{part}
+use Rattle.m2_made.specs.Headings.{heading_of, names_of}
 use Rattle.m2_made.specs.Made.{nothing_of, type_of, with_made}
 
 -- ---- constants
@@ -101,7 +102,7 @@ abbrev pub with_procedure : (g : Gathers) → State (Unit {0}) g.Reported → He
 with_procedure g st h =
     let t = with_made st.0 (heading_of g st.0 h) in
     let d = declared_procedure g t.0 h.name t.1 in
-    (d.0, beside g st.1 (beside g (nothing_of t.1) d.1))
+    (d.0, beside g st.1 (beside g (names_of g h) (beside g (nothing_of t.1) d.1)))
 
 -- ---- all of them
 
