@@ -51,8 +51,8 @@ module _ (g : Gathers) where
   refused_holds e (Ok x) = broken e
   refused_holds e (Err f) = broken (g.join e f)
 
-  pub beside_holds : {A : Type 0} {P : A → Type 0} (at : Pos) (n : ℕ) (rest : Result (Unit {0}) g.Reported) → Holds P (reported_beside g {A = A} at n rest)
-  beside_holds at n rest = refused_holds (g.one (record { pos = at; number = n })) rest
+  pub reported_beside_holds : {A : Type 0} {P : A → Type 0} (at : Pos) (n : ℕ) (rest : Result (Unit {0}) g.Reported) → Holds P (reported_beside g {A = A} at n rest)
+  reported_beside_holds at n rest = refused_holds (g.one (record { pos = at; number = n })) rest
 
   pub ahead_holds : {A B : Type 0} {P : A → Type 0} {Q : B → Type 0} {r : Result A g.Reported} (rest : Result (Unit {0}) g.Reported) {f : A → Result B g.Reported} → Holds P r → ((x : A) → P x → Holds Q (f x)) → Holds Q (ahead g r rest f)
   ahead_holds rest (fine x p) k = k x p

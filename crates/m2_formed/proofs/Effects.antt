@@ -47,7 +47,7 @@ use Rattle.m2_exprs.specs.Effects.{call_done, routine_done, changed_in, changed_
 use Rattle.m2_scheme.specs.Exprs.{is_there}
 use Rattle.m2_valid.specs.WellFormed.{IsScalar, IsExpr, Constant, IsPlace, AreArguments, IsStmt, Assign, Copy, CopyText, ProcedureCall, Put as PutOf, Changed, Member, Halt as HaltOf}
 use Rattle.m2_formed.specs.Formed.{Holds, fine, FormedValue, FormedDesignated, IsFormed}
-use Rattle.m2_formed.proofs.Basics.{then_holds, reported_holds, where_holds, both_holds, refused_holds, beside_holds, ahead_holds, sort_holds, of_heading_holds, is_whole, scalar_kept, heading_kept}
+use Rattle.m2_formed.proofs.Basics.{then_holds, reported_holds, where_holds, both_holds, refused_holds, reported_beside_holds, ahead_holds, sort_holds, of_heading_holds, is_whole, scalar_kept, heading_kept}
 use Rattle.m2_formed.proofs.Operators.{suited_formed}
 use Rattle.m2_formed.proofs.Calls.{FormedCallee, FormedCalled, callee_formed, call_formed}
 use Rattle.m2_formed.proofs.Meanings.{FM, AllM, value_formed, actuals_formed}
@@ -164,10 +164,10 @@ module _ (g : Gathers) (m : TypedModule) (opens : ℕ → Bool) (w : ℕ) (s : S
   changed_in_formed v p = then_holds (sort_holds g v.fixed.at 44 p) (λ d k. changed_formed v.fixed.at d k)
 
   changed_by_formed : (at : Pos) (o : Change) (args : List (Meant g.Reported)) → AllM g m opens w s h args → Stmt_ (changed_by g s at o args)
-  changed_by_formed at o [] all = beside_holds g at 42 (looked_at g s [])
+  changed_by_formed at o [] all = reported_beside_holds g at 42 (looked_at g s [])
   changed_by_formed at o (v ∷ []) all = change_by_formed o (changed_in_formed v all.0) (fine (expr.Constant cardinal (pos 1)) (Constant cardinal (pos 1)))
   changed_by_formed at o (v ∷ n ∷ []) all = change_by_formed o (changed_in_formed v all.0) (then_holds (value_formed g m opens w s h n all.1.0) (λ x k. amount_formed n.fixed.at x k))
-  changed_by_formed at o (v ∷ n ∷ x ∷ xs) all = beside_holds g at 42 _
+  changed_by_formed at o (v ∷ n ∷ x ∷ xs) all = reported_beside_holds g at 42 _
 
   -- ---- INCL and EXCL
 
@@ -207,32 +207,32 @@ module _ (g : Gathers) (m : TypedModule) (opens : ℕ → Bool) (w : ℕ) (s : S
   set_in_formed v p = then_holds (sort_holds g v.fixed.at 44 p) (λ d k. set_variable_formed v.fixed.at d k)
 
   member_by_formed : (at : Pos) (o : Membership) (args : List (Meant g.Reported)) → AllM g m opens w s h args → Stmt_ (member_by g s at o args)
-  member_by_formed at o [] all = beside_holds g at 42 (looked_at g s [])
-  member_by_formed at o (v ∷ []) all = beside_holds g at 42 _
+  member_by_formed at o [] all = reported_beside_holds g at 42 (looked_at g s [])
+  member_by_formed at o (v ∷ []) all = reported_beside_holds g at 42 _
   member_by_formed at o (v ∷ n ∷ []) all = membership_formed o (set_in_formed v all.0) (then_holds (value_formed g m opens w s h n all.1.0) (λ x k. element_formed n.fixed.at x k))
-  member_by_formed at o (v ∷ n ∷ x ∷ xs) all = beside_holds g at 42 _
+  member_by_formed at o (v ∷ n ∷ x ∷ xs) all = reported_beside_holds g at 42 _
 
   -- ---- HALT and Put
 
   halted_formed : (at : Pos) (args : List (Meant g.Reported)) → Stmt_ (halted g s at args)
   halted_formed at [] = fine step.Halt (HaltOf w looped)
-  halted_formed at (x ∷ xs) = beside_holds g at 42 _
+  halted_formed at (x ∷ xs) = reported_beside_holds g at 42 _
 
   put_by_formed : (at : Pos) (args : List (Meant g.Reported)) → AllM g m opens w s h args → Stmt_ (put_by g s at args)
-  put_by_formed at [] all = beside_holds g at 42 (looked_at g s [])
+  put_by_formed at [] all = reported_beside_holds g at 42 (looked_at g s [])
   put_by_formed at (x ∷ []) all = then_holds (value_formed g m opens w s h x all.0) (λ v k. then_holds (suited_formed m w g 43 s.types char x.fixed.at v k) (λ e q. fine (step.Put e) (PutOf w looped e q)))
-  put_by_formed at (x ∷ y ∷ xs) all = beside_holds g at 42 _
+  put_by_formed at (x ∷ y ∷ xs) all = reported_beside_holds g at 42 _
 
   standard_formed : (at : Pos) (args : List (Meant g.Reported)) (f : Standard) → AllM g m opens w s h args → Stmt_ (standard_done g s at args f)
-  standard_formed at args Abs all = beside_holds g at 40 _
-  standard_formed at args Cap all = beside_holds g at 40 _
-  standard_formed at args Chr all = beside_holds g at 40 _
-  standard_formed at args High all = beside_holds g at 40 _
-  standard_formed at args Max all = beside_holds g at 40 _
-  standard_formed at args Min all = beside_holds g at 40 _
-  standard_formed at args Odd all = beside_holds g at 40 _
-  standard_formed at args Ord all = beside_holds g at 40 _
-  standard_formed at args Val all = beside_holds g at 40 _
+  standard_formed at args Abs all = reported_beside_holds g at 40 _
+  standard_formed at args Cap all = reported_beside_holds g at 40 _
+  standard_formed at args Chr all = reported_beside_holds g at 40 _
+  standard_formed at args High all = reported_beside_holds g at 40 _
+  standard_formed at args Max all = reported_beside_holds g at 40 _
+  standard_formed at args Min all = reported_beside_holds g at 40 _
+  standard_formed at args Odd all = reported_beside_holds g at 40 _
+  standard_formed at args Ord all = reported_beside_holds g at 40 _
+  standard_formed at args Val all = reported_beside_holds g at 40 _
   standard_formed at args Inc all = changed_by_formed at Increase args all
   standard_formed at args Dec all = changed_by_formed at Decrease args all
   standard_formed at args Incl all = member_by_formed at Include args all

@@ -1,5 +1,5 @@
 -- The type of a heading has the formals and the result that are computed where the procedure's block begins.
-use Rattle.std.proofs.Common.{◌≡◌, ℕ, ◌==◌, Bool, true, false, not, cond, List, [], ◌∷◌, ◌++◌, length, map, Option, Some, None, Result, Ok, Err, refl, sym, ap, subst, ◌∙◌, append_assoc}
+use Rattle.std.proofs.Common.{◌≡◌, ℕ, ◌==◌, Bool, true, false, not, cond, List, [], ◌∷◌, ◌++◌, length, Option, Some, None, Result, Ok, Err, refl, sym, ap, subst, ◌∙◌, append_assoc}
 use Rattle.std.specs.Prelude.{slice_get, nat_eq}
 use Rattle.std.specs.Map.{lookup}
 use Rattle.std.specs.List.{fold}
@@ -16,35 +16,33 @@ use Rattle.m2_tree.specs.declared.decl.Section.{Section}
 use Rattle.m2_tree.specs.declared.pos.Pos.{Pos}
 use Rattle.m2_typed.specs.declared.meaning.Meaning.{Meaning}
 use Rattle.m2_typed.specs.declared.meaning.Meaning.TheVariants as meaning
-use Rattle.m2_typed.specs.declared.meaning.Procedure.{Procedure}
 use Rattle.m2_typed.specs.declared.shape.Formal.{Formal}
 use Rattle.m2_typed.specs.declared.shape.Made.{Made}
 use Rattle.m2_typed.specs.declared.shape.Shape.TheVariants as shape
 use Rattle.m2_typed.specs.declared.shape.Signature.{Signature}
-use Rattle.m2_typed.specs.declared.known_types.Types.{Types}
 use Rattle.m2_typed.specs.declared.types.Home.{Home}
 use Rattle.m2_typed.specs.declared.types.Home.TheVariants.{Predeclared, Module}
 use Rattle.m2_typed.specs.declared.types.TypeNo.{TypeNo}
 use Rattle.m2_typed.specs.Known.{made_in, made_at, in_list, is_result_made, is_result_from, is_result}
 use Rattle.m2_typed.specs.Names.{found}
-use Rattle.m2_scopes.specs.Elaborated.{Gathers, reported, reported_where, both, beside, ◌▷◌}
+use Rattle.m2_scopes.specs.Elaborated.{Gathers, reported, reported_where, both, ◌▷◌}
 use Rattle.m2_scopes.specs.Scopes.{State}
 use Rattle.m2_scopes.specs.declared.known.Known.{Known}
 use Rattle.m2_scopes.specs.declared.known.Known.TheVariants.{Headed}
 use Rattle.m2_scopes.specs.declared.scope.Scope.{Scope}
-use Rattle.m2_made.specs.Headings.{formal_of, result_in, result_of, procedure_made, repeated, joined_formals, with_section, heading_of, names_of}
+use Rattle.m2_made.specs.Headings.{formal_of, result_in, result_of, repeated, with_section, heading_of, names_of}
 use Rattle.m2_made.specs.Made.{next_type, with_shape}
 use Rattle.m2_made.specs.Named.{first_of, named_type}
 use Rattle.m2_blocks.specs.declared.heading.Standing.{Standing}
 use Rattle.m2_blocks.specs.declared.heading.Standing.TheVariants.{Free, Awaited, Taken}
 use Rattle.m2_blocks.specs.Agreeing.{signature_in, signature_of, agree}
-use Rattle.m2_blocks.specs.Headings.{name_standing, nested_meaning, headed, module_procedure, with_new, nothing_made, reported_of_other, headed_as, with_heading}
+use Rattle.m2_blocks.specs.Headings.{name_standing, nested_meaning, headed, module_procedure, nothing_made, headed_as}
 use Rattle.m2_blocks.specs.Declarations.{Course, with_procedure, decl_layer, with_decl}
 use Rattle.m2_blocks.specs.Inner.{inwards}
 use Rattle.m2_formed.proofs.Names.{get_last, found_self}
 use Rattle.m2_formed.proofs.ScopesDeclarations.{beside_right, decl_reported, head_reported}
 use Rattle.m2_formed.specs.FormedNumbers.{with_one, with_names, with_formals_of, all_formals}
-use Rattle.m2_formed.specs.FormedHeadings.{declared_by, all, begun, met, end, seen, IsBehind, heading_in, HeadingStands, HeadingsStay}
+use Rattle.m2_formed.specs.FormedHeadings.{declared_by, all, begun, end, seen, IsBehind, heading_in, HeadingStands, HeadingsStay}
 use Rattle.m2_formed.proofs.Agreeing.{agreed_made}
 use Rattle.m2_formed.proofs.HeadingsSteps.{Keeps}
 use Rattle.m2_formed.proofs.Resolving.{declared_append, block_changes, to_last, named_stays}

@@ -56,7 +56,7 @@ use Rattle.m2_exprs.specs.Meanings.{Meant, Picks, of_computed, signed_first, nam
 use Rattle.m2_scheme.specs.Exprs.{is_there}
 use Rattle.m2_valid.specs.WellFormed.{FunctionCall, AreArguments, no_arguments, FieldOf}
 use Rattle.m2_formed.specs.Formed.{Holds, fine, FormedMeaning, FormedValue, FormedDesignated, IsFormed}
-use Rattle.m2_formed.proofs.Basics.{then_holds, reported_holds, both_holds, refused_holds, beside_holds, ahead_holds, sort_holds, of_heading_holds, plain_holds, any_holds, heading_kept}
+use Rattle.m2_formed.proofs.Basics.{then_holds, reported_holds, both_holds, refused_holds, reported_beside_holds, ahead_holds, sort_holds, of_heading_holds, plain_holds, any_holds, heading_kept}
 use Rattle.m2_formed.proofs.Operators.{behind_formed, rooted_formed, signed_formed, negated_formed, combined_formed, field_formed, indexed_formed}
 use Rattle.m2_formed.proofs.Calls.{given_formed, taken_formed, actual_formed, arguments_more, FormedCallee, FormedCalled, callee_formed, call_formed, unary_formed, bound_formed, conversion_formed, high_formed}
 
@@ -178,32 +178,32 @@ module _ (g : Gathers) (m : TypedModule) (opens : ℕ → Bool) (w : ℕ) (s : S
   -- ---- standard functions
 
   unary_all : (at : Pos) (f : Standard) (u : Unary) (args : List (Meant g.Reported)) → AllM args → Value_ (unary g s at f u args)
-  unary_all at f u [] all = beside_holds g at 42 (looked_at g s [])
+  unary_all at f u [] all = reported_beside_holds g at 42 (looked_at g s [])
   unary_all at f u (x ∷ []) all = then_holds (value_formed x all.0) (λ v p. unary_formed g m w opens s.types h.types f u x.fixed.at v p)
-  unary_all at f u (x ∷ y ∷ xs) all = beside_holds g at 42 _
+  unary_all at f u (x ∷ y ∷ xs) all = reported_beside_holds g at 42 _
 
   bound_all : (at : Pos) (f : Standard) (args : List (Meant g.Reported)) → Value_ (bound g s at f args)
-  bound_all at f [] = beside_holds g at 42 (looked_at g s [])
+  bound_all at f [] = reported_beside_holds g at 42 (looked_at g s [])
   bound_all at f (x ∷ []) = bound_formed g m w opens s.types h.types f _
-  bound_all at f (x ∷ y ∷ xs) = beside_holds g at 42 _
+  bound_all at f (x ∷ y ∷ xs) = reported_beside_holds g at 42 _
 
   conversion_all : (at : Pos) (args : List (Meant g.Reported)) → AllM args → Value_ (conversion g s at args)
-  conversion_all at [] all = beside_holds g at 42 (looked_at g s [])
-  conversion_all at (t ∷ []) all = beside_holds g at 42 _
+  conversion_all at [] all = reported_beside_holds g at 42 (looked_at g s [])
+  conversion_all at (t ∷ []) all = reported_beside_holds g at 42 _
   conversion_all at (t ∷ x ∷ []) all = conversion_formed g m w opens s.types h.types _ x.fixed.at (value_formed x all.1.0)
-  conversion_all at (t ∷ x ∷ y ∷ xs) all = beside_holds g at 42 _
+  conversion_all at (t ∷ x ∷ y ∷ xs) all = reported_beside_holds g at 42 _
 
   high_all : (at : Pos) (args : List (Meant g.Reported)) → AllM args → Value_ (high g s at args)
-  high_all at [] all = beside_holds g at 42 (looked_at g s [])
+  high_all at [] all = reported_beside_holds g at 42 (looked_at g s [])
   high_all at (x ∷ []) all = then_holds (sort_holds g x.fixed.at 43 all.0) (λ d p. high_formed g m w opens s.types h.types x.fixed.at d)
-  high_all at (x ∷ y ∷ xs) all = beside_holds g at 42 _
+  high_all at (x ∷ y ∷ xs) all = reported_beside_holds g at 42 _
 
   form_formed : (at : Pos) (f : Standard) (args : List (Meant g.Reported)) (o : Form) → AllM args → Value_ (by_form g s at f args o)
   form_formed at f args (form.Unary u) all = unary_all at f u args all
   form_formed at f args form.Bound all = bound_all at f args
   form_formed at f args form.Conversion all = conversion_all at args all
   form_formed at f args form.High all = high_all at args all
-  form_formed at f args form.Proper all = beside_holds g at 40 _
+  form_formed at f args form.Proper all = reported_beside_holds g at 40 _
 
   called_as_formed : (at : Pos) (args : List (Meant g.Reported)) (x : Called) → FormedCalled g m w opens s.types h.types x → AllM args → Value_ (called_as g s at args x)
   called_as_formed at args (called.Routine t c) p all = routine_formed at t c args p all

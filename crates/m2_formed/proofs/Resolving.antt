@@ -1,5 +1,5 @@
 -- A name of a type that is found where a declaration is met is found again where the procedure's block begins.
-use Rattle.std.proofs.Common.{◌≡◌, ℕ, ◌<◌, Bool, true, false, not, cond, List, [], ◌∷◌, ◌++◌, length, Option, Some, None, Result, Ok, Err, refl, sym, ap, subst, ◌∙◌}
+use Rattle.std.proofs.Common.{◌≡◌, ℕ, ◌<◌, Bool, true, false, List, [], ◌∷◌, ◌++◌, Option, Some, None, Result, Ok, Err, refl, sym, ap, subst, ◌∙◌}
 use Rattle.std.specs.Prelude.{slice_get, nat_lt}
 use Rattle.std.specs.List.{fold}
 use Rattle.std.specs.Option.{option_map}
@@ -12,10 +12,10 @@ use Rattle.m2_typed.specs.declared.meaning.Meaning.{Meaning}
 use Rattle.m2_typed.specs.declared.meaning.Meaning.TheVariants as meaning
 use Rattle.m2_typed.specs.declared.table.Table.{Table}
 use Rattle.m2_typed.specs.declared.types.TypeNo.{TypeNo}
-use Rattle.m2_typed.specs.Names.{found, place_of}
+use Rattle.m2_typed.specs.Names.{found}
 use Rattle.m2_scopes.specs.declared.meaningless.Meaningless.{Meaningless}
 use Rattle.m2_scopes.specs.declared.meaningless.Meaningless.TheVariants.{Broken, Headless}
-use Rattle.m2_scopes.specs.Elaborated.{Gathers, reported, of_sort, ◌▷◌}
+use Rattle.m2_scopes.specs.Elaborated.{Gathers, of_sort, ◌▷◌}
 use Rattle.m2_scopes.specs.Scopes.{is_free, Sight, or_outside, seen_at, in_block, nearer, known_outside, or_around, known, means_seen, means_as, opened, means_or, looked_up}
 use Rattle.m2_scopes.specs.declared.known.Known.{Known}
 use Rattle.m2_scopes.specs.declared.known.Known.TheVariants.{Later, Ahead, Begun, Headed, Declared}
@@ -32,7 +32,7 @@ use Rattle.m2_blocks.specs.Naming.{marked_decl}
 use Rattle.m2_formed.specs.FormedHeadings.{marked_by, declared_by, all, begun, met, end, seen, IsBehind, NamesStay}
 use Rattle.m2_formed.proofs.Basics.{plain_ok}
 use Rattle.m2_formed.proofs.HeadingsLists.{index, index_less, place_found, place_none, Stands, stands_at}
-use Rattle.m2_formed.proofs.HeadingsSteps.{is_settled, free_unsettled, Keeps, keeps_then, Marked, marked_refl, marked_then, MarksAll, Changes, changes_refl, changes_then, changes_first, changes_second}
+use Rattle.m2_formed.proofs.HeadingsSteps.{is_settled, free_unsettled, Keeps, Marked, marked_refl, marked_then, MarksAll, Changes, changes_refl, changes_then, changes_first, changes_second}
 use Rattle.m2_formed.proofs.HeadingsDeclarations.{decl_marked, decl_changes}
 
 -- ---- the declarations of a block, one after another

@@ -41,7 +41,7 @@ use Rattle.m2_exprs.specs.Meanings.{Meant}
 use Rattle.m2_scheme.specs.Exprs.{is_there}
 use Rattle.m2_valid.specs.WellFormed.{IsScalar, IsExpr, Constant, IsPlace, IsStmt, Exit, Return, Give, For, AreStmts}
 use Rattle.m2_formed.specs.Formed.{Holds, fine, FormedMeaning, FormedValue, FormedDesignated, IsFormed}
-use Rattle.m2_formed.proofs.Basics.{then_holds, holds_weaker, reported_holds, where_holds, both_holds, beside_holds, sort_holds, any_holds, is_whole, scalar_kept}
+use Rattle.m2_formed.proofs.Basics.{then_holds, holds_weaker, reported_holds, where_holds, both_holds, reported_beside_holds, sort_holds, any_holds, is_whole, scalar_kept}
 use Rattle.m2_formed.proofs.Operators.{rooted_formed, side_formed, FormedSide, suited_formed}
 use Rattle.m2_formed.proofs.Meanings.{FM, value_formed}
 use Rattle.m2_steps.specs.Simple.{exited, given_back, returned, condition, selector_amount, selector_of, selected, record_by, record_of, opened}
@@ -160,7 +160,7 @@ module _ (g : Gathers) (m : TypedModule) (opens : ℕ → Bool) (w : ℕ) (s : S
 
   pub returned_formed : (at : Pos) (looped : Bool) (o : Option (Result TypeNo g.Reported)) (x : Option (Meant g.Reported)) → KnownIf x → Stmt_ (is_there o) looped (returned g s at o x)
   returned_formed at looped None None p = fine step.Return (Return w looped refl)
-  returned_formed at looped None (Some x) p = beside_holds g at 46 _
+  returned_formed at looped None (Some x) p = reported_beside_holds g at 46 _
   returned_formed at looped (Some t) None p = reported_holds g at 46
   returned_formed at looped (Some t) (Some x) p = given_back_formed t x.fixed.at looped (value_formed g m opens w s h x p)
 
