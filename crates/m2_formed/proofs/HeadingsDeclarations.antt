@@ -1,5 +1,5 @@
 -- A declaration of a block marks all names that it declares.
-use Rattle.std.proofs.Common.{◌≡◌, ℕ, ◌==◌, Bool, true, false, not, cond, length, List, [], ◌∷◌, ◌++◌, Option, Some, None, Result, Ok, Err, refl, sym, ap, subst, ◌∙◌}
+use Rattle.std.proofs.Common.{◌≡◌, ℕ, ◌==◌, Bool, true, false, not, cond, length, List, [], ◌∷◌, Option, Some, None, Result, Ok, Err, refl, ap, ◌∙◌}
 use Rattle.std.specs.List.{fold}
 use Rattle.m2_tree.specs.declared.name.Ident.{Ident}
 use Rattle.m2_tree.specs.declared.decl.Constant.{Constant}
@@ -26,15 +26,15 @@ use Rattle.m2_constants.specs.Parts.{constant}
 use Rattle.m2_exprs.specs.Meanings.{part}
 use Rattle.m2_made.specs.Headings.{heading_of}
 use Rattle.m2_made.specs.Made.{type_of, next_type, with_shape}
-use Rattle.m2_types.specs.Declare.{constant_meaning, with_constant, brings_with, type_meaning, with_type, begun_name, variable_meaning, with_variable_type, finished_variable, with_variables, procedure_meaning, with_procedure_type}
+use Rattle.m2_types.specs.Declare.{constant_meaning, with_constant, brings_with, type_meaning, with_type, begun_name, with_variable_type, finished_variable, with_variables, procedure_meaning, with_procedure_type}
 use Rattle.m2_types.specs.Marking.{Marks, marked_later, marked_in, marked_constant, marked_type, marked_variables}
 use Rattle.m2_blocks.specs.declared.heading.Standing.{Standing}
 use Rattle.m2_blocks.specs.declared.heading.Standing.TheVariants.{Free, Awaited, Taken}
 use Rattle.m2_blocks.specs.Headings.{name_standing, nested_meaning, headed, module_procedure, with_new, headed_as, with_heading}
 use Rattle.m2_blocks.specs.Naming.{marked_layer, marked_decl}
-use Rattle.m2_blocks.specs.Declarations.{local_meaning, finished_local, with_locals, Course, is_awaited, decl_layer, with_decl}
+use Rattle.m2_blocks.specs.Declarations.{finished_local, with_locals, Course, is_awaited, decl_layer, with_decl}
 use Rattle.m2_formed.specs.FormedScopes.{picked}
-use Rattle.m2_formed.proofs.HeadingsSteps.{is_settled, Marked, marked_refl, marked_then, name_marked, MarksAll, Changes, changes_refl, changes_then, changes_first, changes_second, known_changes, begun_changes, finished_changes, same_changes, shape_changes}
+use Rattle.m2_formed.proofs.HeadingsSteps.{is_settled, marked_refl, marked_then, name_marked, MarksAll, Changes, changes_refl, changes_then, changes_first, changes_second, known_changes, begun_changes, finished_changes, same_changes, shape_changes}
 use Rattle.m2_formed.proofs.HeadingsTypeExprs.{later_all, type_marked, type_changed}
 
 not_free : {T : Type 0} (o : Origin) (r : Result Meaning T) → name_standing (Some (Declared o r)) ≡ Free → ⊥

@@ -1,6 +1,5 @@
 -- Declarations of blocks lead from numbered names to numbered names.
-use Rattle.std.proofs.Common.{◌≡◌, ℕ, ◌+◌, ◌≤◌, ◌==◌, inl, inr, Bool, true, false, cond, List, [], ◌∷◌, ◌++◌, length, Option, Some, None, Result, Ok, Err, refl, sym, ap, subst, ◌∙◌, arith}
-use Rattle.std.specs.Prelude.{slice_get}
+use Rattle.std.proofs.Common.{◌≡◌, ℕ, ◌+◌, ◌≤◌, ◌==◌, inr, Bool, true, false, cond, List, [], ◌∷◌, ◌++◌, length, Option, Some, None, Result, Ok, Err, refl, subst, arith}
 use Rattle.std.specs.List.{fold}
 use Rattle.std.proofs.lemmas.List.{length-append}
 use Rattle.m2_tree.specs.declared.name.Ident.{Ident}
@@ -21,29 +20,28 @@ use Rattle.m2_typed.specs.declared.shape.Made.{Made}
 use Rattle.m2_typed.specs.declared.types.TypeNo.{TypeNo}
 use Rattle.m2_tree.specs.Names.{same_name}
 use Rattle.m2_typed.specs.Names.{found}
-use Rattle.m2_scopes.specs.Elaborated.{Gathers, ◌▷◌}
+use Rattle.m2_scopes.specs.Elaborated.{Gathers}
 use Rattle.m2_scopes.specs.Scopes.{State, with_known, begun, is_begun}
 use Rattle.m2_scopes.specs.declared.known.Known.{Known}
 use Rattle.m2_scopes.specs.declared.known.Known.TheVariants.{Later, Ahead, Begun, Headed, Declared}
-use Rattle.m2_scopes.specs.declared.known.Origin.{Origin}
 use Rattle.m2_scopes.specs.declared.known.Origin.TheVariants.{Here, Module, Export}
 use Rattle.m2_scopes.specs.declared.scope.Scope.{Scope}
 use Rattle.m2_constants.specs.Parts.{constant}
 use Rattle.m2_exprs.specs.Meanings.{part}
 use Rattle.m2_made.specs.Headings.{heading_of}
 use Rattle.m2_made.specs.Made.{type_of, next_type, with_shape}
-use Rattle.m2_types.specs.Declare.{constant_meaning, with_constant, brings_with, type_meaning, with_type, begun_name, variable_meaning, with_variable_type, finished_variable, with_variables, procedure_meaning, with_procedure_type}
+use Rattle.m2_types.specs.Declare.{constant_meaning, with_constant, brings_with, type_meaning, with_type, begun_name, with_variable_type, finished_variable, with_variables, with_procedure_type}
 use Rattle.m2_types.specs.Marking.{marked_constant, marked_type, marked_variables}
 use Rattle.m2_blocks.specs.declared.heading.Standing.{Standing}
 use Rattle.m2_blocks.specs.declared.heading.Standing.TheVariants.{Free, Awaited, Taken}
 use Rattle.m2_blocks.specs.Headings.{standing_of, standing_elaborated, name_standing, nested_meaning, headed, module_procedure, with_new, headed_as, with_heading}
 use Rattle.m2_blocks.specs.Naming.{marked_layer}
-use Rattle.m2_blocks.specs.Declarations.{local_meaning, finished_local, with_locals, Course, decl_layer}
+use Rattle.m2_blocks.specs.Declarations.{finished_local, with_locals, Course, decl_layer}
 use Rattle.m2_formed.specs.Formed.{Holds, fine, broken}
 use Rattle.m2_formed.proofs.Basics.{then_holds, any_holds}
 use Rattle.m2_formed.proofs.Names.{get_more, get_last}
 use Rattle.m2_formed.specs.FormedNumbers.{lists_of, MeaningNumbered, KnownNumbered, NamesNumbered, IsNumbered, More, Grows}
-use Rattle.m2_formed.proofs.NumbersGrowth.{more_refl, grows_refl, grows_then, lists_grow, names_entered, known_grows, begun_grows, finished_grows, marked_grows, shape_grows}
+use Rattle.m2_formed.proofs.NumbersGrowth.{grows_refl, grows_then, lists_grow, names_entered, known_grows, begun_grows, finished_grows, marked_grows, shape_grows}
 use Rattle.m2_formed.proofs.NumbersTypeExprs.{later_all, marked_in_grows, type_of_grows}
 
 longer : {A : Type 0} (xs : List A) (x : A) → length xs ≤ length (xs ++ x ∷ [])

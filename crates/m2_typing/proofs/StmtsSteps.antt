@@ -28,7 +28,6 @@ use Rattle.m2_values.specs.declared.operand.Ordinal.{Ordinal}
 use Rattle.m2_values.specs.Operands.{operand_of, is_number}
 use Rattle.m2_values.specs.Numbers.{is_between, fits as number_fits}
 use Rattle.m2_values.specs.Standards.{scalar_part, if_number}
-use Rattle.m2_constants.specs.Parts.{Part, constant}
 use Rattle.m2_computed.specs.Classes.{class_at}
 use Rattle.m2_computed.specs.Sides.{side_of}
 use Rattle.m2_computed.specs.Suits.{sort_suits, bases_suit, scalar_suited, value_suited}
@@ -53,7 +52,7 @@ use Rattle.m2_agree.specs.TreesTyped.{Context}
 use Rattle.m2_agree.specs.StmtsTyped.{IsControl, OfModule, OfFrame}
 use Rattle.m2_formed.specs.Formed.{Holds, fine, broken}
 use Rattle.m2_formed.proofs.Basics.{then_holds, reported_holds, both_holds, reported_beside_holds, sort_holds, any_holds}
-use Rattle.m2_formed.specs.FormedRanges.{ValueRanged, ScopeRanged, fits}
+use Rattle.m2_formed.specs.FormedRanges.{ScopeRanged, fits}
 use Rattle.m2_formed.proofs.RangesTypes.{same_types, both_left}
 use Rattle.m2_formed.proofs.Subranges.{not_less, through, between_in, SortRanged, OperandRanged, operand_ranged, fits_number}
 use Rattle.m2_formed.proofs.Constants.{constants_ranged}
