@@ -9,8 +9,8 @@ use Rattle.m2_steps.specs.declared.around.Around.{Around}
 use Rattle.m2_steps.specs.Simple.{in_loop, meant_if, opened}
 use Rattle.m2_least.specs.Least.{Reports}
 use Rattle.m2_least.specs.Beside.{Optionwise, nothing, something, ScopeBeside, scopes}
-use Rattle.m2_body_least.proofs.Pieces.{MeantBeside}
-use Rattle.m2_body_least.proofs.Exprs.{meant_beside}
+use Rattle.m2_least.proofs.Pieces.{MeantBeside}
+use Rattle.m2_least.proofs.Exprs.{meant_beside}
 
 pub data AroundBeside : Around Fault → Around (List Fault) → Type 0 where
   arounds : {gives : Option (Result TypeNo Fault)} {gives' : Option (Result TypeNo (List Fault))} → Optionwise Reports gives gives' → (looped : Bool)

@@ -52,7 +52,7 @@ use Rattle.m2_least.proofs.TypeExprs.{nothing_of_reports, type_of_beside}
 use Rattle.m2_least.proofs.Declarations.{begun_name_goes, with_variable_type_beside, with_procedure_type_beside, procedure_meaning_reports, constants_goes, types_goes, all_variables_goes}
 use Rattle.m2_least.proofs.Imports.{all_imports}
 use Rattle.m2_least.proofs.Marks.{def_marks}
-use Rattle.m2_body_least.proofs.Pieces.{lengths_same}
+use Rattle.m2_least.proofs.Pieces.{lengths_same}
 
 pub level_same : {s : Scope Fault} {s' : Scope (List Fault)} → ScopeBeside s s' → s.level ≡ s'.level
 level_same (scopes tables types vars procs own outer) = refl

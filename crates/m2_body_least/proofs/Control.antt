@@ -36,11 +36,11 @@ use Rattle.m2_steps.specs.Control.{controlled_as, controlled, is_own, control_by
 use Rattle.m2_least.proofs.Forms.{both_reports, then_reports, reported_reports, where_reports}
 use Rattle.m2_least.proofs.Constants.{constant_reports}
 use Rattle.m2_least.proofs.Scopes.{looked_up_reports}
-use Rattle.m2_body_least.proofs.Meanings.{value_of_reports}
-use Rattle.m2_body_least.proofs.Suits.{value_suited_reports}
+use Rattle.m2_least.proofs.Meanings.{value_of_reports}
+use Rattle.m2_least.proofs.Suits.{value_suited_reports}
 use Rattle.m2_least.specs.Beside.{Optionwise, nothing, something, ScopeBeside, scopes}
 use Rattle.m2_least.proofs.Constants.{parts}
-use Rattle.m2_body_least.proofs.Pieces.{MeantBeside, meants}
+use Rattle.m2_least.proofs.Pieces.{MeantBeside, meants}
 
 pub controlled_as_reports : (at : Pos) → (t : TypeNo) → (d : Place) → (p3 : Class) → Reports (controlled_as least at t d p3) (controlled_as every at t d p3)
 controlled_as_reports at t d (class.Scalar s) = fine _

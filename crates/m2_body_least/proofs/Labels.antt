@@ -27,12 +27,12 @@ use Rattle.m2_scopes.specs.Elaborated.{every, least}
 use Rattle.m2_least.specs.Least.{Reports, fine}
 use Rattle.m2_steps.specs.Labels.{ordinal_in, of_type, no_constant, value_bound, variable_bound, bound_by, bound_of, is_of_base, number_fits, suits_base, bound_suits, single, ordered_if, are_ordered, spanned, label_between, Labels, with_new, with_label, item_label, with_item, labels_in}
 use Rattle.m2_least.proofs.Forms.{beside_reports, both_reports, fold_keeps, then_reports, reported_reports, where_reports}
-use Rattle.m2_body_least.proofs.Exprs.{meant_beside}
+use Rattle.m2_least.proofs.Exprs.{meant_beside}
 use Rattle.m2_body_least.proofs.Arounds.{meant_if_beside}
 use Rattle.m2_body_least.proofs.Lists.{with_next_reports}
 use Rattle.m2_least.specs.Beside.{Optionwise, nothing, something, ScopeBeside, scopes}
 use Rattle.m2_least.proofs.Constants.{parts}
-use Rattle.m2_body_least.proofs.Pieces.{MeantBeside, meants}
+use Rattle.m2_least.proofs.Pieces.{MeantBeside, meants}
 use Rattle.m2_least.specs.Least.{is_refused}
 use Rattle.m2_least.proofs.Making.{KeptBeside, is_kept}
 

@@ -19,13 +19,13 @@ use Rattle.m2_scopes.specs.declared.fault.Fault.{Fault}
 use Rattle.m2_scopes.specs.Elaborated.{every, least}
 use Rattle.m2_least.specs.Least.{Reports, fine}
 use Rattle.m2_steps.specs.Simple.{exited, given_back, returned, condition, assignment, selector_of, selected, record_by, record_of}
-use Rattle.m2_body_least.proofs.Effects.{assigned_reports, target_at_reports}
+use Rattle.m2_least.proofs.Effects.{assigned_reports, target_at_reports}
 use Rattle.m2_least.proofs.Forms.{both_reports, then_reports, reported_reports, where_reports}
-use Rattle.m2_body_least.proofs.Meanings.{value_of_reports}
-use Rattle.m2_body_least.proofs.Suits.{value_suited_reports}
+use Rattle.m2_least.proofs.Meanings.{value_of_reports}
+use Rattle.m2_least.proofs.Suits.{value_suited_reports}
 use Rattle.m2_least.specs.Beside.{Optionwise, nothing, something, ScopeBeside, scopes}
 use Rattle.m2_least.proofs.Constants.{parts}
-use Rattle.m2_body_least.proofs.Pieces.{MeantBeside, meants}
+use Rattle.m2_least.proofs.Pieces.{MeantBeside, meants}
 use Rattle.m2_body_least.proofs.Arounds.{AroundBeside, arounds}
 
 pub exited_reports : (at : Pos) → {w : Around Fault} {w' : Around (List Fault)} → AroundBeside w w' → Reports (exited least at w) (exited every at w')

@@ -22,10 +22,10 @@ use Rattle.m2_least.specs.Least.{Reports, fine}
 use Rattle.m2_least.specs.Beside.{Pairwise, none, more, Optionwise, nothing, something, ScopeBeside}
 use Rattle.m2_least.proofs.Forms.{then_reports, fold_pairwise, fold_keeps, pairwise_maps, carry}
 use Rattle.m2_least.proofs.Making.{KeptBeside, is_kept, reported_of}
-use Rattle.m2_body_least.proofs.Pieces.{MeantBeside}
-use Rattle.m2_body_least.proofs.Exprs.{meant_beside, head_beside}
+use Rattle.m2_least.proofs.Pieces.{MeantBeside}
+use Rattle.m2_least.proofs.Exprs.{meant_beside, head_beside}
 use Rattle.m2_body_least.proofs.Arounds.{AroundBeside, arounds, in_loop_beside, opened_beside, meant_if_beside}
-use Rattle.m2_body_least.proofs.Done.{done_by_reports}
+use Rattle.m2_least.proofs.Done.{done_by_reports}
 use Rattle.m2_body_least.proofs.Lists.{with_next_reports, standing_reports, chosen_reports, chosen_else_reports, cased_reports, armed_reports, repeated_while_reports, repeated_until_reports, looped_reports, within_reports}
 use Rattle.m2_body_least.proofs.Simple.{exited_reports, returned_reports, condition_reports, assignment_reports, selected_reports, record_of_reports}
 use Rattle.m2_body_least.proofs.Labels.{labels_in_kept}
