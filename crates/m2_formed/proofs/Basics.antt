@@ -10,7 +10,11 @@ use Rattle.m2_typed.specs.declared.types.Home.{Home}
 use Rattle.m2_typed.specs.declared.types.Home.TheVariants.{Predeclared, Module}
 use Rattle.m2_typed.specs.declared.types.TypeNo.{TypeNo}
 use Rattle.m2_typed.specs.Known.{made_at, is_result_shape, is_result_made, is_result_from, is_result}
-use Rattle.m2_scopes.specs.Elaborated.{Gathers, reported, reported_where, both, ◌▷◌}
+use Rattle.m2_typed.specs.declared.meaning.Meaning.{Meaning}
+use Rattle.m2_scopes.specs.declared.meaningless.Meaningless.{Meaningless}
+use Rattle.m2_scopes.specs.declared.meaningless.Meaningless.TheVariants.{Broken, Headless}
+use Rattle.m2_scopes.specs.Elaborated.{Gathers, reported, reported_where, both, refusal_beside, reported_beside, ahead, of_sort, of_heading, plain, ◌▷◌}
+use Rattle.m2_scopes.specs.Scopes.{heading_means}
 use Rattle.m2_computed.specs.declared.class.Class.{Class}
 use Rattle.m2_computed.specs.declared.class.Class.TheVariants as class
 use Rattle.m2_computed.specs.Classes.{class_shape, class_made, class_from, class_at, signature_shape, signature_made, signature_at}
@@ -40,6 +44,44 @@ module _ (g : Gathers) where
   both_holds (fine x p) (broken e) = broken e
   both_holds (broken e) (fine y q) = broken e
   both_holds (broken e) (broken f) = broken (g.join e f)
+
+  -- ---- what stands behind a part is looked at
+
+  pub refused_holds : {A : Type 0} {P : A → Type 0} (e : g.Reported) (rest : Result (Unit {0}) g.Reported) → Holds P (refusal_beside g {A = A} e rest)
+  refused_holds e (Ok x) = broken e
+  refused_holds e (Err f) = broken (g.join e f)
+
+  pub reported_beside_holds : {A : Type 0} {P : A → Type 0} (at : Pos) (n : ℕ) (rest : Result (Unit {0}) g.Reported) → Holds P (reported_beside g {A = A} at n rest)
+  reported_beside_holds at n rest = refused_holds (g.one (record { pos = at; number = n })) rest
+
+  pub ahead_holds : {A B : Type 0} {P : A → Type 0} {Q : B → Type 0} {r : Result A g.Reported} (rest : Result (Unit {0}) g.Reported) {f : A → Result B g.Reported} → Holds P r → ((x : A) → P x → Holds Q (f x)) → Holds Q (ahead g r rest f)
+  ahead_holds rest (fine x p) k = k x p
+  ahead_holds rest (broken e) k = refused_holds e rest
+
+  -- ---- names of procedures in whose headings rules are broken
+
+  pub sort_holds : {A : Type 0} {P : A → Type 0} (at : Pos) (n : ℕ) {r : Result A (Meaningless g.Reported)} → Holds P r → Holds P (of_sort g at n r)
+  sort_holds at n (fine x p) = fine x p
+  sort_holds at n (broken (Broken e)) = broken e
+  sort_holds at n (broken (Headless e)) = reported_holds at n
+
+module _ {T : Type 0} where
+  pub of_heading_holds : {A : Type 0} {P : A → Type 0} {r : Result A (Meaningless T)} → Holds P r → Holds P (of_heading r)
+  of_heading_holds (fine x p) = fine x p
+  of_heading_holds (broken (Broken e)) = broken e
+  of_heading_holds (broken (Headless e)) = broken e
+
+  pub plain_holds : {A : Type 0} {P : A → Type 0} {r : Result A T} → Holds P r → Holds P (plain r)
+  plain_holds (fine x p) = fine x p
+  plain_holds (broken e) = broken (Broken e)
+
+  pub plain_ok : {A : Type 0} (r : Result A T) (x : A) → ◌≡◌ {A = Result A (Meaningless T)} (plain r) (Ok x) → r ≡ Ok x
+  plain_ok {A = A} (Ok y) x e = let z : y ≡ x = cc in ap (λ (v : A). Ok v) z
+  plain_ok (Err y) x e = absurd cc
+
+  pub heading_means_holds : {P : Meaning → Type 0} {r : Result Meaning T} → Holds P r → Holds P (heading_means r)
+  heading_means_holds (fine x p) = fine x p
+  heading_means_holds (broken e) = broken (Headless e)
 
 -- nothing is said of it
 pub any_holds : {A T : Type 0} (r : Result A T) → Holds (λ x. Unit {0}) r

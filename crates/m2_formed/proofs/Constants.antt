@@ -33,6 +33,8 @@ use Rattle.m2_scopes.specs.declared.known.Known.{Known}
 use Rattle.m2_scopes.specs.declared.known.Known.TheVariants.{Later, Ahead, Begun, Headed, Declared}
 use Rattle.m2_scopes.specs.declared.scope.Block.{Block}
 use Rattle.m2_scopes.specs.declared.scope.Scope.{Scope}
+use Rattle.m2_scopes.specs.declared.meaningless.Meaningless.{Meaningless}
+use Rattle.m2_scopes.specs.declared.meaningless.Meaningless.TheVariants.{Broken, Headless}
 use Rattle.m2_scopes.specs.Elaborated.{Gathers, reported, both}
 use Rattle.m2_scopes.specs.Scopes.{or_outside, Sight, seen_at, in_block, nearer, known_outside, or_around, known, means_seen, means_as, opened, means_or, looked_up}
 use Rattle.m2_values.specs.Operators.{mul_op, add_op}
@@ -42,11 +44,12 @@ use Rattle.m2_constants.specs.declared.denoted.Denoted.{Denoted}
 use Rattle.m2_constants.specs.declared.denoted.Denoted.TheVariants as denoted
 use Rattle.m2_constants.specs.declared.call.Sort.{Sort}
 use Rattle.m2_constants.specs.declared.call.Sort.TheVariants.{Unary, Bound, Conversion, Never}
-use Rattle.m2_constants.specs.Denote.{denoted_by, as_constant, of_value, component, exported_by, exported, member}
-use Rattle.m2_constants.specs.Calls.{sort_of, scalar_type, type_part, type_argument}
-use Rattle.m2_constants.specs.Parts.{Part, Pick, Adds, sign_place, signed_first, named, field_of, constant, one, type_only, conversion, by_sort, called_as, called, factor, term, expr_layer, selector_layer, designator_layer, item_layer, part, pick, head, item}
-use Rattle.m2_formed.specs.Formed.{Holds, fine}
-use Rattle.m2_formed.proofs.Basics.{then_holds, reported_holds, any_holds}
+use Rattle.m2_constants.specs.Denote.{denoted_by, denoted_of, as_constant, of_value, component, exported_by, exported, member}
+use Rattle.m2_constants.specs.Calls.{sort_of, scalar_type, named_scalar, type_argument}
+use Rattle.m2_constants.specs.Parts.{Part, Pick, Adds, sign_place, signed_first, named, field_of, constant, one, type_only, conversion, by_sort, called_as, called, factor, term}
+use Rattle.m2_exprs.specs.Meanings.{Meant, Picks, expr_layer, selector_layer, designator_layer, item_layer, meant, picks, head, item, part}
+use Rattle.m2_formed.specs.Formed.{Holds, fine, broken}
+use Rattle.m2_formed.proofs.Basics.{then_holds, reported_holds, plain_holds, heading_means_holds, any_holds}
 use Rattle.m2_formed.specs.FormedRanges.{itself, fits_letter, fits_layer, fits_selector, fits_designator, fits_item, fits, LetterRanged, ValueRanged, MeaningRanged, KnownRanged, NamesRanged, BlocksRanged, ExportsRanged, TablesRanged, ScopeRanged}
 use Rattle.m2_formed.proofs.RangesTypes.{both_left, both_right}
 use Rattle.m2_formed.proofs.Subranges.{from_le}
@@ -93,7 +96,7 @@ module _ (types : Types) {T : Type 0} where
   around_ranged (Some k) far p q = p
 
 module _ (g : Gathers) (types : Types) where
-  abbrev Means_ : Result Meaning g.Reported → Type 0
+  abbrev Means_ : {T : Type 0} → Result Meaning T → Type 0
   Means_ r = Holds (MeaningRanged types) r
 
   declared_means : (at : Pos) (seen : Bool) (r : Result Meaning g.Reported) → Means_ r → Means_ (cond seen r (reported g at 30))
@@ -101,17 +104,17 @@ module _ (g : Gathers) (types : Types) where
   declared_means at false r p = reported_holds g at 30
 
   seen_means : (at : Pos) (k : Known g.Reported) (seen : Bool) → KnownRanged types k → Means_ (means_seen g at k seen)
-  seen_means at Later seen p = reported_holds g at 30
+  seen_means at Later seen p = plain_holds (reported_holds g at 30)
   seen_means at Ahead seen p = fine meaning.Ahead tt
-  seen_means at Begun seen p = reported_holds g at 30
-  seen_means at (Headed r) seen p = p
-  seen_means at (Declared o r) seen p = declared_means at seen r p
+  seen_means at Begun seen p = plain_holds (reported_holds g at 30)
+  seen_means at (Headed r) seen p = heading_means_holds p
+  seen_means at (Declared o r) seen p = plain_holds (declared_means at seen r p)
 
   means_ranged : (at : Pos) (o : Sight g.Reported) → RangedSight types o → Means_ (means_as g at o)
-  means_ranged at None p = reported_holds g at 30
+  means_ranged at None p = plain_holds (reported_holds g at 30)
   means_ranged at (Some k) p = seen_means at k.0 k.1 p
 
-  field_or : (o : Option OpenedField) (r : Result Meaning g.Reported) → Means_ r → Means_ (means_or o r)
+  field_or : {T : Type 0} (o : Option OpenedField) (r : Result Meaning T) → Means_ r → Means_ (means_or o r)
   field_or (Some f) r p = fine (meaning.Field f) tt
   field_or None r p = p
 
@@ -189,15 +192,20 @@ module _ (g : Gathers) (s : Scope g.Reported) (h : ScopeRanged s) where
   by_meaning (meaning.Standard f) p = tt
   by_meaning (meaning.Module k) p = tt
 
+  denoted_ranged : {r : Result Meaning (Meaningless g.Reported)} → Means_ g s.types r → D_ (denoted_of r)
+  denoted_ranged (fine m p) = fine (denoted_by m) (by_meaning m p)
+  denoted_ranged (broken (Broken e)) = broken e
+  denoted_ranged (broken (Headless e)) = fine denoted.Procedure tt
+
   named_ranged : (name : Ident) → D_ (named g s name)
-  named_ranged name = then_holds (name_means name) (λ m p. fine (denoted_by m) (by_meaning m p))
+  named_ranged name = denoted_ranged (name_means name)
 
   component_ranged : (at : Pos) (d : Denoted) → D_ (component g at d)
   component_ranged at denoted.Variable = fine denoted.Variable tt
   component_ranged at (denoted.Value v) = reported_holds g at 40
-  component_ranged at (denoted.Type t) = reported_holds g at 40
-  component_ranged at denoted.Procedure = reported_holds g at 40
-  component_ranged at (denoted.Standard f) = reported_holds g at 40
+  component_ranged at (denoted.Type t) = fine denoted.Variable tt
+  component_ranged at denoted.Procedure = fine denoted.Variable tt
+  component_ranged at (denoted.Standard f) = fine denoted.Variable tt
   component_ranged at (denoted.Module k) = reported_holds g at 40
 
   field_ranged : (at : Pos) (name : Ident) (d : Denoted) → D_ (field_of g s at name d)
@@ -233,26 +241,22 @@ module _ (g : Gathers) (s : Scope g.Reported) (h : ScopeRanged s) where
   scalar_is at t None e = reported_holds g at 33
   scalar_is at t (Some r) e = fine (t, r) e
 
-  type_is : (at : Pos) (d : Denoted) → Holds (TypeIs g s h) (type_part g s.types at d)
-  type_is at (denoted.Type t) = scalar_is at t (scalar_at s.types t) refl
-  type_is at (denoted.Value v) = reported_holds g at 33
-  type_is at denoted.Variable = reported_holds g at 33
-  type_is at denoted.Procedure = reported_holds g at 33
-  type_is at (denoted.Standard f) = reported_holds g at 33
-  type_is at (denoted.Module k) = reported_holds g at 33
+  type_is : (at : Pos) (o : Option TypeNo) → Holds (TypeIs g s h) (named_scalar g s.types at o)
+  type_is at None = reported_holds g at 33
+  type_is at (Some t) = scalar_is at t (scalar_at s.types t) refl
 
-  argument_is : (at : Pos) (d : Result Denoted g.Reported) → Holds (TypeIs g s h) (type_argument g s.types at d)
+  argument_is : (at : Pos) (d : Result (Option TypeNo) g.Reported) → Holds (TypeIs g s h) (type_argument g s.types at d)
   argument_is at d = then_holds (any_holds d) (λ x k. type_is at x)
 
   only_is : (at : Pos) (args : List (Part g.Reported)) → Holds (TypeIs g s h) (type_only g s at args)
   only_is at [] = reported_holds g at 42
-  only_is at (x ∷ []) = argument_is x.at (x.denotes s)
+  only_is at (x ∷ []) = argument_is x.at (x.names s)
   only_is at (x ∷ y ∷ xs) = reported_holds g at 42
 
   conversion_ranged : (at : Pos) (args : List (Part g.Reported)) → V_ (conversion g s at args)
   conversion_ranged at [] = reported_holds g at 42
   conversion_ranged at (t ∷ []) = reported_holds g at 42
-  conversion_ranged at (t ∷ x ∷ []) = converted_ranged g s h x.at (constant g s x) (argument_is t.at (t.denotes s))
+  conversion_ranged at (t ∷ x ∷ []) = converted_ranged g s h x.at (constant g s x) (argument_is t.at (t.names s))
   conversion_ranged at (t ∷ x ∷ y ∷ xs) = reported_holds g at 42
 
   sort_ranged : (at : Pos) (f : Standard) (args : List (Part g.Reported)) (o : Sort) → AllM args → V_ (by_sort g s at f args o)
@@ -296,10 +300,10 @@ module _ (g : Gathers) (s : Scope g.Reported) (h : ScopeRanged s) where
   PE e = fits e ≡ true → FM (part g e)
 
   abbrev PS : Selector → Type 0
-  PS e = FP (pick g e)
+  PS e = FP (picks g e).fixed
 
   abbrev PD : Designator → Type 0
-  PD e = FM (head g e)
+  PD e = FM (head g e).fixed
 
   abbrev PI : Item → Type 0
   PI e = Unit {0}
@@ -316,26 +320,26 @@ module _ (g : Gathers) (s : Scope g.Reported) (h : ScopeRanged s) where
   abbrev SI : Type 0
   SI = (e : Item) × PI e
 
-  abbrev parts : Expr-F Expr Selector Designator Item → Expr-F (Part g.Reported) (Pick g.Reported) (Part g.Reported) (Adds g.Reported)
-  parts x = map-Expr Expr Selector Designator Item (Part g.Reported) (Pick g.Reported) (Part g.Reported) (Adds g.Reported) (part g) (pick g) (head g) (item g) x
+  abbrev parts : Expr-F Expr Selector Designator Item → Expr-F (Meant g.Reported) (Picks g.Reported) (Meant g.Reported) (Adds g.Reported)
+  parts x = map-Expr Expr Selector Designator Item (Meant g.Reported) (Picks g.Reported) (Meant g.Reported) (Adds g.Reported) (meant g) (picks g) (head g) (item g) x
 
-  abbrev parts_selector : Selector-F Expr Selector Designator Item → Selector-F (Part g.Reported) (Pick g.Reported) (Part g.Reported) (Adds g.Reported)
-  parts_selector x = map-Selector Expr Selector Designator Item (Part g.Reported) (Pick g.Reported) (Part g.Reported) (Adds g.Reported) (part g) (pick g) (head g) (item g) x
+  abbrev parts_selector : Selector-F Expr Selector Designator Item → Selector-F (Meant g.Reported) (Picks g.Reported) (Meant g.Reported) (Adds g.Reported)
+  parts_selector x = map-Selector Expr Selector Designator Item (Meant g.Reported) (Picks g.Reported) (Meant g.Reported) (Adds g.Reported) (meant g) (picks g) (head g) (item g) x
 
-  abbrev parts_designator : Designator-F Expr Selector Designator Item → Designator-F (Part g.Reported) (Pick g.Reported) (Part g.Reported) (Adds g.Reported)
-  parts_designator x = map-Designator Expr Selector Designator Item (Part g.Reported) (Pick g.Reported) (Part g.Reported) (Adds g.Reported) (part g) (pick g) (head g) (item g) x
+  abbrev parts_designator : Designator-F Expr Selector Designator Item → Designator-F (Meant g.Reported) (Picks g.Reported) (Meant g.Reported) (Adds g.Reported)
+  parts_designator x = map-Designator Expr Selector Designator Item (Meant g.Reported) (Picks g.Reported) (Meant g.Reported) (Adds g.Reported) (meant g) (picks g) (head g) (item g) x
 
-  at_expr : (e : Expr) (x : Expr-F Expr Selector Designator Item) → out-Expr e ≡ x → part g e ≡ expr_layer g (parts x)
-  unfolding part pick head item
-  at_expr e x q = fold_out-Expr (Part g.Reported) (Pick g.Reported) (Part g.Reported) (Adds g.Reported) (expr_layer g) (selector_layer g) (designator_layer g) (item_layer g) e ∙ ap (λ (y : Expr-F Expr Selector Designator Item). expr_layer g (parts y)) q
+  at_expr : (e : Expr) (x : Expr-F Expr Selector Designator Item) → out-Expr e ≡ x → meant g e ≡ expr_layer g (parts x)
+  unfolding meant picks head item
+  at_expr e x q = fold_out-Expr (Meant g.Reported) (Picks g.Reported) (Meant g.Reported) (Adds g.Reported) (expr_layer g) (selector_layer g) (designator_layer g) (item_layer g) e ∙ ap (λ (y : Expr-F Expr Selector Designator Item). expr_layer g (parts y)) q
 
-  at_selector : (e : Selector) (x : Selector-F Expr Selector Designator Item) → out-Selector e ≡ x → pick g e ≡ selector_layer g (parts_selector x)
-  unfolding part pick head item
-  at_selector e x q = fold_out-Selector (Part g.Reported) (Pick g.Reported) (Part g.Reported) (Adds g.Reported) (expr_layer g) (selector_layer g) (designator_layer g) (item_layer g) e ∙ ap (λ (y : Selector-F Expr Selector Designator Item). selector_layer g (parts_selector y)) q
+  at_selector : (e : Selector) (x : Selector-F Expr Selector Designator Item) → out-Selector e ≡ x → picks g e ≡ selector_layer g (parts_selector x)
+  unfolding meant picks head item
+  at_selector e x q = fold_out-Selector (Meant g.Reported) (Picks g.Reported) (Meant g.Reported) (Adds g.Reported) (expr_layer g) (selector_layer g) (designator_layer g) (item_layer g) e ∙ ap (λ (y : Selector-F Expr Selector Designator Item). selector_layer g (parts_selector y)) q
 
   at_designator : (e : Designator) (x : Designator-F Expr Selector Designator Item) → out-Designator e ≡ x → head g e ≡ designator_layer g (parts_designator x)
-  unfolding part pick head item
-  at_designator e x q = fold_out-Designator (Part g.Reported) (Pick g.Reported) (Part g.Reported) (Adds g.Reported) (expr_layer g) (selector_layer g) (designator_layer g) (item_layer g) e ∙ ap (λ (y : Designator-F Expr Selector Designator Item). designator_layer g (parts_designator y)) q
+  unfolding meant picks head item
+  at_designator e x q = fold_out-Designator (Meant g.Reported) (Picks g.Reported) (Meant g.Reported) (Adds g.Reported) (expr_layer g) (selector_layer g) (designator_layer g) (item_layer g) e ∙ ap (λ (y : Designator-F Expr Selector Designator Item). designator_layer g (parts_designator y)) q
 
   abbrev fits_s : Selector → Bool
   fits_s e = fold-Selector Bool Bool Bool Bool fits_layer fits_selector fits_designator fits_item e
@@ -362,11 +366,11 @@ module _ (g : Gathers) (s : Scope g.Reported) (h : ScopeRanged s) where
   abbrev bare_designator : Designator-F SE SS SD SI → Designator-F Expr Selector Designator Item
   bare_designator x = map-Designator SE SS SD SI Expr Selector Designator Item (λ e. e.0) (λ e. e.0) (λ e. e.0) (λ e. e.0) x
 
-  all_args : (xs : List SE) → list_all itself (map fits (map (λ (e : SE). e.0) xs)) ≡ true → AllM (map (part g) (map (λ (e : SE). e.0) xs))
+  all_args : (xs : List SE) → list_all itself (map fits (map (λ (e : SE). e.0) xs)) ≡ true → AllM (map (λ (e : Meant g.Reported). e.fixed) (map (meant g) (map (λ (e : SE). e.0) xs)))
   all_args [] e = tt
   all_args (x ∷ xs) e = (x.1 (both_left (fits x.0) (list_all itself (map fits (map (λ (e : SE). e.0) xs))) e), all_args xs (both_right (fits x.0) (list_all itself (map fits (map (λ (e : SE). e.0) xs))) e))
 
-  all_picks : (xs : List SS) → AllP (map (pick g) (map (λ (e : SS). e.0) xs))
+  all_picks : (xs : List SS) → AllP (map (λ (e : Picks g.Reported). e.fixed) (map (picks g) (map (λ (e : SS). e.0) xs)))
   all_picks [] = tt
   all_picks (x ∷ xs) = (x.1, all_picks xs)
 
@@ -377,7 +381,7 @@ module _ (g : Gathers) (s : Scope g.Reported) (h : ScopeRanged s) where
   first_of : (x : SE) (rest : Bool) → (fits x.0 && rest) ≡ true → V_ (constant g s (part g x.0))
   first_of x rest e = constant_ranged (part g x.0) (x.1 (both_left (fits x.0) rest e))
 
-  expr_ranged : (y : Expr-F SE SS SD SI) → fits_layer (elaborated (bare y)) ≡ true → FM (expr_layer g (parts (bare y)))
+  expr_ranged : (y : Expr-F SE SS SD SI) → fits_layer (elaborated (bare y)) ≡ true → FM (expr_layer g (parts (bare y))).fixed
   expr_ranged (layer.Number p n) e = fine (denoted.Value (value.Number (pos n))) (omega (arith, ints), from_le (pos n) (pos 4294967295) e)
   expr_ranged (layer.Char p c) e = fine (denoted.Value (valued (Some char) (pos c))) (char_ranged g s.types (pos c) (omega (arith, ints)) (from_le (pos c) (pos 255) e))
   expr_ranged (layer.Text p t) e = fine (denoted.Value (value.Text t)) (letter_ranged (letter t) e)
@@ -386,32 +390,32 @@ module _ (g : Gathers) (s : Scope g.Reported) (h : ScopeRanged s) where
   expr_ranged (layer.Bracketed p x) e = value_ranged (constant_ranged (part g x.0) (x.1 e))
   expr_ranged (layer.Use d None) e = d.1
   expr_ranged (layer.Use d (Some es)) e =
-      value_ranged (called_ranged (head g d.0).at ((head g d.0).denotes s) (map (part g) (map (λ (e : SE). e.0) es)) (all_args es (both_right (fits_d d.0) (list_all itself (map fits (map (λ (e : SE). e.0) es))) e)))
+      value_ranged (called_ranged (head g d.0).fixed.at ((head g d.0).fixed.denotes s) (map (λ (e : Meant g.Reported). e.fixed) (map (meant g) (map (λ (e : SE). e.0) es))) (all_args es (both_right (fits_d d.0) (list_all itself (map fits (map (λ (e : SE). e.0) es))) e)))
   expr_ranged (layer.Term x xs) e =
-      value_ranged (factors_ranged (part g x.0).at (map (λ (x : Operator MulOp × Expr). (x.0, part g x.1)) (map (λ (a : Operator MulOp × SE). (a.0, a.1.0)) xs)) (constant g s (part g x.0)) (first_of x _ e))
+      value_ranged (factors_ranged (part g x.0).at (map (λ (x : Operator MulOp × Meant g.Reported). (x.0, x.1.fixed)) (map (λ (x : Operator MulOp × Expr). (x.0, meant g x.1)) (map (λ (a : Operator MulOp × SE). (a.0, a.1.0)) xs))) (constant g s (part g x.0)) (first_of x _ e))
   expr_ranged (layer.Sum o x xs) e =
-      value_ranged (terms_ranged (sign_place o (part g x.0).at) (map (λ (x : Operator AddOp × Expr). (x.0, part g x.1)) (map (λ (a : Operator AddOp × SE). (a.0, a.1.0)) xs)) (signed_first g o (constant g s (part g x.0))) (first_ranged o (first_of x _ e)))
+      value_ranged (terms_ranged (sign_place o (part g x.0).at) (map (λ (x : Operator AddOp × Meant g.Reported). (x.0, x.1.fixed)) (map (λ (x : Operator AddOp × Expr). (x.0, meant g x.1)) (map (λ (a : Operator AddOp × SE). (a.0, a.1.0)) xs))) (signed_first g o (constant g s (part g x.0))) (first_ranged o (first_of x _ e)))
   expr_ranged (layer.Relation a o b) e = value_ranged (combined_ranged g s.types (op.Relation o.op) o.pos (part g a.0).at (constant g s (part g a.0)) (part g b.0).at (constant g s (part g b.0)))
 
-  selector_ranged : (y : Selector-F SE SS SD SI) → FP (selector_layer g (parts_selector (bare_selector y)))
+  selector_ranged : (y : Selector-F SE SS SD SI) → FP (selector_layer g (parts_selector (bare_selector y))).fixed
   selector_ranged (layer.Field p name) = λ d q. then_holds q (λ x k. field_ranged p name x)
   selector_ranged (layer.Index p e) = λ d q. then_holds q (λ x k. component_ranged p x)
 
-  designator_ranged : (y : Designator-F SE SS SD SI) → FM (designator_layer g (parts_designator (bare_designator y)))
-  designator_ranged y = picks_ranged (map (pick g) (map (λ (e : SS). e.0) y.selectors)) (named g s y.name) (named_ranged y.name) (all_picks y.selectors)
+  designator_ranged : (y : Designator-F SE SS SD SI) → FM (designator_layer g (parts_designator (bare_designator y))).fixed
+  designator_ranged y = picks_ranged (map (λ (e : Picks g.Reported). e.fixed) (map (picks g) (map (λ (e : SS). e.0) y.selectors))) (named g s y.name) (named_ranged y.name) (all_picks y.selectors)
 
   -- ---- the induction
 
   step_expr : (x : Expr-F Expr Selector Designator Item) (y : Expr-F SE SS SD SI) → bare y ≡ x → PE (roll-Expr x)
   step_expr x y q =
       let is : out-Expr (roll-Expr x) ≡ bare y = out-roll-Expr x ∙ sym q in λ e.
-      subst FM (sym (at_expr (roll-Expr x) (bare y) is)) (expr_ranged y (sym (fits_at (roll-Expr x) (bare y) is) ∙ e))
+      subst (λ (z : Meant g.Reported). FM z.fixed) (sym (at_expr (roll-Expr x) (bare y) is)) (expr_ranged y (sym (fits_at (roll-Expr x) (bare y) is) ∙ e))
 
   step_selector : (x : Selector-F Expr Selector Designator Item) (y : Selector-F SE SS SD SI) → bare_selector y ≡ x → PS (roll-Selector x)
-  step_selector x y q = subst FP (sym (at_selector (roll-Selector x) (bare_selector y) (out-roll-Selector x ∙ sym q))) (selector_ranged y)
+  step_selector x y q = subst (λ (z : Picks g.Reported). FP z.fixed) (sym (at_selector (roll-Selector x) (bare_selector y) (out-roll-Selector x ∙ sym q))) (selector_ranged y)
 
   step_designator : (x : Designator-F Expr Selector Designator Item) (y : Designator-F SE SS SD SI) → bare_designator y ≡ x → PD (roll-Designator x)
-  step_designator x y q = subst FM (sym (at_designator (roll-Designator x) (bare_designator y) (out-roll-Designator x ∙ sym q))) (designator_ranged y)
+  step_designator x y q = subst (λ (z : Meant g.Reported). FM z.fixed) (sym (at_designator (roll-Designator x) (bare_designator y) (out-roll-Designator x ∙ sym q))) (designator_ranged y)
 
   part_ranged : (e : Expr) → PE e
   part_ranged = ind-Expr PE PS PD PI step_expr step_selector step_designator (λ x y q. tt)

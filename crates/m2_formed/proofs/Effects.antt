@@ -21,7 +21,7 @@ use Rattle.m2_typed.specs.declared.statement.TypedStmt.TheVariants as step
 use Rattle.m2_typed.specs.declared.typed_module.TypedModule.{TypedModule}
 use Rattle.m2_typed.specs.declared.types.TypeNo.{TypeNo}
 use Rattle.m2_typed.specs.Types.{cardinal, char}
-use Rattle.m2_scopes.specs.Elaborated.{Gathers, reported_where, ◌▷◌}
+use Rattle.m2_scopes.specs.Elaborated.{Gathers, reported_where, ahead}
 use Rattle.m2_scopes.specs.declared.scope.Scope.{Scope}
 use Rattle.m2_values.specs.declared.operand.Ordinal.{Ordinal}
 use Rattle.m2_values.specs.Standards.{whole_number}
@@ -42,12 +42,12 @@ use Rattle.m2_calls.specs.declared.callee.Called.{Called}
 use Rattle.m2_calls.specs.declared.callee.Called.TheVariants as called
 use Rattle.m2_calls.specs.declared.effect.Target.{Target}
 use Rattle.m2_calls.specs.declared.effect.Target.TheVariants as target
-use Rattle.m2_exprs.specs.Meanings.{Meant, formals_of, value_of, actuals}
-use Rattle.m2_exprs.specs.Effects.{call_done, routine_done, changed_by, member_by, halted, put_by, standard_done, done_as, done_by}
+use Rattle.m2_exprs.specs.Meanings.{Meant, formals_of, value_of, looked_at, actuals}
+use Rattle.m2_exprs.specs.Effects.{call_done, routine_done, changed_in, changed_by, set_in, member_by, halted, put_by, standard_done, done_as, done_by}
 use Rattle.m2_scheme.specs.Exprs.{is_there}
 use Rattle.m2_valid.specs.WellFormed.{IsScalar, IsExpr, Constant, IsPlace, AreArguments, IsStmt, Assign, Copy, CopyText, ProcedureCall, Put as PutOf, Changed, Member, Halt as HaltOf}
 use Rattle.m2_formed.specs.Formed.{Holds, fine, FormedValue, FormedDesignated, IsFormed}
-use Rattle.m2_formed.proofs.Basics.{then_holds, reported_holds, where_holds, both_holds, is_whole, scalar_kept, heading_kept}
+use Rattle.m2_formed.proofs.Basics.{then_holds, reported_holds, where_holds, both_holds, refused_holds, reported_beside_holds, ahead_holds, sort_holds, of_heading_holds, is_whole, scalar_kept, heading_kept}
 use Rattle.m2_formed.proofs.Operators.{suited_formed}
 use Rattle.m2_formed.proofs.Calls.{FormedCallee, FormedCalled, callee_formed, call_formed}
 use Rattle.m2_formed.proofs.Meanings.{FM, AllM, value_formed, actuals_formed}
@@ -121,7 +121,7 @@ module _ (g : Gathers) (m : TypedModule) (opens : ℕ → Bool) (w : ℕ) (s : S
 
   pub assignment_formed : (d : Meant g.Reported) (at : Pos) (x : Meant g.Reported) → Known_ d → Known_ x → Stmt_ (assigned g s.types (target_at g d.fixed.at (d.means s)) at (value_of g s x))
   assignment_formed d at x p q =
-      then_holds (both_holds g (then_holds p (λ e k. target_of_formed d.fixed.at e k)) (value_formed g m opens w s h x q)) (λ v k. assigned_to_formed v.0 at v.1 k.0 k.1)
+      then_holds (both_holds g (then_holds (sort_holds g d.fixed.at 40 p) (λ e k. target_of_formed d.fixed.at e k)) (value_formed g m opens w s h x q)) (λ v k. assigned_to_formed v.0 at v.1 k.0 k.1)
 
   -- ---- INC and DEC
 
@@ -160,11 +160,14 @@ module _ (g : Gathers) (m : TypedModule) (opens : ℕ → Bool) (w : ℕ) (s : S
   change_by_formed : (o : Change) {v : Result (TypeNo × Place) g.Reported} {e : Result TypedExpr g.Reported} → Holds FormedVariable v → Expr_ e → Stmt_ (change_by g o v e)
   change_by_formed o p q = then_holds (both_holds g p q) (λ v k. fine (step.Change o v.0.1 v.0.0 v.1) (Changed w looped o v.0.1 v.0.0 v.1 k.0.0 k.0.1 k.1))
 
+  changed_in_formed : (v : Meant g.Reported) → Known_ v → Holds FormedVariable (changed_in g s v)
+  changed_in_formed v p = then_holds (sort_holds g v.fixed.at 44 p) (λ d k. changed_formed v.fixed.at d k)
+
   changed_by_formed : (at : Pos) (o : Change) (args : List (Meant g.Reported)) → AllM g m opens w s h args → Stmt_ (changed_by g s at o args)
-  changed_by_formed at o [] all = reported_holds g at 42
-  changed_by_formed at o (v ∷ []) all = change_by_formed o (then_holds all.0 (λ d k. changed_formed v.fixed.at d k)) (fine (expr.Constant cardinal (pos 1)) (Constant cardinal (pos 1)))
-  changed_by_formed at o (v ∷ n ∷ []) all = change_by_formed o (then_holds all.0 (λ d k. changed_formed v.fixed.at d k)) (then_holds (value_formed g m opens w s h n all.1.0) (λ x k. amount_formed n.fixed.at x k))
-  changed_by_formed at o (v ∷ n ∷ x ∷ xs) all = reported_holds g at 42
+  changed_by_formed at o [] all = reported_beside_holds g at 42 (looked_at g s [])
+  changed_by_formed at o (v ∷ []) all = change_by_formed o (changed_in_formed v all.0) (fine (expr.Constant cardinal (pos 1)) (Constant cardinal (pos 1)))
+  changed_by_formed at o (v ∷ n ∷ []) all = change_by_formed o (changed_in_formed v all.0) (then_holds (value_formed g m opens w s h n all.1.0) (λ x k. amount_formed n.fixed.at x k))
+  changed_by_formed at o (v ∷ n ∷ x ∷ xs) all = reported_beside_holds g at 42 _
 
   -- ---- INCL and EXCL
 
@@ -200,33 +203,36 @@ module _ (g : Gathers) (m : TypedModule) (opens : ℕ → Bool) (w : ℕ) (s : S
   membership_formed : (o : Membership) {d : Result Place g.Reported} {e : Result TypedExpr g.Reported} → Holds (IsPlace m w) d → Expr_ e → Stmt_ (membership_of g o d e)
   membership_formed o p q = then_holds (both_holds g p q) (λ v k. fine (step.Membership o v.0 v.1) (Member w looped o v.0 v.1 k.0 k.1))
 
+  set_in_formed : (v : Meant g.Reported) → Known_ v → Holds (IsPlace m w) (set_in g s v)
+  set_in_formed v p = then_holds (sort_holds g v.fixed.at 44 p) (λ d k. set_variable_formed v.fixed.at d k)
+
   member_by_formed : (at : Pos) (o : Membership) (args : List (Meant g.Reported)) → AllM g m opens w s h args → Stmt_ (member_by g s at o args)
-  member_by_formed at o [] all = reported_holds g at 42
-  member_by_formed at o (v ∷ []) all = reported_holds g at 42
-  member_by_formed at o (v ∷ n ∷ []) all = membership_formed o (then_holds all.0 (λ d k. set_variable_formed v.fixed.at d k)) (then_holds (value_formed g m opens w s h n all.1.0) (λ x k. element_formed n.fixed.at x k))
-  member_by_formed at o (v ∷ n ∷ x ∷ xs) all = reported_holds g at 42
+  member_by_formed at o [] all = reported_beside_holds g at 42 (looked_at g s [])
+  member_by_formed at o (v ∷ []) all = reported_beside_holds g at 42 _
+  member_by_formed at o (v ∷ n ∷ []) all = membership_formed o (set_in_formed v all.0) (then_holds (value_formed g m opens w s h n all.1.0) (λ x k. element_formed n.fixed.at x k))
+  member_by_formed at o (v ∷ n ∷ x ∷ xs) all = reported_beside_holds g at 42 _
 
   -- ---- HALT and Put
 
-  halted_formed : (at : Pos) (args : List (Meant g.Reported)) → Stmt_ (halted g at args)
+  halted_formed : (at : Pos) (args : List (Meant g.Reported)) → Stmt_ (halted g s at args)
   halted_formed at [] = fine step.Halt (HaltOf w looped)
-  halted_formed at (x ∷ xs) = reported_holds g at 42
+  halted_formed at (x ∷ xs) = reported_beside_holds g at 42 _
 
   put_by_formed : (at : Pos) (args : List (Meant g.Reported)) → AllM g m opens w s h args → Stmt_ (put_by g s at args)
-  put_by_formed at [] all = reported_holds g at 42
+  put_by_formed at [] all = reported_beside_holds g at 42 (looked_at g s [])
   put_by_formed at (x ∷ []) all = then_holds (value_formed g m opens w s h x all.0) (λ v k. then_holds (suited_formed m w g 43 s.types char x.fixed.at v k) (λ e q. fine (step.Put e) (PutOf w looped e q)))
-  put_by_formed at (x ∷ y ∷ xs) all = reported_holds g at 42
+  put_by_formed at (x ∷ y ∷ xs) all = reported_beside_holds g at 42 _
 
   standard_formed : (at : Pos) (args : List (Meant g.Reported)) (f : Standard) → AllM g m opens w s h args → Stmt_ (standard_done g s at args f)
-  standard_formed at args Abs all = reported_holds g at 40
-  standard_formed at args Cap all = reported_holds g at 40
-  standard_formed at args Chr all = reported_holds g at 40
-  standard_formed at args High all = reported_holds g at 40
-  standard_formed at args Max all = reported_holds g at 40
-  standard_formed at args Min all = reported_holds g at 40
-  standard_formed at args Odd all = reported_holds g at 40
-  standard_formed at args Ord all = reported_holds g at 40
-  standard_formed at args Val all = reported_holds g at 40
+  standard_formed at args Abs all = reported_beside_holds g at 40 _
+  standard_formed at args Cap all = reported_beside_holds g at 40 _
+  standard_formed at args Chr all = reported_beside_holds g at 40 _
+  standard_formed at args High all = reported_beside_holds g at 40 _
+  standard_formed at args Max all = reported_beside_holds g at 40 _
+  standard_formed at args Min all = reported_beside_holds g at 40 _
+  standard_formed at args Odd all = reported_beside_holds g at 40 _
+  standard_formed at args Ord all = reported_beside_holds g at 40 _
+  standard_formed at args Val all = reported_beside_holds g at 40 _
   standard_formed at args Inc all = changed_by_formed at Increase args all
   standard_formed at args Dec all = changed_by_formed at Decrease args all
   standard_formed at args Incl all = member_by_formed at Include args all
@@ -244,17 +250,17 @@ module _ (g : Gathers) (m : TypedModule) (opens : ℕ → Bool) (w : ℕ) (s : S
         fine (step.Call (call_by xs c)) (ProcedureCall w looped (call_by xs c) (call_formed g m w opens s.types h.types c t xs false there (heading.result ∙ ap (λ (o : Option TypeNo). is_there o) q) (subst (λ (fs : List Formal). AreArguments m w xs fs) (sym heading.formals) p))))
 
     by_count : (k : Signature) (q : Bool) → (length k.formals == length args) ≡ q → signature_at s.types t ≡ Some k → k.result ≡ None
-        → Stmt_ (reported_where g {A = Unit {0}} (not q) at 42 (Ok (tt {0})) ▷ λ fine. call_done c (actuals g s k.formals args))
+        → Stmt_ (ahead g (reported_where g {A = Unit {0}} (not q) at 42 (Ok (tt {0}))) (looked_at g s args) (λ fine. call_done c (actuals g s k.formals args)))
     by_count k true count e q = proper_call k e q (eqb-true (length k.formals) (length args) count)
-    by_count k false count e q = reported_holds g at 42
+    by_count k false count e q = refused_holds g _ (looked_at g s args)
 
     by_result : (k : Signature) (o : Option TypeNo) → k.result ≡ o → signature_at s.types t ≡ Some k
-        → Stmt_ (proper_with g at (length k.formals) (length args) o ▷ λ fine. call_done c (actuals g s k.formals args))
+        → Stmt_ (ahead g (proper_with g at (length k.formals) (length args) o) (looked_at g s args) (λ fine. call_done c (actuals g s k.formals args)))
     by_result k None q e = by_count k (length k.formals == length args) refl e q
-    by_result k (Some r) q e = reported_holds g at 40
+    by_result k (Some r) q e = refused_holds g _ (looked_at g s args)
 
-    by_signature : (o : Option Signature) → signature_at s.types t ≡ o → Stmt_ (proper_of g at o (length args) ▷ λ fine. call_done c (actuals g s (formals_of o) args))
-    by_signature None e = reported_holds g at 40
+    by_signature : (o : Option Signature) → signature_at s.types t ≡ o → Stmt_ (ahead g (proper_of g at o (length args)) (looked_at g s args) (λ fine. call_done c (actuals g s (formals_of o) args)))
+    by_signature None e = refused_holds g _ (looked_at g s args)
     by_signature (Some k) e = by_result k k.result refl e
 
     routine_formed : Stmt_ (routine_done g s at t c args)
@@ -265,4 +271,4 @@ module _ (g : Gathers) (m : TypedModule) (opens : ℕ → Bool) (w : ℕ) (s : S
   done_as_formed at args (called.Standard f) p all = standard_formed at args f all
 
   pub done_formed : (d : Meant g.Reported) (args : List (Meant g.Reported)) → Known_ d → AllM g m opens w s h args → Stmt_ (done_by g s d args)
-  done_formed d args p all = then_holds (then_holds p (λ e k. callee_formed g m w opens s.types h.types d.fixed.at e k)) (λ x k. done_as_formed d.fixed.at args x k all)
+  done_formed d args p all = ahead_holds g (looked_at g s args) (then_holds (of_heading_holds p) (λ e k. callee_formed g m w opens s.types h.types d.fixed.at e k)) (λ x k. done_as_formed d.fixed.at args x k all)

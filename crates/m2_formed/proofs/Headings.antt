@@ -1,5 +1,5 @@
 -- The type of a heading has the formals and the result that are computed where the procedure's block begins.
-use Rattle.std.proofs.Common.{◌≡◌, ℕ, ◌==◌, Bool, true, false, not, cond, List, [], ◌∷◌, ◌++◌, length, map, Option, Some, None, Result, Ok, Err, refl, sym, ap, subst, ◌∙◌, append_assoc}
+use Rattle.std.proofs.Common.{◌≡◌, ℕ, ◌==◌, Bool, true, false, not, cond, List, [], ◌∷◌, ◌++◌, length, Option, Some, None, Result, Ok, Err, refl, sym, ap, subst, ◌∙◌, append_assoc}
 use Rattle.std.specs.Prelude.{slice_get, nat_eq}
 use Rattle.std.specs.Map.{lookup}
 use Rattle.std.specs.List.{fold}
@@ -16,36 +16,33 @@ use Rattle.m2_tree.specs.declared.decl.Section.{Section}
 use Rattle.m2_tree.specs.declared.pos.Pos.{Pos}
 use Rattle.m2_typed.specs.declared.meaning.Meaning.{Meaning}
 use Rattle.m2_typed.specs.declared.meaning.Meaning.TheVariants as meaning
-use Rattle.m2_typed.specs.declared.meaning.Procedure.{Procedure}
 use Rattle.m2_typed.specs.declared.shape.Formal.{Formal}
 use Rattle.m2_typed.specs.declared.shape.Made.{Made}
 use Rattle.m2_typed.specs.declared.shape.Shape.TheVariants as shape
 use Rattle.m2_typed.specs.declared.shape.Signature.{Signature}
-use Rattle.m2_typed.specs.declared.known_types.Types.{Types}
 use Rattle.m2_typed.specs.declared.types.Home.{Home}
 use Rattle.m2_typed.specs.declared.types.Home.TheVariants.{Predeclared, Module}
 use Rattle.m2_typed.specs.declared.types.TypeNo.{TypeNo}
 use Rattle.m2_typed.specs.Known.{made_in, made_at, in_list, is_result_made, is_result_from, is_result}
 use Rattle.m2_typed.specs.Names.{found}
-use Rattle.m2_scopes.specs.Elaborated.{Gathers, reported, reported_where, both, beside, ◌▷◌}
+use Rattle.m2_scopes.specs.Elaborated.{Gathers, reported, reported_where, both, ◌▷◌}
+use Rattle.m2_scopes.specs.Scopes.{State}
 use Rattle.m2_scopes.specs.declared.known.Known.{Known}
 use Rattle.m2_scopes.specs.declared.known.Known.TheVariants.{Headed}
 use Rattle.m2_scopes.specs.declared.scope.Scope.{Scope}
-use Rattle.m2_made.specs.declared.field.Fields.{Fields}
-use Rattle.m2_made.specs.Fields.{no_fields}
-use Rattle.m2_made.specs.Headings.{formal_of, result_in, result_of, procedure_made, repeated, joined_formals, with_section, sections, signed_by, heading_of}
+use Rattle.m2_made.specs.Headings.{formal_of, result_in, result_of, repeated, with_section, heading_of, names_of}
 use Rattle.m2_made.specs.Made.{next_type, with_shape}
 use Rattle.m2_made.specs.Named.{first_of, named_type}
 use Rattle.m2_blocks.specs.declared.heading.Standing.{Standing}
 use Rattle.m2_blocks.specs.declared.heading.Standing.TheVariants.{Free, Awaited, Taken}
 use Rattle.m2_blocks.specs.Agreeing.{signature_in, signature_of, agree}
-use Rattle.m2_blocks.specs.Headings.{name_standing, nested_meaning, headed, module_procedure, with_new, nothing_made, reported_of_other, headed_as, with_heading}
+use Rattle.m2_blocks.specs.Headings.{name_standing, nested_meaning, headed, module_procedure, nothing_made, headed_as}
 use Rattle.m2_blocks.specs.Declarations.{Course, with_procedure, decl_layer, with_decl}
 use Rattle.m2_blocks.specs.Inner.{inwards}
 use Rattle.m2_formed.proofs.Names.{get_last, found_self}
 use Rattle.m2_formed.proofs.ScopesDeclarations.{beside_right, decl_reported, head_reported}
 use Rattle.m2_formed.specs.FormedNumbers.{with_one, with_names, with_formals_of, all_formals}
-use Rattle.m2_formed.specs.FormedHeadings.{declared_by, all, begun, met, end, seen, IsBehind, heading_in, HeadingStands, HeadingsStay}
+use Rattle.m2_formed.specs.FormedHeadings.{declared_by, all, begun, end, seen, IsBehind, heading_in, HeadingStands, HeadingsStay}
 use Rattle.m2_formed.proofs.Agreeing.{agreed_made}
 use Rattle.m2_formed.proofs.HeadingsSteps.{Keeps}
 use Rattle.m2_formed.proofs.Resolving.{declared_append, block_changes, to_last, named_stays}
@@ -76,15 +73,12 @@ module _ (g : Gathers) (s inner : Scope g.Reported) (stays : (q : Qualified) (t 
   repeated_all f fs [] = sym (append-nil fs)
   repeated_all f fs (x ∷ xs) = repeated_all f (fs ++ f ∷ []) xs ∙ append_assoc fs (f ∷ []) (repeated f xs)
 
-  abbrev Sectioned : Type 0
-  Sectioned = Fields × Result (Unit {0}) g.Reported × Result (List Formal) g.Reported
-
-  sections_stay : (xs : List Section) (st : Sectioned) (fs : List Formal) → (fold (with_section g s) st xs).2 ≡ Ok fs → (first : List Formal) × ((st.2 ≡ Ok first) × (fs ≡ fold (with_formals_of g inner) first xs))
-  sections_stay [] st fs e = (fs, (e, refl))
-  sections_stay (x ∷ xs) st fs e =
-      let more = sections_stay xs (with_section g s st x) fs e in
+  sections_stay : (xs : List Section) (so : Result (List Formal) g.Reported) (fs : List Formal) → fold (with_section g s) so xs ≡ Ok fs → (first : List Formal) × ((so ≡ Ok first) × (fs ≡ fold (with_formals_of g inner) first xs))
+  sections_stay [] so fs e = (fs, (e, refl))
+  sections_stay (x ∷ xs) so fs e =
+      let more = sections_stay xs (with_section g s so x) fs e in
       let f = formal_of g s x.is_var x.of in
-      let joined = both_ok g st.2 f (λ p. Ok (p.0 ++ repeated p.1 x.names)) more.0 more.1.0 in
+      let joined = both_ok g so f (λ p. Ok (p.0 ++ repeated p.1 x.names)) more.0 more.1.0 in
       let is : joined.0 ++ repeated joined.1 x.names ≡ more.0 = ok_same (joined.0 ++ repeated joined.1 x.names) more.0 joined.2.2 in
       let formal : formal_of g inner x.is_var x.of ≡ Ok joined.1 = formal_stays x.is_var x.of joined.1 joined.2.1 in
       let next : with_formals_of g inner joined.0 x ≡ more.0 =
@@ -129,14 +123,12 @@ module _ (g : Gathers) (s inner : Scope g.Reported) (stays : (q : Qualified) (t 
 
     pub heading_signed : (h : Heading) (x : Made) → heading_of g s h ≡ Ok x → Signed h x
     heading_signed h x e =
-        let st = sections g s h.formals in
-        let outer = both_ok g st.0 (procedure_made g st.1 (result_of g s h.result)) (λ p. Ok p.1) x e in
-        let inside = both_ok g st.1 (result_of g s h.result) (λ p. Ok (record { shape = shape.Procedure (record { formals = p.0; result = p.1 }); cells = 1 })) outer.1 outer.2.1 in
-        let fs = sections_stay h.formals (no_fields, Ok tt, Ok []) inside.0 inside.2.0 in
+        let inside = both_ok g (fold (with_section g s) (Ok []) h.formals) (result_of g s h.result) (λ p. Ok (record { shape = shape.Procedure (record { formals = p.0; result = p.1 }); cells = 1 })) x e in
+        let fs = sections_stay h.formals (Ok []) inside.0 inside.2.0 in
         let empty : fs.0 ≡ [] = sym (ok_list [] fs.0 fs.1.0) in
         let formals : inside.0 ≡ all_formals g inner h.formals = fs.1.1 ∙ ap (λ (ys : List Formal). fold (with_formals_of g inner) ys h.formals) empty in
         let made : Made = record { shape = shape.Procedure (record { formals = inside.0; result = inside.1 }); cells = 1 } in
-        let is : made ≡ x = ok_made made x (inside.2.2 ∙ ap (λ (m : Made). Ok m) (ok_made outer.1 x outer.2.2)) in
+        let is : made ≡ x = ok_made made x inside.2.2 in
         record {
           result = inside.1;
           gives = results_stay h.result inside.1 inside.2.1;
@@ -237,8 +229,11 @@ module _ (g : Gathers) where
       through : declared_by g ends (begun g ends a first before d rest) (all g ends a first before d rest) ≡ declared_by g ends stepped rest
       through = declared_append g ends (begun g ends a first before d rest) before (d ∷ rest) ∙ ap (λ (c : Course g.Reported). declared_by g ends c rest) step_is
 
-      step_fine : (with_heading g here.0 here.2 h).1 ≡ Ok tt
-      step_fine = head_reported g ends here h (reported_back ends rest stepped (sym (ap (λ (c : Course g.Reported). c.1) through) ∙ fine))
+      abbrev headed_here : State (Unit {0}) g.Reported
+      headed_here = headed_as g here.0 h here.2 (heading_of g here.0 h) (name_standing (found h.name.name here.0.own))
+
+      step_fine : headed_here.1 ≡ Ok tt
+      step_fine = beside_right g (names_of g h) headed_here.1 (head_reported g ends here h (reported_back ends rest stepped (sym (ap (λ (c : Course g.Reported). c.1) through) ∙ fine)))
 
       to_end : Keeps stepped.0 last
       to_end = subst (λ (c : Course g.Reported). Keeps stepped.0 c.0) (sym through) ((block_changes g ends rest stepped).keeps)

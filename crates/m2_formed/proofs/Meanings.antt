@@ -1,6 +1,6 @@
 -- Expressions and designators: a lemma for each construct, and then the induction.
 use Rattle.std.proofs.Common.{◌≡◌, ℕ, ◌==◌, Bool, true, false, List, [], ◌∷◌, ◌++◌, length, map, Option, Some, None, Result, Ok, refl, sym, ap, subst, ◌∙◌, append_assoc, arith}
-use Rattle.std.specs.Prelude.{not}
+use Rattle.std.specs.Prelude.{not, cond}
 use Rattle.std.specs.List.{fold}
 use Rattle.std.proofs.lemmas.Bool.{eqb-true}
 use Rattle.std.proofs.lemmas.List.{append-nil}
@@ -31,7 +31,8 @@ use Rattle.m2_typed.specs.declared.shape.Signature.{Signature}
 use Rattle.m2_typed.specs.declared.typed_module.TypedModule.{TypedModule}
 use Rattle.m2_typed.specs.declared.types.TypeNo.{TypeNo}
 use Rattle.m2_typed.specs.Chains.{rooted}
-use Rattle.m2_scopes.specs.Elaborated.{Gathers, reported_where, ◌▷◌}
+use Rattle.m2_scopes.specs.declared.meaningless.Meaningless.{Meaningless}
+use Rattle.m2_scopes.specs.Elaborated.{Gathers, reported_where, ahead, of_sort, of_heading, ◌▷◌}
 use Rattle.m2_scopes.specs.declared.scope.Scope.{Scope}
 use Rattle.m2_constants.specs.Parts.{Part, Adds, sign_place}
 use Rattle.m2_values.specs.Operators.{mul_op, add_op}
@@ -51,11 +52,11 @@ use Rattle.m2_calls.specs.declared.callee.Called.TheVariants as called
 use Rattle.m2_calls.specs.declared.standard.Form.{Form}
 use Rattle.m2_calls.specs.declared.standard.Form.TheVariants as form
 use Rattle.m2_calls.specs.declared.standard.Unary.{Unary}
-use Rattle.m2_exprs.specs.Meanings.{Meant, Picks, of_computed, signed_first, named, field_of, formals_of, argument_by, call_given, as_constant, value_of, with_actual, actuals, routine_called, unary, bound, conversion, high, by_form, called_as, called_by, factor, term, relation, expr_layer, selector_layer, designator_layer, item_layer, meant, picks, head, item}
+use Rattle.m2_exprs.specs.Meanings.{Meant, Picks, of_computed, signed_first, named, field_of, formals_of, passed_for, argument_by, call_given, as_constant, value_of, looked_at, with_actual, actuals, routine_called, unary, bound, conversion, high, by_form, called_as, called_by, factor, term, relation, expr_layer, selector_layer, designator_layer, item_layer, meant, picks, head, item}
 use Rattle.m2_scheme.specs.Exprs.{is_there}
 use Rattle.m2_valid.specs.WellFormed.{FunctionCall, AreArguments, no_arguments, FieldOf}
-use Rattle.m2_formed.specs.Formed.{Holds, fine, broken, FormedMeaning, FormedValue, FormedDesignated, IsFormed}
-use Rattle.m2_formed.proofs.Basics.{then_holds, reported_holds, both_holds, any_holds, heading_kept}
+use Rattle.m2_formed.specs.Formed.{Holds, fine, FormedMeaning, FormedValue, FormedDesignated, IsFormed}
+use Rattle.m2_formed.proofs.Basics.{then_holds, reported_holds, both_holds, refused_holds, reported_beside_holds, ahead_holds, sort_holds, of_heading_holds, plain_holds, any_holds, heading_kept}
 use Rattle.m2_formed.proofs.Operators.{behind_formed, rooted_formed, signed_formed, negated_formed, combined_formed, field_formed, indexed_formed}
 use Rattle.m2_formed.proofs.Calls.{given_formed, taken_formed, actual_formed, arguments_more, FormedCallee, FormedCalled, callee_formed, call_formed, unary_formed, bound_formed, conversion_formed, high_formed}
 
@@ -63,14 +64,14 @@ module _ (g : Gathers) (m : TypedModule) (opens : ℕ → Bool) (w : ℕ) (s : S
   abbrev pub Value_ : Result Computed g.Reported → Type 0
   Value_ r = Holds (FormedValue m w) r
 
-  abbrev pub Designated_ : Result Designated g.Reported → Type 0
+  abbrev pub Designated_ : {T : Type 0} → Result Designated T → Type 0
   Designated_ r = Holds (FormedDesignated m opens w) r
 
   abbrev pub FM : Meant g.Reported → Type 0
   FM x = Designated_ (x.means s)
 
   abbrev FP : Picks g.Reported → Type 0
-  FP p = (d : Result Designated g.Reported) → Designated_ d → Designated_ (p.picks s d)
+  FP p = (d : Result Designated (Meaningless g.Reported)) → Designated_ d → Designated_ (p.picks s d)
 
   abbrev pub AllM : List (Meant g.Reported) → Type 0
   AllM [] = Unit {0}
@@ -85,13 +86,13 @@ module _ (g : Gathers) (m : TypedModule) (opens : ℕ → Bool) (w : ℕ) (s : S
   AllP (x ∷ xs) = FP x × AllP xs
 
   pub value_formed : (x : Meant g.Reported) → FM x → Value_ (value_of g s x)
-  value_formed x p = then_holds p (λ d k. taken_formed g m w opens s.types h.types x.fixed.at d k)
+  value_formed x p = then_holds (of_heading_holds p) (λ d k. taken_formed g m w opens s.types h.types x.fixed.at d k)
 
   constant_meant : (x : Part g.Reported) → Designated_ (as_constant g s x)
-  constant_meant x = then_holds (any_holds _) (λ v k. fine (designated.Value (value.Constant v)) tt)
+  constant_meant x = plain_holds (then_holds (any_holds _) (λ v k. fine (designated.Value (value.Constant v)) tt))
 
   computed_formed : {r : Result Computed g.Reported} → Value_ r → Designated_ (of_computed r)
-  computed_formed p = then_holds p (λ v k. fine (designated.Value v) k)
+  computed_formed p = plain_holds (then_holds p (λ v k. fine (designated.Value v) k))
 
   -- ---- names
 
@@ -114,7 +115,7 @@ module _ (g : Gathers) (m : TypedModule) (opens : ℕ → Bool) (w : ℕ) (s : S
   by_meaning level at (meaning.Module k) p = fine (designated.Module k) p
 
   named_formed : (name : Ident) → Designated_ (named g s name)
-  named_formed name = then_holds (h.names name) (λ x p. by_meaning s.level name.pos x p)
+  named_formed name = then_holds (h.names name) (λ x p. plain_holds (by_meaning s.level name.pos x p))
 
   field_of_formed : (at : Pos) (name : Ident) (d : Designated) → FormedDesignated m opens w d → Designated_ (field_of g s at name d)
   field_of_formed at name (designated.Module k) p = then_holds (h.members k name p) (λ x q. by_meaning s.level name.pos x q)
@@ -128,13 +129,20 @@ module _ (g : Gathers) (m : TypedModule) (opens : ℕ → Bool) (w : ℕ) (s : S
 
   -- ---- calls
 
+  passed_by : (is_var : Bool) (at : Pos) {d : Result Designated (Meaningless g.Reported)} → Designated_ d → Designated_ (cond is_var (of_sort g at 44 d) (of_heading d))
+  passed_by true at p = sort_holds g at 44 p
+  passed_by false at p = of_heading_holds p
+
+  passed_formed : (f : Formal) (at : Pos) {d : Result Designated (Meaningless g.Reported)} → Designated_ d → Designated_ (passed_for g f at d)
+  passed_formed f at p = passed_by f.is_var at p
+
   pub args_formed : (args : List (Meant g.Reported)) (fs taken : List Formal) (r : Result (List Argument) g.Reported) → length fs ≡ length args → Holds (λ xs. AreArguments m w xs taken) r → AllM args
       → Holds (λ xs. AreArguments m w xs (taken ++ fs)) (fold (with_actual g s) (fs, r) args).1
   args_formed [] [] taken r e p all = subst (λ (fs : List Formal). Holds (λ xs. AreArguments m w xs fs) r) (sym (append-nil taken)) p
   args_formed [] (f ∷ fs) taken r e p all = absurd (omega (arith, e))
   args_formed (x ∷ args) [] taken r e p all = absurd (omega (arith, e))
   args_formed (x ∷ args) (f ∷ fs) taken r e p all =
-      let one : Holds (λ xs. AreArguments m w xs (taken ++ f ∷ [])) (with_argument g r (argument_by g s.types (Some f) x.fixed.at (x.means s))) = then_holds (both_holds g p (then_holds all.0 (λ d k. actual_formed g m w opens s.types h.types f x.fixed.at d k)))
+      let one : Holds (λ xs. AreArguments m w xs (taken ++ f ∷ [])) (with_argument g r (argument_by g s.types (Some f) x.fixed.at (x.means s))) = then_holds (both_holds g p (then_holds (passed_formed f x.fixed.at all.0) (λ d k. actual_formed g m w opens s.types h.types f x.fixed.at d k)))
       (λ v k. fine (v.0 ++ v.1 ∷ []) (arguments_more g m w opens s.types h.types v.0 taken v.1 f k.0 k.1))
       in
       subst (λ (es : List Formal). Holds (λ xs. AreArguments m w xs es) (fold (with_actual g s) (f ∷ fs, r) (x ∷ args)).1) (append_assoc taken (f ∷ []) fs) (args_formed args fs (taken ++ f ∷ []) _ (omega (arith, e)) one all.1)
@@ -151,17 +159,17 @@ module _ (g : Gathers) (m : TypedModule) (opens : ℕ → Bool) (w : ℕ) (s : S
         (FunctionCall r (call_by xs c) (call_formed g m w opens s.types h.types c t xs true there (heading.result ∙ ap (λ (o : Option TypeNo). is_there o) q) (subst (λ (fs : List Formal). AreArguments m w xs fs) (sym heading.formals) p)))))
 
     by_count : (k : Signature) (r : TypeNo) (q : Bool) → (length k.formals == length args) ≡ q → signature_at s.types t ≡ Some k → k.result ≡ Some r
-        → Value_ ((reported_where g {A = Unit {0}} (not q) at 42 (Ok (tt {0})) ▷ λ fine. Ok r) ▷ λ r. call_given g s.types r c (actuals g s k.formals args))
+        → Value_ (ahead g (reported_where g {A = Unit {0}} (not q) at 42 (Ok (tt {0})) ▷ λ fine. Ok r) (looked_at g s args) (λ r. call_given g s.types r c (actuals g s k.formals args)))
     by_count k r true count e q = given_call k r e q (eqb-true (length k.formals) (length args) count)
-    by_count k r false count e q = broken _
+    by_count k r false count e q = refused_holds g _ (looked_at g s args)
 
     by_result : (k : Signature) (o : Option TypeNo) → k.result ≡ o → signature_at s.types t ≡ Some k
-        → Value_ (function_with g at (length k.formals) (length args) o ▷ λ r. call_given g s.types r c (actuals g s k.formals args))
-    by_result k None q e = broken _
+        → Value_ (ahead g (function_with g at (length k.formals) (length args) o) (looked_at g s args) (λ r. call_given g s.types r c (actuals g s k.formals args)))
+    by_result k None q e = refused_holds g _ (looked_at g s args)
     by_result k (Some r) q e = by_count k r (length k.formals == length args) refl e q
 
-    by_signature : (o : Option Signature) → signature_at s.types t ≡ o → Value_ (function_of g at o (length args) ▷ λ r. call_given g s.types r c (actuals g s (formals_of o) args))
-    by_signature None e = broken _
+    by_signature : (o : Option Signature) → signature_at s.types t ≡ o → Value_ (ahead g (function_of g at o (length args)) (looked_at g s args) (λ r. call_given g s.types r c (actuals g s (formals_of o) args)))
+    by_signature None e = refused_holds g _ (looked_at g s args)
     by_signature (Some k) e = by_result k k.result refl e
 
     routine_formed : Value_ (routine_called g s at t c args)
@@ -170,39 +178,39 @@ module _ (g : Gathers) (m : TypedModule) (opens : ℕ → Bool) (w : ℕ) (s : S
   -- ---- standard functions
 
   unary_all : (at : Pos) (f : Standard) (u : Unary) (args : List (Meant g.Reported)) → AllM args → Value_ (unary g s at f u args)
-  unary_all at f u [] all = reported_holds g at 42
+  unary_all at f u [] all = reported_beside_holds g at 42 (looked_at g s [])
   unary_all at f u (x ∷ []) all = then_holds (value_formed x all.0) (λ v p. unary_formed g m w opens s.types h.types f u x.fixed.at v p)
-  unary_all at f u (x ∷ y ∷ xs) all = reported_holds g at 42
+  unary_all at f u (x ∷ y ∷ xs) all = reported_beside_holds g at 42 _
 
   bound_all : (at : Pos) (f : Standard) (args : List (Meant g.Reported)) → Value_ (bound g s at f args)
-  bound_all at f [] = reported_holds g at 42
+  bound_all at f [] = reported_beside_holds g at 42 (looked_at g s [])
   bound_all at f (x ∷ []) = bound_formed g m w opens s.types h.types f _
-  bound_all at f (x ∷ y ∷ xs) = reported_holds g at 42
+  bound_all at f (x ∷ y ∷ xs) = reported_beside_holds g at 42 _
 
   conversion_all : (at : Pos) (args : List (Meant g.Reported)) → AllM args → Value_ (conversion g s at args)
-  conversion_all at [] all = reported_holds g at 42
-  conversion_all at (t ∷ []) all = reported_holds g at 42
+  conversion_all at [] all = reported_beside_holds g at 42 (looked_at g s [])
+  conversion_all at (t ∷ []) all = reported_beside_holds g at 42 _
   conversion_all at (t ∷ x ∷ []) all = conversion_formed g m w opens s.types h.types _ x.fixed.at (value_formed x all.1.0)
-  conversion_all at (t ∷ x ∷ y ∷ xs) all = reported_holds g at 42
+  conversion_all at (t ∷ x ∷ y ∷ xs) all = reported_beside_holds g at 42 _
 
   high_all : (at : Pos) (args : List (Meant g.Reported)) → AllM args → Value_ (high g s at args)
-  high_all at [] all = reported_holds g at 42
-  high_all at (x ∷ []) all = then_holds all.0 (λ d p. high_formed g m w opens s.types h.types x.fixed.at d)
-  high_all at (x ∷ y ∷ xs) all = reported_holds g at 42
+  high_all at [] all = reported_beside_holds g at 42 (looked_at g s [])
+  high_all at (x ∷ []) all = then_holds (sort_holds g x.fixed.at 43 all.0) (λ d p. high_formed g m w opens s.types h.types x.fixed.at d)
+  high_all at (x ∷ y ∷ xs) all = reported_beside_holds g at 42 _
 
   form_formed : (at : Pos) (f : Standard) (args : List (Meant g.Reported)) (o : Form) → AllM args → Value_ (by_form g s at f args o)
   form_formed at f args (form.Unary u) all = unary_all at f u args all
   form_formed at f args form.Bound all = bound_all at f args
   form_formed at f args form.Conversion all = conversion_all at args all
   form_formed at f args form.High all = high_all at args all
-  form_formed at f args form.Proper all = reported_holds g at 40
+  form_formed at f args form.Proper all = reported_beside_holds g at 40 _
 
   called_as_formed : (at : Pos) (args : List (Meant g.Reported)) (x : Called) → FormedCalled g m w opens s.types h.types x → AllM args → Value_ (called_as g s at args x)
   called_as_formed at args (called.Routine t c) p all = routine_formed at t c args p all
   called_as_formed at args (called.Standard f) p all = form_formed at f args (form_of f) all
 
-  called_formed : (at : Pos) {d : Result Designated g.Reported} (args : List (Meant g.Reported)) → Designated_ d → AllM args → Value_ (called_by g s at d args)
-  called_formed at args p all = then_holds (then_holds p (λ d k. callee_formed g m w opens s.types h.types at d k)) (λ x k. called_as_formed at args x k all)
+  called_formed : (at : Pos) {d : Result Designated (Meaningless g.Reported)} (args : List (Meant g.Reported)) → Designated_ d → AllM args → Value_ (called_by g s at d args)
+  called_formed at args p all = ahead_holds g (looked_at g s args) (then_holds (of_heading_holds p) (λ d k. callee_formed g m w opens s.types h.types at d k)) (λ x k. called_as_formed at args x k all)
 
   -- ---- operators
 
@@ -221,7 +229,7 @@ module _ (g : Gathers) (m : TypedModule) (opens : ℕ → Bool) (w : ℕ) (s : S
   relation_formed : (a : Meant g.Reported) (o : Operator RelOp) (b : Meant g.Reported) → FM a → FM b → Value_ (relation g s a o b)
   relation_formed a o b p q = combined_formed m w g s.types (op.Relation o.op) o.pos a.fixed.at b.fixed.at (value_formed a p) (value_formed b q)
 
-  picks_formed : (ps : List (Picks g.Reported)) (d : Result Designated g.Reported) → Designated_ d → AllP ps → Designated_ (fold (λ x p. p.picks s x) d ps)
+  picks_formed : (ps : List (Picks g.Reported)) (d : Result Designated (Meaningless g.Reported)) → Designated_ d → AllP ps → Designated_ (fold (λ x p. p.picks s x) d ps)
   picks_formed [] d p all = p
   picks_formed (x ∷ ps) d p all = picks_formed ps (x.picks s d) (all.0 d p) all.1
 
@@ -307,8 +315,8 @@ module _ (g : Gathers) (m : TypedModule) (opens : ℕ → Bool) (w : ℕ) (s : S
   expr_formed (layer.Relation e o f) = computed_formed (relation_formed (meant g e.0) o (meant g f.0) e.1 f.1)
 
   selector_formed : (y : Selector-F SE SS SD SI) → FP (selector_layer g (opened_selector (bare_selector y)))
-  selector_formed (layer.Field p name) = λ d q. then_holds q (λ x k. field_of_formed p name x k)
-  selector_formed (layer.Index p e) = λ d q. indexed_formed m w g opens s.types p (meant g e.0).fixed.at q (value_formed (meant g e.0) e.1)
+  selector_formed (layer.Field p name) = λ d q. plain_holds (then_holds (sort_holds g p 40 q) (λ x k. field_of_formed p name x k))
+  selector_formed (layer.Index p e) = λ d q. plain_holds (indexed_formed m w g opens s.types p (meant g e.0).fixed.at (sort_holds g p 40 q) (value_formed (meant g e.0) e.1))
 
   designator_formed : (y : Designator-F SE SS SD SI) → FM (designator_layer g (opened_designator (bare_designator y)))
   designator_formed y = picks_formed (map (picks g) (map (λ (e : SS). e.0) y.selectors)) (named g s y.name) (named_formed y.name) (all_picks y.selectors)

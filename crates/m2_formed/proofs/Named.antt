@@ -23,7 +23,7 @@ use Rattle.m2_scopes.specs.Elaborated.{Gathers, reported}
 use Rattle.m2_constants.specs.Denote.{exported_by, exported, member}
 use Rattle.m2_made.specs.Named.{type_meant, in_module, of_module, named_type}
 use Rattle.m2_formed.specs.Formed.{Holds, fine}
-use Rattle.m2_formed.proofs.Basics.{then_holds, reported_holds}
+use Rattle.m2_formed.proofs.Basics.{then_holds, reported_holds, sort_holds, plain_holds, heading_means_holds}
 use Rattle.m2_formed.specs.Ordered.{is_known}
 use Rattle.m2_formed.specs.FormedOrder.{MeaningOrdered, KnownOrdered, NamesOrdered, BlocksOrdered, ExportsOrdered, TablesOrdered, ScopeOrdered}
 
@@ -97,17 +97,17 @@ module _ (g : Gathers) where
   means_by types at false r p = reported_holds g at 30
 
   means_ordered : (types : Types) (at : Pos) (k : Known g.Reported) (b : Bool) → KnownOrdered types k → Holds (MeaningOrdered types) (means_seen g at k b)
-  means_ordered types at Later b p = reported_holds g at 30
+  means_ordered types at Later b p = plain_holds (reported_holds g at 30)
   means_ordered types at Ahead b p = fine meaning.Ahead tt
-  means_ordered types at Begun b p = reported_holds g at 30
-  means_ordered types at (Headed r) b p = p
-  means_ordered types at (Declared o r) b p = means_by types at b r p
+  means_ordered types at Begun b p = plain_holds (reported_holds g at 30)
+  means_ordered types at (Headed r) b p = heading_means_holds p
+  means_ordered types at (Declared o r) b p = plain_holds (means_by types at b r p)
 
   sight_means : (types : Types) (at : Pos) (o : Sight g.Reported) → SightOrdered types o → Holds (MeaningOrdered types) (means_as g at o)
-  sight_means types at None p = reported_holds g at 30
+  sight_means types at None p = plain_holds (reported_holds g at 30)
   sight_means types at (Some k) p = means_ordered types at k.0 k.1 p
 
-  or_field : (types : Types) (o : Option OpenedField) (r : Result Meaning g.Reported) → Holds (MeaningOrdered types) r → Holds (MeaningOrdered types) (means_or o r)
+  or_field : {T : Type 0} (types : Types) (o : Option OpenedField) (r : Result Meaning T) → Holds (MeaningOrdered types) r → Holds (MeaningOrdered types) (means_or o r)
   or_field types (Some f) r p = fine (meaning.Field f) tt
   or_field types None r p = p
 
@@ -144,8 +144,8 @@ module _ (g : Gathers) where
   in_module_ordered s at name (meaning.Standard f) h = reported_holds g at 33
 
   of_module_ordered : (base : Types) (s : Scope g.Reported) → ScopeOrdered base s → (o : Option Ident) (name : Ident) → Holds (λ t. is_known s.types t ≡ true) (of_module g s o name)
-  of_module_ordered base s h None name = then_holds (looked_ordered base s h name) (λ m p. type_ordered s.types name.pos m p)
-  of_module_ordered base s h (Some home) name = then_holds (looked_ordered base s h home) (λ m p. in_module_ordered s home.pos name m h.tables)
+  of_module_ordered base s h None name = then_holds (sort_holds g name.pos 33 (looked_ordered base s h name)) (λ m p. type_ordered s.types name.pos m p)
+  of_module_ordered base s h (Some home) name = then_holds (sort_holds g home.pos 33 (looked_ordered base s h home)) (λ m p. in_module_ordered s home.pos name m h.tables)
 
   pub named_ordered : (base : Types) (s : Scope g.Reported) → ScopeOrdered base s → (q : Qualified) → Holds (λ t. is_known s.types t ≡ true) (named_type g s q)
   named_ordered base s h q = of_module_ordered base s h q.module q.name

@@ -28,12 +28,12 @@ use Rattle.m2_scopes.specs.declared.known.Origin.TheVariants.{Here}
 use Rattle.m2_scopes.specs.declared.scope.Scope.{Scope}
 use Rattle.m2_scopes.specs.Scopes.{State, declared}
 use Rattle.m2_scopes.specs.Elaborated.{Gathers, reported, both, beside}
-use Rattle.m2_constants.specs.Parts.{part}
+use Rattle.m2_exprs.specs.Meanings.{part}
 use Rattle.m2_made.specs.declared.field.Fields.{Fields}
 use Rattle.m2_made.specs.Cells.{array_cells, count_at}
 use Rattle.m2_made.specs.Fields.{no_fields, with_field, with_name}
 use Rattle.m2_made.specs.Named.{first_of}
-use Rattle.m2_made.specs.Headings.{formal_of, result_of, procedure_made, joined_formal, with_parameter, procedure_type, repeated, joined_formals, with_section, sections, heading_of}
+use Rattle.m2_made.specs.Headings.{formal_of, result_of, procedure_made, joined_formal, with_parameter, procedure_type, repeated, joined_formals, with_section, heading_of}
 use Rattle.m2_made.specs.Made.{next_type, with_shape, with_made, too_many, enumeration_constant, enumeration_scalar, listed, enumeration, subrange, simple_type, simple_place, array_in, index_type, field_type, nothing_of, Makes, MakesFields, then_fields, array_type, record_type, fields_named, type_layer, field_layer, type_of, field_list}
 use Rattle.m2_formed.specs.Formed.{Holds, fine, broken}
 use Rattle.m2_formed.proofs.Basics.{then_holds, holds_weaker, where_holds, both_holds, any_holds}
@@ -153,13 +153,12 @@ module _ (g : Gathers) (base : Types) where
     repeated_ordered : (so : Result (List Formal) g.Reported) (f : Result Formal g.Reported) (names : List Ident) → FormalsOrdered so → Holds (λ x. is_known s.types x.of ≡ true) f → FormalsOrdered (joined_formals g so f names)
     repeated_ordered so f names p q = then_holds (both_holds g p q) (λ x k. fine _ (formals_more s.types x.0 (repeated x.1 names) k.0 (formals_repeated s.types x.1 names k.1)))
 
-    sections_ordered : (xs : List Section) (st : Fields × Result (Unit {0}) g.Reported × Result (List Formal) g.Reported) → FormalsOrdered st.2 → FormalsOrdered (fold (with_section g s) st xs).2
-    sections_ordered [] st p = p
-    sections_ordered (x ∷ xs) st p = sections_ordered xs (with_section g s st x) (repeated_ordered st.2 (formal_of g s x.is_var x.of) x.names p (formal_ordered x.is_var x.of))
+    sections_ordered : (xs : List Section) (so : Result (List Formal) g.Reported) → FormalsOrdered so → FormalsOrdered (fold (with_section g s) so xs)
+    sections_ordered [] so p = p
+    sections_ordered (x ∷ xs) so p = sections_ordered xs (with_section g s so x) (repeated_ordered so (formal_of g s x.is_var x.of) x.names p (formal_ordered x.is_var x.of))
 
     pub heading_ordered : (x : Heading) → Holds (λ m. ScopeOrdered base s × ShapeOrdered s m) (heading_of g s x)
-    heading_ordered x =
-        then_holds (both_holds g (any_holds (sections g s x.formals).0) (procedure_ordered (sections g s x.formals).1 x.result (sections_ordered x.formals (no_fields, Ok tt, Ok []) (fine [] tt)))) (λ p k. fine p.1 k.1)
+    heading_ordered x = procedure_ordered (fold (with_section g s) (Ok []) x.formals) x.result (sections_ordered x.formals (Ok []) (fine [] tt))
 
   -- ---- simple types
 

@@ -21,8 +21,9 @@ use Rattle.m2_scopes.specs.Scopes.{State, begun}
 use Rattle.m2_scopes.specs.declared.known.Known.TheVariants.{Begun, Headed, Declared}
 use Rattle.m2_scopes.specs.declared.known.Origin.TheVariants.{Here}
 use Rattle.m2_scopes.specs.declared.scope.Scope.{Scope}
-use Rattle.m2_constants.specs.Parts.{part, constant}
-use Rattle.m2_made.specs.Headings.{heading_of}
+use Rattle.m2_constants.specs.Parts.{constant}
+use Rattle.m2_exprs.specs.Meanings.{part}
+use Rattle.m2_made.specs.Headings.{heading_of, names_of}
 use Rattle.m2_made.specs.Made.{nothing_of, type_of, with_made}
 use Rattle.m2_types.specs.Declare.{nothing_reported, constant_meaning, with_constant, brings_with, type_meaning, with_type, begun_name, variable_meaning, with_variable_type, finished_variable, with_variables, procedure_meaning, with_procedure_type, declared_procedure, with_procedure, with_def}
 use Rattle.m2_blocks.specs.declared.heading.Standing.{Standing}
@@ -77,12 +78,13 @@ module _ (g : Gathers) where
   procedure_ranged st h p =
       let t : State TypeNo g.Reported = with_made st.0 (heading_of g st.0 h) in
       let d : State (Unit {0}) g.Reported = declared_procedure g t.0 h.name t.1 in
-      beside_then g (beside g (nothing_of t.1) d.1) p (λ k.
+      beside_then g (beside g (names_of g h) (beside g (nothing_of t.1) d.1)) p (λ k.
+      beside_then g (beside g (nothing_of t.1) d.1) (const_holds k (names_of g h)) (λ l.
       beside_then g d.1 (nothing_holds (made_ranged st.0 (heading_ranged g st.0 k h))) (λ q.
       const_holds
       (unless_ranged g (with_procedure_type t.0 t.1) h.name (Declared Here (procedure_meaning t.0.types.home (length t.0.procedures) t.1)) (procedure_type_ranged t.0 t.1 q)
       (meant_holds (λ u. meaning.Procedure (record { home = t.0.types.home; number = length t.0.procedures; heading = u })) (λ u. tt) t.1))
-      d.1))
+      d.1)))
 
   new_by : (b : Bool) (s : Scope g.Reported) (name : List ℕ) (n : ℕ) (t : Result TypeNo g.Reported) → ScopeRanged s
       → ScopeRanged (cond b (module_procedure s name t) (headed name (nested_meaning s.level n t) s))
@@ -99,7 +101,9 @@ module _ (g : Gathers) where
   heading_by s h n Taken k = const_holds k _
 
   with_heading_ranged : (s : Scope g.Reported) (h : Heading) (n : ℕ) → ScopeRanged s → StateRanged (with_heading g s n h)
-  with_heading_ranged s h n k = heading_by s h n (name_standing (found h.name.name s.own)) k
+  with_heading_ranged s h n k =
+      let o : Standing = name_standing (found h.name.name s.own) in
+      beside_then g (headed_as g s h n (heading_of g s h) o).1 (const_holds k (names_of g h)) (λ l. heading_by s h n o l)
 
   module _ (known : ConstantsAreRanged g) where
     -- ---- constants, types and variables

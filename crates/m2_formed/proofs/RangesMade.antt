@@ -30,10 +30,10 @@ use Rattle.m2_scopes.specs.Elaborated.{Gathers, reported, both, beside}
 use Rattle.m2_made.specs.declared.field.Fields.{Fields}
 use Rattle.m2_made.specs.Cells.{array_cells, count_at}
 use Rattle.m2_made.specs.Fields.{no_fields, with_field, with_name}
-use Rattle.m2_made.specs.Headings.{procedure_made, sections, result_of, heading_of}
+use Rattle.m2_made.specs.Headings.{procedure_made, with_section, result_of, heading_of}
 use Rattle.m2_made.specs.Made.{next_type, with_shape, with_made, reported_at, too_many, enumeration_constant, enumeration_scalar, listed, enumeration, simple_type, simple_place, array_in, index_type, field_type, nothing_of, Makes, MakesFields, then_fields, array_type, record_type, fields_named, type_layer, field_layer, type_of, field_list}
 use Rattle.m2_formed.specs.Formed.{Holds, fine, broken}
-use Rattle.m2_formed.proofs.Basics.{then_holds, holds_weaker, reported_holds, where_holds, both_holds, any_holds}
+use Rattle.m2_formed.proofs.Basics.{then_holds, holds_weaker, reported_holds, where_holds, any_holds}
 use Rattle.m2_ranges.specs.Ranges.{IsRange, IsRanged}
 use Rattle.m2_formed.specs.FormedRanges.{IsBased, itself, has_names, fits, fits_simple, fits_type_layer, fits_field, fits_type, IsNumber, ShapeBased, MeaningRanged, KnownRanged, NamesRanged, ScopeRanged, StateRanged, ConstantsAreRanged}
 use Rattle.m2_formed.proofs.RangesTypes.{both_left, both_right, number_kept, more_kept, scope_more, next_is, sub_range}
@@ -181,7 +181,7 @@ module _ (g : Gathers) where
   procedure_plain s h formals of = then_holds (any_holds (both g formals of)) (λ p k. fine _ (h, (tt, tt)))
 
   pub heading_ranged : (s : Scope g.Reported) → ScopeRanged s → (x : Heading) → Holds (λ m. ScopeRanged s × MadeRanged s m) (heading_of g s x)
-  heading_ranged s h x = then_holds (both_holds g (any_holds (sections g s x.formals).0) (procedure_plain s h (sections g s x.formals).1 (result_of g s x.result))) (λ p k. fine p.1 k.1)
+  heading_ranged s h x = procedure_plain s h (fold (with_section g s) (Ok []) x.formals) (result_of g s x.result)
 
 -- ---- type expressions
 

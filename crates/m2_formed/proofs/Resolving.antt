@@ -1,5 +1,5 @@
 -- A name of a type that is found where a declaration is met is found again where the procedure's block begins.
-use Rattle.std.proofs.Common.{◌≡◌, ℕ, ◌<◌, Bool, true, false, not, cond, List, [], ◌∷◌, ◌++◌, length, Option, Some, None, Result, Ok, Err, refl, sym, ap, subst, ◌∙◌}
+use Rattle.std.proofs.Common.{◌≡◌, ℕ, ◌<◌, Bool, true, false, List, [], ◌∷◌, ◌++◌, Option, Some, None, Result, Ok, Err, refl, sym, ap, subst, ◌∙◌}
 use Rattle.std.specs.Prelude.{slice_get, nat_lt}
 use Rattle.std.specs.List.{fold}
 use Rattle.std.specs.Option.{option_map}
@@ -12,8 +12,10 @@ use Rattle.m2_typed.specs.declared.meaning.Meaning.{Meaning}
 use Rattle.m2_typed.specs.declared.meaning.Meaning.TheVariants as meaning
 use Rattle.m2_typed.specs.declared.table.Table.{Table}
 use Rattle.m2_typed.specs.declared.types.TypeNo.{TypeNo}
-use Rattle.m2_typed.specs.Names.{found, place_of}
-use Rattle.m2_scopes.specs.Elaborated.{Gathers, reported, ◌▷◌}
+use Rattle.m2_typed.specs.Names.{found}
+use Rattle.m2_scopes.specs.declared.meaningless.Meaningless.{Meaningless}
+use Rattle.m2_scopes.specs.declared.meaningless.Meaningless.TheVariants.{Broken, Headless}
+use Rattle.m2_scopes.specs.Elaborated.{Gathers, of_sort, ◌▷◌}
 use Rattle.m2_scopes.specs.Scopes.{is_free, Sight, or_outside, seen_at, in_block, nearer, known_outside, or_around, known, means_seen, means_as, opened, means_or, looked_up}
 use Rattle.m2_scopes.specs.declared.known.Known.{Known}
 use Rattle.m2_scopes.specs.declared.known.Known.TheVariants.{Later, Ahead, Begun, Headed, Declared}
@@ -28,8 +30,9 @@ use Rattle.m2_blocks.specs.Declarations.{Course, with_decl}
 use Rattle.m2_blocks.specs.Inner.{inwards}
 use Rattle.m2_blocks.specs.Naming.{marked_decl}
 use Rattle.m2_formed.specs.FormedHeadings.{marked_by, declared_by, all, begun, met, end, seen, IsBehind, NamesStay}
+use Rattle.m2_formed.proofs.Basics.{plain_ok}
 use Rattle.m2_formed.proofs.HeadingsLists.{index, index_less, place_found, place_none, Stands, stands_at}
-use Rattle.m2_formed.proofs.HeadingsSteps.{is_settled, free_unsettled, Keeps, keeps_then, Marked, marked_refl, marked_then, MarksAll, Changes, changes_refl, changes_then, changes_first, changes_second}
+use Rattle.m2_formed.proofs.HeadingsSteps.{is_settled, free_unsettled, Keeps, Marked, marked_refl, marked_then, MarksAll, Changes, changes_refl, changes_then, changes_first, changes_second}
 use Rattle.m2_formed.proofs.HeadingsDeclarations.{decl_marked, decl_changes}
 
 -- ---- the declarations of a block, one after another
@@ -183,7 +186,7 @@ module _ (g : Gathers) (ends : List ℕ) (a : Scope g.Reported) (first : ℕ) (b
     unsettled at Ahead x s e n = absurd (let z : meaning.Ahead ≡ x = cc in let y : is_named meaning.Ahead ≡ true = ap is_named z ∙ n in cc)
     unsettled at Begun x s e n = absurd cc
     unsettled at (Headed r) x s e n = absurd cc
-    unsettled at (Declared o r) x s e n = awaiting o r x s e n
+    unsettled at (Declared o r) x s e n = awaiting o r x s (plain_ok r x e) n
 
     pub here_withs : here.withs ≡ []
     here_withs = to_here.keeps.withs ∙ ((block_marked g ends (all g ends a first before d rest) a).keeps.withs ∙ no_withs)
@@ -207,9 +210,10 @@ module _ (g : Gathers) (ends : List ℕ) (a : Scope g.Reported) (first : ℕ) (b
 
     -- ---- types
 
-    type_by : (name : Ident) (t : TypeNo) (r : Result Meaning g.Reported) → looked_up g here name ≡ r → (r ▷ type_meant g name.pos) ≡ Ok t → (looked_up g inner name ▷ type_meant g name.pos) ≡ Ok t
-    type_by name t (Err e) l f = absurd cc
-    type_by name t (Ok (meaning.Type y n)) l f = ap (λ (r : Result Meaning g.Reported). r ▷ type_meant g name.pos) (name_stays name (meaning.Type y n) l refl) ∙ f
+    type_by : (name : Ident) (t : TypeNo) (r : Result Meaning (Meaningless g.Reported)) → looked_up g here name ≡ r → (of_sort g name.pos 33 r ▷ type_meant g name.pos) ≡ Ok t → (of_sort g name.pos 33 (looked_up g inner name) ▷ type_meant g name.pos) ≡ Ok t
+    type_by name t (Err (Broken e)) l f = absurd cc
+    type_by name t (Err (Headless e)) l f = absurd cc
+    type_by name t (Ok (meaning.Type y n)) l f = ap (λ (r : Result Meaning (Meaningless g.Reported)). of_sort g name.pos 33 r ▷ type_meant g name.pos) (name_stays name (meaning.Type y n) l refl) ∙ f
     type_by name t (Ok (meaning.Constant v)) l f = absurd cc
     type_by name t (Ok (meaning.Variable v)) l f = absurd cc
     type_by name t (Ok (meaning.Local v)) l f = absurd cc
@@ -223,10 +227,11 @@ module _ (g : Gathers) (ends : List ℕ) (a : Scope g.Reported) (first : ℕ) (b
     same_tables : inner.tables ≡ here.tables
     same_tables = behind.tables ∙ to_last.tables
 
-    module_by : (home name : Ident) (t : TypeNo) (r : Result Meaning g.Reported) → looked_up g here home ≡ r → (r ▷ in_module g here home.pos name) ≡ Ok t → (looked_up g inner home ▷ in_module g inner home.pos name) ≡ Ok t
-    module_by home name t (Err e) l f = absurd cc
+    module_by : (home name : Ident) (t : TypeNo) (r : Result Meaning (Meaningless g.Reported)) → looked_up g here home ≡ r → (of_sort g home.pos 33 r ▷ in_module g here home.pos name) ≡ Ok t → (of_sort g home.pos 33 (looked_up g inner home) ▷ in_module g inner home.pos name) ≡ Ok t
+    module_by home name t (Err (Broken e)) l f = absurd cc
+    module_by home name t (Err (Headless e)) l f = absurd cc
     module_by home name t (Ok (meaning.Module k)) l f =
-        ap (λ (r : Result Meaning g.Reported). r ▷ in_module g inner home.pos name) (name_stays home (meaning.Module k) l refl)
+        ap (λ (r : Result Meaning (Meaningless g.Reported)). of_sort g home.pos 33 r ▷ in_module g inner home.pos name) (name_stays home (meaning.Module k) l refl)
         ∙ (ap (λ (ts : List Table). member g ts k name ▷ type_meant g home.pos) same_tables ∙ f)
     module_by home name t (Ok (meaning.Type y n)) l f = absurd cc
     module_by home name t (Ok (meaning.Constant v)) l f = absurd cc

@@ -28,7 +28,7 @@ use Rattle.m2_constants.specs.Denote.{member}
 use Rattle.m2_made.specs.Headings.{formal_of}
 use Rattle.m2_blocks.specs.Inner.{formal_kind, formal_meaning, Formals, with_formal, with_section, formals_in}
 use Rattle.m2_formed.specs.Formed.{Holds, fine, FormedMeaning, IsFormed}
-use Rattle.m2_formed.proofs.Basics.{then_holds, holds_weaker, reported_holds, any_holds}
+use Rattle.m2_formed.proofs.Basics.{then_holds, holds_weaker, reported_holds, plain_holds, heading_means_holds, any_holds}
 use Rattle.m2_formed.specs.FormedScopes.{picked, is_awaiting, FormedFrom, FormedKnown, AreFormedNames, AreFormedBlocks}
 use Rattle.m2_formed.proofs.Names.{none_entered}
 use Rattle.m2_formed.proofs.ScopesGrowth.{names_more}
@@ -78,7 +78,7 @@ module _ (m : TypedModule) (opens : ℕ → Bool) {T : Type 0} where
   blocks_more (x ∷ bs) b p q = (p.0, blocks_more bs b p.1 q)
 
 module _ (m : TypedModule) (opens : ℕ → Bool) (g : Gathers) where
-  abbrev Means_ : Result Meaning g.Reported → Type 0
+  abbrev Means_ : {T : Type 0} → Result Meaning T → Type 0
   Means_ r = Holds (FormedMeaning m opens 0) r
 
   from_means : (o : Origin) (r : Result Meaning g.Reported) → FormedFrom m opens o r → Means_ r
@@ -91,14 +91,14 @@ module _ (m : TypedModule) (opens : ℕ → Bool) (g : Gathers) where
   declared_means at false r p = reported_holds g at 30
 
   seen_means : (at : Pos) (k : Known g.Reported) (seen : Bool) → FormedKnown m opens k → Means_ (means_seen g at k seen)
-  seen_means at Later seen p = reported_holds g at 30
+  seen_means at Later seen p = plain_holds (reported_holds g at 30)
   seen_means at Ahead seen p = fine meaning.Ahead tt
-  seen_means at Begun seen p = reported_holds g at 30
-  seen_means at (Headed r) seen p = holds_weaker (λ x q. q.0) p
-  seen_means at (Declared o r) seen p = declared_means at seen r (from_means o r p)
+  seen_means at Begun seen p = plain_holds (reported_holds g at 30)
+  seen_means at (Headed r) seen p = heading_means_holds (holds_weaker (λ x q. q.0) p)
+  seen_means at (Declared o r) seen p = plain_holds (declared_means at seen r (from_means o r p))
 
   means_formed : (at : Pos) (o : Sight g.Reported) → FormedSight m opens o → Means_ (means_as g at o)
-  means_formed at None p = reported_holds g at 30
+  means_formed at None p = plain_holds (reported_holds g at 30)
   means_formed at (Some k) p = seen_means at k.0 k.1 p
 
   -- types that are the module's, names that are formed, and modules that are open

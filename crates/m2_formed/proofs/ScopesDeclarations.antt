@@ -34,11 +34,12 @@ use Rattle.m2_scopes.specs.declared.known.Known.{Known}
 use Rattle.m2_scopes.specs.declared.known.Known.TheVariants.{Later, Ahead, Begun, Headed, Declared}
 use Rattle.m2_scopes.specs.declared.known.Origin.TheVariants.{Here}
 use Rattle.m2_scopes.specs.declared.scope.Scope.{Scope}
-use Rattle.m2_constants.specs.Parts.{part, constant}
+use Rattle.m2_constants.specs.Parts.{constant}
+use Rattle.m2_exprs.specs.Meanings.{part}
 use Rattle.m2_made.specs.Named.{first_of, named_type}
 use Rattle.m2_blocks.specs.Agreeing.{same_formal, same_result, signature_in, signature_of, agree}
 use Rattle.m2_scheme.specs.Exprs.{is_there, result_in}
-use Rattle.m2_made.specs.Headings.{result_of, sections, heading_of}
+use Rattle.m2_made.specs.Headings.{with_section, result_of, heading_of, names_of}
 use Rattle.m2_made.specs.Made.{type_of, next_type, with_shape}
 use Rattle.m2_types.specs.Declare.{constant_meaning, with_constant, brings_with, type_meaning, with_type, begun_name, variable_meaning, with_variable_type, finished_variable, with_variables, procedure_meaning, with_procedure_type}
 use Rattle.m2_types.specs.Marking.{marked_constant, marked_type, marked_variables}
@@ -353,6 +354,9 @@ module _ (g : Gathers) where
 
   -- ---- headings in which no rule is broken
 
+  headed_reported : (s : Scope g.Reported) (h : Heading) (n : ℕ) → (with_heading g s n h).1 ≡ Ok tt → (headed_as g s h n (heading_of g s h) (name_standing (found h.name.name s.own))).1 ≡ Ok tt
+  headed_reported s h n e = beside_right g (names_of g h) (headed_as g s h n (heading_of g s h) (name_standing (found h.name.name s.own))).1 e
+
   pub result_holds : (s : Scope g.Reported) (o : Option Qualified) → Holds (λ r. is_there r ≡ is_there o) (result_of g s o)
   result_holds s None = fine None refl
   result_holds s (Some q) = then_holds (any_holds (named_type g s q)) (λ t k. where_holds g (not (is_result s.types t)) (first_of q) 33 (fine (Some t) refl))
@@ -360,9 +364,7 @@ module _ (g : Gathers) where
   -- the heading of a function has a result
   heading_holds : (s : Scope g.Reported) (h : Heading) → Holds (λ x. result_in x.shape ≡ is_there h.result) (heading_of g s h)
   heading_holds s h =
-      then_holds (both_holds g (any_holds (sections g s h.formals).0)
-      (then_holds (both_holds g (any_holds (sections g s h.formals).1) (result_holds s h.result)) (λ p k. fine (record { shape = shape.Procedure (record { formals = p.0; result = p.1 }); cells = 1 }) k.1)))
-      (λ p k. fine p.1 k.1)
+      then_holds (both_holds g (any_holds (fold (with_section g s) (Ok []) h.formals)) (result_holds s h.result)) (λ p k. fine (record { shape = shape.Procedure (record { formals = p.0; result = p.1 }); cells = 1 }) k.1)
 
   -- in a procedure
   abbrev pub NestedHead : Scope g.Reported → Scope g.Reported → Heading → ℕ → Type 0
@@ -392,7 +394,7 @@ module _ (g : Gathers) where
   nested_by s h n made Taken r e l a q = let z : reported g {A = Unit {0}} h.name.pos 31 ≡ Ok tt = beside_right g (nothing_made made) (reported g h.name.pos 31) q in absurd cc
 
   pub nested_head : (s : Scope g.Reported) (h : Heading) (n : ℕ) → (s.level == 0) ≡ false → picked is_awaiting (found h.name.name s.own) ≡ false → (with_heading g s n h).1 ≡ Ok tt → NestedHead s (with_heading g s n h).0 h n
-  nested_head s h n l a q = nested_by s h n (heading_of g s h) (name_standing (found h.name.name s.own)) (heading_holds s h) refl l a q
+  nested_head s h n l a q = nested_by s h n (heading_of g s h) (name_standing (found h.name.name s.own)) (heading_holds s h) refl l a (headed_reported s h n q)
 
   -- of a module: its number stands among the module's procedures
   abbrev pub IsProcedureOf : Scope g.Reported → Procedure → Type 0
@@ -431,4 +433,4 @@ module _ (g : Gathers) where
   module_by s h n made Taken r e l q = let z : reported g {A = Unit {0}} h.name.pos 31 ≡ Ok tt = beside_right g (nothing_made made) (reported g h.name.pos 31) q in absurd cc
 
   pub module_head : (s : Scope g.Reported) (h : Heading) (n : ℕ) → ((p : Procedure) → name_standing (found h.name.name s.own) ≡ Awaited p → IsProcedureOf s p) → (s.level == 0) ≡ true → (with_heading g s n h).1 ≡ Ok tt → ModuleHead (with_heading g s n h).0 h
-  module_head s h n a l q = module_by s h n (heading_of g s h) (name_standing (found h.name.name s.own)) (heading_holds s h) a l q
+  module_head s h n a l q = module_by s h n (heading_of g s h) (name_standing (found h.name.name s.own)) (heading_holds s h) a l (headed_reported s h n q)

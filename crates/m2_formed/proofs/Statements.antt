@@ -22,12 +22,12 @@ use Rattle.m2_exprs.specs.Meanings.{meant, head}
 use Rattle.m2_scheme.specs.Exprs.{is_there}
 use Rattle.m2_valid.specs.WellFormed.{IsExpr, IsPlace, IsStmt, If, Case, While, Repeat, Loop, With, AreStmts, no_stmts, more_stmts, AreOthers, no_others, others, AreArms, no_arms, more_arms}
 use Rattle.m2_steps.specs.declared.around.Around.{Around}
-use Rattle.m2_steps.specs.Lists.{with_next, chosen, chosen_else, cased, armed, repeated_while, repeated_until, looped, within}
+use Rattle.m2_steps.specs.Lists.{with_next, chosen, chosen_else, base_in, cased, armed, repeated_while, repeated_until, looped, within}
 use Rattle.m2_steps.specs.Labels.{labels_in}
-use Rattle.m2_steps.specs.Simple.{meant_if, in_loop, opened}
+use Rattle.m2_steps.specs.Simple.{meant_if, in_loop, selected, opened}
 use Rattle.m2_stmts.specs.Statements.{Elaborates, ElaboratesRest, ElaboratesArm, Arms, args_meant, with_stmt, all_of, all_if, with_arm, arms_of, stmt_layer, rest_layer, arm_layer, stmt, rest, arm, with_written, statements}
 use Rattle.m2_formed.specs.Formed.{Holds, fine, IsFormed}
-use Rattle.m2_formed.proofs.Basics.{then_holds, both_holds, any_holds}
+use Rattle.m2_formed.proofs.Basics.{then_holds, both_holds, ahead_holds, any_holds}
 use Rattle.m2_formed.proofs.Meanings.{AllM, meant_formed, head_formed}
 use Rattle.m2_formed.proofs.Effects.{assignment_formed, done_formed}
 use Rattle.m2_formed.proofs.StmtsSteps.{KnownIf, within_formed, record_formed, condition_formed, exited_formed, returned_formed, selected_formed, course_formed, for_formed}
@@ -68,7 +68,7 @@ module _ (g : Gathers) (m : TypedModule) (opens : ℕ → Bool) where
   FormedRest f = (s : Scope g.Reported) → InScope s → (a : Around g.Reported) → Others_ s a (f s a)
 
   abbrev FormedArm : ElaboratesArm g.Reported → Type 0
-  FormedArm f = (s : Scope g.Reported) → InScope s → (a : Around g.Reported) (base : TypeNo) (ranges : List (ℤ × ℤ)) → Arm_ s a (f s a base ranges).1
+  FormedArm f = (s : Scope g.Reported) → InScope s → (a : Around g.Reported) (base : Option TypeNo) (ranges : List (ℤ × ℤ)) → Arm_ s a (f s a base ranges).1
 
   abbrev AllJ : List (Elaborates g.Reported) → Type 0
   AllJ [] = Unit {0}
@@ -95,11 +95,11 @@ module _ (g : Gathers) (m : TypedModule) (opens : ℕ → Bool) where
     standing_formed : (xs : List (Elaborates g.Reported)) → AllJ xs → Others_ s a (all_if g s a (Some xs))
     standing_formed xs all = then_holds (all_formed xs all) (λ v k. fine (Some v) (others (length s.withs) a.in_loop v k))
 
-    from_arms : (base : TypeNo) (xs : List (ElaboratesArm g.Reported)) (st : Arms g.Reported) → Arms_ s a st.1 → AllA xs → Arms_ s a (fold (with_arm g s a base) st xs).1
+    from_arms : (base : Option TypeNo) (xs : List (ElaboratesArm g.Reported)) (st : Arms g.Reported) → Arms_ s a st.1 → AllA xs → Arms_ s a (fold (with_arm g s a base) st xs).1
     from_arms base [] st p all = p
     from_arms base (x ∷ xs) st p all = from_arms base xs (with_arm g s a base st x) (next_arm p (all.0 s h a base st.0)) all.1
 
-    all_arms : (base : TypeNo) (xs : List (ElaboratesArm g.Reported)) → AllA xs → Arms_ s a (arms_of g s a base xs)
+    all_arms : (base : Option TypeNo) (xs : List (ElaboratesArm g.Reported)) → AllA xs → Arms_ s a (arms_of g s a base xs)
     all_arms base xs all = from_arms base xs ([], Ok []) (fine [] (no_arms (length s.withs) a.in_loop)) all
 
     -- ---- statements around others
@@ -113,8 +113,11 @@ module _ (g : Gathers) (m : TypedModule) (opens : ℕ → Bool) where
     chosen_else_formed : {x : Result TypedStmt g.Reported} → Stmt_ s a x → Others_ s a (chosen_else x)
     chosen_else_formed p = then_holds p (λ v k. fine (Some (v ∷ [])) (others (length s.withs) a.in_loop (v ∷ []) (more_stmts (length s.withs) a.in_loop v [] k (no_stmts (length s.withs) a.in_loop))))
 
-    cased_formed : (e : TypedExpr) {xs : Result (List TypedArm) g.Reported} {otherwise : Result (Option (List TypedStmt)) g.Reported} → IsExpr m (length s.withs) e → Arms_ s a xs → Others_ s a otherwise → Stmt_ s a (cased g e xs otherwise)
-    cased_formed e p q r = then_holds (both_holds g q r) (λ v k. fine (step.Case e v.0 v.1) (Case (length s.withs) a.in_loop e v.0 v.1 p k.0 k.1))
+    abbrev Selector_ : Result (TypeNo × TypedExpr) g.Reported → Type 0
+    Selector_ r = Holds (λ (x : TypeNo × TypedExpr). IsExpr m (length s.withs) x.1) r
+
+    cased_formed : {e : Result (TypeNo × TypedExpr) g.Reported} {xs : Result (List TypedArm) g.Reported} {otherwise : Result (Option (List TypedStmt)) g.Reported} → Selector_ e → Arms_ s a xs → Others_ s a otherwise → Stmt_ s a (cased g e xs otherwise)
+    cased_formed p q r = then_holds (both_holds g p (both_holds g q r)) (λ v k. fine (step.Case v.0.1 v.1.0 v.1.1) (Case (length s.withs) a.in_loop v.0.1 v.1.0 v.1.1 k.0 k.1.0 k.1.1))
 
     while_formed : {c : Result TypedExpr g.Reported} {body : Result (List TypedStmt) g.Reported} → Expr_ c → Stmts_ s a body → Stmt_ s a (repeated_while g c body)
     while_formed p q = then_holds (both_holds g p q) (λ v k. fine (step.While v.0 v.1) (While (length s.withs) a.in_loop v.0 v.1 k.0 k.1))
@@ -226,15 +229,15 @@ module _ (g : Gathers) (m : TypedModule) (opens : ℕ → Bool) where
   stmt_formed_layer (layer.Assign d e) = λ s h a. assignment_formed g m opens (length s.withs) s h (is_there a.gives) a.in_loop (head g d) (meant g e).fixed.at (meant g e) (head_formed g m opens (length s.withs) s h d) (meant_formed g m opens (length s.withs) s h e)
   stmt_formed_layer (layer.Call d args) = λ s h a. done_formed g m opens (length s.withs) s h (is_there a.gives) a.in_loop (head g d) (args_meant g args) (head_formed g m opens (length s.withs) s h d) (args_formed s h a args)
   stmt_formed_layer (layer.If c body follow) = λ s h a. chosen_formed s h a (condition_formed g m opens (length s.withs) s h (meant g c) (meant_formed g m opens (length s.withs) s h c)) (body_formed s h a body) (follow.1 s h a)
-  stmt_formed_layer (layer.Case e arms None) = λ s h a. then_holds (selected_formed g m opens (length s.withs) s h (meant g e) (meant_formed g m opens (length s.withs) s h e)) (λ x k. cased_formed s h a x.1 k (all_arms s h a x.0 (map (arm g) (map (λ (e : SA). e.0) arms)) (armed_all arms)) (no_else s a))
-  stmt_formed_layer (layer.Case e arms (Some body)) = λ s h a. then_holds (selected_formed g m opens (length s.withs) s h (meant g e) (meant_formed g m opens (length s.withs) s h e)) (λ x k. cased_formed s h a x.1 k (all_arms s h a x.0 (map (arm g) (map (λ (e : SA). e.0) arms)) (armed_all arms)) (else_formed s h a body))
+  stmt_formed_layer (layer.Case e arms None) = λ s h a. cased_formed s h a (selected_formed g m opens (length s.withs) s h (meant g e) (meant_formed g m opens (length s.withs) s h e)) (all_arms s h a (base_in (selected g s (meant g e))) (map (arm g) (map (λ (e : SA). e.0) arms)) (armed_all arms)) (no_else s a)
+  stmt_formed_layer (layer.Case e arms (Some body)) = λ s h a. cased_formed s h a (selected_formed g m opens (length s.withs) s h (meant g e) (meant_formed g m opens (length s.withs) s h e)) (all_arms s h a (base_in (selected g s (meant g e))) (map (arm g) (map (λ (e : SA). e.0) arms)) (armed_all arms)) (else_formed s h a body)
   stmt_formed_layer (layer.While c body) = λ s h a. while_formed s h a (condition_formed g m opens (length s.withs) s h (meant g c) (meant_formed g m opens (length s.withs) s h c)) (body_formed s h a body)
   stmt_formed_layer (layer.Repeat body c) = λ s h a. until_formed s h a (body_formed s h a body) (condition_formed g m opens (length s.withs) s h (meant g c) (meant_formed g m opens (length s.withs) s h c))
   stmt_formed_layer (layer.Loop body) = λ s h a. looped_formed s h a (body_formed s h (in_loop a) body)
   stmt_formed_layer (layer.Exit at) = λ s h a. exited_formed g m opens (length s.withs) s h at a
   stmt_formed_layer (layer.Return at e) = λ s h a. returned_formed g m opens (length s.withs) s h at a.in_loop a.gives (meant_if g e) (known_if s h a e)
   stmt_formed_layer (layer.For name start limit by body) = λ s h a. for_formed g m opens (length s.withs) s h (is_there a.gives) a.in_loop (course_formed g m opens (length s.withs) s h name (meant g start) (meant g limit) (meant_if g by) (meant_formed g m opens (length s.withs) s h start) (meant_formed g m opens (length s.withs) s h limit)) (body_formed s h a body)
-  stmt_formed_layer (layer.With d body) = λ s h a. then_holds (record_formed g m opens (length s.withs) s h (head g d) (head_formed g m opens (length s.withs) s h d)) (λ r k. with_formed s h a r.0 r.1 k (inner_formed s h a r.0 body))
+  stmt_formed_layer (layer.With d body) = λ s h a. ahead_holds g _ (record_formed g m opens (length s.withs) s h (head g d) (head_formed g m opens (length s.withs) s h d)) (λ r k. with_formed s h a r.0 r.1 k (inner_formed s h a r.0 body))
 
   rest_formed_layer : (y : Rest-F SR SS SA) → FormedRest (rest_layer g (opened_rest (bare_rest y)))
   rest_formed_layer (layer.Elsif c body follow) = λ s h a. chosen_else_formed s h a (chosen_formed s h a (condition_formed g m opens (length s.withs) s h (meant g c) (meant_formed g m opens (length s.withs) s h c)) (body_formed s h a body) (follow.1 s h a))

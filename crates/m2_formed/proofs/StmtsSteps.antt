@@ -19,6 +19,7 @@ use Rattle.m2_typed.specs.declared.types.TypeNo.{TypeNo}
 use Rattle.m2_typed.specs.Chains.{rooted}
 use Rattle.m2_typed.specs.Names.{place_of}
 use Rattle.m2_typed.specs.Types.{boolean}
+use Rattle.m2_scopes.specs.declared.meaningless.Meaningless.{Meaningless}
 use Rattle.m2_scopes.specs.Elaborated.{Gathers, reported_where}
 use Rattle.m2_scopes.specs.Scopes.{or_outside, fields_at, field_of, field_numbered, field_in, opened as opened_fields, means_or, means_as, known}
 use Rattle.m2_scopes.specs.declared.scope.OpenedRecord.{OpenedRecord}
@@ -40,7 +41,7 @@ use Rattle.m2_exprs.specs.Meanings.{Meant}
 use Rattle.m2_scheme.specs.Exprs.{is_there}
 use Rattle.m2_valid.specs.WellFormed.{IsScalar, IsExpr, Constant, IsPlace, IsStmt, Exit, Return, Give, For, AreStmts}
 use Rattle.m2_formed.specs.Formed.{Holds, fine, FormedMeaning, FormedValue, FormedDesignated, IsFormed}
-use Rattle.m2_formed.proofs.Basics.{then_holds, holds_weaker, reported_holds, where_holds, both_holds, any_holds, is_whole, scalar_kept}
+use Rattle.m2_formed.proofs.Basics.{then_holds, holds_weaker, reported_holds, where_holds, both_holds, reported_beside_holds, sort_holds, any_holds, is_whole, scalar_kept}
 use Rattle.m2_formed.proofs.Operators.{rooted_formed, side_formed, FormedSide, suited_formed}
 use Rattle.m2_formed.proofs.Meanings.{FM, value_formed}
 use Rattle.m2_steps.specs.Simple.{exited, given_back, returned, condition, selector_amount, selector_of, selected, record_by, record_of, opened}
@@ -107,7 +108,7 @@ module _ (g : Gathers) (m : TypedModule) (opens : ℕ → Bool) (w : ℕ) (s : S
 
   -- ---- WITH
 
-  inner_name : (r : OpenedRecord) → r.number ≡ w → (o : Option OpenedField) (inner : Option OpenedField) → ((f : OpenedField) → o ≡ Some f → f.with ≡ r.number) → (x : Result Meaning g.Reported)
+  inner_name : (r : OpenedRecord) → r.number ≡ w → (o : Option OpenedField) (inner : Option OpenedField) → ((f : OpenedField) → o ≡ Some f → f.with ≡ r.number) → (x : Result Meaning (Meaningless g.Reported))
       → Holds (FormedMeaning m opens w) (means_or inner x) → Holds (FormedMeaning m opens (suc w)) (means_or (or_outside o inner) x)
   inner_name r e None inner k x p = holds_weaker (meaning_within m opens w) p
   inner_name r e (Some f) inner k x p = fine (meaning.Field f) (let q : f.with ≡ r.number = k f refl in omega (arith, q, e))
@@ -136,7 +137,7 @@ module _ (g : Gathers) (m : TypedModule) (opens : ℕ → Bool) (w : ℕ) (s : S
   record_by_formed at (designated.Module k) p = reported_holds g at 40
 
   pub record_formed : (d : Meant g.Reported) → Known_ d → Holds FormedRecord (record_of g s d)
-  record_formed d p = then_holds p (λ e k. record_by_formed d.fixed.at e k)
+  record_formed d p = then_holds (sort_holds g d.fixed.at 40 p) (λ e k. record_by_formed d.fixed.at e k)
 
   -- ---- conditions, EXIT and RETURN
 
@@ -159,7 +160,7 @@ module _ (g : Gathers) (m : TypedModule) (opens : ℕ → Bool) (w : ℕ) (s : S
 
   pub returned_formed : (at : Pos) (looped : Bool) (o : Option (Result TypeNo g.Reported)) (x : Option (Meant g.Reported)) → KnownIf x → Stmt_ (is_there o) looped (returned g s at o x)
   returned_formed at looped None None p = fine step.Return (Return w looped refl)
-  returned_formed at looped None (Some x) p = reported_holds g at 46
+  returned_formed at looped None (Some x) p = reported_beside_holds g at 46 _
   returned_formed at looped (Some t) None p = reported_holds g at 46
   returned_formed at looped (Some t) (Some x) p = given_back_formed t x.fixed.at looped (value_formed g m opens w s h x p)
 
@@ -209,7 +210,7 @@ module _ (g : Gathers) (m : TypedModule) (opens : ℕ → Bool) (w : ℕ) (s : S
   control_by_formed at (meaning.Module k) p = reported_holds g at 47
 
   control_formed : (name : Ident) → Holds FormedControl (control_of g s name)
-  control_formed name = then_holds (h.names name) (λ x p. control_by_formed name.pos x p)
+  control_formed name = then_holds (sort_holds g name.pos 47 (h.names name)) (λ x p. control_by_formed name.pos x p)
 
   start_formed : (at : Pos) (t : Result TypeNo g.Reported) {x : Result Computed g.Reported} → Holds (FormedValue m w) x → Expr_ (start_at g s.types at t x)
   start_formed at t p = then_holds (both_holds g (any_holds t) p) (λ v k. suited_formed m w g 41 s.types v.0 at v.1 k.1)

@@ -26,7 +26,7 @@ use Rattle.m2_values.specs.declared.operand.Operand.TheVariants as operands
 use Rattle.m2_values.specs.Operands.{letter, letter_operand, operand_of}
 use Rattle.m2_values.specs.Numbers.{is_between, fits as number_fits}
 use Rattle.m2_values.specs.Common.{common}
-use Rattle.m2_constants.specs.Parts.{part}
+use Rattle.m2_exprs.specs.Meanings.{part}
 use Rattle.m2_made.specs.Named.{first_of, named_type}
 use Rattle.m2_made.specs.Subranges.{ordinal_in, number_base, fits_at, based, between, unnamed, is_of_base, are_bounds, ordered_if, limited, under}
 use Rattle.m2_made.specs.Made.{scalar_or, scalar_named, bound_at, subrange}

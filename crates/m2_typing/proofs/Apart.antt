@@ -20,7 +20,7 @@ use Rattle.m2_scopes.specs.declared.known.Known.{Known}
 use Rattle.m2_scopes.specs.declared.known.Known.TheVariants.{Headed}
 use Rattle.m2_scopes.specs.declared.scope.Scope.{Scope}
 use Rattle.m2_made.specs.Made.{next_type, with_shape}
-use Rattle.m2_made.specs.Headings.{heading_of}
+use Rattle.m2_made.specs.Headings.{heading_of, names_of}
 use Rattle.m2_blocks.specs.declared.heading.Standing.{Standing}
 use Rattle.m2_blocks.specs.declared.heading.Standing.TheVariants.{Free, Awaited, Taken}
 use Rattle.m2_blocks.specs.Headings.{name_standing, nothing_made, nested_meaning, headed, module_procedure, with_new, headed_as, with_heading}
@@ -113,7 +113,9 @@ module _ (g : Gathers) (ends : List ℕ) where
   number_by s h n made Taken e l q = let z : reported g {A = Unit {0}} h.name.pos 31 ≡ Ok tt = beside_right g (nothing_made made) (reported g h.name.pos 31) q in absurd cc
 
   head_number : (s : Scope g.Reported) (h : Heading) (n : ℕ) → (s.level == 0) ≡ true → (with_heading g s n h).1 ≡ Ok tt → HeadNumber s (with_heading g s n h).0 h.name.name
-  head_number s h n l q = number_by s h n (heading_of g s h) (name_standing (found h.name.name s.own)) refl l q
+  head_number s h n l q =
+      number_by s h n (heading_of g s h) (name_standing (found h.name.name s.own)) refl l
+      (beside_right g (names_of g h) (headed_as g s h n (heading_of g s h) (name_standing (found h.name.name s.own))).1 q)
 
   -- ---- numbers of later declarations
 

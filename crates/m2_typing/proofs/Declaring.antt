@@ -41,11 +41,12 @@ use Rattle.m2_scopes.specs.declared.known.Origin.{Origin}
 use Rattle.m2_scopes.specs.declared.known.Origin.TheVariants.{Here, Export}
 use Rattle.m2_scopes.specs.declared.known.Origin.TheVariants as origin
 use Rattle.m2_scopes.specs.declared.scope.Scope.{Scope}
-use Rattle.m2_constants.specs.Parts.{part, constant}
+use Rattle.m2_constants.specs.Parts.{constant}
+use Rattle.m2_exprs.specs.Meanings.{part}
 use Rattle.m2_made.specs.declared.field.Fields.{Fields}
 use Rattle.m2_made.specs.Cells.{array_cells, count_at, is_index_scalar, is_index}
 use Rattle.m2_made.specs.Fields.{no_fields}
-use Rattle.m2_made.specs.Headings.{procedure_made, sections, result_of, heading_of}
+use Rattle.m2_made.specs.Headings.{procedure_made, with_section, result_of, heading_of}
 use Rattle.m2_made.specs.Made.{next_type, with_shape, with_made, enumeration_constant, enumeration_scalar, too_many, listed, simple_type, simple_place, array_of, index_type, record_of, Makes, MakesFields, then_fields, type_layer, field_layer, type_of, field_list}
 use Rattle.m2_types.specs.Marking.{Marks, marked_later, marked_simple, then_marks, marked_in, marked_field, marked_constant, marked_type, marked_variables, marked_def}
 use Rattle.m2_types.specs.Marking as marking
@@ -169,7 +170,7 @@ module _ (g : Gathers) where
   procedure_plain types formals of = then_holds (any_holds (both g formals of)) (λ p k. fine _ tt)
 
   heading_plain : (s : Scope g.Reported) (h : Heading) → Holds (λ (m : Made). ShapeIndexed s.types m.shape) (heading_of g s h)
-  heading_plain s h = then_holds (both_holds g (any_holds (sections g s h.formals).0) (procedure_plain s.types (sections g s h.formals).1 (result_of g s h.result))) (λ p k. fine p.1 k.1)
+  heading_plain s h = procedure_plain s.types (fold (with_section g s) (Ok []) h.formals) (result_of g s h.result)
 
   abbrev CarriesMakes : Makes g → Type 0
   CarriesMakes f = (s : Scope g.Reported) → Carries s (f s).0

@@ -21,7 +21,7 @@ use Rattle.m2_scopes.specs.declared.known.Origin.TheVariants.{Here}
 use Rattle.m2_scopes.specs.declared.known.Known.{Known}
 use Rattle.m2_scopes.specs.declared.known.Known.TheVariants.{Later, Ahead, Begun, Headed, Declared}
 use Rattle.m2_scopes.specs.declared.scope.Scope.{Scope}
-use Rattle.m2_made.specs.Headings.{heading_of}
+use Rattle.m2_made.specs.Headings.{heading_of, names_of}
 use Rattle.m2_made.specs.Made.{nothing_of, with_made, type_of}
 use Rattle.m2_types.specs.Compiled.{declared_in}
 use Rattle.m2_types.specs.Declare.{begun_name, with_variable_type, finished_variable, with_constant, with_type, with_variables, procedure_meaning, with_procedure_type, declared_procedure, with_procedure, with_def}
@@ -366,7 +366,8 @@ module _ (g : Gathers) where
   procedure_begins end st s0 h k e b =
       let t : State TypeNo g.Reported = with_made st.0 (heading_of g st.0 h) in
       let d : State (Unit {0}) g.Reported = declared_procedure g t.0 h.name t.1 in
-      let both : beside g (nothing_of t.1) d.1 ≡ Ok tt = beside_right g st.1 _ e in
+      let all : beside g (names_of g h) (beside g (nothing_of t.1) d.1) ≡ Ok tt = beside_right g st.1 _ e in
+      let both : beside g (nothing_of t.1) d.1 ≡ Ok tt = beside_right g (names_of g h) (beside g (nothing_of t.1) d.1) all in
       declared_by end t.0 s0 h t.1 k (plain end st.0 t.0 s0 s0 (made_goes st.0 (heading_of g st.0 h)) (stays_end g st.0 t.0 (made_stays st.0 (heading_of g st.0 h))) (λ all. all) b) (beside_left g (nothing_of t.1) d.1 both) (beside_right g (nothing_of t.1) d.1 both)
 
   -- ---- all of them

@@ -30,6 +30,8 @@ use Rattle.m2_scopes.specs.declared.known.Known.{Known}
 use Rattle.m2_scopes.specs.declared.known.Known.TheVariants.{Later, Ahead, Begun, Headed, Declared}
 use Rattle.m2_scopes.specs.declared.scope.Block.{Block}
 use Rattle.m2_scopes.specs.declared.scope.Scope.{Scope}
+use Rattle.m2_scopes.specs.declared.meaningless.Meaningless.{Meaningless}
+use Rattle.m2_scopes.specs.declared.meaningless.Meaningless.TheVariants.{Broken, Headless}
 use Rattle.m2_scopes.specs.Elaborated.{Gathers, reported, both}
 use Rattle.m2_scopes.specs.Scopes.{or_outside, Sight, seen_at, in_block, nearer, known_outside, or_around, known, means_seen, means_as, opened, means_or, looked_up}
 use Rattle.m2_values.specs.declared.operand.Ordinal.{Ordinal}
@@ -43,11 +45,12 @@ use Rattle.m2_constants.specs.declared.denoted.Denoted.{Denoted}
 use Rattle.m2_constants.specs.declared.denoted.Denoted.TheVariants as denoted
 use Rattle.m2_constants.specs.declared.call.Sort.{Sort}
 use Rattle.m2_constants.specs.declared.call.Sort.TheVariants.{Unary, Bound, Conversion, Never}
-use Rattle.m2_constants.specs.Denote.{denoted_by, as_constant, of_value, component, exported_by, exported, member}
+use Rattle.m2_constants.specs.Denote.{denoted_by, denoted_of, as_constant, of_value, component, exported_by, exported, member}
 use Rattle.m2_constants.specs.Calls.{sort_of, bound_by, type_argument}
-use Rattle.m2_constants.specs.Parts.{Part, Pick, Adds, sign_place, signed_first, named, field_of, constant, one, type_only, conversion, by_sort, called_as, called, factor, term, set_type, expr_layer, selector_layer, designator_layer, item_layer, part, pick, head, item}
-use Rattle.m2_formed.specs.Formed.{Holds, fine}
-use Rattle.m2_formed.proofs.Basics.{then_holds, reported_holds, where_holds, both_holds, any_holds}
+use Rattle.m2_constants.specs.Parts.{Part, Pick, Adds, sign_place, signed_first, named, field_of, constant, one, type_only, conversion, by_sort, called_as, called, factor, term, set_type}
+use Rattle.m2_exprs.specs.Meanings.{Meant, Picks, expr_layer, selector_layer, designator_layer, item_layer, meant, picks, head, item, part}
+use Rattle.m2_formed.specs.Formed.{Holds, fine, broken}
+use Rattle.m2_formed.proofs.Basics.{then_holds, reported_holds, where_holds, both_holds, plain_holds, heading_means_holds, any_holds}
 use Rattle.m2_typing.specs.Typing.{IsWord}
 use Rattle.m2_typing.specs.Carried.{MeaningWord, KnownWord, NamesWords, BlocksWords, ExportsWords, TablesWords, ScopeWords}
 use Rattle.m2_typing.proofs.Words.{operand_word, binary_words, signed_words, negated_words, unary_words, bound_word, B_, added_small, AllSmall, items_small}
@@ -93,7 +96,7 @@ module _ {T : Type 0} where
   around_words (Some k) far p q = p
 
 module _ (g : Gathers) where
-  abbrev Means_ : Result Meaning g.Reported → Type 0
+  abbrev Means_ : {T : Type 0} → Result Meaning T → Type 0
   Means_ r = Holds (MeaningWord) r
 
   declared_means : (at : Pos) (seen : Bool) (r : Result Meaning g.Reported) → Means_ r → Means_ (cond seen r (reported g at 30))
@@ -101,17 +104,17 @@ module _ (g : Gathers) where
   declared_means at false r p = reported_holds g at 30
 
   seen_means : (at : Pos) (k : Known g.Reported) (seen : Bool) → KnownWord k → Means_ (means_seen g at k seen)
-  seen_means at Later seen p = reported_holds g at 30
+  seen_means at Later seen p = plain_holds (reported_holds g at 30)
   seen_means at Ahead seen p = fine meaning.Ahead tt
-  seen_means at Begun seen p = reported_holds g at 30
-  seen_means at (Headed r) seen p = p
-  seen_means at (Declared o r) seen p = declared_means at seen r p
+  seen_means at Begun seen p = plain_holds (reported_holds g at 30)
+  seen_means at (Headed r) seen p = heading_means_holds p
+  seen_means at (Declared o r) seen p = plain_holds (declared_means at seen r p)
 
   means_words : (at : Pos) (o : Sight g.Reported) → WordSight o → Means_ (means_as g at o)
-  means_words at None p = reported_holds g at 30
+  means_words at None p = plain_holds (reported_holds g at 30)
   means_words at (Some k) p = seen_means at k.0 k.1 p
 
-  field_or : (o : Option OpenedField) (r : Result Meaning g.Reported) → Means_ r → Means_ (means_or o r)
+  field_or : {T : Type 0} (o : Option OpenedField) (r : Result Meaning T) → Means_ r → Means_ (means_or o r)
   field_or (Some f) r p = fine (meaning.Field f) tt
   field_or None r p = p
 
@@ -189,15 +192,20 @@ module _ (g : Gathers) (s : Scope g.Reported) (h : ScopeWords s) where
   by_meaning (meaning.Standard f) p = tt
   by_meaning (meaning.Module k) p = tt
 
+  denoted_words : {r : Result Meaning (Meaningless g.Reported)} → Holds MeaningWord r → D_ (denoted_of r)
+  denoted_words (fine m p) = fine (denoted_by m) (by_meaning m p)
+  denoted_words (broken (Broken e)) = broken e
+  denoted_words (broken (Headless e)) = fine denoted.Procedure tt
+
   named_words : (name : Ident) → D_ (named g s name)
-  named_words name = then_holds (name_means name) (λ m p. fine (denoted_by m) (by_meaning m p))
+  named_words name = denoted_words (name_means name)
 
   component_words : (at : Pos) (d : Denoted) → D_ (component g at d)
   component_words at denoted.Variable = fine denoted.Variable tt
   component_words at (denoted.Value v) = reported_holds g at 40
-  component_words at (denoted.Type t) = reported_holds g at 40
-  component_words at denoted.Procedure = reported_holds g at 40
-  component_words at (denoted.Standard f) = reported_holds g at 40
+  component_words at (denoted.Type t) = fine denoted.Variable tt
+  component_words at denoted.Procedure = fine denoted.Variable tt
+  component_words at (denoted.Standard f) = fine denoted.Variable tt
   component_words at (denoted.Module k) = reported_holds g at 40
 
   field_words : (at : Pos) (name : Ident) (d : Denoted) → D_ (field_of g s at name d)
@@ -236,7 +244,7 @@ module _ (g : Gathers) (s : Scope g.Reported) (h : ScopeWords s) where
       conversion_words : (at : Pos) (args : List (Part g.Reported)) → V_ (conversion g s at args)
       conversion_words at [] = reported_holds g at 42
       conversion_words at (t ∷ []) = reported_holds g at 42
-      conversion_words at (t ∷ x ∷ []) = then_holds (any_holds (both g (type_argument g s.types t.at (t.denotes s)) (constant g s x))) (λ p k. converted_words p.0.0 p.0.1 x.at (whole_number p.1))
+      conversion_words at (t ∷ x ∷ []) = then_holds (any_holds (both g (type_argument g s.types t.at (t.names s)) (constant g s x))) (λ p k. converted_words p.0.0 p.0.1 x.at (whole_number p.1))
       conversion_words at (t ∷ x ∷ y ∷ xs) = reported_holds g at 42
   sorted_words at f args Never = reported_holds g at 34
 
@@ -282,10 +290,10 @@ module _ (g : Gathers) (s : Scope g.Reported) (h : ScopeWords s) where
   PE e = FM (part g e)
 
   abbrev PS : Selector → Type 0
-  PS e = FP (pick g e)
+  PS e = FP (picks g e).fixed
 
   abbrev PD : Designator → Type 0
-  PD e = FM (head g e)
+  PD e = FM (head g e).fixed
 
   abbrev PI : Item → Type 0
   PI e = B_ g (item g e s)
@@ -302,33 +310,33 @@ module _ (g : Gathers) (s : Scope g.Reported) (h : ScopeWords s) where
   abbrev SI : Type 0
   SI = (e : Item) × PI e
 
-  abbrev parts : Expr-F Expr Selector Designator Item → Expr-F (Part g.Reported) (Pick g.Reported) (Part g.Reported) (Adds g.Reported)
-  parts x = map-Expr Expr Selector Designator Item (Part g.Reported) (Pick g.Reported) (Part g.Reported) (Adds g.Reported) (part g) (pick g) (head g) (item g) x
+  abbrev parts : Expr-F Expr Selector Designator Item → Expr-F (Meant g.Reported) (Picks g.Reported) (Meant g.Reported) (Adds g.Reported)
+  parts x = map-Expr Expr Selector Designator Item (Meant g.Reported) (Picks g.Reported) (Meant g.Reported) (Adds g.Reported) (meant g) (picks g) (head g) (item g) x
 
-  abbrev parts_selector : Selector-F Expr Selector Designator Item → Selector-F (Part g.Reported) (Pick g.Reported) (Part g.Reported) (Adds g.Reported)
-  parts_selector x = map-Selector Expr Selector Designator Item (Part g.Reported) (Pick g.Reported) (Part g.Reported) (Adds g.Reported) (part g) (pick g) (head g) (item g) x
+  abbrev parts_selector : Selector-F Expr Selector Designator Item → Selector-F (Meant g.Reported) (Picks g.Reported) (Meant g.Reported) (Adds g.Reported)
+  parts_selector x = map-Selector Expr Selector Designator Item (Meant g.Reported) (Picks g.Reported) (Meant g.Reported) (Adds g.Reported) (meant g) (picks g) (head g) (item g) x
 
-  abbrev parts_designator : Designator-F Expr Selector Designator Item → Designator-F (Part g.Reported) (Pick g.Reported) (Part g.Reported) (Adds g.Reported)
-  parts_designator x = map-Designator Expr Selector Designator Item (Part g.Reported) (Pick g.Reported) (Part g.Reported) (Adds g.Reported) (part g) (pick g) (head g) (item g) x
+  abbrev parts_designator : Designator-F Expr Selector Designator Item → Designator-F (Meant g.Reported) (Picks g.Reported) (Meant g.Reported) (Adds g.Reported)
+  parts_designator x = map-Designator Expr Selector Designator Item (Meant g.Reported) (Picks g.Reported) (Meant g.Reported) (Adds g.Reported) (meant g) (picks g) (head g) (item g) x
 
-  abbrev parts_item : Item-F Expr Selector Designator Item → Item-F (Part g.Reported) (Pick g.Reported) (Part g.Reported) (Adds g.Reported)
-  parts_item x = map-Item Expr Selector Designator Item (Part g.Reported) (Pick g.Reported) (Part g.Reported) (Adds g.Reported) (part g) (pick g) (head g) (item g) x
+  abbrev parts_item : Item-F Expr Selector Designator Item → Item-F (Meant g.Reported) (Picks g.Reported) (Meant g.Reported) (Adds g.Reported)
+  parts_item x = map-Item Expr Selector Designator Item (Meant g.Reported) (Picks g.Reported) (Meant g.Reported) (Adds g.Reported) (meant g) (picks g) (head g) (item g) x
 
-  at_expr : (e : Expr) (x : Expr-F Expr Selector Designator Item) → out-Expr e ≡ x → part g e ≡ expr_layer g (parts x)
-  unfolding part pick head item
-  at_expr e x q = fold_out-Expr (Part g.Reported) (Pick g.Reported) (Part g.Reported) (Adds g.Reported) (expr_layer g) (selector_layer g) (designator_layer g) (item_layer g) e ∙ ap (λ (y : Expr-F Expr Selector Designator Item). expr_layer g (parts y)) q
+  at_expr : (e : Expr) (x : Expr-F Expr Selector Designator Item) → out-Expr e ≡ x → meant g e ≡ expr_layer g (parts x)
+  unfolding meant picks head item
+  at_expr e x q = fold_out-Expr (Meant g.Reported) (Picks g.Reported) (Meant g.Reported) (Adds g.Reported) (expr_layer g) (selector_layer g) (designator_layer g) (item_layer g) e ∙ ap (λ (y : Expr-F Expr Selector Designator Item). expr_layer g (parts y)) q
 
-  at_selector : (e : Selector) (x : Selector-F Expr Selector Designator Item) → out-Selector e ≡ x → pick g e ≡ selector_layer g (parts_selector x)
-  unfolding part pick head item
-  at_selector e x q = fold_out-Selector (Part g.Reported) (Pick g.Reported) (Part g.Reported) (Adds g.Reported) (expr_layer g) (selector_layer g) (designator_layer g) (item_layer g) e ∙ ap (λ (y : Selector-F Expr Selector Designator Item). selector_layer g (parts_selector y)) q
+  at_selector : (e : Selector) (x : Selector-F Expr Selector Designator Item) → out-Selector e ≡ x → picks g e ≡ selector_layer g (parts_selector x)
+  unfolding meant picks head item
+  at_selector e x q = fold_out-Selector (Meant g.Reported) (Picks g.Reported) (Meant g.Reported) (Adds g.Reported) (expr_layer g) (selector_layer g) (designator_layer g) (item_layer g) e ∙ ap (λ (y : Selector-F Expr Selector Designator Item). selector_layer g (parts_selector y)) q
 
   at_designator : (e : Designator) (x : Designator-F Expr Selector Designator Item) → out-Designator e ≡ x → head g e ≡ designator_layer g (parts_designator x)
-  unfolding part pick head item
-  at_designator e x q = fold_out-Designator (Part g.Reported) (Pick g.Reported) (Part g.Reported) (Adds g.Reported) (expr_layer g) (selector_layer g) (designator_layer g) (item_layer g) e ∙ ap (λ (y : Designator-F Expr Selector Designator Item). designator_layer g (parts_designator y)) q
+  unfolding meant picks head item
+  at_designator e x q = fold_out-Designator (Meant g.Reported) (Picks g.Reported) (Meant g.Reported) (Adds g.Reported) (expr_layer g) (selector_layer g) (designator_layer g) (item_layer g) e ∙ ap (λ (y : Designator-F Expr Selector Designator Item). designator_layer g (parts_designator y)) q
 
   at_item : (e : Item) (x : Item-F Expr Selector Designator Item) → out-Item e ≡ x → item g e ≡ item_layer g (parts_item x)
-  unfolding part pick head item
-  at_item e x q = fold_out-Item (Part g.Reported) (Pick g.Reported) (Part g.Reported) (Adds g.Reported) (expr_layer g) (selector_layer g) (designator_layer g) (item_layer g) e ∙ ap (λ (y : Item-F Expr Selector Designator Item). item_layer g (parts_item y)) q
+  unfolding meant picks head item
+  at_item e x q = fold_out-Item (Meant g.Reported) (Picks g.Reported) (Meant g.Reported) (Adds g.Reported) (expr_layer g) (selector_layer g) (designator_layer g) (item_layer g) e ∙ ap (λ (y : Item-F Expr Selector Designator Item). item_layer g (parts_item y)) q
 
   abbrev bare : Expr-F SE SS SD SI → Expr-F Expr Selector Designator Item
   bare x = map-Expr SE SS SD SI Expr Selector Designator Item (λ e. e.0) (λ e. e.0) (λ e. e.0) (λ e. e.0) x
@@ -342,54 +350,57 @@ module _ (g : Gathers) (s : Scope g.Reported) (h : ScopeWords s) where
   abbrev bare_item : Item-F SE SS SD SI → Item-F Expr Selector Designator Item
   bare_item x = map-Item SE SS SD SI Expr Selector Designator Item (λ e. e.0) (λ e. e.0) (λ e. e.0) (λ e. e.0) x
 
-  all_terms : {O : Type 0} (ys : List (Operator O × SE)) → AllT (map (λ (y : Operator O × Expr). (y.0, part g y.1)) (map (λ (a : Operator O × SE). (a.0, a.1.0)) ys))
+  all_terms : {O : Type 0} (ys : List (Operator O × SE)) → AllT (map (λ (y : Operator O × Meant g.Reported). (y.0, y.1.fixed)) (map (λ (y : Operator O × Expr). (y.0, meant g y.1)) (map (λ (a : Operator O × SE). (a.0, a.1.0)) ys)))
   all_terms [] = tt
   all_terms (y ∷ ys) = (y.1.1, all_terms ys)
 
-  all_picks : (ys : List SS) → AllP (map (pick g) (map (λ (e : SS). e.0) ys))
+  all_picks : (ys : List SS) → AllP (map (λ (e : Picks g.Reported). e.fixed) (map (picks g) (map (λ (e : SS). e.0) ys)))
   all_picks [] = tt
   all_picks (y ∷ ys) = (y.1, all_picks ys)
 
-  all_items : (ys : List SI) → AllSmall g s (map (item g) (map (λ (e : SI). e.0) ys))
+  all_items : (ys : List SI) → AllSmall g s (map (λ (i : Adds g.Reported). i) (map (item g) (map (λ (e : SI). e.0) ys)))
   all_items [] = tt
   all_items (y ∷ ys) = (y.1, all_items ys)
 
-  expr_words : (y : Expr-F SE SS SD SI) → FM (expr_layer g (parts (bare y)))
+  expr_words : (y : Expr-F SE SS SD SI) → FM (expr_layer g (parts (bare y))).fixed
   expr_words (layer.Number p n) = fine (denoted.Value (value.Number (pos n))) tt
   expr_words (layer.Char p c) = fine (denoted.Value (valued (Some char) (pos c))) tt
   expr_words (layer.Text p t) = fine (denoted.Value (value.Text t)) tt
   expr_words (layer.Set q p items) =
-      then_holds (both_holds g (any_holds (set_type g s q)) (items_small g s (map (item g) (map (λ (e : SI). e.0) items)) (Ok 0) (fine 0 (omega arith)) (all_items items))) (λ (b : Unit {0} × ℕ) k. fine (denoted.Value (value.Set b.1)) k.1)
+      then_holds (both_holds g (any_holds (set_type g s q)) (items_small g s (map (λ (i : Adds g.Reported). i) (map (item g) (map (λ (e : SI). e.0) items))) (Ok 0) (fine 0 (omega arith)) (all_items items))) (λ (b : Unit {0} × ℕ) k. fine (denoted.Value (value.Set b.1)) k.1)
   expr_words (layer.Not p y) = value_words (then_holds (any_holds (constant g s (part g y.0))) (λ v k. negated_words g p (operand_of v)))
   expr_words (layer.Bracketed p y) = value_words (constant_words (part g y.0) y.1)
   expr_words (layer.Use d None) = d.1
-  expr_words (layer.Use d (Some es)) = value_words (called_words (head g d.0).at ((head g d.0).denotes s) (map (part g) (map (λ (e : SE). e.0) es)))
+  expr_words (layer.Use d (Some es)) = value_words (called_words (head g d.0).fixed.at ((head g d.0).fixed.denotes s) (map (λ (e : Meant g.Reported). e.fixed) (map (meant g) (map (λ (e : SE). e.0) es))))
   expr_words (layer.Term y ys) =
-      value_words (factors_words (part g y.0).at (map (λ (z : Operator MulOp × Expr). (z.0, part g z.1)) (map (λ (a : Operator MulOp × SE). (a.0, a.1.0)) ys)) (constant g s (part g y.0)) (constant_words (part g y.0) y.1) (all_terms ys))
+      value_words (factors_words (part g y.0).at (map (λ (z : Operator MulOp × Meant g.Reported). (z.0, z.1.fixed)) (map (λ (z : Operator MulOp × Expr). (z.0, meant g z.1)) (map (λ (a : Operator MulOp × SE). (a.0, a.1.0)) ys))) (constant g s (part g y.0)) (constant_words (part g y.0) y.1) (all_terms ys))
   expr_words (layer.Sum o y ys) =
-      value_words (terms_words (sign_place o (part g y.0).at) (map (λ (z : Operator AddOp × Expr). (z.0, part g z.1)) (map (λ (a : Operator AddOp × SE). (a.0, a.1.0)) ys)) (signed_first g o (constant g s (part g y.0))) (first_words o (constant_words (part g y.0) y.1)) (all_terms ys))
+      value_words (terms_words (sign_place o (part g y.0).at) (map (λ (z : Operator AddOp × Meant g.Reported). (z.0, z.1.fixed)) (map (λ (z : Operator AddOp × Expr). (z.0, meant g z.1)) (map (λ (a : Operator AddOp × SE). (a.0, a.1.0)) ys))) (signed_first g o (constant g s (part g y.0))) (first_words o (constant_words (part g y.0) y.1)) (all_terms ys))
   expr_words (layer.Relation a o b) = value_words (combined_words (op.Relation o.op) o.pos (part g a.0).at (part g b.0).at (constant_words (part g a.0) a.1) (constant_words (part g b.0) b.1))
 
-  selector_words : (y : Selector-F SE SS SD SI) → FP (selector_layer g (parts_selector (bare_selector y)))
+  selector_words : (y : Selector-F SE SS SD SI) → FP (selector_layer g (parts_selector (bare_selector y))).fixed
   selector_words (layer.Field p name) = λ d q. then_holds q (λ z k. field_words p name z)
   selector_words (layer.Index p e) = λ d q. then_holds q (λ z k. component_words p z)
 
-  designator_words : (y : Designator-F SE SS SD SI) → FM (designator_layer g (parts_designator (bare_designator y)))
-  designator_words y = picks_words (map (pick g) (map (λ (e : SS). e.0) y.selectors)) (named g s y.name) (named_words y.name) (all_picks y.selectors)
+  designator_words : (y : Designator-F SE SS SD SI) → FM (designator_layer g (parts_designator (bare_designator y))).fixed
+  designator_words y = picks_words (map (λ (e : Picks g.Reported). e.fixed) (map (picks g) (map (λ (e : SS). e.0) y.selectors))) (named g s y.name) (named_words y.name) (all_picks y.selectors)
 
   -- ---- the induction
 
   step_expr : (y : Expr-F Expr Selector Designator Item) (z : Expr-F SE SS SD SI) → bare z ≡ y → PE (roll-Expr y)
-  step_expr y z q = subst FM (sym (at_expr (roll-Expr y) (bare z) (out-roll-Expr y ∙ sym q))) (expr_words z)
+  step_expr y z q = subst (λ (m : Meant g.Reported). FM m.fixed) (sym (at_expr (roll-Expr y) (bare z) (out-roll-Expr y ∙ sym q))) (expr_words z)
 
   step_selector : (y : Selector-F Expr Selector Designator Item) (z : Selector-F SE SS SD SI) → bare_selector z ≡ y → PS (roll-Selector y)
-  step_selector y z q = subst FP (sym (at_selector (roll-Selector y) (bare_selector z) (out-roll-Selector y ∙ sym q))) (selector_words z)
+  step_selector y z q = subst (λ (m : Picks g.Reported). FP m.fixed) (sym (at_selector (roll-Selector y) (bare_selector z) (out-roll-Selector y ∙ sym q))) (selector_words z)
 
   step_designator : (y : Designator-F Expr Selector Designator Item) (z : Designator-F SE SS SD SI) → bare_designator z ≡ y → PD (roll-Designator y)
-  step_designator y z q = subst FM (sym (at_designator (roll-Designator y) (bare_designator z) (out-roll-Designator y ∙ sym q))) (designator_words z)
+  step_designator y z q = subst (λ (m : Meant g.Reported). FM m.fixed) (sym (at_designator (roll-Designator y) (bare_designator z) (out-roll-Designator y ∙ sym q))) (designator_words z)
+
+  abbrev fixed_item : Item-F SE SS SD SI → Item-F (Part g.Reported) (Pick g.Reported) (Part g.Reported) (Adds g.Reported)
+  fixed_item z = map-Item (Meant g.Reported) (Picks g.Reported) (Meant g.Reported) (Adds g.Reported) (Part g.Reported) (Pick g.Reported) (Part g.Reported) (Adds g.Reported) (λ e. e.fixed) (λ e. e.fixed) (λ e. e.fixed) (λ e. e) (parts_item (bare_item z))
 
   step_item : (y : Item-F Expr Selector Designator Item) (z : Item-F SE SS SD SI) → bare_item z ≡ y → PI (roll-Item y)
-  step_item y z q = subst (λ (i : Adds g.Reported). B_ g (i s)) (sym (at_item (roll-Item y) (bare_item z) (out-roll-Item y ∙ sym q))) (added_small g s (parts_item (bare_item z)).low (parts_item (bare_item z)).high)
+  step_item y z q = subst (λ (i : Adds g.Reported). B_ g (i s)) (sym (at_item (roll-Item y) (bare_item z) (out-roll-Item y ∙ sym q))) (added_small g s (fixed_item z).low (fixed_item z).high)
 
   part_words : (e : Expr) → PE e
   part_words = ind-Expr PE PS PD PI step_expr step_selector step_designator step_item

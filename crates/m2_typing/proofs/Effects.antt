@@ -24,7 +24,7 @@ use Rattle.m2_typed.specs.declared.statement.TypedStmt.TheVariants as step
 use Rattle.m2_typed.specs.declared.types.TypeNo.{TypeNo}
 use Rattle.m2_typed.specs.Known.{scalar_at}
 use Rattle.m2_typed.specs.Types.{are_same, is_numeric, cardinal, char, bitset}
-use Rattle.m2_scopes.specs.Elaborated.{Gathers, reported_where, ◌▷◌}
+use Rattle.m2_scopes.specs.Elaborated.{Gathers, reported_where, ahead}
 use Rattle.m2_scopes.specs.declared.scope.Scope.{Scope}
 use Rattle.m2_values.specs.declared.operand.Operand.{Operand}
 use Rattle.m2_values.specs.declared.operand.Operand.TheVariants as operand
@@ -49,8 +49,8 @@ use Rattle.m2_calls.specs.declared.callee.Called.{Called}
 use Rattle.m2_calls.specs.declared.callee.Called.TheVariants as called
 use Rattle.m2_calls.specs.declared.effect.Target.{Target}
 use Rattle.m2_calls.specs.declared.effect.Target.TheVariants as target
-use Rattle.m2_exprs.specs.Meanings.{Meant, formals_of, value_of, actuals}
-use Rattle.m2_exprs.specs.Effects.{call_done, routine_done, changed_by, member_by, halted, put_by, standard_done, done_as, done_by}
+use Rattle.m2_exprs.specs.Meanings.{Meant, formals_of, value_of, looked_at, actuals}
+use Rattle.m2_exprs.specs.Effects.{call_done, routine_done, changed_in, changed_by, set_in, member_by, halted, put_by, standard_done, done_as, done_by}
 use Rattle.m2_layout.specs.Types.{Ty, Natural, Callable, Cell, Array}
 use Rattle.m2_layout.specs.Shapes.{tree, elements_of}
 use Rattle.m2_scheme.specs.Cells.{base_of}
@@ -60,7 +60,7 @@ use Rattle.m2_agree.specs.TreesTyped.{Context}
 use Rattle.m2_agree.proofs.Plain.{tree_plain}
 use Rattle.m2_agree.proofs.Cells.{set_tree_is, set_is}
 use Rattle.m2_formed.specs.Formed.{Holds, fine}
-use Rattle.m2_formed.proofs.Basics.{then_holds, reported_holds, both_holds}
+use Rattle.m2_formed.proofs.Basics.{then_holds, reported_holds, both_holds, refused_holds, reported_beside_holds, ahead_holds, sort_holds, of_heading_holds}
 use Rattle.m2_formed.proofs.RangesTypes.{same_types, both_left, both_right}
 use Rattle.m2_formed.proofs.Subranges.{SortRanged, OperandRanged, operand_ranged}
 use Rattle.m2_typing.specs.Typing.{HasBase, PlaceTyped, CallTyped, GivenTyped, ValueTyped, DesignatedTyped, IsTyped}
@@ -184,7 +184,7 @@ module _ (g : Gathers) (x : Context) (ws : List Ty) (opens : ℕ → Bool) (s : 
 
   pub assignment_typed : (d : Meant g.Reported) (at : Pos) (y : Meant g.Reported) → FM g x ws opens s h d → FM g x ws opens s h y → Stmt_ (assigned g s.types (target_at g d.fixed.at (d.means s)) at (value_of g s y))
   assignment_typed d at y p q =
-      then_holds (both_holds g (then_holds p (λ e k. target_of_typed d.fixed.at e k)) (value_typed g x ws opens s h y q)) (λ v k. assigned_to_typed v.0 at v.1 k.0 k.1)
+      then_holds (both_holds g (then_holds (sort_holds g d.fixed.at 40 p) (λ e k. target_of_typed d.fixed.at e k)) (value_typed g x ws opens s h y q)) (λ v k. assigned_to_typed v.0 at v.1 k.0 k.1)
 
   -- ---- INC and DEC
 
@@ -254,11 +254,14 @@ module _ (g : Gathers) (x : Context) (ws : List Ty) (opens : ℕ → Bool) (s : 
   one_typed : Some_ (expr.Constant cardinal (pos 1))
   one_typed = record { of = cardinal; typed = made.constant_typed x ws cardinal (pos 1) (omega (arith, ints), omega (arith, ints)) }
 
+  changed_in_typed : (v : Meant g.Reported) → Known_ v → Holds VariableTyped (changed_in g s v)
+  changed_in_typed v p = then_holds (sort_holds g v.fixed.at 44 p) (λ d k. changed_typed v.fixed.at d k)
+
   changed_by_typed : (at : Pos) (o : Change) (args : List (Meant g.Reported)) → AllKnown args → Stmt_ (changed_by g s at o args)
-  changed_by_typed at o [] all = reported_holds g at 42
-  changed_by_typed at o (v ∷ []) all = change_by_typed o (then_holds all.0 (λ d k. changed_typed v.fixed.at d k)) (fine (expr.Constant cardinal (pos 1)) one_typed)
-  changed_by_typed at o (v ∷ n ∷ []) all = change_by_typed o (then_holds all.0 (λ d k. changed_typed v.fixed.at d k)) (then_holds (value_of_typed n all.1.0) (λ y k. amount_typed n.fixed.at y k))
-  changed_by_typed at o (v ∷ n ∷ y ∷ ys) all = reported_holds g at 42
+  changed_by_typed at o [] all = reported_beside_holds g at 42 (looked_at g s [])
+  changed_by_typed at o (v ∷ []) all = change_by_typed o (changed_in_typed v all.0) (fine (expr.Constant cardinal (pos 1)) one_typed)
+  changed_by_typed at o (v ∷ n ∷ []) all = change_by_typed o (changed_in_typed v all.0) (then_holds (value_of_typed n all.1.0) (λ y k. amount_typed n.fixed.at y k))
+  changed_by_typed at o (v ∷ n ∷ y ∷ ys) all = reported_beside_holds g at 42 _
 
   -- ---- INCL and EXCL
 
@@ -305,33 +308,36 @@ module _ (g : Gathers) (x : Context) (ws : List Ty) (opens : ℕ → Bool) (s : 
   membership_typed : (o : Membership) {d : Result Place g.Reported} {e : Result TypedExpr g.Reported} → Holds SetTyped d → Holds Some_ e → Stmt_ (membership_of g o d e)
   membership_typed o p q = then_holds (both_holds g p q) (λ v k. fine (step.Membership o v.0 v.1) (member_typed x result ws looped o v.0 k.1.of (Natural 4294967295) v.1 bitset_cell k.0 k.1.typed))
 
+  set_in_typed : (v : Meant g.Reported) → Known_ v → Holds SetTyped (set_in g s v)
+  set_in_typed v p = then_holds (sort_holds g v.fixed.at 44 p) (λ d k. set_typed v.fixed.at d k)
+
   member_by_typed : (at : Pos) (o : Membership) (args : List (Meant g.Reported)) → AllKnown args → Stmt_ (member_by g s at o args)
-  member_by_typed at o [] all = reported_holds g at 42
-  member_by_typed at o (v ∷ []) all = reported_holds g at 42
-  member_by_typed at o (v ∷ n ∷ []) all = membership_typed o (then_holds all.0 (λ d k. set_typed v.fixed.at d k)) (then_holds (value_of_typed n all.1.0) (λ y k. element_typed n.fixed.at y k))
-  member_by_typed at o (v ∷ n ∷ y ∷ ys) all = reported_holds g at 42
+  member_by_typed at o [] all = reported_beside_holds g at 42 (looked_at g s [])
+  member_by_typed at o (v ∷ []) all = reported_beside_holds g at 42 _
+  member_by_typed at o (v ∷ n ∷ []) all = membership_typed o (set_in_typed v all.0) (then_holds (value_of_typed n all.1.0) (λ y k. element_typed n.fixed.at y k))
+  member_by_typed at o (v ∷ n ∷ y ∷ ys) all = reported_beside_holds g at 42 _
 
   -- ---- HALT and Put
 
-  halted_typed : (at : Pos) (args : List (Meant g.Reported)) → Stmt_ (halted g at args)
+  halted_typed : (at : Pos) (args : List (Meant g.Reported)) → Stmt_ (halted g s at args)
   halted_typed at [] = fine step.Halt (halt_typed x result ws looped)
-  halted_typed at (y ∷ ys) = reported_holds g at 42
+  halted_typed at (y ∷ ys) = reported_beside_holds g at 42 _
 
   put_by_typed : (at : Pos) (args : List (Meant g.Reported)) → AllKnown args → Stmt_ (put_by g s at args)
-  put_by_typed at [] all = reported_holds g at 42
+  put_by_typed at [] all = reported_beside_holds g at 42 (looked_at g s [])
   put_by_typed at (y ∷ []) all = then_holds (value_of_typed y all.0) (λ v k. then_holds (given 43 char y.fixed.at v k) (λ e q. fine (step.Put e) (put_typed x result ws looped e q)))
-  put_by_typed at (y ∷ z ∷ zs) all = reported_holds g at 42
+  put_by_typed at (y ∷ z ∷ zs) all = reported_beside_holds g at 42 _
 
   standard_typed : (at : Pos) (args : List (Meant g.Reported)) (f : Standard) → AllKnown args → Stmt_ (standard_done g s at args f)
-  standard_typed at args Abs all = reported_holds g at 40
-  standard_typed at args Cap all = reported_holds g at 40
-  standard_typed at args Chr all = reported_holds g at 40
-  standard_typed at args High all = reported_holds g at 40
-  standard_typed at args Max all = reported_holds g at 40
-  standard_typed at args Min all = reported_holds g at 40
-  standard_typed at args Odd all = reported_holds g at 40
-  standard_typed at args Ord all = reported_holds g at 40
-  standard_typed at args Val all = reported_holds g at 40
+  standard_typed at args Abs all = reported_beside_holds g at 40 _
+  standard_typed at args Cap all = reported_beside_holds g at 40 _
+  standard_typed at args Chr all = reported_beside_holds g at 40 _
+  standard_typed at args High all = reported_beside_holds g at 40 _
+  standard_typed at args Max all = reported_beside_holds g at 40 _
+  standard_typed at args Min all = reported_beside_holds g at 40 _
+  standard_typed at args Odd all = reported_beside_holds g at 40 _
+  standard_typed at args Ord all = reported_beside_holds g at 40 _
+  standard_typed at args Val all = reported_beside_holds g at 40 _
   standard_typed at args Inc all = changed_by_typed at Increase args all
   standard_typed at args Dec all = changed_by_typed at Decrease args all
   standard_typed at args Incl all = member_by_typed at Include args all
@@ -349,17 +355,17 @@ module _ (g : Gathers) (x : Context) (ws : List Ty) (opens : ℕ → Bool) (s : 
         (call_typed x result ws looped (call_by gs c) (subst (λ (r : Gives). CallTyped x ws (call_by gs c) r) (ap (λ (o : Option TypeNo). option_map (tree types) o) q) (call_made g x ws opens s h at t c args there all k e gs p))))
 
     by_count : (k : Signature) (q : Bool) → (length k.formals == length args) ≡ q → signature_at s.types t ≡ Some k → k.result ≡ None
-        → Stmt_ (reported_where g {A = Unit {0}} (not q) at 42 (Ok (tt {0})) ▷ λ fine. call_done c (actuals g s k.formals args))
+        → Stmt_ (ahead g (reported_where g {A = Unit {0}} (not q) at 42 (Ok (tt {0}))) (looked_at g s args) (λ fine. call_done c (actuals g s k.formals args)))
     by_count k true count e q = proper_call k e q (eqb-true (length k.formals) (length args) count)
-    by_count k false count e q = reported_holds g at 42
+    by_count k false count e q = refused_holds g _ (looked_at g s args)
 
     by_result : (k : Signature) (o : Option TypeNo) → k.result ≡ o → signature_at s.types t ≡ Some k
-        → Stmt_ (proper_with g at (length k.formals) (length args) o ▷ λ fine. call_done c (actuals g s k.formals args))
+        → Stmt_ (ahead g (proper_with g at (length k.formals) (length args) o) (looked_at g s args) (λ fine. call_done c (actuals g s k.formals args)))
     by_result k None q e = by_count k (length k.formals == length args) refl e q
-    by_result k (Some r) q e = reported_holds g at 40
+    by_result k (Some r) q e = refused_holds g _ (looked_at g s args)
 
-    by_signature : (o : Option Signature) → signature_at s.types t ≡ o → Stmt_ (proper_of g at o (length args) ▷ λ fine. call_done c (actuals g s (formals_of o) args))
-    by_signature None e = reported_holds g at 40
+    by_signature : (o : Option Signature) → signature_at s.types t ≡ o → Stmt_ (ahead g (proper_of g at o (length args)) (looked_at g s args) (λ fine. call_done c (actuals g s (formals_of o) args)))
+    by_signature None e = refused_holds g _ (looked_at g s args)
     by_signature (Some k) e = by_result k k.result refl e
 
     routine_typed : Stmt_ (routine_done g s at t c args)
@@ -370,4 +376,4 @@ module _ (g : Gathers) (x : Context) (ws : List Ty) (opens : ℕ → Bool) (s : 
   done_as_typed at args (called.Standard f) p all = standard_typed at args f all
 
   pub done_typed : (d : Meant g.Reported) (args : List (Meant g.Reported)) → Known_ d → AllKnown args → Stmt_ (done_by g s d args)
-  done_typed d args p all = then_holds (then_holds p (λ e k. callee_typed x ws h.all g opens s.types h.types d.fixed.at e k)) (λ y k. done_as_typed d.fixed.at args y k all)
+  done_typed d args p all = ahead_holds g (looked_at g s args) (then_holds (of_heading_holds p) (λ e k. callee_typed x ws h.all g opens s.types h.types d.fixed.at e k)) (λ y k. done_as_typed d.fixed.at args y k all)

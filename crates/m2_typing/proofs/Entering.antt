@@ -18,9 +18,7 @@ use Rattle.m2_scopes.specs.declared.known.Known.{Known}
 use Rattle.m2_scopes.specs.declared.known.Known.TheVariants.{Declared}
 use Rattle.m2_scopes.specs.declared.known.Origin.TheVariants.{Here}
 use Rattle.m2_scopes.specs.declared.scope.Scope.{Scope}
-use Rattle.m2_made.specs.declared.field.Fields.{Fields}
-use Rattle.m2_made.specs.Fields.{no_fields}
-use Rattle.m2_made.specs.Headings.{formal_of, repeated, joined_formals, with_section, sections}
+use Rattle.m2_made.specs.Headings.{formal_of, repeated, joined_formals, with_section}
 use Rattle.m2_made.specs.Named.{named_type}
 use Rattle.m2_blocks.specs.Inner.{inwards, formal_kind, formal_meaning, Formals, with_formal, with_section as entered_section, formals_in, entered_procedure}
 use Rattle.m2_formed.specs.Formed.{fine}
@@ -44,18 +42,18 @@ drop_all f (x ∷ xs) = drop_all f xs
 
 module _ (g : Gathers) (s : Scope g.Reported) where
   abbrev So : Type 0
-  So = Fields × Result (Unit {0}) g.Reported × Result (List Formal) g.Reported
+  So = Result (List Formal) g.Reported
 
   -- where a rule is broken, none is found any more
   joined_broken : (so : Result (List Formal) g.Reported) (e : g.Reported) (f : Result Formal g.Reported) (names : List Ident) → so ≡ Err e → (d : g.Reported) × (joined_formals g so f names ≡ Err d)
   joined_broken so e (Ok x) names h = (e, ap (λ (r : Result (List Formal) g.Reported). joined_formals g r (Ok x) names) h)
   joined_broken so e (Err d) names h = (g.join e d, ap (λ (r : Result (List Formal) g.Reported). joined_formals g r (Err d) names) h)
 
-  pub stays_broken : (xs : List Section) (st : So) (e : g.Reported) → st.2 ≡ Err e → (d : g.Reported) × ((fold (with_section g s) st xs).2 ≡ Err d)
+  pub stays_broken : (xs : List Section) (st : So) (e : g.Reported) → st ≡ Err e → (d : g.Reported) × (fold (with_section g s) st xs ≡ Err d)
   stays_broken [] st e h = (e, h)
-  stays_broken (x ∷ xs) st e h = let k = joined_broken st.2 e (formal_of g s x.is_var x.of) x.names h in stays_broken xs (with_section g s st x) k.0 k.1
+  stays_broken (x ∷ xs) st e h = let k = joined_broken st e (formal_of g s x.is_var x.of) x.names h in stays_broken xs (with_section g s st x) k.0 k.1
 
-  pub not_broken : (xs : List Section) (st : So) (e : g.Reported) (fs : List Formal) → st.2 ≡ Err e → (fold (with_section g s) st xs).2 ≡ Ok fs → ⊥
+  pub not_broken : (xs : List Section) (st : So) (e : g.Reported) (fs : List Formal) → st ≡ Err e → fold (with_section g s) st xs ≡ Ok fs → ⊥
   not_broken xs st e fs h q = let k = stays_broken xs st e h in let z : Err k.0 ≡ Ok fs = sym k.1 ∙ q in cc z
 
   -- ---- the same in the scope of the procedure
@@ -91,26 +89,26 @@ module _ (g : Gathers) (s : Scope g.Reported) where
   abbrev the_ok : List Formal → Result (List Formal) g.Reported
   the_ok fs = Ok fs
 
-  sections_entered : (xs : List Section) (st : So) (gs : List Formal) (fs : Formals g.Reported) (hs : List Formal) → st.2 ≡ Ok gs → Entered gs fs → (fold (with_section g s) st xs).2 ≡ Ok hs → Entered hs (fold (entered_section g s) fs xs)
+  sections_entered : (xs : List Section) (st : So) (gs : List Formal) (fs : Formals g.Reported) (hs : List Formal) → st ≡ Ok gs → Entered gs fs → fold (with_section g s) st xs ≡ Ok hs → Entered hs (fold (entered_section g s) fs xs)
   sections_entered [] st gs fs hs e h q = let z : the_ok gs ≡ the_ok hs = sym e ∙ q in let w : gs ≡ hs = cc in subst (λ (ks : List Formal). Entered ks fs) w h
   sections_entered (x ∷ xs) st gs fs hs e h q = by (formal_of g s x.is_var x.of) refl (λ ks now. sections_entered xs (with_section g s st x) ks (entered_section g s fs x) hs now) where
     by : (f : Result Formal g.Reported) → formal_of g s x.is_var x.of ≡ f
-        → ((ks : List Formal) → (with_section g s st x).2 ≡ Ok ks → Entered ks (entered_section g s fs x) → (fold (with_section g s) (with_section g s st x) xs).2 ≡ Ok hs → Entered hs (fold (entered_section g s) (entered_section g s fs x) xs))
+        → ((ks : List Formal) → with_section g s st x ≡ Ok ks → Entered ks (entered_section g s fs x) → fold (with_section g s) (with_section g s st x) xs ≡ Ok hs → Entered hs (fold (entered_section g s) (entered_section g s fs x) xs))
         → Entered hs (fold (entered_section g s) fs (x ∷ xs))
     by (Err d) p on =
-        let broken : joined_formals g st.2 (formal_of g s x.is_var x.of) x.names ≡ Err d = ap (λ (r : Result (List Formal) g.Reported). joined_formals g r (formal_of g s x.is_var x.of) x.names) e ∙ ap (λ (r : Result Formal g.Reported). joined_formals g (Ok gs) r x.names) p in
+        let broken : joined_formals g st (formal_of g s x.is_var x.of) x.names ≡ Err d = ap (λ (r : Result (List Formal) g.Reported). joined_formals g r (formal_of g s x.is_var x.of) x.names) e ∙ ap (λ (r : Result Formal g.Reported). joined_formals g (Ok gs) r x.names) p in
         absurd (not_broken xs (with_section g s st x) d hs broken q)
     by (Ok a) p on =
-        let next : joined_formals g st.2 (formal_of g s x.is_var x.of) x.names ≡ Ok (gs ++ repeated a x.names) = ap (λ (r : Result (List Formal) g.Reported). joined_formals g r (formal_of g s x.is_var x.of) x.names) e ∙ ap (λ (r : Result Formal g.Reported). joined_formals g (Ok gs) r x.names) p in
+        let next : joined_formals g st (formal_of g s x.is_var x.of) x.names ≡ Ok (gs ++ repeated a x.names) = ap (λ (r : Result (List Formal) g.Reported). joined_formals g r (formal_of g s x.is_var x.of) x.names) e ∙ ap (λ (r : Result Formal g.Reported). joined_formals g (Ok gs) r x.names) p in
         on (gs ++ repeated a x.names) next
         (subst (λ (r : Result Formal g.Reported). Entered (gs ++ repeated a x.names) (fold (with_formal s.level r) fs x.names)) (sym p) (names_entered a x.names gs fs h)) q
 
-  pub formals_entered : (xs : List Section) (hs : List Formal) → (sections g s xs).1 ≡ Ok hs → ((formals_in g s xs).1 ≡ map of_formal hs) × NamesSlots (map formal_slot hs) s.level (formals_in g s xs).0
+  pub formals_entered : (xs : List Section) (hs : List Formal) → fold (with_section g s) (Ok []) xs ≡ Ok hs → ((formals_in g s xs).1 ≡ map of_formal hs) × NamesSlots (map formal_slot hs) s.level (formals_in g s xs).0
   formals_entered xs hs q =
-      let k : Entered hs (formals_in g s xs) = sections_entered xs (no_fields, Ok tt, Ok []) [] ([], []) hs refl (record { types = refl; names = tt }) q in
+      let k : Entered hs (formals_in g s xs) = sections_entered xs (Ok []) [] ([], []) hs refl (record { types = refl; names = tt }) q in
       (k.types, k.names)
 
-pub formals_are_slots : (g : Gathers) (s : Scope g.Reported) (seen : ℕ) (h : Heading) (fs : List Formal) → (sections g (inwards s seen) h.formals).1 ≡ Ok fs
+pub formals_are_slots : (g : Gathers) (s : Scope g.Reported) (seen : ℕ) (h : Heading) (fs : List Formal) → fold (with_section g (inwards s seen)) (Ok []) h.formals ≡ Ok fs
     → let e = (entered_procedure g s seen h).0 in (e.variables ≡ map (λ (f : Formal). f.of) fs) × ScopeSlots (Some fs) e
 formals_are_slots g s seen h fs q =
     let k = formals_entered g (inwards s seen) h.formals fs q in
@@ -135,19 +133,19 @@ module _ (g : Gathers) (a b : Scope g.Reported) (same : (q : Qualified) (t : Typ
   formal_stays : (v : Bool) (f : FormalType) (x : Formal) → formal_of g a v f ≡ Ok x → formal_of g b v f ≡ Ok x
   formal_stays v f x q = formal_by v f x (named_type g a f.of) refl q
 
-  sections_stay : (xs : List Section) (st ts : So g a) (gs fs : List Formal) → st.2 ≡ Ok gs → ts.2 ≡ Ok gs → (fold (with_section g a) st xs).2 ≡ Ok fs → (fold (with_section g b) ts xs).2 ≡ Ok fs
+  sections_stay : (xs : List Section) (st ts : So g a) (gs fs : List Formal) → st ≡ Ok gs → ts ≡ Ok gs → fold (with_section g a) st xs ≡ Ok fs → fold (with_section g b) ts xs ≡ Ok fs
   sections_stay [] st ts gs fs e d q = d ∙ (sym e ∙ q)
   sections_stay (x ∷ xs) st ts gs fs e d q = by (formal_of g a x.is_var x.of) refl (λ ks one two. sections_stay xs (with_section g a st x) (with_section g b ts x) ks fs one two) where
     by : (f : Result Formal g.Reported) → formal_of g a x.is_var x.of ≡ f
-        → ((ks : List Formal) → (with_section g a st x).2 ≡ Ok ks → (with_section g b ts x).2 ≡ Ok ks → (fold (with_section g a) (with_section g a st x) xs).2 ≡ Ok fs → (fold (with_section g b) (with_section g b ts x) xs).2 ≡ Ok fs)
-        → (fold (with_section g b) ts (x ∷ xs)).2 ≡ Ok fs
+        → ((ks : List Formal) → with_section g a st x ≡ Ok ks → with_section g b ts x ≡ Ok ks → fold (with_section g a) (with_section g a st x) xs ≡ Ok fs → fold (with_section g b) (with_section g b ts x) xs ≡ Ok fs)
+        → fold (with_section g b) ts (x ∷ xs) ≡ Ok fs
     by (Err c) p on =
-        let broken : joined_formals g st.2 (formal_of g a x.is_var x.of) x.names ≡ Err c = ap (λ (r : Result (List Formal) g.Reported). joined_formals g r (formal_of g a x.is_var x.of) x.names) e ∙ ap (λ (r : Result Formal g.Reported). joined_formals g (Ok gs) r x.names) p in
+        let broken : joined_formals g st (formal_of g a x.is_var x.of) x.names ≡ Err c = ap (λ (r : Result (List Formal) g.Reported). joined_formals g r (formal_of g a x.is_var x.of) x.names) e ∙ ap (λ (r : Result Formal g.Reported). joined_formals g (Ok gs) r x.names) p in
         absurd (not_broken g a xs (with_section g a st x) c fs broken q)
     by (Ok y) p on =
-        let one : joined_formals g st.2 (formal_of g a x.is_var x.of) x.names ≡ Ok (gs ++ repeated y x.names) = ap (λ (r : Result (List Formal) g.Reported). joined_formals g r (formal_of g a x.is_var x.of) x.names) e ∙ ap (λ (r : Result Formal g.Reported). joined_formals g (Ok gs) r x.names) p in
-        let two : joined_formals g ts.2 (formal_of g b x.is_var x.of) x.names ≡ Ok (gs ++ repeated y x.names) = ap (λ (r : Result (List Formal) g.Reported). joined_formals g r (formal_of g b x.is_var x.of) x.names) d ∙ ap (λ (r : Result Formal g.Reported). joined_formals g (Ok gs) r x.names) (formal_stays x.is_var x.of y p) in
+        let one : joined_formals g st (formal_of g a x.is_var x.of) x.names ≡ Ok (gs ++ repeated y x.names) = ap (λ (r : Result (List Formal) g.Reported). joined_formals g r (formal_of g a x.is_var x.of) x.names) e ∙ ap (λ (r : Result Formal g.Reported). joined_formals g (Ok gs) r x.names) p in
+        let two : joined_formals g ts (formal_of g b x.is_var x.of) x.names ≡ Ok (gs ++ repeated y x.names) = ap (λ (r : Result (List Formal) g.Reported). joined_formals g r (formal_of g b x.is_var x.of) x.names) d ∙ ap (λ (r : Result Formal g.Reported). joined_formals g (Ok gs) r x.names) (formal_stays x.is_var x.of y p) in
         on (gs ++ repeated y x.names) one two q
 
-  pub formals_stay : (xs : List Section) (fs : List Formal) → (sections g a xs).1 ≡ Ok fs → (sections g b xs).1 ≡ Ok fs
-  formals_stay xs fs q = sections_stay xs (no_fields, Ok tt, Ok []) (no_fields, Ok tt, Ok []) [] fs refl refl q
+  pub formals_stay : (xs : List Section) (fs : List Formal) → fold (with_section g a) (Ok []) xs ≡ Ok fs → fold (with_section g b) (Ok []) xs ≡ Ok fs
+  formals_stay xs fs q = sections_stay xs (Ok []) (Ok []) [] fs refl refl q

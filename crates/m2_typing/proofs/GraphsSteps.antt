@@ -27,7 +27,8 @@ use Rattle.m2_scopes.specs.declared.known.Origin.TheVariants.{Here, Module, Expo
 use Rattle.m2_scopes.specs.declared.known.Known.{Known}
 use Rattle.m2_scopes.specs.declared.known.Known.TheVariants.{Later, Ahead, Begun, Declared}
 use Rattle.m2_scopes.specs.declared.scope.Scope.{Scope}
-use Rattle.m2_constants.specs.Parts.{part, constant}
+use Rattle.m2_constants.specs.Parts.{constant}
+use Rattle.m2_exprs.specs.Meanings.{part}
 use Rattle.m2_made.specs.declared.field.Fields.{Fields}
 use Rattle.m2_made.specs.Fields.{no_fields}
 use Rattle.m2_made.specs.Made.{next_type, with_shape, with_made, enumeration_scalar, too_many, listed, simple_type, index_type, Makes, MakesFields, then_fields, type_layer, type_of, field_list}

@@ -9,6 +9,8 @@ use Rattle.m2_typed.specs.declared.statement.Label.{Label}
 use Rattle.m2_typed.specs.declared.known_types.Types.{Types}
 use Rattle.m2_typed.specs.declared.types.TypeNo.{TypeNo}
 use Rattle.m2_typed.specs.Types.{are_same, is_numeric}
+use Rattle.m2_scopes.specs.declared.meaningless.Meaningless.{Meaningless}
+use Rattle.m2_scopes.specs.declared.meaningless.Meaningless.TheVariants.{Broken, Headless}
 use Rattle.m2_scopes.specs.Elaborated.{Gathers, reported, reported_where, beside}
 use Rattle.m2_scopes.specs.declared.scope.Scope.{Scope}
 use Rattle.m2_values.specs.declared.operand.Operand.{Operand}
@@ -35,7 +37,7 @@ use Rattle.m2_typing.specs.Typing.{ValueTyped, DesignatedTyped, IsTyped, Express
 use Rattle.m2_typing.proofs.Operators.{where_not}
 use Rattle.m2_steps.specs.Lists.{with_next}
 use Rattle.m2_steps.specs.Simple.{meant_if}
-use Rattle.m2_steps.specs.Labels.{ordinal_in, of_type, no_constant, value_bound, variable_bound, bound_by, bound_of, is_of_base, number_fits, suits_base, bound_suits, single, ordered_if, are_ordered, spanned, label_between, Labels, with_label, item_label, with_item, labels_in}
+use Rattle.m2_steps.specs.Labels.{ordinal_in, of_type, no_constant, value_bound, variable_bound, bound_by, bound_in, bound_of, is_of_base, number_fits, suits_base, bound_suits, single, ordered_if, are_ordered, spanned, label_between, Labels, with_label, item_label, with_item, labels_in}
 use Rattle.m2_typing.specs.TypingStmts.{fits_if, fits_label}
 use Rattle.m2_typing.proofs.StmtsSteps.{small}
 
@@ -80,7 +82,7 @@ module _ (g : Gathers) (x : Context) (ws : List Ty) (opens : ℕ → Bool) (s : 
   none_typed : (alike : Bool) (label at : Pos) → Holds InSort (no_constant g alike label at)
   none_typed alike label at = then_holds (both_holds g (any_holds (of_type g alike at)) (reported_label label)) (λ v k. absurd k.1)
 
-  value_typed : (base : TypeNo) (label at : Pos) (v : Computed) → ValueTyped x ws v → Holds InSort (value_bound g base label at v)
+  value_typed : (base : TypeNo) (label at : Pos) (v : Computed) → ValueTyped x ws v → Holds InSort (value_bound g (Some base) label at v)
   value_typed base label at (value.Constant v) p = ordinal_typed at (operand_of v) (operand_ranged types v p.0)
   value_typed base label at (value.Scalar t b e) p = none_typed (are_same b base) label at
   value_typed base label at (value.Set e) p = none_typed false label at
@@ -89,37 +91,42 @@ module _ (g : Gathers) (x : Context) (ws : List Ty) (opens : ℕ → Bool) (s : 
   value_typed base label at (value.Whole t d) p = none_typed false label at
   value_typed base label at value.Untaken p = none_typed false label at
 
-  variable_typed : (base : TypeNo) (label at : Pos) (c : Class) → Holds InSort (variable_bound g base label at c)
+  variable_typed : (base : TypeNo) (label at : Pos) (c : Class) → Holds InSort (variable_bound g (Some base) label at c)
   variable_typed base label at (class.Scalar k) = none_typed (are_same k.base base) label at
   variable_typed base label at class.Set = none_typed false label at
   variable_typed base label at class.Procedure = none_typed false label at
   variable_typed base label at class.Whole = none_typed false label at
 
-  bound_by_typed : (base : TypeNo) (label at : Pos) (d : Designated) → DesignatedTyped x ws opens d → Holds InSort (bound_by g s.types base label at d)
+  bound_by_typed : (base : TypeNo) (label at : Pos) (d : Designated) → DesignatedTyped x ws opens d → Holds InSort (bound_by g s.types (Some base) label at d)
   bound_by_typed base label at (designated.Value v) p = value_typed base label at v p
   bound_by_typed base label at (designated.Variable t d) p = variable_typed base label at (class_at s.types t)
   bound_by_typed base label at (designated.Open t slot) p = none_typed false label at
   bound_by_typed base label at (designated.Type t) p = none_typed false label at
   bound_by_typed base label at (designated.Procedure f) p = none_typed false label at
-  bound_by_typed base label at (designated.Nested f) p = none_typed false label at
-  bound_by_typed base label at (designated.Standard f) p = none_typed false label at
+  bound_by_typed base label at (designated.Nested f) p = reported_holds g at 53
+  bound_by_typed base label at (designated.Standard f) p = reported_holds g at 53
   bound_by_typed base label at (designated.Module k) p = none_typed false label at
 
   abbrev Known_ : Meant g.Reported → Type 0
   Known_ y = Holds (DesignatedTyped x ws opens) (y.means s)
 
-  bound_typed : (base : TypeNo) (label : Pos) (y : Meant g.Reported) → Known_ y → Holds InSort (bound_of g s base label y)
-  bound_typed base label y p = then_holds p (λ d k. bound_by_typed base label y.fixed.at d k)
+  bound_in_typed : (base : TypeNo) (label at : Pos) {d : Result Designated (Meaningless g.Reported)} → Holds (DesignatedTyped x ws opens) d → Holds InSort (bound_in g s.types (Some base) label at d)
+  bound_in_typed base label at (fine d k) = bound_by_typed base label at d k
+  bound_in_typed base label at (broken (Broken e)) = broken e
+  bound_in_typed base label at (broken (Headless e)) = none_typed false label at
+
+  bound_typed : (base : TypeNo) (label : Pos) (y : Meant g.Reported) → Known_ y → Holds InSort (bound_of g s (Some base) label y)
+  bound_typed base label y p = bound_in_typed base label y.fixed.at p
 
   -- ---- labels
 
   label_of : (a b : Ordinal) → InSort a → InSort b → a.number ≤ℤ b.number → IsLabel (record { low = a.number; high = b.number })
   label_of a b p q r = record { low = (small types h.all.ranged a.sort a.number p).0; order = r; high = (small types h.all.ranged b.sort b.number q).1 }
 
-  single_typed : (base : TypeNo) (at : Pos) {a : Result Ordinal g.Reported} → Holds InSort a → Holds IsLabel (single g base at a)
-  single_typed base at {a = a} p = then_holds (both_holds g p (any_holds (bound_suits g base at a))) (λ v k. fine (record { low = v.0.number; high = v.0.number }) (label_of v.0 v.0 k.0 k.0 (at_itself v.0.number)))
+  single_typed : (base : TypeNo) (at : Pos) {a : Result Ordinal g.Reported} → Holds InSort a → Holds IsLabel (single g (Some base) at a)
+  single_typed base at {a = a} p = then_holds (both_holds g p (any_holds (bound_suits g (Some base) at a))) (λ v k. fine (record { low = v.0.number; high = v.0.number }) (label_of v.0 v.0 k.0 k.0 (at_itself v.0.number)))
 
-  suits_typed : (base : TypeNo) (at : Pos) (a : Ordinal) → Holds (λ u. is_of_base base a.sort ≡ true) (suits_base g base at a)
+  suits_typed : (base : TypeNo) (at : Pos) (a : Ordinal) → Holds (λ u. is_of_base base a.sort ≡ true) (suits_base g (Some base) at a)
   suits_typed base at a = where_not g (is_of_base base a.sort) at 40 (λ e. then_any e (number_fits g base at a a.sort)) where
     then_any : {P : Type 0} → P → (r : Result (Unit {0}) g.Reported) → Holds (λ u. P) r
     then_any p (Ok u) = fine u p
@@ -141,7 +148,7 @@ module _ (g : Gathers) (x : Context) (ws : List Ty) (opens : ℕ → Bool) (s : 
     by false e = fine tt (not_less b.number a.number e)
 
   abbrev Third : TypeNo → Pos → Pos → Ordinal → Ordinal → Result (Unit {0}) g.Reported
-  Third base at at' a b = beside g (beside g (suits_base g base at a) (suits_base g base at' b)) (ordered_if g at a b (common a.sort b.sort))
+  Third base at at' a b = beside g (beside g (suits_base g (Some base) at a) (suits_base g (Some base) at' b)) (ordered_if g at a b (common a.sort b.sort))
 
   third_typed : (base : TypeNo) (at at' : Pos) (a b : Ordinal) → Holds (λ u. a.number ≤ℤ b.number) (Third base at at' a b)
   third_typed base at at' a b =
@@ -158,21 +165,21 @@ module _ (g : Gathers) (x : Context) (ws : List Ty) (opens : ℕ → Bool) (s : 
   two_ordinals : (a b : Ordinal) → Holds {A = Ordinal × Ordinal} {T = g.Reported} (λ v. v ≡ (a, b)) (Ok (a, b))
   two_ordinals a b = fine (a, b) refl
 
-  spanned_typed : (base : TypeNo) (at : Pos) {a : Result Ordinal g.Reported} (at' : Pos) {b : Result Ordinal g.Reported} → Holds InSort a → Holds InSort b → Holds IsLabel (spanned g base at a at' b)
+  spanned_typed : (base : TypeNo) (at : Pos) {a : Result Ordinal g.Reported} (at' : Pos) {b : Result Ordinal g.Reported} → Holds InSort a → Holds InSort b → Holds IsLabel (spanned g (Some base) at a at' b)
   spanned_typed base at at' (fine a p) (fine b q) =
       then_holds (both_holds g (two_ordinals a b) (third_typed base at at' a b)) (λ v k.
       fine (record { low = v.0.0.number; high = v.0.1.number })
       (subst (λ (z : Ordinal × Ordinal). IsLabel (record { low = z.0.number; high = z.1.number })) (sym k.0) (label_of a b p q k.1)))
   spanned_typed base at {a = a} at' {b = b} (fine k p) (broken e) =
-      then_holds (both_holds g (both_holds g (any_holds a) (no_ordinal e)) (any_holds (beside g (beside g (bound_suits g base at a) (bound_suits g base at' b)) (are_ordered g at a b)))) (λ v j. absurd j.0.1)
+      then_holds (both_holds g (both_holds g (any_holds a) (no_ordinal e)) (any_holds (beside g (beside g (bound_suits g (Some base) at a) (bound_suits g (Some base) at' b)) (are_ordered g at a b)))) (λ v j. absurd j.0.1)
   spanned_typed base at {a = a} at' {b = b} (broken e) q =
-      then_holds (both_holds g (both_holds g (no_ordinal e) (any_holds b)) (any_holds (beside g (beside g (bound_suits g base at a) (bound_suits g base at' b)) (are_ordered g at a b)))) (λ v j. absurd j.0.0)
+      then_holds (both_holds g (both_holds g (no_ordinal e) (any_holds b)) (any_holds (beside g (beside g (bound_suits g (Some base) at a) (bound_suits g (Some base) at' b)) (are_ordered g at a b)))) (λ v j. absurd j.0.0)
 
   abbrev KnownIf : Option (Meant g.Reported) → Type 0
   KnownIf None = Unit {0}
   KnownIf (Some y) = Known_ y
 
-  between_typed : (base : TypeNo) (low : Meant g.Reported) (high : Option (Meant g.Reported)) → Known_ low → KnownIf high → Holds IsLabel (label_between g s base low high)
+  between_typed : (base : TypeNo) (low : Meant g.Reported) (high : Option (Meant g.Reported)) → Known_ low → KnownIf high → Holds IsLabel (label_between g s (Some base) low high)
   between_typed base low None p q = single_typed base low.fixed.at (bound_typed base low.fixed.at low p)
   between_typed base low (Some high) p q = spanned_typed base low.fixed.at high.fixed.at (bound_typed base low.fixed.at low p) (bound_typed base low.fixed.at high q)
 
@@ -194,16 +201,16 @@ module _ (g : Gathers) (x : Context) (ws : List Ty) (opens : ℕ → Bool) (s : 
     high_known None f = tt
     high_known (Some e) f = exprs x ws opens s h e f
 
-    item_typed : (base : TypeNo) (i : Item) → fits_label i ≡ true → Holds IsLabel (item_label g s base i)
+    item_typed : (base : TypeNo) (i : Item) → fits_label i ≡ true → Holds IsLabel (item_label g s (Some base) i)
     item_typed base i f =
         between_typed base (meant g (out-Item i).low) (meant_if g (out-Item i).high) (exprs x ws opens s h (out-Item i).low (both_left (fits_whole (out-Item i).low) (fits_if (out-Item i).high) f))
         (high_known (out-Item i).high (both_right (fits_whole (out-Item i).low) (fits_if (out-Item i).high) f))
 
-    from_labels : (base : TypeNo) (is : List Item) (st : Labels g.Reported) → list_all fits_label is ≡ true → Holds AreLabels st.1 → Holds AreLabels (fold (with_item g s base) st is).1
+    from_labels : (base : TypeNo) (is : List Item) (st : Labels g.Reported) → list_all fits_label is ≡ true → Holds AreLabels st.1 → Holds AreLabels (fold (with_item g s (Some base)) st is).1
     from_labels base [] st f p = p
     from_labels base (i ∷ is) st f p =
-        from_labels base is (with_item g s base st i) (both_right (fits_label i) (list_all fits_label is) f)
-        (with_typed (meant g (out-Item i).low).fixed.at st (item_label g s base i) p (item_typed base i (both_left (fits_label i) (list_all fits_label is) f)))
+        from_labels base is (with_item g s (Some base) st i) (both_right (fits_label i) (list_all fits_label is) f)
+        (with_typed (meant g (out-Item i).low).fixed.at st (item_label g s (Some base) i) p (item_typed base i (both_left (fits_label i) (list_all fits_label is) f)))
 
-    pub labels_typed : (base : TypeNo) (ranges : List (ℤ × ℤ)) (is : List Item) → list_all fits_label is ≡ true → Holds AreLabels (labels_in g s base ranges is).1
+    pub labels_typed : (base : TypeNo) (ranges : List (ℤ × ℤ)) (is : List Item) → list_all fits_label is ≡ true → Holds AreLabels (labels_in g s (Some base) ranges is).1
     labels_typed base ranges is f = from_labels base is (ranges, Ok []) f (fine [] tt)

@@ -17,7 +17,6 @@ pub mod Naming
 pub mod Exporting
 pub mod StmtsWants
 pub mod StmtsConstructs
-pub mod Fixed
 pub mod Within
 pub mod StmtsSteps
 pub mod Labels

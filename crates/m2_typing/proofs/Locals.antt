@@ -37,7 +37,8 @@ use Rattle.m2_typed.specs.declared.meaning.Value.{Value}
 use Rattle.m2_typed.specs.declared.shape.Made.{Made}
 use Rattle.m2_tree.specs.Names.{same_name}
 use Rattle.m2_typed.specs.Names.{found}
-use Rattle.m2_constants.specs.Parts.{part, constant}
+use Rattle.m2_constants.specs.Parts.{constant}
+use Rattle.m2_exprs.specs.Meanings.{part}
 use Rattle.m2_made.specs.Headings.{heading_of}
 use Rattle.m2_types.specs.Declare.{constant_meaning, with_constant, brings_with, type_meaning, with_type, begun_name, with_variable_type, with_variables}
 use Rattle.m2_blocks.specs.declared.heading.Standing.{Standing}

@@ -1,7 +1,7 @@
 -- Expressions and designators: a lemma for each construct, and then the induction.
 use Rattle.std.proofs.Common.{◌≡◌, ℕ, ◌==◌, pos, Bool, true, false, List, [], ◌∷◌, ◌++◌, length, map, Option, Some, None, Result, Ok, refl, sym, ap, subst, ◌∙◌, append_assoc, arith}
 use Rattle.std.proofs.lemmas.Int.{ints}
-use Rattle.std.specs.Prelude.{not, ◌&&◌}
+use Rattle.std.specs.Prelude.{not, cond, ◌&&◌}
 use Rattle.std.specs.List.{fold, list_all}
 use Rattle.std.specs.Option.{option_map}
 use Rattle.std.proofs.lemmas.Bool.{eqb-true}
@@ -35,7 +35,8 @@ use Rattle.m2_typed.specs.declared.shape.Signature.{Signature}
 use Rattle.m2_typed.specs.declared.types.TypeNo.{TypeNo}
 use Rattle.m2_typed.specs.Chains.{rooted}
 use Rattle.m2_typed.specs.Types.{char}
-use Rattle.m2_scopes.specs.Elaborated.{Gathers, reported_where, ◌▷◌}
+use Rattle.m2_scopes.specs.declared.meaningless.Meaningless.{Meaningless}
+use Rattle.m2_scopes.specs.Elaborated.{Gathers, reported_where, ahead, of_sort, of_heading, ◌▷◌}
 use Rattle.m2_scopes.specs.declared.scope.Scope.{Scope}
 use Rattle.m2_constants.specs.Denote.{as_constant as constant_of}
 use Rattle.m2_constants.specs.Parts.{Part, Pick, Adds, sign_place, set_type}
@@ -60,14 +61,14 @@ use Rattle.m2_calls.specs.declared.callee.Called.TheVariants as called
 use Rattle.m2_calls.specs.declared.standard.Form.{Form}
 use Rattle.m2_calls.specs.declared.standard.Form.TheVariants as form
 use Rattle.m2_calls.specs.declared.standard.Unary.{Unary}
-use Rattle.m2_exprs.specs.Meanings.{Meant, Picks, of_computed, signed_first, named, field_of, formals_of, argument_by, call_given, as_constant, value_of, with_actual, actuals, routine_called, unary, bound, conversion, high, by_form, called_as, called_by, factor, term, relation, expr_layer, selector_layer, designator_layer, item_layer, meant, picks, head, item}
+use Rattle.m2_exprs.specs.Meanings.{Meant, Picks, of_computed, signed_first, named, field_of, formals_of, passed_for, argument_by, call_given, as_constant, value_of, looked_at, with_actual, actuals, routine_called, unary, bound, conversion, high, by_form, called_as, called_by, factor, term, relation, expr_layer, selector_layer, designator_layer, item_layer, meant, picks, head, item}
 use Rattle.m2_layout.specs.Shapes.{tree}
 use Rattle.m2_layout.specs.Types.{Ty}
 use Rattle.m2_agree.specs.Frames.{kind_at}
 use Rattle.m2_agree.specs.Passing.{Forms, form_of}
 use Rattle.m2_agree.specs.TreesTyped.{Context, GlobalRoot, LocalRoot, AliasRoot, WithRoot}
-use Rattle.m2_formed.specs.Formed.{Holds, fine, broken}
-use Rattle.m2_formed.proofs.Basics.{then_holds, reported_holds, both_holds, any_holds, heading_kept}
+use Rattle.m2_formed.specs.Formed.{Holds, fine}
+use Rattle.m2_formed.proofs.Basics.{then_holds, reported_holds, both_holds, refused_holds, reported_beside_holds, ahead_holds, sort_holds, of_heading_holds, plain_holds, any_holds, heading_kept}
 use Rattle.m2_formed.specs.FormedRanges.{itself, fits_letter, fits_layer, LetterRanged}
 use Rattle.m2_formed.proofs.RangesTypes.{both_left, both_right}
 use Rattle.m2_formed.proofs.Subranges.{from_le}
@@ -86,14 +87,14 @@ module _ (g : Gathers) (x : Context) (ws : List Ty) (opens : ℕ → Bool) (s : 
   abbrev pub Value_ : Result Computed g.Reported → Type 0
   Value_ r = Holds (ValueTyped x ws) r
 
-  abbrev pub Designated_ : Result Designated g.Reported → Type 0
+  abbrev pub Designated_ : {T : Type 0} → Result Designated T → Type 0
   Designated_ r = Holds (DesignatedTyped x ws opens) r
 
   abbrev pub FM : Meant g.Reported → Type 0
   FM y = Designated_ (y.means s)
 
   abbrev FP : Picks g.Reported → Type 0
-  FP p = (d : Result Designated g.Reported) → Designated_ d → Designated_ (p.picks s d)
+  FP p = (d : Result Designated (Meaningless g.Reported)) → Designated_ d → Designated_ (p.picks s d)
 
   abbrev pub AllM : List (Meant g.Reported) → Type 0
   AllM [] = Unit {0}
@@ -108,10 +109,10 @@ module _ (g : Gathers) (x : Context) (ws : List Ty) (opens : ℕ → Bool) (s : 
   AllP (y ∷ ys) = FP y × AllP ys
 
   pub value_typed : (y : Meant g.Reported) → FM y → Value_ (value_of g s y)
-  value_typed y p = then_holds p (λ d k. taken_typed x ws h.all g opens s.types h.types y.fixed.at d k)
+  value_typed y p = then_holds (of_heading_holds p) (λ d k. taken_typed x ws h.all g opens s.types h.types y.fixed.at d k)
 
   computed_typed : {r : Result Computed g.Reported} → Value_ r → Designated_ (of_computed r)
-  computed_typed p = then_holds p (λ v k. fine (designated.Value v) k)
+  computed_typed p = plain_holds (then_holds p (λ v k. fine (designated.Value v) k))
 
   -- ---- constants
 
@@ -132,7 +133,7 @@ module _ (g : Gathers) (x : Context) (ws : List Ty) (opens : ℕ → Bool) (s : 
   constant_of_typed at (denoted.Module k) p = reported_holds g at 34
 
   constant_meant : (y : Part g.Reported) → Holds DenotedTyped (y.denotes s) → Designated_ (as_constant g s y)
-  constant_meant y p = then_holds (then_holds p (λ d k. constant_of_typed y.at d k)) (λ v k. fine (designated.Value (value.Constant v)) k)
+  constant_meant y p = plain_holds (then_holds (then_holds p (λ d k. constant_of_typed y.at d k)) (λ v k. fine (designated.Value (value.Constant v)) k))
 
   -- ---- names
 
@@ -156,7 +157,7 @@ module _ (g : Gathers) (x : Context) (ws : List Ty) (opens : ℕ → Bool) (s : 
   by_meaning at (meaning.Module k) p = fine (designated.Module k) p
 
   named_typed : (name : Ident) → Designated_ (named g s name)
-  named_typed name = then_holds (h.names name) (λ y p. by_meaning name.pos y p)
+  named_typed name = then_holds (h.names name) (λ y p. plain_holds (by_meaning name.pos y p))
 
   component_typed : (at : Pos) (name : Ident) (d : Designated) → DesignatedTyped x ws opens d → Designated_ (field g s.types at name d)
   component_typed at name d p = field_typed x ws h.all g s.types h.types opens at name d p
@@ -176,13 +177,20 @@ module _ (g : Gathers) (x : Context) (ws : List Ty) (opens : ℕ → Bool) (s : 
   abbrev pub Arguments_ : Forms → Result (List Argument) g.Reported → Type 0
   Arguments_ fs r = Holds (λ gs. made.ArgumentsTyped x ws gs fs) r
 
+  passed_by : (is_var : Bool) (at : Pos) {d : Result Designated (Meaningless g.Reported)} → Designated_ d → Designated_ (cond is_var (of_sort g at 44 d) (of_heading d))
+  passed_by true at p = sort_holds g at 44 p
+  passed_by false at p = of_heading_holds p
+
+  passed_typed : (f : Formal) (at : Pos) {d : Result Designated (Meaningless g.Reported)} → Designated_ d → Designated_ (passed_for g f at d)
+  passed_typed f at p = passed_by f.is_var at p
+
   args_typed : (args : List (Meant g.Reported)) (fs : List Formal) (taken : Forms) (r : Result (List Argument) g.Reported) → length fs ≡ length args → FormalsKnown s.types fs → Arguments_ taken r → AllM args
       → Arguments_ (taken ++ map (form_of types) fs) (fold (with_actual g s) (fs, r) args).1
   args_typed [] [] taken r e f p all = subst (λ (fs : Forms). Arguments_ fs r) (sym (append-nil taken)) p
   args_typed [] (y ∷ fs) taken r e f p all = absurd (omega (arith, e))
   args_typed (y ∷ args) [] taken r e f p all = absurd (omega (arith, e))
   args_typed (y ∷ args) (z ∷ fs) taken r e f p all =
-      let one : Arguments_ (taken ++ form_of types z ∷ []) (with_argument g r (argument_by g s.types (Some z) y.fixed.at (y.means s))) = then_holds (both_holds g p (then_holds all.0 (λ d k. actual_typed x ws h.all g opens s.types h.types h.room z y.fixed.at d f.0 k)))
+      let one : Arguments_ (taken ++ form_of types z ∷ []) (with_argument g r (argument_by g s.types (Some z) y.fixed.at (y.means s))) = then_holds (both_holds g p (then_holds (passed_typed z y.fixed.at all.0) (λ d k. actual_typed x ws h.all g opens s.types h.types h.room z y.fixed.at d f.0 k)))
       (λ v k. fine (v.0 ++ v.1 ∷ []) (made.arguments_typed x ws v.0 v.1 taken (form_of types z) k.0 k.1))
       in
       subst (λ (es : Forms). Arguments_ es (fold (with_actual g s) (z ∷ fs, r) (y ∷ args)).1) (append_assoc taken (form_of types z ∷ []) (map (form_of types) fs)) (args_typed args fs (taken ++ form_of types z ∷ []) _ (omega (arith, e)) f.1 one all.1)
@@ -205,17 +213,17 @@ module _ (g : Gathers) (x : Context) (ws : List Ty) (opens : ℕ → Bool) (s : 
         (given_typed x ws h.all g opens s.types h.types r (call_by gs c) (subst (CallTyped x ws (call_by gs c)) (ap (option_map (tree types)) q) (call_made k e gs p))))
 
     by_count : (k : Signature) (r : TypeNo) (q : Bool) → (length k.formals == length args) ≡ q → signature_at s.types t ≡ Some k → k.result ≡ Some r
-        → Value_ ((reported_where g {A = Unit {0}} (not q) at 42 (Ok (tt {0})) ▷ λ fine. Ok r) ▷ λ r. call_given g s.types r c (actuals g s k.formals args))
+        → Value_ (ahead g (reported_where g {A = Unit {0}} (not q) at 42 (Ok (tt {0})) ▷ λ fine. Ok r) (looked_at g s args) (λ r. call_given g s.types r c (actuals g s k.formals args)))
     by_count k r true count e q = given_call k r e q (eqb-true (length k.formals) (length args) count)
-    by_count k r false count e q = broken _
+    by_count k r false count e q = refused_holds g _ (looked_at g s args)
 
     by_result : (k : Signature) (o : Option TypeNo) → k.result ≡ o → signature_at s.types t ≡ Some k
-        → Value_ (function_with g at (length k.formals) (length args) o ▷ λ r. call_given g s.types r c (actuals g s k.formals args))
-    by_result k None q e = broken _
+        → Value_ (ahead g (function_with g at (length k.formals) (length args) o) (looked_at g s args) (λ r. call_given g s.types r c (actuals g s k.formals args)))
+    by_result k None q e = refused_holds g _ (looked_at g s args)
     by_result k (Some r) q e = by_count k r (length k.formals == length args) refl e q
 
-    by_signature : (o : Option Signature) → signature_at s.types t ≡ o → Value_ (function_of g at o (length args) ▷ λ r. call_given g s.types r c (actuals g s (formals_of o) args))
-    by_signature None e = broken _
+    by_signature : (o : Option Signature) → signature_at s.types t ≡ o → Value_ (ahead g (function_of g at o (length args)) (looked_at g s args) (λ r. call_given g s.types r c (actuals g s (formals_of o) args)))
+    by_signature None e = refused_holds g _ (looked_at g s args)
     by_signature (Some k) e = by_result k k.result refl e
 
     routine_typed : Value_ (routine_called g s at t c args)
@@ -224,42 +232,42 @@ module _ (g : Gathers) (x : Context) (ws : List Ty) (opens : ℕ → Bool) (s : 
   -- ---- standard functions
 
   unary_all : (at : Pos) (f : Standard) (u : Unary) (args : List (Meant g.Reported)) → AllM args → Value_ (unary g s at f u args)
-  unary_all at f u [] all = reported_holds g at 42
+  unary_all at f u [] all = reported_beside_holds g at 42 (looked_at g s [])
   unary_all at f u (y ∷ []) all = then_holds (value_typed y all.0) (λ v p. unary_typed x ws h.all g opens s.types h.types f u y.fixed.at v p)
-  unary_all at f u (y ∷ z ∷ ys) all = reported_holds g at 42
+  unary_all at f u (y ∷ z ∷ ys) all = reported_beside_holds g at 42 _
 
   named_type : (at : Pos) (d : Result Designated g.Reported) → Holds (TypeIs x ws h.all g opens s.types h.types) (d ▷ type_named g s.types at)
   named_type at d = then_holds (any_holds d) (λ y k. type_is x ws h.all g opens s.types h.types at y)
 
   bound_all : (at : Pos) (f : Standard) (args : List (Meant g.Reported)) → Value_ (bound g s at f args)
-  bound_all at f [] = reported_holds g at 42
-  bound_all at f (y ∷ []) = bound_typed x ws h.all g opens s.types h.types f (named_type y.fixed.at (y.means s))
-  bound_all at f (y ∷ z ∷ ys) = reported_holds g at 42
+  bound_all at f [] = reported_beside_holds g at 42 (looked_at g s [])
+  bound_all at f (y ∷ []) = bound_typed x ws h.all g opens s.types h.types f (named_type y.fixed.at (of_sort g y.fixed.at 33 (y.means s)))
+  bound_all at f (y ∷ z ∷ ys) = reported_beside_holds g at 42 _
 
   conversion_all : (at : Pos) (args : List (Meant g.Reported)) → AllM args → Value_ (conversion g s at args)
-  conversion_all at [] all = reported_holds g at 42
-  conversion_all at (t ∷ []) all = reported_holds g at 42
-  conversion_all at (t ∷ y ∷ []) all = conversion_typed x ws h.all g opens s.types h.types y.fixed.at (named_type t.fixed.at (t.means s)) (value_typed y all.1.0)
-  conversion_all at (t ∷ y ∷ z ∷ ys) all = reported_holds g at 42
+  conversion_all at [] all = reported_beside_holds g at 42 (looked_at g s [])
+  conversion_all at (t ∷ []) all = reported_beside_holds g at 42 _
+  conversion_all at (t ∷ y ∷ []) all = conversion_typed x ws h.all g opens s.types h.types y.fixed.at (named_type t.fixed.at (of_sort g t.fixed.at 33 (t.means s))) (value_typed y all.1.0)
+  conversion_all at (t ∷ y ∷ z ∷ ys) all = reported_beside_holds g at 42 _
 
   high_all : (at : Pos) (args : List (Meant g.Reported)) → AllM args → Value_ (high g s at args)
-  high_all at [] all = reported_holds g at 42
-  high_all at (y ∷ []) all = then_holds all.0 (λ d p. high_typed x ws h.all g opens s.types h.types y.fixed.at d p)
-  high_all at (y ∷ z ∷ ys) all = reported_holds g at 42
+  high_all at [] all = reported_beside_holds g at 42 (looked_at g s [])
+  high_all at (y ∷ []) all = then_holds (sort_holds g y.fixed.at 43 all.0) (λ d p. high_typed x ws h.all g opens s.types h.types y.fixed.at d p)
+  high_all at (y ∷ z ∷ ys) all = reported_beside_holds g at 42 _
 
   form_typed : (at : Pos) (f : Standard) (args : List (Meant g.Reported)) (o : Form) → AllM args → Value_ (by_form g s at f args o)
   form_typed at f args (form.Unary u) all = unary_all at f u args all
   form_typed at f args form.Bound all = bound_all at f args
   form_typed at f args form.Conversion all = conversion_all at args all
   form_typed at f args form.High all = high_all at args all
-  form_typed at f args form.Proper all = reported_holds g at 40
+  form_typed at f args form.Proper all = reported_beside_holds g at 40 _
 
   called_as_typed : (at : Pos) (args : List (Meant g.Reported)) (y : Called) → CalledTyped x ws h.all g opens s.types h.types y → AllM args → Value_ (called_as g s at args y)
   called_as_typed at args (called.Routine t c) p all = routine_typed at t c args p all
   called_as_typed at args (called.Standard f) p all = form_typed at f args (standard_form f) all
 
-  called_typed : (at : Pos) {d : Result Designated g.Reported} (args : List (Meant g.Reported)) → Designated_ d → AllM args → Value_ (called_by g s at d args)
-  called_typed at args p all = then_holds (then_holds p (λ d k. callee_typed x ws h.all g opens s.types h.types at d k)) (λ y k. called_as_typed at args y k all)
+  called_typed : (at : Pos) {d : Result Designated (Meaningless g.Reported)} (args : List (Meant g.Reported)) → Designated_ d → AllM args → Value_ (called_by g s at d args)
+  called_typed at args p all = ahead_holds g (looked_at g s args) (then_holds (of_heading_holds p) (λ d k. callee_typed x ws h.all g opens s.types h.types at d k)) (λ y k. called_as_typed at args y k all)
 
   -- ---- operators
 
@@ -278,7 +286,7 @@ module _ (g : Gathers) (x : Context) (ws : List Ty) (opens : ℕ → Bool) (s : 
   relation_typed : (a : Meant g.Reported) (o : Operator RelOp) (b : Meant g.Reported) → FM a → FM b → Value_ (relation g s a o b)
   relation_typed a o b p q = combined_typed x ws h.all g s.types h.types (op.Relation o.op) o.pos a.fixed.at b.fixed.at (value_typed a p) (value_typed b q)
 
-  picks_typed : (ps : List (Picks g.Reported)) (d : Result Designated g.Reported) → Designated_ d → AllP ps → Designated_ (fold (λ y p. p.picks s y) d ps)
+  picks_typed : (ps : List (Picks g.Reported)) (d : Result Designated (Meaningless g.Reported)) → Designated_ d → AllP ps → Designated_ (fold (λ y p. p.picks s y) d ps)
   picks_typed [] d p all = p
   picks_typed (y ∷ ps) d p all = picks_typed ps (y.picks s d) (all.0 d p) all.1
 
@@ -423,8 +431,8 @@ module _ (g : Gathers) (x : Context) (ws : List Ty) (opens : ℕ → Bool) (s : 
   expr_typed (layer.Relation a o b) e = computed_typed (relation_typed (meant g a.0) o (meant g b.0) (a.1 (both_left (fits_whole a.0) (fits_whole b.0) e)) (b.1 (both_right (fits_whole a.0) (fits_whole b.0) e)))
 
   selector_typed : (y : Selector-F SE SS SD SI) → fits_selector (fitting_selector (bare_selector y)) ≡ true → FP (selector_layer g (opened_selector (bare_selector y)))
-  selector_typed (layer.Field p name) e = λ d q. then_holds q (λ z k. field_of_typed p name z k)
-  selector_typed (layer.Index p y) e = λ d q. indexed_typed x ws h.all g s.types h.types opens p (meant g y.0).fixed.at q (value_typed (meant g y.0) (y.1 e))
+  selector_typed (layer.Field p name) e = λ d q. plain_holds (then_holds (sort_holds g p 40 q) (λ z k. field_of_typed p name z k))
+  selector_typed (layer.Index p y) e = λ d q. plain_holds (indexed_typed x ws h.all g s.types h.types opens p (meant g y.0).fixed.at (sort_holds g p 40 q) (value_typed (meant g y.0) (y.1 e)))
 
   designator_typed : (y : Designator-F SE SS SD SI) → fits_designator (fitting_designator (bare_designator y)) ≡ true → FM (designator_layer g (opened_designator (bare_designator y)))
   designator_typed y e = picks_typed (map (picks g) (map (λ (e : SS). e.0) y.selectors)) (named g s y.name) (named_typed y.name) (all_picks y.selectors e)

@@ -31,7 +31,7 @@ use Rattle.m2_constants.specs.Denote.{member}
 use Rattle.m2_computed.specs.Classes.{signature_shape, signature_made, signature_at}
 use Rattle.m2_agree.specs.TreesTyped.{Context}
 use Rattle.m2_formed.specs.Formed.{Holds, fine}
-use Rattle.m2_formed.proofs.Basics.{holds_weaker, reported_holds}
+use Rattle.m2_formed.proofs.Basics.{holds_weaker, reported_holds, plain_holds, heading_means_holds}
 use Rattle.m2_formed.specs.Ordered.{named_by, result_named, AreKnown, AreOrdered}
 use Rattle.m2_formed.specs.Ordered as ordered
 use Rattle.m2_formed.proofs.Shaped.{named_known}
@@ -108,7 +108,7 @@ module _ (x : Context) (opens : ℕ → Bool) (level : ℕ) {T : Type 0} where
 
 module _ (x : Context) (opens : ℕ → Bool) (g : Gathers) where
   module _ (level : ℕ) where
-    abbrev Means_ : Result Meaning g.Reported → Type 0
+    abbrev Means_ : {T : Type 0} → Result Meaning T → Type 0
     Means_ r = Holds (MeaningTyped x [] opens level) r
 
     declared_means : (at : Pos) (seen : Bool) (r : Result Meaning g.Reported) → Means_ r → Means_ (cond seen r (reported g at 30))
@@ -116,14 +116,14 @@ module _ (x : Context) (opens : ℕ → Bool) (g : Gathers) where
     declared_means at false r p = reported_holds g at 30
 
     seen_means : (at : Pos) (k : Known g.Reported) (seen : Bool) → KnownThere x opens level k → Means_ (means_seen g at k seen)
-    seen_means at Later seen p = reported_holds g at 30
+    seen_means at Later seen p = plain_holds (reported_holds g at 30)
     seen_means at Ahead seen p = fine meaning.Ahead tt
-    seen_means at Begun seen p = reported_holds g at 30
-    seen_means at (Headed r) seen p = holds_weaker (λ m q. q.0) p
-    seen_means at (Declared o r) seen p = declared_means at seen r (holds_weaker (λ m q. q.0) p)
+    seen_means at Begun seen p = plain_holds (reported_holds g at 30)
+    seen_means at (Headed r) seen p = heading_means_holds (holds_weaker (λ m q. q.0) p)
+    seen_means at (Declared o r) seen p = plain_holds (declared_means at seen r (holds_weaker (λ m q. q.0) p))
 
     means_there : (at : Pos) (o : Sight g.Reported) → ThereSight x opens level o → Means_ (means_as g at o)
-    means_there at None p = reported_holds g at 30
+    means_there at None p = plain_holds (reported_holds g at 30)
     means_there at (Some k) p = seen_means at k.0 k.1 p
 
   -- types that are the module's, names that are there, and modules that are open

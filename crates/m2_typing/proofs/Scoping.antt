@@ -30,7 +30,7 @@ use Rattle.m2_agree.specs.Frames.{Kind, Kept, Kinds, or_none, kind_at, formal_ki
 use Rattle.m2_agree.specs.TreesTyped.{Context, IsInner}
 use Rattle.m2_blocks.specs.Inner.{formal_kind}
 use Rattle.m2_formed.specs.Formed.{Holds, fine}
-use Rattle.m2_formed.proofs.Basics.{holds_weaker, reported_holds}
+use Rattle.m2_formed.proofs.Basics.{holds_weaker, reported_holds, plain_holds, heading_means_holds}
 use Rattle.m2_typing.specs.Typing.{kind_of, MeaningTyped, IsTyped}
 use Rattle.m2_typing.specs.Scopes.{MeaningIn, KnownIn, NamesIn, BlocksIn, ScopeTyped, formal_slot, variable_slot, slots_of}
 
@@ -96,14 +96,14 @@ module _ (P : Meaning → Type 0) (ahead : P meaning.Ahead) where
     declared_has at false r p = reported_holds g at 30
 
     means_has : (at : Pos) (k : Known g.Reported) (seen : Bool) → KnownHas k → Holds P (means_seen g at k seen)
-    means_has at Later seen p = reported_holds g at 30
+    means_has at Later seen p = plain_holds (reported_holds g at 30)
     means_has at Ahead seen p = fine meaning.Ahead ahead
-    means_has at Begun seen p = reported_holds g at 30
-    means_has at (Headed r) seen p = p
-    means_has at (Declared o r) seen p = declared_has at seen r p
+    means_has at Begun seen p = plain_holds (reported_holds g at 30)
+    means_has at (Headed r) seen p = heading_means_holds p
+    means_has at (Declared o r) seen p = plain_holds (declared_has at seen r p)
 
     sight_has : (at : Pos) (o : Sight g.Reported) → SightHas o → Holds P (means_as g at o)
-    sight_has at None p = reported_holds g at 30
+    sight_has at None p = plain_holds (reported_holds g at 30)
     sight_has at (Some k) p = means_has at k.0 k.1 p
 
     looked_has : (s : Scope g.Reported) → s.withs ≡ [] → NamesHave s.own → BlocksHave s.outer → (name : Ident) → Holds P (looked_up g s name)

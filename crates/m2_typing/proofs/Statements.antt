@@ -1,5 +1,5 @@
 -- Statements of bodies, by induction.
-use Rattle.std.proofs.Common.{◌≡◌, ℕ, ℤ, Bool, true, ◌&&◌, List, [], ◌∷◌, ◌++◌, length, Option, Some, None, Result, Ok, sym, ap, subst, ◌∙◌}
+use Rattle.std.proofs.Common.{◌≡◌, ℕ, ℤ, Bool, true, ◌&&◌, List, [], ◌∷◌, ◌++◌, length, Option, Some, None, Result, Ok, Err, sym, ap, subst, ◌∙◌}
 use Rattle.std.specs.Prelude.{map}
 use Rattle.std.specs.List.{fold, list_all}
 use Rattle.m2_tree.specs.declared.expr.Expr.{Expr}
@@ -15,7 +15,7 @@ use Rattle.m2_typed.specs.declared.statement.TypedArm.{TypedArm}
 use Rattle.m2_typed.specs.declared.statement.TypedStmt.{TypedStmt}
 use Rattle.m2_typed.specs.declared.statement.TypedStmt.TheVariants as step
 use Rattle.m2_typed.specs.declared.types.TypeNo.{TypeNo}
-use Rattle.m2_scopes.specs.Elaborated.{Gathers}
+use Rattle.m2_scopes.specs.Elaborated.{Gathers, both}
 use Rattle.m2_scopes.specs.declared.scope.Scope.{Scope}
 use Rattle.m2_exprs.specs.Meanings.{meant, head, value_of}
 use Rattle.m2_layout.specs.Types.{Ty}
@@ -23,15 +23,15 @@ use Rattle.m2_layout.specs.Shapes.{tree}
 use Rattle.m2_agree.specs.Scene.{AreLabels}
 use Rattle.m2_agree.specs.Passing.{Result as Gives}
 use Rattle.m2_agree.specs.TreesTyped.{Context}
-use Rattle.m2_formed.specs.Formed.{Holds, fine}
-use Rattle.m2_formed.proofs.Basics.{then_holds, holds_weaker, both_holds}
+use Rattle.m2_formed.specs.Formed.{Holds, fine, broken}
+use Rattle.m2_formed.proofs.Basics.{then_holds, holds_weaker, both_holds, ahead_holds, any_holds}
 use Rattle.m2_formed.specs.FormedRanges.{itself, ScopeRanged}
 use Rattle.m2_formed.proofs.RangesTypes.{both_left, both_right}
 use Rattle.m2_typing.specs.Typing.{fits_whole, fits_head, PlaceTyped, ValueTyped, IsTyped, ExpressionsAreTyped, DesignatorsAreTyped}
 use Rattle.m2_typing.proofs.Operators.{SomeTyped}
 use Rattle.m2_typing.proofs.Meanings.{AllM, value_typed}
 use Rattle.m2_steps.specs.declared.around.Around.{Around}
-use Rattle.m2_steps.specs.Lists.{with_next, chosen, chosen_else, cased, armed, repeated_while, repeated_until, looped, within}
+use Rattle.m2_steps.specs.Lists.{with_next, chosen, chosen_else, base_in, cased, armed, repeated_while, repeated_until, looped, within}
 use Rattle.m2_steps.specs.Simple.{condition, meant_if, in_loop, opened}
 use Rattle.m2_stmts.specs.Statements.{Elaborates, ElaboratesRest, ElaboratesArm, Arms, args_meant, with_stmt, all_of, all_if, with_arm, arms_of, stmt_layer, rest_layer, arm_layer, stmt, rest, arm, with_written, statements}
 use Rattle.m2_typing.specs.TypingStmts.{fits_if, all_fit, fits_step, fits_label, fits_stmt_layer, fits_rest_layer, fits_arm_layer, fits_rest, fits_stmt, fits_arm, StmtTyped, StmtsTyped, AreReturned, StatementsAreTyped}
@@ -83,7 +83,7 @@ module _ (g : Gathers) (exprs : ExpressionsAreTyped g) (heads : DesignatorsAreTy
   TypedRest f = (ws : List Ty) (s : Scope g.Reported) → In ws s → (a : Around g.Reported) → Returned a → Others_ ws a (f s a)
 
   abbrev TypedArms : ElaboratesArm g.Reported → Type 0
-  TypedArms f = (ws : List Ty) (s : Scope g.Reported) → In ws s → (a : Around g.Reported) → Returned a → (base : TypeNo) (ranges : List (ℤ × ℤ)) → Arm_ ws a (f s a base ranges).1
+  TypedArms f = (ws : List Ty) (s : Scope g.Reported) → In ws s → (a : Around g.Reported) → Returned a → (base : TypeNo) (ranges : List (ℤ × ℤ)) → Arm_ ws a (f s a (Some base) ranges).1
 
   abbrev AllJ : List (Elaborates g.Reported) → Type 0
   AllJ [] = Unit {0}
@@ -110,11 +110,11 @@ module _ (g : Gathers) (exprs : ExpressionsAreTyped g) (heads : DesignatorsAreTy
     standing_typed : (ys : List (Elaborates g.Reported)) → AllJ ys → Others_ ws a (all_if g s a (Some ys))
     standing_typed ys all = then_holds (all_stmts ys all) (λ v k. fine (Some v) k)
 
-    from_arms : (base : TypeNo) (ys : List (ElaboratesArm g.Reported)) (st : Arms g.Reported) → Arms_ ws a st.1 → AllA ys → Arms_ ws a (fold (with_arm g s a base) st ys).1
+    from_arms : (base : TypeNo) (ys : List (ElaboratesArm g.Reported)) (st : Arms g.Reported) → Arms_ ws a st.1 → AllA ys → Arms_ ws a (fold (with_arm g s a (Some base)) st ys).1
     from_arms base [] st p all = p
-    from_arms base (y ∷ ys) st p all = from_arms base ys (with_arm g s a base st y) (next_arm p (all.0 ws s h a e base st.0)) all.1
+    from_arms base (y ∷ ys) st p all = from_arms base ys (with_arm g s a (Some base) st y) (next_arm p (all.0 ws s h a e base st.0)) all.1
 
-    all_arms : (base : TypeNo) (ys : List (ElaboratesArm g.Reported)) → AllA ys → Arms_ ws a (arms_of g s a base ys)
+    all_arms : (base : TypeNo) (ys : List (ElaboratesArm g.Reported)) → AllA ys → Arms_ ws a (arms_of g s a (Some base) ys)
     all_arms base ys all = from_arms base ys ([], Ok []) (fine [] tt) all
 
     -- ---- statements around others
@@ -136,8 +136,19 @@ module _ (g : Gathers) (exprs : ExpressionsAreTyped g) (heads : DesignatorsAreTy
     cased_as c arms None p q r = case_typed x result ws a.in_loop p.of c arms p.typed q
     cased_as c arms (Some others) p q r = case_else_typed x result ws a.in_loop p.of c arms others p.typed q r
 
-    cased_typed : (c : TypedExpr) {arms : Result (List TypedArm) g.Reported} {otherwise : Result (Option (List TypedStmt)) g.Reported} → SomeTyped x ws h.typed.all c → Arms_ ws a arms → Others_ ws a otherwise → Stmt_ ws a (cased g c arms otherwise)
-    cased_typed c p q r = then_holds (both_holds g q r) (λ v k. fine (step.Case c v.0 v.1) (cased_as c v.0 v.1 p k.0 k.1))
+    abbrev SelectorTyped : TypeNo × TypedExpr → Type 0
+    SelectorTyped r = SomeTyped x ws h.typed.all r.1
+
+    the_selector : (z : TypeNo × TypedExpr) → SelectorTyped z → Holds {T = g.Reported} SelectorTyped (Ok z)
+    the_selector z k = fine z k
+
+    no_selector : (d : g.Reported) → Holds {A = TypeNo × TypedExpr} (λ z. ⊥) (Err d)
+    no_selector d = broken d
+
+    -- arms without a selector are looked at, but there is no statement
+    cased_typed : {c : Result (TypeNo × TypedExpr) g.Reported} (arms : List (ElaboratesArm g.Reported)) {otherwise : Result (Option (List TypedStmt)) g.Reported} → Holds SelectorTyped c → AllA arms → Others_ ws a otherwise → Stmt_ ws a (cased g c (arms_of g s a (base_in c) arms) otherwise)
+    cased_typed arms (fine z j) all r = then_holds (both_holds g (the_selector z j) (both_holds g (all_arms z.0 arms all) r)) (λ v k. fine (step.Case v.0.1 v.1.0 v.1.1) (cased_as v.0.1 v.1.0 v.1.1 k.0 k.1.0 k.1.1))
+    cased_typed arms {otherwise = otherwise} (broken d) all r = then_holds (both_holds g (no_selector d) (any_holds (both g (arms_of g s a None arms) otherwise))) (λ v k. absurd k.0)
 
     while_all : {c : Result TypedExpr g.Reported} {body : Result (List TypedStmt) g.Reported} → Test_ c → Stmts_ ws a body → Stmt_ ws a (repeated_while g c body)
     while_all p q = then_holds (both_holds g p q) (λ v k. fine (step.While v.0 v.1) (while_typed x result ws a.in_loop v.0 v.1 k.0 k.1))
@@ -290,13 +301,13 @@ module _ (g : Gathers) (exprs : ExpressionsAreTyped g) (heads : DesignatorsAreTy
       (follow.1 (both_right (list_all itself (fits_of body)) (fits_rest follow.0) k) ws s h a r)
   stmt_layer_typed (layer.Case e arms None) f = λ ws s h a r.
       let k = both_right (fits_whole e) (list_all itself (arms_fit arms) && true) f in
-      then_holds (selected_typed g x ws opens s h.typed (meant g e) (value_typed_of ws s h e (both_left (fits_whole e) (list_all itself (arms_fit arms) && true) f))) (λ z j.
-      cased_typed ws s h a r z.1 j (all_arms ws s h a r z.0 (arms_elaborated arms) (armed_all arms (both_left (list_all itself (arms_fit arms)) true k))) (fine None tt))
+      cased_typed ws s h a r (arms_elaborated arms) (selected_typed g x ws opens s h.typed (meant g e) (value_typed_of ws s h e (both_left (fits_whole e) (list_all itself (arms_fit arms) && true) f)))
+      (armed_all arms (both_left (list_all itself (arms_fit arms)) true k)) (fine None tt)
   stmt_layer_typed (layer.Case e arms (Some body)) f = λ ws s h a r.
       let k = both_right (fits_whole e) (list_all itself (arms_fit arms) && list_all itself (fits_of body)) f in
-      then_holds (selected_typed g x ws opens s h.typed (meant g e) (value_typed_of ws s h e (both_left (fits_whole e) (list_all itself (arms_fit arms) && list_all itself (fits_of body)) f))) (λ z j.
-      cased_typed ws s h a r z.1 j (all_arms ws s h a r z.0 (arms_elaborated arms) (armed_all arms (both_left (list_all itself (arms_fit arms)) (list_all itself (fits_of body)) k)))
-      (standing_typed ws s h a r (elaborates_of body) (elaborated body (both_right (list_all itself (arms_fit arms)) (list_all itself (fits_of body)) k))))
+      cased_typed ws s h a r (arms_elaborated arms) (selected_typed g x ws opens s h.typed (meant g e) (value_typed_of ws s h e (both_left (fits_whole e) (list_all itself (arms_fit arms) && list_all itself (fits_of body)) f)))
+      (armed_all arms (both_left (list_all itself (arms_fit arms)) (list_all itself (fits_of body)) k))
+      (standing_typed ws s h a r (elaborates_of body) (elaborated body (both_right (list_all itself (arms_fit arms)) (list_all itself (fits_of body)) k)))
   stmt_layer_typed (layer.While c body) f = λ ws s h a r.
       while_all ws s h a r (test_typed ws s h a r c (both_left (fits_whole c) (list_all itself (fits_of body)) f)) (body_typed body (both_right (fits_whole c) (list_all itself (fits_of body)) f) ws s h a r)
   stmt_layer_typed (layer.Repeat body c) f = λ ws s h a r.
@@ -312,7 +323,7 @@ module _ (g : Gathers) (exprs : ExpressionsAreTyped g) (heads : DesignatorsAreTy
       (value_typed_of ws s h start (both_left (fits_whole start) (fits_whole limit && (fits_step by && list_all itself (fits_of body))) f)) (value_typed_of ws s h limit (both_left (fits_whole limit) (fits_step by && list_all itself (fits_of body)) k)))
       (body_typed body (both_right (fits_step by) (list_all itself (fits_of body)) j) ws s h a r)
   stmt_layer_typed (layer.With d body) f = λ ws s h a r.
-      then_holds (record_typed g x ws opens s h.typed (head g d) (heads x ws opens s h.typed d (both_left (fits_head d) (list_all itself (fits_of body)) f))) (λ z j.
+      ahead_holds g _ (record_typed g x ws opens s h.typed (head g d) (heads x ws opens s h.typed d (both_left (fits_head d) (list_all itself (fits_of body)) f))) (λ z j.
       within_all ws s h a r (tree types z.0) z.1 j (body_typed body (both_right (fits_head d) (list_all itself (fits_of body)) f) (ws ++ tree types z.0 ∷ []) (opened s z.0) (inner_scope ws s z.0 h) a r))
 
   rest_layer_typed : (y : Rest-F SR SS SA) → fits_rest_layer (fit_rest (bare_rest y)) ≡ true → TypedRest (rest_layer g (opened_rest (bare_rest y)))

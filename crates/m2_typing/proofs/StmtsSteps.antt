@@ -52,7 +52,7 @@ use Rattle.m2_agree.specs.Passing.{Result as Gives}
 use Rattle.m2_agree.specs.TreesTyped.{Context}
 use Rattle.m2_agree.specs.StmtsTyped.{IsControl, OfModule, OfFrame}
 use Rattle.m2_formed.specs.Formed.{Holds, fine, broken}
-use Rattle.m2_formed.proofs.Basics.{then_holds, reported_holds, both_holds, any_holds}
+use Rattle.m2_formed.proofs.Basics.{then_holds, reported_holds, both_holds, reported_beside_holds, sort_holds, any_holds}
 use Rattle.m2_formed.specs.FormedRanges.{ValueRanged, ScopeRanged, fits}
 use Rattle.m2_formed.proofs.RangesTypes.{same_types, both_left}
 use Rattle.m2_formed.proofs.Subranges.{not_less, through, between_in, SortRanged, OperandRanged, operand_ranged, fits_number}
@@ -70,7 +70,6 @@ use Rattle.m2_steps.specs.declared.control.Control.{Control}
 use Rattle.m2_steps.specs.declared.control.Course.{Course}
 use Rattle.m2_typing.specs.TypingStmts.{fits_step, StmtTyped, AreReturned}
 use Rattle.m2_typing.proofs.StmtsConstructs.{TestTyped, EachTyped, exit_typed, return_typed, give_typed, give_procedure_typed, for_typed}
-use Rattle.m2_typing.proofs.Fixed.{fixed_is}
 
 -- ---- numbers of 32 bits
 
@@ -112,7 +111,7 @@ module _ (g : Gathers) (x : Context) (ws : List Ty) (opens : ℕ → Bool) (s : 
   record_by_typed at (designated.Module k) p = reported_holds g at 40
 
   pub record_typed : (d : Meant g.Reported) → Known_ d → Holds RecordTyped (record_of g s d)
-  record_typed d p = then_holds p (λ e k. record_by_typed d.fixed.at e k)
+  record_typed d p = then_holds (sort_holds g d.fixed.at 40 p) (λ e k. record_by_typed d.fixed.at e k)
 
   -- ---- conditions
 
@@ -185,7 +184,7 @@ module _ (g : Gathers) (x : Context) (ws : List Ty) (opens : ℕ → Bool) (s : 
 
     pub returned_typed : (at : Pos) (looped : Bool) (o : Option (Result TypeNo g.Reported)) (y : Option (Meant g.Reported)) → AreReturned types o result → ValueIf y → Holds (StmtTyped x result ws looped) (returned g s at o y)
     returned_typed at looped None None e p = fine step.Return (return_typed x result ws looped e)
-    returned_typed at looped None (Some y) e p = reported_holds g at 46
+    returned_typed at looped None (Some y) e p = reported_beside_holds g at 46 _
     returned_typed at looped (Some t) None e p = reported_holds g at 46
     returned_typed at looped (Some t) (Some y) e p = given_back_typed t y.fixed.at looped e p
 
@@ -233,7 +232,7 @@ module _ (g : Gathers) (x : Context) (ws : List Ty) (opens : ℕ → Bool) (s : 
   control_by_typed at (meaning.Module k) p = reported_holds g at 47
 
   control_typed : (name : Ident) → Holds ControlTyped (control_of g s name)
-  control_typed name = then_holds (h.names name) (λ y p. control_by_typed name.pos y p)
+  control_typed name = then_holds (sort_holds g name.pos 47 (h.names name)) (λ y p. control_by_typed name.pos y p)
 
   -- ---- FOR: the limit
 
@@ -276,8 +275,7 @@ module _ (g : Gathers) (x : Context) (ws : List Ty) (opens : ℕ → Bool) (s : 
 
     step_constant : (e : Expr) → fits e ≡ true → Holds InWord (step_of g s (Some (meant g e)))
     step_constant e f =
-        then_holds (subst (λ (y : Part g.Reported). Holds (ValueRanged s.types) (constant g s y)) (sym (fixed_is g e)) (constants_ranged g s ranged e f))
-        (λ v k. step_part (meant g e).fixed.at (operand_of v) (operand_ranged s.types v k))
+        then_holds (constants_ranged g s ranged e f) (λ v k. step_part (meant g e).fixed.at (operand_of v) (operand_ranged s.types v k))
 
     pub step_typed : (o : Option Expr) → fits_step o ≡ true → Holds InWord (step_of g s (meant_if g o))
     step_typed None f = fine (pos 1) (omega (arith, ints), omega (arith, ints))

@@ -102,7 +102,7 @@ module _ (g : Gathers) (x : Context) (ws : List Ty) (opens : ℕ → Bool) (s : 
   fields_typed name None e = tt
   fields_typed name (Some fs) e = field_at fs (place_of name fs) e
 
-  name_typed : (o far : Option OpenedField) (m : Result Meaning g.Reported) → IfTyped o → Holds (MeaningTyped x ws opens s.level) (means_or far m) → Holds (MeaningTyped x inner opens s.level) (means_or (or_outside o far) m)
+  name_typed : {T : Type 0} (o far : Option OpenedField) (m : Result Meaning T) → IfTyped o → Holds (MeaningTyped x ws opens s.level) (means_or far m) → Holds (MeaningTyped x inner opens s.level) (means_or (or_outside o far) m)
   name_typed None far m p q = holds_weaker (meaning_within x ws opens s.level (tree x.home.types t)) q
   name_typed (Some f) far m p q = fine (meaning.Field f) p
 

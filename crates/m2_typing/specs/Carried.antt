@@ -1,6 +1,7 @@
 -- What declarations carry on: arrays have indices of scalar types, variables stand where their names say, and sets that are
 -- constants have 32 bits.
 use Rattle.std.specs.Prelude.{◌≡◌, ℕ, ◌≤◌, true, List, [], ◌∷◌, ◌++◌, map, length, drop, Option, Some, None, Ok, slice_get}
+use Rattle.std.specs.List.{fold}
 use Rattle.std.specs.Option.{is_some}
 use Rattle.m2_tree.specs.declared.expr.Expr.{Expr}
 use Rattle.m2_tree.specs.declared.decl.Module.{Module}
@@ -29,9 +30,10 @@ use Rattle.m2_scopes.specs.declared.known.Known.{Known}
 use Rattle.m2_scopes.specs.declared.known.Known.TheVariants.{Later, Ahead, Begun, Headed, Declared}
 use Rattle.m2_scopes.specs.declared.scope.Block.{Block}
 use Rattle.m2_scopes.specs.declared.scope.Scope.{Scope}
-use Rattle.m2_constants.specs.Parts.{part, constant}
+use Rattle.m2_constants.specs.Parts.{constant}
 use Rattle.m2_computed.specs.Classes.{array_at}
-use Rattle.m2_made.specs.Headings.{sections}
+use Rattle.m2_exprs.specs.Meanings.{part}
+use Rattle.m2_made.specs.Headings.{with_section}
 use Rattle.m2_made.specs.Named.{named_type}
 use Rattle.m2_types.specs.Declare.{with_def}
 use Rattle.m2_types.specs.Compiled.{declared_in}
@@ -213,13 +215,13 @@ ScopeSlots o s = NamesSlots (slots_in o s.variables) s.level s.own
 
 -- Where the formals of a procedure break no rule in its scope, they are its first variables.
 abbrev pub FormalsAreSlots : Gathers → Type 0
-FormalsAreSlots g = (s : Scope g.Reported) (seen : ℕ) (h : Heading) (fs : List Formal) → (sections g (inwards s seen) h.formals).1 ≡ Ok fs
+FormalsAreSlots g = (s : Scope g.Reported) (seen : ℕ) (h : Heading) (fs : List Formal) → fold (with_section g (inwards s seen)) (Ok []) h.formals ≡ Ok fs
     → let e = (entered_procedure g s seen h).0 in (e.variables ≡ map (λ f. f.of) fs) × ScopeSlots (Some fs) e
 
 -- Two scopes in which names of types mean the same have the same formals.
 abbrev pub FormalsStay : Gathers → Type 0
 FormalsStay g = (a b : Scope g.Reported) → ((q : Qualified) (t : TypeNo) → named_type g a q ≡ Ok t → named_type g b q ≡ Ok t)
-    → (xs : List Section) (fs : List Formal) → (sections g a xs).1 ≡ Ok fs → (sections g b xs).1 ≡ Ok fs
+    → (xs : List Section) (fs : List Formal) → fold (with_section g a) (Ok []) xs ≡ Ok fs → fold (with_section g b) (Ok []) xs ≡ Ok fs
 
 -- ---- what is carried from one scope to another
 

@@ -20,9 +20,9 @@
 //! Why what the checker makes of statements is typed.
 //!
 //! - `specs/Asked` says what statements ask for where they stand, and `specs/TypingStmts` when what is made of them is typed.
-//! - `proofs/StmtsWants` has what each statement asks for, `proofs/StmtsConstructs` statements of typed parts, `proofs/Fixed` constants
-//!   as they stand, `proofs/Within` scopes within a WITH, `proofs/StmtsSteps` what stands before and around other statements,
-//!   `proofs/Labels` the labels of CASE, `proofs/Effects` assignments and calls, and `proofs/Statements` the induction.
+//! - `proofs/StmtsWants` has what each statement asks for, `proofs/StmtsConstructs` statements of typed parts,
+//!   `proofs/Within` scopes within a WITH, `proofs/StmtsSteps` what stands before and around other statements, `proofs/Labels`
+//!   the labels of CASE, `proofs/Effects` assignments and calls, and `proofs/Statements` the induction.
 //!
 //! Why the bodies of procedures and of modules are typed.
 //!
