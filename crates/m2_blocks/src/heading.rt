@@ -6,7 +6,7 @@ ghost use Rattle.m2_scopes.specs.Elaborated.{least, ◌▷◌};
 ghost use Rattle.m2_blocks.specs.Headings.{standing_of, standing_elaborated, standing_from, standing_known, name_standing, nested_meaning, headed, module_procedure, new_procedure, with_new, reported_of_other, with_awaited, nothing_made, headed_as, with_heading};
 
 use crate::agreeing::{agree, signature_of};
-use m2_made::{heading_of, nothing_of, with_made};
+use m2_made::{heading_of, names_of, nothing_of, with_made};
 use m2_scopes::{Elaborated, Fault, Known, Origin, Scope, beside, reported};
 use m2_tree::{Heading, Pos};
 use m2_typed::{Made, Meaning, NestedProcedure, Procedure, TypeNo, Types, made_of};
@@ -230,7 +230,9 @@ pub fn with_heading(
 ) -> Result<Elaborated<()>, AllocError>
     ensures { IfOk result (λ j. (scope.new, j) ≡ with_heading least scope.old number heading.now) }
 {
+    let names = names_of(alloc, heading)?;
     let made = heading_of(alloc, scope, heading)?;
     let standing = name_standing(scope.own.find(heading.name.name.as_bytes()));
-    headed_as(alloc, scope, heading, number, made, standing)
+    let one = headed_as(alloc, scope, heading, number, made, standing)?;
+    Ok(beside(names, one))
 }

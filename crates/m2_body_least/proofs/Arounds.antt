@@ -6,11 +6,11 @@ use Rattle.m2_scopes.specs.declared.fault.Fault.{Fault}
 use Rattle.m2_scopes.specs.declared.scope.Scope.{Scope}
 use Rattle.m2_scopes.specs.Elaborated.{every, least}
 use Rattle.m2_steps.specs.declared.around.Around.{Around}
-use Rattle.m2_steps.specs.Simple.{in_loop, meant_if, opened}
+use Rattle.m2_steps.specs.Simple.{in_loop, meant_if, opened, opened_if}
 use Rattle.m2_least.specs.Least.{Reports}
 use Rattle.m2_least.specs.Beside.{Optionwise, nothing, something, ScopeBeside, scopes}
-use Rattle.m2_body_least.proofs.Pieces.{MeantBeside}
-use Rattle.m2_body_least.proofs.Exprs.{meant_beside}
+use Rattle.m2_least.proofs.Pieces.{MeantBeside}
+use Rattle.m2_least.proofs.Exprs.{meant_beside}
 
 pub data AroundBeside : Around Fault → Around (List Fault) → Type 0 where
   arounds : {gives : Option (Result TypeNo Fault)} {gives' : Option (Result TypeNo (List Fault))} → Optionwise Reports gives gives' → (looped : Bool)
@@ -21,6 +21,10 @@ in_loop_beside (arounds gives looped) = arounds gives true
 
 pub opened_beside : {s : Scope Fault} {s' : Scope (List Fault)} → ScopeBeside s s' → (t : TypeNo) → ScopeBeside (opened s t) (opened s' t)
 opened_beside (scopes tables types vars procs own outer) t = scopes tables types vars procs own outer
+
+pub opened_if_beside : {s : Scope Fault} {s' : Scope (List Fault)} → ScopeBeside s s' → (t : Option TypeNo) → ScopeBeside (opened_if s t) (opened_if s' t)
+opened_if_beside b None = b
+opened_if_beside b (Some t) = opened_beside b t
 
 pub meant_if_beside : (e : Option Expr) → Optionwise MeantBeside (meant_if least e) (meant_if every e)
 meant_if_beside None = nothing

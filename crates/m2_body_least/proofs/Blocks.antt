@@ -47,12 +47,12 @@ use Rattle.m2_least.specs.Least.{Reports, fine, is_refused}
 use Rattle.m2_least.specs.Beside.{Pairwise, none, more, Optionwise, nothing, something, KnownBeside, known_later, known_ahead, known_begun, known_headed, known_declared, EntryBeside, entry, BlockBeside, block, ScopeBeside, scopes, StateBeside}
 use Rattle.m2_least.proofs.Forms.{reported_reports, where_reports, then_reports, beside_reports, cond_same, fold_pairwise, fold_keeps}
 use Rattle.m2_least.proofs.Scopes.{goes, found_beside, entered_beside, own_beside, with_known_beside, finished_beside, marked_beside}
-use Rattle.m2_least.proofs.Making.{heading_of_reports, formal_of_reports, result_of_reports, with_made_goes}
+use Rattle.m2_least.proofs.Making.{heading_of_reports, names_of_reports, formal_of_reports, result_of_reports, with_made_goes}
 use Rattle.m2_least.proofs.TypeExprs.{nothing_of_reports, type_of_beside}
 use Rattle.m2_least.proofs.Declarations.{begun_name_goes, with_variable_type_beside, with_procedure_type_beside, procedure_meaning_reports, constants_goes, types_goes, all_variables_goes}
-use Rattle.m2_least.proofs.Imports.{all_imports}
+use Rattle.m2_least.proofs.Imports.{join_goes, all_imports}
 use Rattle.m2_least.proofs.Marks.{def_marks}
-use Rattle.m2_body_least.proofs.Pieces.{lengths_same}
+use Rattle.m2_least.proofs.Pieces.{lengths_same}
 
 pub level_same : {s : Scope Fault} {s' : Scope (List Fault)} → ScopeBeside s s' → s.level ≡ s'.level
 level_same (scopes tables types vars procs own outer) = refl
@@ -152,8 +152,9 @@ headed_as_goes b h n m (Awaited p) = with_awaited_goes b h p m
 headed_as_goes b h n m Taken = goes b (beside_reports (nothing_made_reports m) (reported_reports h.name.pos 31))
 
 with_heading_goes : {s : Scope Fault} {s' : Scope (List Fault)} → ScopeBeside s s' → (n : ℕ) (h : Heading) → StateBeside (with_heading least s n h) (with_heading every s' n h)
-with_heading_goes {s = s} {s' = s'} b n h = subst (λ (t : Standing). StateBeside (with_heading least s n h) (headed_as every s' h n (heading_of every s' h) t)) (name_standing_same (own_beside h.name.name b))
-    (headed_as_goes b h n (heading_of_reports b h) (name_standing (found h.name.name s.own)))
+with_heading_goes {s = s} {s' = s'} b n h = join_goes (names_of_reports h)
+    (subst (λ (t : Standing). StateBeside (headed_as least s h n (heading_of least s h) (name_standing (found h.name.name s.own))) (headed_as every s' h n (heading_of every s' h) t)) (name_standing_same (own_beside h.name.name b))
+    (headed_as_goes b h n (heading_of_reports b h) (name_standing (found h.name.name s.own))))
 
 -- ---- declarations, in order
 

@@ -33,14 +33,14 @@ use Rattle.m2_scopes.specs.declared.fault.Fault.{Fault}
 use Rattle.m2_scopes.specs.Elaborated.{every, least}
 use Rattle.m2_least.specs.Least.{Reports, fine}
 use Rattle.m2_steps.specs.Control.{controlled_as, controlled, is_own, control_by, control_of, start_at, limit_number, limit_by, limit_at, is_zero, step_number, step_by, step_of, type_of, base_of, course, course_of, repeated_for}
-use Rattle.m2_least.proofs.Forms.{both_reports, then_reports, reported_reports, where_reports}
+use Rattle.m2_least.proofs.Forms.{both_reports, then_reports, reported_reports, where_reports, of_sort_reports}
 use Rattle.m2_least.proofs.Constants.{constant_reports}
-use Rattle.m2_least.proofs.Scopes.{looked_up_reports}
-use Rattle.m2_body_least.proofs.Meanings.{value_of_reports}
-use Rattle.m2_body_least.proofs.Suits.{value_suited_reports}
+use Rattle.m2_least.proofs.Scopes.{looked_up_sought}
+use Rattle.m2_least.proofs.Meanings.{value_of_reports}
+use Rattle.m2_least.proofs.Suits.{value_suited_reports}
 use Rattle.m2_least.specs.Beside.{Optionwise, nothing, something, ScopeBeside, scopes}
 use Rattle.m2_least.proofs.Constants.{parts}
-use Rattle.m2_body_least.proofs.Pieces.{MeantBeside, meants}
+use Rattle.m2_least.proofs.Pieces.{MeantBeside, meants}
 
 pub controlled_as_reports : (at : Pos) → (t : TypeNo) → (d : Place) → (p3 : Class) → Reports (controlled_as least at t d p3) (controlled_as every at t d p3)
 controlled_as_reports at t d (class.Scalar s) = fine _
@@ -64,7 +64,7 @@ control_by_reports s at (meaning.Standard f) = reported_reports at 47
 control_by_reports s at (meaning.Module k) = reported_reports at 47
 
 pub control_of_reports : {s : Scope Fault} {s' : Scope (List Fault)} → ScopeBeside s s' → (name : Ident) → Reports (control_of least s name) (control_of every s' name)
-control_of_reports s name = then_reports (looked_up_reports name s) (λ v. control_by_reports s name.pos v)
+control_of_reports s name = then_reports (of_sort_reports name.pos 47 (looked_up_sought name s)) (λ v. control_by_reports s name.pos v)
 
 pub start_at_reports : (types : Types) → (at : Pos) → {t : Result TypeNo Fault} {t' : Result TypeNo (List Fault)} → Reports t t' → {x : Result Computed Fault} {x' : Result Computed (List Fault)} → Reports x x' → Reports (start_at least types at t x) (start_at every types at t' x')
 start_at_reports types at t x = then_reports (both_reports t x) (λ p. value_suited_reports 41 types p.0 at p.1)
@@ -93,7 +93,7 @@ step_by_reports at v = step_number_reports at (whole_number v)
 
 pub step_of_reports : {s : Scope Fault} {s' : Scope (List Fault)} → ScopeBeside s s' → {p1 : Option (Meant Fault)} {p1' : Option (Meant (List Fault))} → Optionwise MeantBeside p1 p1' → Reports (step_of least s p1) (step_of every s' p1')
 step_of_reports s nothing = fine _
-step_of_reports s (something (meants (parts x_at x_p) x_m)) = then_reports (constant_reports s (parts x_at x_p)) (λ v. step_by_reports x_at v)
+step_of_reports s (something (meants (parts x_at x_p x_n) x_m)) = then_reports (constant_reports s (parts x_at x_p x_n)) (λ v. step_by_reports x_at v)
 
 pub type_of_reports : {v : Result Control Fault} {v' : Result Control (List Fault)} → Reports v v' → Reports (type_of v) (type_of v')
 type_of_reports v = then_reports v (λ x. fine _)
@@ -106,10 +106,10 @@ course_reports v start limit by = then_reports (both_reports (both_reports v sta
 
 pub course_of_reports : {s : Scope Fault} {s' : Scope (List Fault)} → ScopeBeside s s' → (name : Ident) → {start : Meant Fault} {start' : Meant (List Fault)} → MeantBeside start start' → {limit : Meant Fault} {limit' : Meant (List Fault)} → MeantBeside limit limit'
     → {by : Option (Meant Fault)} {by' : Option (Meant (List Fault))} → Optionwise MeantBeside by by' → Reports (course_of least s name start limit by) (course_of every s' name start' limit' by')
-course_of_reports (scopes tables types vars procs {level = level} {withs = withs} own outer) name (meants (parts p f) m) (meants (parts q h) n) by =
+course_of_reports (scopes tables types vars procs {level = level} {withs = withs} own outer) name (meants (parts p f f_n) m) (meants (parts q h h_n) n) by =
     let s = (scopes tables types vars procs {level = level} {withs = withs} own outer) in
     let v = control_of_reports s name in
-    course_reports v (start_at_reports types p (type_of_reports v) (value_of_reports s (meants (parts p f) m))) (limit_at_reports q (base_of_reports v) (value_of_reports s (meants (parts q h) n))) (step_of_reports s by)
+    course_reports v (start_at_reports types p (type_of_reports v) (value_of_reports s (meants (parts p f f_n) m))) (limit_at_reports q (base_of_reports v) (value_of_reports s (meants (parts q h h_n) n))) (step_of_reports s by)
 
 pub repeated_for_reports : {c : Result Course Fault} {c' : Result Course (List Fault)} → Reports c c' → {body : Result (List TypedStmt) Fault} {body' : Result (List TypedStmt) (List Fault)} → Reports body body' → Reports (repeated_for least c body) (repeated_for every c' body')
 repeated_for_reports c body = then_reports (both_reports c body) (λ p. fine _)

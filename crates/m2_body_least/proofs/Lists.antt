@@ -1,5 +1,6 @@
 -- Statements around others.
-use Rattle.std.specs.Prelude.{List, Option, Result}
+use Rattle.std.proofs.Common.{List, Option, Result}
+use Rattle.m2_typed.specs.declared.types.TypeNo.{TypeNo}
 use Rattle.m2_typed.specs.declared.computed.Place.{Place}
 use Rattle.m2_typed.specs.declared.computed.TypedExpr.{TypedExpr}
 use Rattle.m2_typed.specs.declared.statement.Label.{Label}
@@ -8,7 +9,7 @@ use Rattle.m2_typed.specs.declared.statement.TypedStmt.{TypedStmt}
 use Rattle.m2_scopes.specs.declared.fault.Fault.{Fault}
 use Rattle.m2_scopes.specs.Elaborated.{every, least}
 use Rattle.m2_least.specs.Least.{Reports, fine}
-use Rattle.m2_steps.specs.Lists.{with_next, standing, chosen, chosen_else, cased, armed, repeated_while, repeated_until, looped, within}
+use Rattle.m2_steps.specs.Lists.{with_next, standing, chosen, chosen_else, cased, armed, repeated_while, repeated_until, looped, within, reported_in}
 use Rattle.m2_least.proofs.Forms.{both_reports, then_reports}
 
 pub with_next_reports : {A : Type 0} → {so : Result (List A) Fault} {so' : Result (List A) (List Fault)} → Reports so so' → {x : Result A Fault} {x' : Result A (List Fault)} → Reports x x' → Reports (with_next least so x) (with_next every so' x')
@@ -23,8 +24,8 @@ chosen_reports c body rest = then_reports (both_reports c (both_reports body res
 pub chosen_else_reports : {s : Result TypedStmt Fault} {s' : Result TypedStmt (List Fault)} → Reports s s' → Reports (chosen_else s) (chosen_else s')
 chosen_else_reports s = then_reports s (λ x. fine _)
 
-pub cased_reports : (e : TypedExpr) → {arms : Result (List TypedArm) Fault} {arms' : Result (List TypedArm) (List Fault)} → Reports arms arms' → {otherwise : Result (Option (List TypedStmt)) Fault} {otherwise' : Result (Option (List TypedStmt)) (List Fault)} → Reports otherwise otherwise' → Reports (cased least e arms otherwise) (cased every e arms' otherwise')
-cased_reports e arms otherwise = then_reports (both_reports arms otherwise) (λ p. fine _)
+pub cased_reports : {x : Result (TypeNo × TypedExpr) Fault} {x' : Result (TypeNo × TypedExpr) (List Fault)} → Reports x x' → {arms : Result (List TypedArm) Fault} {arms' : Result (List TypedArm) (List Fault)} → Reports arms arms' → {otherwise : Result (Option (List TypedStmt)) Fault} {otherwise' : Result (Option (List TypedStmt)) (List Fault)} → Reports otherwise otherwise' → Reports (cased least x arms otherwise) (cased every x' arms' otherwise')
+cased_reports x arms otherwise = then_reports (both_reports x (both_reports arms otherwise)) (λ p. fine _)
 
 pub armed_reports : {labels : Result (List Label) Fault} {labels' : Result (List Label) (List Fault)} → Reports labels labels' → {body : Result (List TypedStmt) Fault} {body' : Result (List TypedStmt) (List Fault)} → Reports body body' → Reports (armed least labels body) (armed every labels' body')
 armed_reports labels body = then_reports (both_reports labels body) (λ p. fine _)
@@ -40,3 +41,6 @@ looped_reports body = then_reports body (λ x. fine _)
 
 pub within_reports : (place : Place) → {body : Result (List TypedStmt) Fault} {body' : Result (List TypedStmt) (List Fault)} → Reports body body' → Reports (within place body) (within place body')
 within_reports place body = then_reports body (λ x. fine _)
+
+pub reported_in_reports : {body : Result (List TypedStmt) Fault} {body' : Result (List TypedStmt) (List Fault)} → Reports body body' → Reports (reported_in body) (reported_in body')
+reported_in_reports body = then_reports body (λ x. fine tt)

@@ -1,13 +1,15 @@
 -- Statements of bodies, by induction.
-use Rattle.std.proofs.Common.{◌≡◌, ℤ, List, [], ◌∷◌, Option, Some, None, Result, sym, ap, ◌∙◌}
+use Rattle.std.proofs.Common.{◌≡◌, ℤ, List, [], ◌∷◌, Option, Some, None, Result, sym, ap, subst, ◌∙◌}
 use Rattle.std.specs.Prelude.{map}
 use Rattle.m2_tree.specs.declared.expr.Expr.{Expr}
+use Rattle.m2_tree.specs.declared.expr.Designator.{Designator}
 use Rattle.m2_tree.specs.declared.expr.Item.{Item}
 use Rattle.m2_tree.specs.declared.stmt.Rest.{Rest, Rest-F, out-Rest, roll-Rest, out-roll-Rest, map-Rest, fold_out-Rest}
 use Rattle.m2_tree.specs.declared.stmt.Rest.TheOpen as layer
 use Rattle.m2_tree.specs.declared.stmt.Stmt.{Stmt, Stmt-F, out-Stmt, roll-Stmt, out-roll-Stmt, map-Stmt, fold_out-Stmt, ind-Stmt}
 use Rattle.m2_tree.specs.declared.stmt.Arm.{Arm, Arm-F, out-Arm, roll-Arm, out-roll-Arm, map-Arm, fold_out-Arm}
 use Rattle.m2_typed.specs.declared.types.TypeNo.{TypeNo}
+use Rattle.m2_typed.specs.declared.computed.TypedExpr.{TypedExpr}
 use Rattle.m2_typed.specs.declared.statement.TypedStmt.{TypedStmt}
 use Rattle.m2_typed.specs.declared.statement.TypedArm.{TypedArm}
 use Rattle.m2_typed.specs.declared.statement.Label.{Label}
@@ -16,18 +18,19 @@ use Rattle.m2_scopes.specs.declared.scope.Scope.{Scope}
 use Rattle.m2_scopes.specs.Elaborated.{Gathers, every, least}
 use Rattle.m2_exprs.specs.Meanings.{meant}
 use Rattle.m2_steps.specs.declared.around.Around.{Around}
-use Rattle.m2_steps.specs.Lists.{with_next, armed}
-use Rattle.m2_stmts.specs.Statements.{Elaborates, ElaboratesRest, ElaboratesArm, Arms, args_meant, with_stmt, all_of, all_if, with_arm, arms_of, stmt_layer, rest_layer, arm_layer, stmt, rest, arm, with_written, statements}
-use Rattle.m2_least.specs.Least.{Reports, fine}
+use Rattle.m2_steps.specs.Lists.{with_next, armed, reported_in}
+use Rattle.m2_steps.specs.Simple.{opened_type, opened_if}
+use Rattle.m2_stmts.specs.Statements.{Elaborates, ElaboratesRest, ElaboratesArm, Arms, args_meant, with_stmt, all_of, all_if, with_arm, arms_of, case_of, with_of, stmt_layer, rest_layer, arm_layer, stmt, rest, arm, with_written, statements}
+use Rattle.m2_least.specs.Least.{Reports, fine, is_refused}
 use Rattle.m2_least.specs.Beside.{Pairwise, none, more, Optionwise, nothing, something, ScopeBeside}
-use Rattle.m2_least.proofs.Forms.{then_reports, fold_pairwise, fold_keeps, pairwise_maps, carry}
+use Rattle.m2_least.proofs.Forms.{ahead_reports, fold_pairwise, fold_keeps, pairwise_maps, carry}
 use Rattle.m2_least.proofs.Making.{KeptBeside, is_kept, reported_of}
-use Rattle.m2_body_least.proofs.Pieces.{MeantBeside}
-use Rattle.m2_body_least.proofs.Exprs.{meant_beside, head_beside}
-use Rattle.m2_body_least.proofs.Arounds.{AroundBeside, arounds, in_loop_beside, opened_beside, meant_if_beside}
-use Rattle.m2_body_least.proofs.Done.{done_by_reports}
-use Rattle.m2_body_least.proofs.Lists.{with_next_reports, standing_reports, chosen_reports, chosen_else_reports, cased_reports, armed_reports, repeated_while_reports, repeated_until_reports, looped_reports, within_reports}
-use Rattle.m2_body_least.proofs.Simple.{exited_reports, returned_reports, condition_reports, assignment_reports, selected_reports, record_of_reports}
+use Rattle.m2_least.proofs.Pieces.{MeantBeside}
+use Rattle.m2_least.proofs.Exprs.{meant_beside, head_beside}
+use Rattle.m2_body_least.proofs.Arounds.{AroundBeside, arounds, in_loop_beside, opened_beside, opened_if_beside, meant_if_beside}
+use Rattle.m2_least.proofs.Done.{done_by_reports}
+use Rattle.m2_body_least.proofs.Lists.{with_next_reports, standing_reports, chosen_reports, chosen_else_reports, cased_reports, armed_reports, repeated_while_reports, repeated_until_reports, looped_reports, within_reports, reported_in_reports}
+use Rattle.m2_body_least.proofs.Simple.{exited_reports, returned_reports, condition_reports, assignment_reports, selected_reports, record_of_reports, opened_type_same}
 use Rattle.m2_body_least.proofs.Labels.{labels_in_kept}
 use Rattle.m2_body_least.proofs.Control.{course_of_reports, repeated_for_reports}
 
@@ -40,7 +43,7 @@ record RestBeside (f : ElaboratesRest Fault) (f' : ElaboratesRest (List Fault)) 
   follows : (s : Scope Fault) (s' : Scope (List Fault)) → ScopeBeside s s' → (w : Around Fault) (w' : Around (List Fault)) → AroundBeside w w' → Reports (f s w) (f' s' w')
 
 record ArmBeside (f : ElaboratesArm Fault) (f' : ElaboratesArm (List Fault)) : Type 0 where
-  keeps : (s : Scope Fault) (s' : Scope (List Fault)) → ScopeBeside s s' → (w : Around Fault) (w' : Around (List Fault)) → AroundBeside w w' → (base : TypeNo) (ranges : List (ℤ × ℤ)) → KeptBeside (f s w base ranges) (f' s' w' base ranges)
+  keeps : (s : Scope Fault) (s' : Scope (List Fault)) → ScopeBeside s s' → (w : Around Fault) (w' : Around (List Fault)) → AroundBeside w w' → (base : Option TypeNo) (ranges : List (ℤ × ℤ)) → KeptBeside (f s w base ranges) (f' s' w' base ranges)
 
 -- ---- one after another
 
@@ -67,13 +70,29 @@ next_arm : {so : Result (List TypedArm) Fault} {so' : Result (List TypedArm) (Li
     → KeptBeside (r.0, with_next least so r.1) (r'.0, with_next every so' r'.1)
 next_arm so (is_kept ranges x) = is_kept ranges (with_next_reports so x)
 
-with_arm_kept : {s : Scope Fault} {s' : Scope (List Fault)} → ScopeBeside s s' → {w : Around Fault} {w' : Around (List Fault)} → AroundBeside w w' → (base : TypeNo) {st : Arms Fault} {st' : Arms (List Fault)} → KeptBeside st st'
+with_arm_kept : {s : Scope Fault} {s' : Scope (List Fault)} → ScopeBeside s s' → {w : Around Fault} {w' : Around (List Fault)} → AroundBeside w w' → (base : Option TypeNo) {st : Arms Fault} {st' : Arms (List Fault)} → KeptBeside st st'
     → {x : ElaboratesArm Fault} {x' : ElaboratesArm (List Fault)} → ArmBeside x x' → KeptBeside (with_arm least s w base st x) (with_arm every s' w' base st' x')
 with_arm_kept {s = s} {s' = s'} b {w = w} {w' = w'} a base (is_kept ranges so) x = next_arm so (x.keeps s s' b w w' a base ranges)
 
-arms_of_reports : {s : Scope Fault} {s' : Scope (List Fault)} → ScopeBeside s s' → {w : Around Fault} {w' : Around (List Fault)} → AroundBeside w w' → (base : TypeNo) {xs : List (ElaboratesArm Fault)} {xs' : List (ElaboratesArm (List Fault))} → Pairwise ArmBeside xs xs'
+arms_of_reports : {s : Scope Fault} {s' : Scope (List Fault)} → ScopeBeside s s' → {w : Around Fault} {w' : Around (List Fault)} → AroundBeside w w' → (base : Option TypeNo) {xs : List (ElaboratesArm Fault)} {xs' : List (ElaboratesArm (List Fault))} → Pairwise ArmBeside xs xs'
     → Reports (arms_of least s w base xs) (arms_of every s' w' base xs')
 arms_of_reports {s = s} {s' = s'} b {w = w} {w' = w'} a base xs = reported_of (fold_pairwise KeptBeside ArmBeside (with_arm least s w base) (with_arm every s' w' base) (λ st st' x x' p q. with_arm_kept b a base p q) xs _ _ (is_kept [] (fine [])))
+
+case_of_reports : {s : Scope Fault} {s' : Scope (List Fault)} → ScopeBeside s s' → {w : Around Fault} {w' : Around (List Fault)} → AroundBeside w w' → {x : Result (TypeNo × TypedExpr) Fault} {x' : Result (TypeNo × TypedExpr) (List Fault)} → Reports x x'
+    → {xs : List (ElaboratesArm Fault)} {xs' : List (ElaboratesArm (List Fault))} → Pairwise ArmBeside xs xs' → {ys : Option (List (Elaborates Fault))} {ys' : Option (List (Elaborates (List Fault)))} → Optionwise (Pairwise ElaboratesBeside) ys ys'
+    → Reports (case_of least s w x xs ys) (case_of every s' w' x' xs' ys')
+case_of_reports b a (fine x) xs ys = cased_reports (fine x) (arms_of_reports b a (Some x.0) xs) (all_if_reports b a ys)
+case_of_reports b a (is_refused f fs p) xs ys = cased_reports (is_refused f fs p) (arms_of_reports b a None xs) (all_if_reports b a ys)
+
+looked_at_reports : {s : Scope Fault} {s' : Scope (List Fault)} → ScopeBeside s s' → {w : Around Fault} {w' : Around (List Fault)} → AroundBeside w w' → (d : Designator) {xs : List (Elaborates Fault)} {xs' : List (Elaborates (List Fault))} → Pairwise ElaboratesBeside xs xs'
+    → Reports (reported_in (all_of least (opened_if s (opened_type least s d)) w xs)) (reported_in (all_of every (opened_if s' (opened_type every s' d)) w' xs'))
+looked_at_reports {s = s} {s' = s'} b {w = w} {w' = w'} a d {xs = xs} {xs' = xs'} p =
+    subst (λ (t : Option TypeNo). Reports (reported_in (all_of least (opened_if s (opened_type least s d)) w xs)) (reported_in (all_of every (opened_if s' t) w' xs'))) (opened_type_same b d)
+    (reported_in_reports (all_of_reports (opened_if_beside b (opened_type least s d)) a p))
+
+with_of_reports : {s : Scope Fault} {s' : Scope (List Fault)} → ScopeBeside s s' → {w : Around Fault} {w' : Around (List Fault)} → AroundBeside w w' → (d : Designator) {xs : List (Elaborates Fault)} {xs' : List (Elaborates (List Fault))} → Pairwise ElaboratesBeside xs xs'
+    → Reports (with_of least s w d xs) (with_of every s' w' d xs')
+with_of_reports b a d xs = ahead_reports (record_of_reports b (head_beside d)) (looked_at_reports b a d xs) (λ r. within_reports r.1 (all_of_reports (opened_beside b r.0) a xs))
 
 -- ---- a layer, each part of which has its meaning
 
@@ -138,15 +157,15 @@ stmt_beside_layer : (y : Stmt-F SR SS SA) → ElaboratesBeside (stmt_layer least
 stmt_beside_layer (layer.Assign d e) = record { elaborates = λ s s' b w w' a. assignment_reports b (head_beside d) (meant_beside e) }
 stmt_beside_layer (layer.Call d args) = record { elaborates = λ s s' b w w' a. done_by_reports b (head_beside d) (args_meant_beside args) }
 stmt_beside_layer (layer.If c body follow) = record { elaborates = λ s s' b w w' a. chosen_reports (condition_reports b (meant_beside c)) (all_of_reports b a (elaborated body)) (follow.1.follows s s' b w w' a) }
-stmt_beside_layer (layer.Case e arms None) = record { elaborates = λ s s' b w w' a. then_reports (selected_reports b (meant_beside e)) (λ x. cased_reports x.1 (arms_of_reports b a x.0 (armed_all arms)) (all_if_reports b a nothing)) }
-stmt_beside_layer (layer.Case e arms (Some body)) = record { elaborates = λ s s' b w w' a. then_reports (selected_reports b (meant_beside e)) (λ x. cased_reports x.1 (arms_of_reports b a x.0 (armed_all arms)) (all_if_reports b a (something (elaborated body)))) }
+stmt_beside_layer (layer.Case e arms None) = record { elaborates = λ s s' b w w' a. case_of_reports b a (selected_reports b (meant_beside e)) (armed_all arms) nothing }
+stmt_beside_layer (layer.Case e arms (Some body)) = record { elaborates = λ s s' b w w' a. case_of_reports b a (selected_reports b (meant_beside e)) (armed_all arms) (something (elaborated body)) }
 stmt_beside_layer (layer.While c body) = record { elaborates = λ s s' b w w' a. repeated_while_reports (condition_reports b (meant_beside c)) (all_of_reports b a (elaborated body)) }
 stmt_beside_layer (layer.Repeat body c) = record { elaborates = λ s s' b w w' a. repeated_until_reports (all_of_reports b a (elaborated body)) (condition_reports b (meant_beside c)) }
 stmt_beside_layer (layer.Loop body) = record { elaborates = λ s s' b w w' a. looped_reports (all_of_reports b (in_loop_beside a) (elaborated body)) }
 stmt_beside_layer (layer.Exit at) = record { elaborates = λ s s' b w w' a. exited_reports at a }
 stmt_beside_layer (layer.Return at e) = record { elaborates = λ s s' b w w' a. returned_reports b at (gives_beside a) (meant_if_beside e) }
 stmt_beside_layer (layer.For name start limit by body) = record { elaborates = λ s s' b w w' a. repeated_for_reports (course_of_reports b name (meant_beside start) (meant_beside limit) (meant_if_beside by)) (all_of_reports b a (elaborated body)) }
-stmt_beside_layer (layer.With d body) = record { elaborates = λ s s' b w w' a. then_reports (record_of_reports b (head_beside d)) (λ r. within_reports r.1 (all_of_reports (opened_beside b r.0) a (elaborated body))) }
+stmt_beside_layer (layer.With d body) = record { elaborates = λ s s' b w w' a. with_of_reports b a d (elaborated body) }
 
 rest_beside_layer : (y : Rest-F SR SS SA) → RestBeside (rest_layer least (opened_rest least (bare_rest y))) (rest_layer every (opened_rest every (bare_rest y)))
 rest_beside_layer (layer.Elsif c body follow) = record { follows = λ s s' b w w' a. chosen_else_reports (chosen_reports (condition_reports b (meant_beside c)) (all_of_reports b a (elaborated body)) (follow.1.follows s s' b w w' a)) }

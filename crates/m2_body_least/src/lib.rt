@@ -1,8 +1,9 @@
 //! Laws: what is reported of a body is the least of all rules that are broken in it.
 //!
-//! The definitions of m2_computed to m2_check gather broken rules in one of two ways, all of them or the least of them.
-//! `m2_least` says what the two answers have to do with one another. `proofs` has a lemma for each definition, in the
-//! order of these crates; `Exprs`, `Statements` and `Bodies` have the inductions over trees.
+//! The definitions of m2_blocks to m2_check gather broken rules in one of two ways, all of them or the least of them.
+//! `m2_least` says what the two answers have to do with one another, and has the laws of the definitions below these.
+//! `proofs` has a lemma for each definition, in the order of these crates; `Statements` and `Bodies` have the inductions
+//! over trees.
 #![tactic(auto)]
 
 mod checked;

@@ -5,7 +5,7 @@ ghost use Rattle.m2_scopes.specs.Elaborated.{least};
 ghost use Rattle.m2_calls.specs.Effects.{target_of, target_at, stored, assigned_to, assigned, changed_as, changed, set_as, set_variable, untyped, known_amount, amount, element_known, element, change_by, membership_of, put};
 
 use m2_computed::{Accepted, Class, Computed, Designated, class_of, suited, value_suited};
-use m2_scopes::{Elaborated, both, reported};
+use m2_scopes::{Elaborated, Sought, both, of_sort, reported};
 use m2_tree::Pos;
 use m2_typed::{
     CARDINAL, CHAR, Change, INTEGER, Membership, Place, TypeNo, TypedExpr, TypedStmt, Types,
@@ -40,10 +40,10 @@ fn target_of(at: Pos, designated: Designated) -> Elaborated<Target>
 }
 
 /// The left side of an assignment at a place: 40 where it is no variable.
-pub fn target_at(at: Pos, designated: Elaborated<Designated>) -> Elaborated<Target>
+pub fn target_at(at: Pos, designated: Sought<Designated>) -> Elaborated<Target>
     ensures { result ≡ target_at least at designated }
 {
-    match designated {
+    match of_sort(at, 40, designated) {
         Err(fault) => Err(fault),
         Ok(designated) => target_of(at, designated),
     }

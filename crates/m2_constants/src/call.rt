@@ -2,7 +2,7 @@
 
 ghost use Rattle.std.specs.Prelude.{◌≡◌};
 ghost use Rattle.m2_scopes.specs.Elaborated.{least, ◌▷◌};
-ghost use Rattle.m2_constants.specs.Calls.{sort_of, scalar_type, type_part, type_argument, unary_of, unary, bound_by, bound, converted_by};
+ghost use Rattle.m2_constants.specs.Calls.{sort_of, scalar_type, type_in, named_scalar, type_argument, unary_of, unary, bound_by, bound, converted_by};
 
 use crate::denoted::Denoted;
 use m2_scopes::{Elaborated, both, reported};
@@ -53,30 +53,40 @@ pub fn scalar_type(at: Pos, t: TypeNo, scalar: Option<Scalar>) -> Elaborated<(Ty
     }
 }
 
-fn type_part(types: &Types, at: Pos, denoted: Denoted) -> Elaborated<(TypeNo, Scalar)>
-    ensures { result ≡ type_part least types.now at denoted }
+/// The type that stands there, if it is one.
+pub fn type_in(denoted: Denoted) -> Option<TypeNo>
+    ensures { result ≡ type_in denoted }
 {
     match denoted {
-        Denoted::Type(t) => scalar_type(at, t, scalar_of(types, t)),
-        Denoted::Value(_) => reported(at, 33),
-        Denoted::Variable => reported(at, 33),
-        Denoted::Procedure => reported(at, 33),
-        Denoted::Standard(_) => reported(at, 33),
-        Denoted::Module(_) => reported(at, 33),
+        Denoted::Type(t) => Some(t),
+        Denoted::Value(_) => None,
+        Denoted::Variable => None,
+        Denoted::Procedure => None,
+        Denoted::Standard(_) => None,
+        Denoted::Module(_) => None,
     }
 }
 
-/// An argument that names a scalar type.
+fn named_scalar(types: &Types, at: Pos, named: Option<TypeNo>) -> Elaborated<(TypeNo, Scalar)>
+    ensures { result ≡ named_scalar least types.now at named }
+{
+    match named {
+        None => reported(at, 33),
+        Some(t) => scalar_type(at, t, scalar_of(types, t)),
+    }
+}
+
+/// An argument that names a scalar type: 33 at it if it does not.
 pub fn type_argument(
     types: &Types,
     at: Pos,
-    denoted: Elaborated<Denoted>,
+    named: Elaborated<Option<TypeNo>>,
 ) -> Elaborated<(TypeNo, Scalar)>
-    ensures { result ≡ type_argument least types.now at denoted }
+    ensures { result ≡ type_argument least types.now at named }
 {
-    match denoted {
+    match named {
         Err(fault) => Err(fault),
-        Ok(denoted) => type_part(types, at, denoted),
+        Ok(named) => named_scalar(types, at, named),
     }
 }
 

@@ -2,9 +2,9 @@
 
 ghost use Rattle.std.specs.Prelude.{◌≡◌};
 ghost use Rattle.m2_scopes.specs.Elaborated.{least, ◌▷◌};
-ghost use Rattle.m2_constants.specs.Denote.{denoted_by, as_constant, constant_by, is_bitset, component, of_value};
+ghost use Rattle.m2_constants.specs.Denote.{denoted_by, denoted_of, as_constant, constant_by, is_bitset, component, of_value};
 
-use m2_scopes::{Elaborated, reported};
+use m2_scopes::{Elaborated, Meaningless, Sought, reported};
 use m2_tree::Pos;
 use m2_typed::{BITSET, Meaning, Standard, TypeNo, Value, are_same};
 
@@ -13,7 +13,7 @@ use m2_typed::{BITSET, Meaning, Standard, TypeNo, Value, are_same};
 pub enum Denoted {
     Value(Value),
     Type(TypeNo),
-    /// A variable, or a component of one.
+    /// A variable, or a component of one, or a type or a procedure with selectors.
     Variable,
     Procedure,
     Standard(Standard),
@@ -36,6 +36,17 @@ pub fn denoted_by(meaning: Meaning) -> Denoted
         Meaning::Ahead => Denoted::Procedure,
         Meaning::Standard(standard) => Denoted::Standard(standard),
         Meaning::Module(place) => Denoted::Module(place),
+    }
+}
+
+/// What a name stands for. A procedure is no constant, whatever its heading.
+pub fn denoted_of(sought: Sought<Meaning>) -> Elaborated<Denoted>
+    ensures { result ≡ denoted_of sought }
+{
+    match sought {
+        Ok(meaning) => Ok(denoted_by(meaning)),
+        Err(Meaningless::Broken(fault)) => Err(fault),
+        Err(Meaningless::Headless(_)) => Ok(Denoted::Procedure),
     }
 }
 
@@ -95,16 +106,17 @@ pub fn is_bitset(at: Pos, meaning: Meaning) -> Elaborated<()>
     }
 }
 
-/// A component of what stands before a bracket or a point.
+/// A component of what stands before a bracket or a point. Constants and modules have none: 40 there. A type or a
+/// procedure with selectors is no constant.
 pub fn component(at: Pos, denoted: Denoted) -> Elaborated<Denoted>
     ensures { result ≡ component least at denoted }
 {
     match denoted {
         Denoted::Variable => Ok(Denoted::Variable),
         Denoted::Value(_) => reported(at, 40),
-        Denoted::Type(_) => reported(at, 40),
-        Denoted::Procedure => reported(at, 40),
-        Denoted::Standard(_) => reported(at, 40),
+        Denoted::Type(_) => Ok(Denoted::Variable),
+        Denoted::Procedure => Ok(Denoted::Variable),
+        Denoted::Standard(_) => Ok(Denoted::Variable),
         Denoted::Module(_) => reported(at, 40),
     }
 }

@@ -1,4 +1,4 @@
-//! Constant expressions.
+//! Constant expressions: one step each, of parts that are known. `m2_exprs` has the walk over trees.
 #![tactic(auto)]
 
 mod call;
@@ -6,7 +6,13 @@ mod denoted;
 mod expr;
 mod qualified;
 
-pub use call::{bound_by, scalar_type, unary_of};
-pub use denoted::Denoted;
-pub use expr::{constant_of, place_of, sign_place};
+pub use call::{
+    Sort, bound, bound_by, converted_by, scalar_type, sort_of, type_argument, type_in, unary,
+    unary_of,
+};
+pub use denoted::{Denoted, constant_by, of_value};
+pub use expr::{
+    component_in, element_of, field_in, joined_bits, named, named_type, related, set_of, set_place,
+    set_type, sign_place, signed_first, single_of, text_of, value_at,
+};
 pub use qualified::member;

@@ -1,2 +1,2 @@
-pub mod Fixed
+pub mod Layers
 pub mod Variants

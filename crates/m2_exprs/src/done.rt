@@ -2,18 +2,20 @@
 
 ghost use Rattle.std.specs.Prelude.{◌≡◌, IfOk, map};
 ghost use Rattle.m2_scopes.specs.Elaborated.{least, ◌▷◌};
-ghost use Rattle.m2_calls.specs.Effects.{changed, set_variable, amount, element};
-ghost use Rattle.m2_exprs.specs.Meanings.{meant, head, value_of};
-ghost use Rattle.m2_exprs.specs.Effects.{call_done, routine_done, changed_by, member_by, halted, put_by, standard_done, done_as, done_by};
+ghost use Rattle.m2_calls.specs.Effects.{amount, change_by, element, membership_of};
+ghost use Rattle.m2_exprs.specs.Meanings.{meant, head, value_of, miscounted};
+ghost use Rattle.m2_exprs.specs.Effects.{call_done, routine_done, changed_in, changed_by, set_in, member_by, halted, put_by, function_done, standard_done, done_as, done_by};
 
-use crate::body::{actuals, designated, stands_for, value_of};
+use crate::body::{actuals, designated, looked_at, stands_for, value_of};
 use crate::pieces::{first_of, formals_of, place_of};
 use m2_calls::{
     Called, Callee, amount, call_by, callee_of, change_by, changed, element, membership_of,
     proper_of, put, set_variable,
 };
 use m2_computed::signature_of;
-use m2_scopes::{Elaborated, Fault, Scope, reported};
+use m2_scopes::{
+    Elaborated, Fault, Scope, of_heading, of_sort, refusal_beside, reported_beside,
+};
 use m2_tree::{Designator, Expr, Items, Pos};
 use m2_typed::{
     Argument, CARDINAL, Change, Membership, Place, Standard, TypeNo, TypedExpr, TypedStmt,
@@ -44,12 +46,28 @@ fn routine_done(
 {
     let signature = signature_of(&scope.types, heading);
     match proper_of(at, signature, args.len()) {
-        Err(fault) => Ok(Err(fault)),
+        Err(fault) => {
+            let rest = looked_at(alloc, scope, args)?;
+            Ok(refusal_beside(fault, rest))
+        }
         Ok(()) => {
             let arguments = actuals(alloc, scope, formals_of(signature), args)?;
             Ok(call_done(callee, arguments))
         }
     }
+}
+
+/// A wrong number of arguments, beside what is broken in them.
+fn miscounted(
+    alloc: Global,
+    scope: &Scope<Fault>,
+    at: Pos,
+    args: &[Expr],
+) -> Result<Elaborated<TypedStmt>, AllocError>
+    ensures { IfOk result (λ j. j ≡ miscounted least scope.now at (map (meant least) args.now)) }
+{
+    let rest = looked_at(alloc, scope, args)?;
+    Ok(reported_beside(at, 42, rest))
 }
 
 /// The variable of INC or DEC.
@@ -59,12 +77,12 @@ fn changed_at(
     arg: &Expr,
 ) -> Result<Elaborated<(TypeNo, Place)>, AllocError>
     ensures { IfOk result
-        (λ j. j ≡ ((meant least arg.now).means scope.now
-        ▷ changed least scope.now.types (meant least arg.now).fixed.at)) }
+        (λ j. j ≡ changed_in least scope.now (meant least arg.now)) }
 {
-    match stands_for(alloc, scope, arg)? {
+    let at = place_of(arg);
+    match of_sort(at, 44, stands_for(alloc, scope, arg)?) {
         Err(fault) => Ok(Err(fault)),
-        Ok(designated) => Ok(changed(&scope.types, place_of(arg), designated)),
+        Ok(designated) => Ok(changed(&scope.types, at, designated)),
     }
 }
 
@@ -84,6 +102,23 @@ fn amount_at(
     }
 }
 
+/// INC and DEC by an amount.
+fn changed_by_amount(
+    alloc: Global,
+    scope: &Scope<Fault>,
+    change: Change,
+    variable: &Expr,
+    by: &Expr,
+) -> Result<Elaborated<TypedStmt>, AllocError>
+    ensures { IfOk result
+        (λ j. j ≡ change_by least change (changed_in least scope.now (meant least variable.now))
+        (value_of least scope.now (meant least by.now) ▷ amount least (meant least by.now).fixed.at)) }
+{
+    let place = changed_at(alloc, scope, variable)?;
+    let amount = amount_at(alloc, scope, by)?;
+    Ok(change_by(change, place, amount))
+}
+
 /// INC and DEC.
 fn changed_by(
     alloc: Global,
@@ -96,29 +131,25 @@ fn changed_by(
         (λ j. j ≡ changed_by least scope.now at change (map (meant least) args.now)) }
 {
     match args {
-        [] => Ok(reported(at, 42)),
+        [] => miscounted(alloc, scope, at, args),
         [variable] => {
             let variable = changed_at(alloc, scope, variable)?;
             Ok(change_by(change, variable, Ok(TypedExpr::Constant(CARDINAL, 1))))
         }
-        [variable, by] => {
-            let variable = changed_at(alloc, scope, variable)?;
-            let by = amount_at(alloc, scope, by)?;
-            Ok(change_by(change, variable, by))
-        }
-        [_, _, _, ..] => Ok(reported(at, 42)),
+        [variable, by] => changed_by_amount(alloc, scope, change, variable, by),
+        [_, _, _, ..] => miscounted(alloc, scope, at, args),
     }
 }
 
 /// The set of INCL or EXCL.
 fn set_at(alloc: Global, scope: &Scope<Fault>, arg: &Expr) -> Result<Elaborated<Place>, AllocError>
     ensures { IfOk result
-        (λ j. j ≡ ((meant least arg.now).means scope.now
-        ▷ set_variable least scope.now.types (meant least arg.now).fixed.at)) }
+        (λ j. j ≡ set_in least scope.now (meant least arg.now)) }
 {
-    match stands_for(alloc, scope, arg)? {
+    let at = place_of(arg);
+    match of_sort(at, 44, stands_for(alloc, scope, arg)?) {
         Err(fault) => Ok(Err(fault)),
-        Ok(designated) => Ok(set_variable(&scope.types, place_of(arg), designated)),
+        Ok(designated) => Ok(set_variable(&scope.types, at, designated)),
     }
 }
 
@@ -138,6 +169,24 @@ fn element_at(
     }
 }
 
+/// INCL and EXCL of an element.
+fn member_of(
+    alloc: Global,
+    scope: &Scope<Fault>,
+    membership: Membership,
+    set: &Expr,
+    arg: &Expr,
+) -> Result<Elaborated<TypedStmt>, AllocError>
+    ensures { IfOk result
+        (λ j. j ≡ membership_of least membership (set_in least scope.now (meant least set.now))
+        (value_of least scope.now (meant least arg.now)
+        ▷ element least (meant least arg.now).fixed.at)) }
+{
+    let place = set_at(alloc, scope, set)?;
+    let element = element_at(alloc, scope, arg)?;
+    Ok(membership_of(membership, place, element))
+}
+
 /// INCL and EXCL.
 fn member_by(
     alloc: Global,
@@ -150,24 +199,38 @@ fn member_by(
         (λ j. j ≡ member_by least scope.now at membership (map (meant least) args.now)) }
 {
     match args {
-        [] => Ok(reported(at, 42)),
-        [_] => Ok(reported(at, 42)),
-        [set, arg] => {
-            let set = set_at(alloc, scope, set)?;
-            let element = element_at(alloc, scope, arg)?;
-            Ok(membership_of(membership, set, element))
-        }
-        [_, _, _, ..] => Ok(reported(at, 42)),
+        [] => miscounted(alloc, scope, at, args),
+        [_] => miscounted(alloc, scope, at, args),
+        [set, arg] => member_of(alloc, scope, membership, set, arg),
+        [_, _, _, ..] => miscounted(alloc, scope, at, args),
     }
 }
 
-fn halted(at: Pos, args: &[Expr]) -> Elaborated<TypedStmt>
-    ensures { result ≡ halted least at (map (meant least) args.now) }
+fn halted(
+    alloc: Global,
+    scope: &Scope<Fault>,
+    at: Pos,
+    args: &[Expr],
+) -> Result<Elaborated<TypedStmt>, AllocError>
+    ensures { IfOk result (λ j. j ≡ halted least scope.now at (map (meant least) args.now)) }
 {
     match args {
-        [] => Ok(TypedStmt::Halt),
-        [_, ..] => reported(at, 42),
+        [] => Ok(Ok(TypedStmt::Halt)),
+        [_, ..] => miscounted(alloc, scope, at, args),
     }
+}
+
+/// A function is no statement.
+fn function_done(
+    alloc: Global,
+    scope: &Scope<Fault>,
+    at: Pos,
+    args: &[Expr],
+) -> Result<Elaborated<TypedStmt>, AllocError>
+    ensures { IfOk result (λ j. j ≡ function_done least scope.now at (map (meant least) args.now)) }
+{
+    let rest = looked_at(alloc, scope, args)?;
+    Ok(reported_beside(at, 40, rest))
 }
 
 /// `Console.Put`.
@@ -180,12 +243,12 @@ fn put_by(
     ensures { IfOk result (λ j. j ≡ put_by least scope.now at (map (meant least) args.now)) }
 {
     match args {
-        [] => Ok(reported(at, 42)),
+        [] => miscounted(alloc, scope, at, args),
         [arg] => match value_of(alloc, scope, arg)? {
             Err(fault) => Ok(Err(fault)),
             Ok(value) => Ok(put(&scope.types, place_of(arg), value)),
         },
-        [_, _, ..] => Ok(reported(at, 42)),
+        [_, _, ..] => miscounted(alloc, scope, at, args),
     }
 }
 
@@ -205,7 +268,7 @@ fn standard_done(
         Standard::Dec => changed_by(alloc, scope, at, Change::Decrease, args),
         Standard::Incl => member_by(alloc, scope, at, Membership::Include, args),
         Standard::Excl => member_by(alloc, scope, at, Membership::Exclude, args),
-        Standard::Halt => Ok(halted(at, args)),
+        Standard::Halt => halted(alloc, scope, at, args),
         Standard::Put => put_by(alloc, scope, at, args),
         Standard::Abs
         | Standard::Cap
@@ -215,7 +278,7 @@ fn standard_done(
         | Standard::Min
         | Standard::Odd
         | Standard::Ord
-        | Standard::Val => Ok(reported(at, 40)),
+        | Standard::Val => function_done(alloc, scope, at, args),
     }
 }
 
@@ -248,11 +311,15 @@ pub fn done_by(
         (λ j. j ≡ done_by least scope.now (head least designator.now) (map (meant least) args.now)) }
 {
     let at = first_of(designator);
-    match designated(alloc, scope, designator)? {
-        Err(fault) => Ok(Err(fault)),
-        Ok(designated) => match callee_of(&scope.types, at, designated) {
-            Err(fault) => Ok(Err(fault)),
-            Ok(called) => done_as(alloc, scope, at, args, called),
-        },
+    let called = match of_heading(designated(alloc, scope, designator)?) {
+        Err(fault) => Err(fault),
+        Ok(designated) => callee_of(&scope.types, at, designated),
+    };
+    match called {
+        Err(fault) => {
+            let rest = looked_at(alloc, scope, args)?;
+            Ok(refusal_beside(fault, rest))
+        }
+        Ok(called) => done_as(alloc, scope, at, args, called),
     }
 }

@@ -1,68 +1,69 @@
 //! One step each, of parts that are known.
 
-ghost use Rattle.std.specs.Prelude.{◌≡◌, IfOk};
+ghost use Rattle.std.specs.Prelude.{◌≡◌, IfOk, Ok};
 ghost use Rattle.std.specs.Option.{option_copied};
-ghost use Rattle.m2_scopes.specs.Elaborated.{least, ◌▷◌};
+ghost use Rattle.m2_scopes.specs.Elaborated.{least, of_sort, of_heading, ◌▷◌};
+ghost use Rattle.m2_constants.specs.Parts as constants;
 ghost use Rattle.m2_calls.specs.Functions.{type_named, high_of, unary_at};
-ghost use Rattle.m2_exprs.specs.Meanings.{meant, head, of_computed, taken_at, signed_first, related, named, member_of, field_of, field_at, index_at, formals_of, argument_by, call_given, as_constant};
+ghost use Rattle.m2_exprs.specs.Meanings.{part, meant, head, of_computed, taken_at, signed_first, related, named, member_of, field_of, field_at, index_at, formals_of, passed_for, argument_by, call_given, type_in, type_of};
 
 use m2_calls::{Callee, Unary, actual, call_by, high_of, type_named, unary_at};
 use m2_computed::{
     Computed, Designated, combined, designated_by, field, given, indexed, indices, signed, taken,
 };
-use m2_constants::{constant_of, member};
-use m2_scopes::{Elaborated, Fault, Scope, looked_up, reported};
+use m2_constants::{Denoted, member, set_place, sign_place};
+use m2_scopes::{
+    Elaborated, Fault, Scope, Sought, looked_up, of_heading, of_sort, plain, reported,
+};
 use m2_tree::{Boxed, Designator, Expr, Ident, Items, Operator, Pos, RelOp, Sign};
-use m2_typed::{Argument, Formal, Scalar, Signature, Standard, TypeNo, TypedExpr, Types};
+use m2_typed::{
+    Argument, Formal, Scalar, Signature, Standard, TypeNo, TypedExpr, Types, Value,
+};
 use m2_values::BinaryOp;
 use std::alloc::{AllocError, Global};
 
 /// The place of an expression's first token.
-#[tactic(auto, using(crate::proofs::Variants::variants))]
+#[tactic(auto, using(crate::proofs::Variants::places))]
 pub fn place_of(e: &Expr) -> Pos
-    ensures { result ≡ (meant least e.now).fixed.at }
+    ensures { result ≡ (part least e.now).at }
 {
-    m2_constants::place_of(e)
+    match e {
+        Expr::Number(at, _) => *at,
+        Expr::Char(at, _) => *at,
+        Expr::Text(at, _) => *at,
+        Expr::Set(name, at, _) => set_place(name, *at),
+        Expr::Not(at, _) => *at,
+        Expr::Bracketed(at, _) => *at,
+        Expr::Use(designator, _) => first_of(designator),
+        Expr::Term(first, _) => place_of(first.get()),
+        Expr::Sum(sign, first, _) => sign_place(*sign, place_of(first.get())),
+        Expr::Relation(first, _, _) => place_of(first.get()),
+    }
 }
 
 /// The place of a designator's first token.
-#[tactic(auto, using(crate::proofs::Variants::variants))]
+#[tactic(auto, using(crate::proofs::Variants::head_at))]
 pub fn first_of(designator: &Designator) -> Pos
     ensures { result ≡ (head least designator.now).fixed.at }
 {
     designator.name.pos
 }
 
-/// A constant expression as it stands.
-#[tactic(auto, using(crate::proofs::Variants::variants))]
-pub fn as_constant(
-    alloc: Global,
-    scope: &Scope<Fault>,
-    e: &Expr,
-) -> Result<Elaborated<Designated>, AllocError>
-    ensures { IfOk result (λ d. d ≡ as_constant least scope.now (meant least e.now).fixed) }
-{
-    match constant_of(alloc, scope, e)? {
-        Err(fault) => Ok(Err(fault)),
-        Ok(value) => Ok(Ok(Designated::Value(Computed::Constant(value)))),
-    }
-}
-
 /// A value stands for itself.
-pub fn of_computed(value: Elaborated<Computed>) -> Elaborated<Designated>
+pub fn of_computed(value: Elaborated<Computed>) -> Sought<Designated>
     ensures { result ≡ of_computed value }
 {
     match value {
-        Err(fault) => Err(fault),
+        Err(fault) => plain(Err(fault)),
         Ok(value) => Ok(Designated::Value(value)),
     }
 }
 
 /// What stands at a place, taken as a value.
-pub fn taken_at(types: &Types, at: Pos, designated: Elaborated<Designated>) -> Elaborated<Computed>
+pub fn taken_at(types: &Types, at: Pos, designated: Sought<Designated>) -> Elaborated<Computed>
     ensures { result ≡ taken_at least types.now at designated }
 {
-    match designated {
+    match of_heading(designated) {
         Err(fault) => Err(fault),
         Ok(designated) => taken(types, at, designated),
     }
@@ -115,12 +116,12 @@ pub fn named(
     alloc: Global,
     scope: &Scope<Fault>,
     name: &Ident,
-) -> Result<Elaborated<Designated>, AllocError>
+) -> Result<Sought<Designated>, AllocError>
     ensures { IfOk result (λ d. d ≡ named least scope.now name.now) }
 {
     match looked_up(scope, name)? {
-        Err(fault) => Ok(Err(fault)),
-        Ok(meaning) => designated_by(alloc, scope.level, name.pos, meaning),
+        Err(meaningless) => Ok(Err(meaningless)),
+        Ok(meaning) => Ok(plain(designated_by(alloc, scope.level, name.pos, meaning)?)),
     }
 }
 
@@ -138,7 +139,8 @@ fn member_of(
     }
 }
 
-fn field_of(
+/// A name of a module, or a field of a record, of what stands before it.
+pub fn field_of(
     alloc: Global,
     scope: &Scope<Fault>,
     at: Pos,
@@ -173,13 +175,13 @@ pub fn field_at(
     scope: &Scope<Fault>,
     at: Pos,
     name: &Ident,
-    from: Elaborated<Designated>,
-) -> Result<Elaborated<Designated>, AllocError>
+    from: Sought<Designated>,
+) -> Result<Sought<Designated>, AllocError>
     ensures { IfOk result (λ d. d ≡ field_at least scope.now at name.now from) }
 {
-    match from {
-        Err(fault) => Ok(Err(fault)),
-        Ok(from) => field_of(alloc, scope, at, name, from),
+    match of_sort(at, 40, from) {
+        Err(fault) => Ok(plain(Err(fault))),
+        Ok(from) => Ok(plain(field_of(alloc, scope, at, name, from)?)),
     }
 }
 
@@ -188,17 +190,45 @@ pub fn index_at(
     alloc: Global,
     types: &Types,
     at: Pos,
-    from: Elaborated<Designated>,
+    from: Sought<Designated>,
     other_at: Pos,
     index: Elaborated<Computed>,
-) -> Result<Elaborated<Designated>, AllocError>
+) -> Result<Sought<Designated>, AllocError>
     ensures { IfOk result (λ d. d ≡ index_at least types.now at from other_at index) }
 {
-    let array = match from {
+    let array = match of_sort(at, 40, from) {
         Err(fault) => Err(fault),
         Ok(from) => indices(types, at, from),
     };
-    indexed(alloc, types, array, other_at, index)
+    Ok(plain(indexed(alloc, types, array, other_at, index)?))
+}
+
+fn type_in(designated: Designated) -> Option<TypeNo>
+    ensures { result ≡ type_in designated }
+{
+    match designated {
+        Designated::Type(t) => Some(t),
+        Designated::Value(value) => {
+            drop(value);
+            None
+        }
+        Designated::Variable(_, _) => None,
+        Designated::Open(_, _) => None,
+        Designated::Procedure(_) => None,
+        Designated::Nested(_) => None,
+        Designated::Standard(_) => None,
+        Designated::Module(_) => None,
+    }
+}
+
+/// The type that stands at a place, if it is one.
+pub fn type_of(at: Pos, designated: Sought<Designated>) -> Elaborated<Option<TypeNo>>
+    ensures { result ≡ type_of least at designated }
+{
+    match of_sort(at, 33, designated) {
+        Err(fault) => Err(fault),
+        Ok(designated) => Ok(type_in(designated)),
+    }
 }
 
 /// The formals of a procedure.
@@ -211,18 +241,29 @@ pub fn formals_of(signature: Option<&Signature>) -> &[Formal]
     }
 }
 
+/// What stands at a place, for a formal. For a VAR formal it counts that a procedure is no variable.
+fn passed_for(formal: Formal, at: Pos, designated: Sought<Designated>) -> Elaborated<Designated>
+    ensures { result ≡ passed_for least formal at designated }
+{
+    if formal.is_var {
+        of_sort(at, 44, designated)
+    } else {
+        of_heading(designated)
+    }
+}
+
 /// An argument at a place, for a formal.
 pub fn argument_by(
     types: &Types,
     formal: Option<Formal>,
     at: Pos,
-    designated: Elaborated<Designated>,
+    designated: Sought<Designated>,
 ) -> Elaborated<Argument>
     ensures { result ≡ argument_by least types.now formal at designated }
 {
     match formal {
         None => reported(at, 42),
-        Some(formal) => match designated {
+        Some(formal) => match passed_for(formal, at, designated) {
             Err(fault) => Err(fault),
             Ok(designated) => actual(types, formal, at, designated),
         },
@@ -252,21 +293,21 @@ pub fn call_given(
 pub fn type_at(
     types: &Types,
     at: Pos,
-    designated: Elaborated<Designated>,
+    designated: Sought<Designated>,
 ) -> Elaborated<(TypeNo, Scalar)>
-    ensures { result ≡ (designated ▷ type_named least types.now at) }
+    ensures { result ≡ (of_sort least at 33 designated ▷ type_named least types.now at) }
 {
-    match designated {
+    match of_sort(at, 33, designated) {
         Err(fault) => Err(fault),
         Ok(designated) => type_named(types, at, designated),
     }
 }
 
 /// HIGH of an argument.
-pub fn high_at(at: Pos, designated: Elaborated<Designated>) -> Elaborated<Computed>
-    ensures { result ≡ (designated ▷ high_of least at) }
+pub fn high_at(at: Pos, designated: Sought<Designated>) -> Elaborated<Computed>
+    ensures { result ≡ (of_sort least at 43 designated ▷ high_of least at) }
 {
-    match designated {
+    match of_sort(at, 43, designated) {
         Err(fault) => Err(fault),
         Ok(designated) => high_of(at, designated),
     }
@@ -286,4 +327,31 @@ pub fn unary_of(
         Err(fault) => Ok(Err(fault)),
         Ok(value) => unary_at(alloc, standard, function, at, value),
     }
+}
+
+/// What is broken in what stands at a place.
+pub fn looked(designated: Sought<Designated>) -> Elaborated<()>
+    ensures { result ≡ (of_heading designated ▷ λ d. Ok tt) }
+{
+    match of_heading(designated) {
+        Err(fault) => Err(fault),
+        Ok(designated) => {
+            drop(designated);
+            Ok(())
+        }
+    }
+}
+
+/// A relation between two constant expressions that have these values.
+pub fn related_parts(
+    first: &Expr,
+    left: Elaborated<Value>,
+    operator: &Operator<RelOp>,
+    second: &Expr,
+    right: Elaborated<Value>,
+) -> Elaborated<Denoted>
+    ensures { result ≡ constants.related least operator.now (part least first.now).at left
+        (part least second.now).at right }
+{
+    m2_constants::related(operator, place_of(first), left, place_of(second), right)
 }

@@ -20,6 +20,7 @@ use Rattle.m2_typed.specs.declared.table.Table.{Table}
 use Rattle.m2_typed.specs.Types.{are_same, bitset}
 use Rattle.m2_scopes.specs.declared.fault.Fault.{Fault}
 use Rattle.m2_typed.specs.declared.known_types.Types.{Types}
+use Rattle.m2_scopes.specs.declared.meaningless.Meaningless.{Meaningless}
 use Rattle.m2_scopes.specs.declared.scope.Scope.{Scope}
 use Rattle.m2_scopes.specs.Elaborated.{every, least}
 use Rattle.m2_typed.specs.Known.{scalar_at}
@@ -29,16 +30,21 @@ use Rattle.m2_constants.specs.declared.denoted.Denoted.{Denoted}
 use Rattle.m2_constants.specs.declared.denoted.Denoted.TheVariants as denoted
 use Rattle.m2_constants.specs.declared.call.Sort.{Sort}
 use Rattle.m2_constants.specs.declared.call.Sort.TheVariants.{Unary, Bound, Conversion, Never}
-use Rattle.m2_constants.specs.Denote.{denoted_by, as_constant, constant_by, of_value, is_bitset, component, exported_by, exported, member}
-use Rattle.m2_constants.specs.Calls.{sort_of, scalar_type, type_part, type_argument, unary_of, unary, bound, converted_by}
-use Rattle.m2_constants.specs.Parts.{Part, Pick, Adds, sign_place, set_place, signed_first, set_type, named, field_of, constant, one, type_only, conversion, by_sort, called_as, used_with, factor, term, added, with_item, expr_layer, designator_layer}
-use Rattle.m2_least.specs.Least.{Reports, fine}
-use Rattle.m2_least.specs.Beside.{Pairwise, none, more, Optionwise, nothing, something, ScopeBeside, scopes}
-use Rattle.m2_least.proofs.Forms.{reported_reports, where_reports, both_reports, then_reports, fold_pairwise}
-use Rattle.m2_least.proofs.Scopes.{looked_up_reports}
+use Rattle.m2_constants.specs.Denote.{denoted_by, denoted_of, as_constant, constant_by, of_value, is_bitset, component, exported_by, exported, member}
+use Rattle.m2_constants.specs.Calls.{sort_of, scalar_type, named_scalar, type_argument, unary_of, unary, bound, converted_by}
+use Rattle.m2_constants.specs.Parts.{Part, Pick, Adds, standing, sign_place, set_place, signed_first, set_type, named, field_of, constant, one, type_only, conversion, by_sort, called_as, used_with, factor, term, added, with_item, picked, expr_layer}
+use Rattle.m2_least.specs.Least.{Reports, fine, is_refused}
+use Rattle.m2_least.specs.Beside.{Pairwise, none, more, Optionwise, nothing, something, SoughtBeside, is_found, is_broken, is_headless, ScopeBeside, scopes}
+use Rattle.m2_least.proofs.Forms.{reported_reports, where_reports, both_reports, then_reports, of_sort_reports, fold_pairwise}
+use Rattle.m2_least.proofs.Scopes.{looked_up_sought}
 use Rattle.m2_least.proofs.Values.{absolute_reports, capital_reports, character_reports, is_odd_reports, ordinal_of_reports, converted_reports, element_reports, single_reports, spanned_reports, combined_reports, signed_reports, negated_reports}
 
 -- ---- what names denote
+
+denoted_of_reports : {m : Result Meaning (Meaningless Fault)} {m' : Result Meaning (Meaningless (List Fault))} → SoughtBeside m m' → Reports (denoted_of m) (denoted_of m')
+denoted_of_reports (is_found m) = fine (denoted_by m)
+denoted_of_reports (is_broken f fs p) = is_refused f fs p
+denoted_of_reports (is_headless f fs p) = fine denoted.Procedure
 
 as_constant_reports : (at : Pos) (d : Denoted) → Reports (as_constant least at d) (as_constant every at d)
 as_constant_reports at (denoted.Value v) = fine v
@@ -69,9 +75,9 @@ is_bitset_reports at (meaning.Module k) = reported_reports at 33
 pub component_reports : (at : Pos) (d : Denoted) → Reports (component least at d) (component every at d)
 component_reports at denoted.Variable = fine denoted.Variable
 component_reports at (denoted.Value v) = reported_reports at 40
-component_reports at (denoted.Type t) = reported_reports at 40
-component_reports at denoted.Procedure = reported_reports at 40
-component_reports at (denoted.Standard f) = reported_reports at 40
+component_reports at (denoted.Type t) = fine denoted.Variable
+component_reports at denoted.Procedure = fine denoted.Variable
+component_reports at (denoted.Standard f) = fine denoted.Variable
 component_reports at (denoted.Module k) = reported_reports at 40
 
 exported_reports : (at : Pos) (m : Option Meaning) → Reports (exported least at m) (exported every at m)
@@ -87,16 +93,12 @@ pub scalar_type_reports : (at : Pos) (t : TypeNo) (s : Option Scalar) → Report
 scalar_type_reports at t None = reported_reports at 33
 scalar_type_reports at t (Some s) = fine (t, s)
 
-type_part_reports : (types : Types) (at : Pos) (d : Denoted) → Reports (type_part least types at d) (type_part every types at d)
-type_part_reports types at (denoted.Type t) = scalar_type_reports at t (scalar_at types t)
-type_part_reports types at (denoted.Value v) = reported_reports at 33
-type_part_reports types at denoted.Variable = reported_reports at 33
-type_part_reports types at denoted.Procedure = reported_reports at 33
-type_part_reports types at (denoted.Standard f) = reported_reports at 33
-type_part_reports types at (denoted.Module k) = reported_reports at 33
+named_scalar_reports : (types : Types) (at : Pos) (t : Option TypeNo) → Reports (named_scalar least types at t) (named_scalar every types at t)
+named_scalar_reports types at None = reported_reports at 33
+named_scalar_reports types at (Some t) = scalar_type_reports at t (scalar_at types t)
 
-type_argument_reports : (types : Types) (at : Pos) {d : Result Denoted Fault} {d' : Result Denoted (List Fault)} → Reports d d' → Reports (type_argument least types at d) (type_argument every types at d')
-type_argument_reports types at p = then_reports p (λ d. type_part_reports types at d)
+type_argument_reports : (types : Types) (at : Pos) {t : Result (Option TypeNo) Fault} {t' : Result (Option TypeNo) (List Fault)} → Reports t t' → Reports (type_argument least types at t) (type_argument every types at t')
+type_argument_reports types at p = then_reports p (λ t. named_scalar_reports types at t)
 
 pub unary_of_reports : (f : Standard) (at : Pos) (v : Value) → Reports (unary_of least f at v) (unary_of every f at v)
 unary_of_reports standard.Abs at v = absolute_reports at v
@@ -131,8 +133,18 @@ converted_by_reports p at q = then_reports (both_reports p q) (λ x. converted_r
 abbrev pub DenotesBeside : (Scope Fault → Result Denoted Fault) → (Scope (List Fault) → Result Denoted (List Fault)) → Type 0
 DenotesBeside d d' = (s : Scope Fault) (s' : Scope (List Fault)) → ScopeBeside s s' → Reports (d s) (d' s')
 
+-- the type that something names there
+abbrev pub NamesBeside : (Scope Fault → Result (Option TypeNo) Fault) → (Scope (List Fault) → Result (Option TypeNo) (List Fault)) → Type 0
+NamesBeside n n' = (s : Scope Fault) (s' : Scope (List Fault)) → ScopeBeside s s' → Reports (n s) (n' s')
+
 pub data PartBeside : Part Fault → Part (List Fault) → Type 0 where
-  parts : (at : Pos) {d : Scope Fault → Result Denoted Fault} {d' : Scope (List Fault) → Result Denoted (List Fault)} → DenotesBeside d d' → PartBeside (record { at = at; denotes = d }) (record { at = at; denotes = d' })
+  parts : (at : Pos) {d : Scope Fault → Result Denoted Fault} {d' : Scope (List Fault) → Result Denoted (List Fault)} → DenotesBeside d d'
+      → {n : Scope Fault → Result (Option TypeNo) Fault} {n' : Scope (List Fault) → Result (Option TypeNo) (List Fault)} → NamesBeside n n'
+      → PartBeside (record { at = at; denotes = d; names = n }) (record { at = at; denotes = d'; names = n' })
+
+-- what names a type where it stands for one
+standing_beside : (at : Pos) {d : Scope Fault → Result Denoted Fault} {d' : Scope (List Fault) → Result Denoted (List Fault)} → DenotesBeside d d' → PartBeside (standing at d) (standing at d')
+standing_beside at d = parts at d (λ s s' b. then_reports (d s s' b) (λ x. fine _))
 
 pub record PickBeside (f : Pick Fault) (f' : Pick (List Fault)) : Type 0 where
   pub picks : (s : Scope Fault) (s' : Scope (List Fault)) → ScopeBeside s s' → (d : Result Denoted Fault) (d' : Result Denoted (List Fault)) → Reports d d' → Reports (f s d) (f' s' d')
@@ -141,25 +153,25 @@ pub record AddsBeside (f : Adds Fault) (f' : Adds (List Fault)) : Type 0 where
   pub adds : (s : Scope Fault) (s' : Scope (List Fault)) → ScopeBeside s s' → Reports (f s) (f' s')
 
 pub constant_reports : {s : Scope Fault} {s' : Scope (List Fault)} → ScopeBeside s s' → {x : Part Fault} {x' : Part (List Fault)} → PartBeside x x' → Reports (constant least s x) (constant every s' x')
-constant_reports {s = s} {s' = s'} b (parts at d) = constant_by_reports at (d s s' b)
+constant_reports {s = s} {s' = s'} b (parts at d d_n) = constant_by_reports at (d s s' b)
 
 -- ---- calls
 
 one_reports : {s : Scope Fault} {s' : Scope (List Fault)} → ScopeBeside s s' → (at : Pos) {xs : List (Part Fault)} {xs' : List (Part (List Fault))} → Pairwise PartBeside xs xs' → Reports (one least s at xs) (one every s' at xs')
 one_reports b at none = reported_reports at 42
-one_reports b at (more (parts p d) none) = then_reports (constant_reports b (parts p d)) (λ x. fine (p, x))
+one_reports b at (more (parts p d d_n) none) = then_reports (constant_reports b (parts p d d_n)) (λ x. fine (p, x))
 one_reports b at (more x (more y zs)) = reported_reports at 42
 
 type_only_reports : {s : Scope Fault} {s' : Scope (List Fault)} → ScopeBeside s s' → (at : Pos) {xs : List (Part Fault)} {xs' : List (Part (List Fault))} → Pairwise PartBeside xs xs' → Reports (type_only least s at xs) (type_only every s' at xs')
 type_only_reports b at none = reported_reports at 42
-type_only_reports (scopes t types v h own outer) at (more (parts p d) none) = type_argument_reports types p (d _ _ (scopes t types v h own outer))
+type_only_reports (scopes t types v h own outer) at (more (parts p d d_n) none) = type_argument_reports types p (d_n _ _ (scopes t types v h own outer))
 type_only_reports b at (more x (more y zs)) = reported_reports at 42
 
 conversion_reports : {s : Scope Fault} {s' : Scope (List Fault)} → ScopeBeside s s' → (at : Pos) {xs : List (Part Fault)} {xs' : List (Part (List Fault))} → Pairwise PartBeside xs xs' → Reports (conversion least s at xs) (conversion every s' at xs')
 conversion_reports b at none = reported_reports at 42
 conversion_reports b at (more x none) = reported_reports at 42
-conversion_reports (scopes t types v h own outer) at (more (parts p d) (more (parts q e) none)) =
-    converted_by_reports (type_argument_reports types p (d _ _ (scopes t types v h own outer))) q (constant_reports (scopes t types v h own outer) (parts q e))
+conversion_reports (scopes t types v h own outer) at (more (parts p d d_n) (more (parts q e e_n) none)) =
+    converted_by_reports (type_argument_reports types p (d_n _ _ (scopes t types v h own outer))) q (constant_reports (scopes t types v h own outer) (parts q e e_n))
 conversion_reports b at (more x (more y (more z zs))) = reported_reports at 42
 
 by_sort_reports : {s : Scope Fault} {s' : Scope (List Fault)} → ScopeBeside s s' → (at : Pos) (f : Standard) {xs : List (Part Fault)} {xs' : List (Part (List Fault))} → Pairwise PartBeside xs xs' → (c : Sort)
@@ -177,10 +189,9 @@ called_as_reports b at denoted.Variable xs = reported_reports at 34
 called_as_reports b at denoted.Procedure xs = reported_reports at 34
 called_as_reports b at (denoted.Module k) xs = reported_reports at 34
 
-used_with_reports : {s : Scope Fault} {s' : Scope (List Fault)} → ScopeBeside s s' → {d : Part Fault} {d' : Part (List Fault)} → PartBeside d d' → {xs : Option (List (Part Fault))} {xs' : Option (List (Part (List Fault)))}
-    → Optionwise (Pairwise PartBeside) xs xs' → Reports (used_with least s d xs) (used_with every s' d' xs')
-used_with_reports {s = s} {s' = s'} b (parts at d) nothing = d s s' b
-used_with_reports {s = s} {s' = s'} b (parts at d) (something xs) = of_value_reports (then_reports (d s s' b) (λ x. called_as_reports b at x xs))
+used_with_beside : {d : Part Fault} {d' : Part (List Fault)} → PartBeside d d' → {xs : Option (List (Part Fault))} {xs' : Option (List (Part (List Fault)))} → Optionwise (Pairwise PartBeside) xs xs' → PartBeside (used_with least d xs) (used_with every d' xs')
+used_with_beside d nothing = d
+used_with_beside (parts at d d_n) (something xs) = standing_beside at (λ s s' b. of_value_reports (then_reports (d s s' b) (λ x. called_as_reports b at x xs)))
 
 -- ---- operators and elements
 
@@ -189,11 +200,11 @@ pub data OperandBeside {O : Type 0} : Operator O × Part Fault → Operator O ×
 
 factor_reports : {s : Scope Fault} {s' : Scope (List Fault)} → ScopeBeside s s' → (at : Pos) {v : Result Value Fault} {v' : Result Value (List Fault)} → Reports v v' → {x : Operator MulOp × Part Fault} {x' : Operator MulOp × Part (List Fault)} → OperandBeside x x'
     → Reports (factor least s at v x) (factor every s' at v' x')
-factor_reports b at p (operand o (parts q d)) = combined_reports (mul_op o.op) o.pos at p q (constant_reports b (parts q d))
+factor_reports b at p (operand o (parts q d d_n)) = combined_reports (mul_op o.op) o.pos at p q (constant_reports b (parts q d d_n))
 
 term_reports : {s : Scope Fault} {s' : Scope (List Fault)} → ScopeBeside s s' → (at : Pos) {v : Result Value Fault} {v' : Result Value (List Fault)} → Reports v v' → {x : Operator AddOp × Part Fault} {x' : Operator AddOp × Part (List Fault)} → OperandBeside x x'
     → Reports (term least s at v x) (term every s' at v' x')
-term_reports b at p (operand o (parts q d)) = combined_reports (add_op o.op) o.pos at p q (constant_reports b (parts q d))
+term_reports b at p (operand o (parts q d d_n)) = combined_reports (add_op o.op) o.pos at p q (constant_reports b (parts q d d_n))
 
 signed_first_reports : (o : Option (Operator Sign)) {v : Result Value Fault} {v' : Result Value (List Fault)} → Reports v v' → Reports (signed_first least o v) (signed_first every o v')
 signed_first_reports None p = p
@@ -201,18 +212,18 @@ signed_first_reports (Some o) p = signed_reports o.op o.pos p
 
 pub added_reports : {s : Scope Fault} {s' : Scope (List Fault)} → ScopeBeside s s' → {x : Part Fault} {x' : Part (List Fault)} → PartBeside x x' → {y : Option (Part Fault)} {y' : Option (Part (List Fault))} → Optionwise PartBeside y y'
     → Reports (added least s x y) (added every s' x' y')
-added_reports b (parts at d) nothing = then_reports (constant_reports b (parts at d)) (λ v. single_reports at v)
-added_reports b (parts at d) (something (parts at' e)) =
-    spanned_reports at (then_reports (constant_reports b (parts at d)) (λ v. element_reports at v)) at' (then_reports (constant_reports b (parts at' e)) (λ v. element_reports at' v))
+added_reports b (parts at d d_n) nothing = then_reports (constant_reports b (parts at d d_n)) (λ v. single_reports at v)
+added_reports b (parts at d d_n) (something (parts at' e e_n)) =
+    spanned_reports at (then_reports (constant_reports b (parts at d d_n)) (λ v. element_reports at v)) at' (then_reports (constant_reports b (parts at' e e_n)) (λ v. element_reports at' v))
 
 set_type_reports : {s : Scope Fault} {s' : Scope (List Fault)} → ScopeBeside s s' → (name : Option Ident) → Reports (set_type least s name) (set_type every s' name)
 set_type_reports b None = fine tt
-set_type_reports b (Some name) = then_reports (looked_up_reports name b) (λ m. is_bitset_reports name.pos m)
+set_type_reports b (Some name) = then_reports (of_sort_reports name.pos 33 (looked_up_sought name b)) (λ m. is_bitset_reports name.pos m)
 
 -- ---- designators
 
 named_reports : {s : Scope Fault} {s' : Scope (List Fault)} → ScopeBeside s s' → (name : Ident) → Reports (named least s name) (named every s' name)
-named_reports b name = then_reports (looked_up_reports name b) (λ m. fine (denoted_by m))
+named_reports b name = denoted_of_reports (looked_up_sought name b)
 
 pub field_of_reports : {s : Scope Fault} {s' : Scope (List Fault)} → ScopeBeside s s' → (at : Pos) (name : Ident) (d : Denoted) → Reports (field_of least s at name d) (field_of every s' at name d)
 field_of_reports (scopes t types v h own outer) at name (denoted.Module k) = then_reports (member_reports t k name) (λ m. fine (denoted_by m))
@@ -225,39 +236,40 @@ field_of_reports b at name (denoted.Standard f) = component_reports at (denoted.
 -- ---- layers
 
 pub of_number : (at : Pos) (n : ℕ) → PartBeside (expr_layer least (layer.Number at n)) (expr_layer every (layer.Number at n))
-of_number at n = parts at (λ s s' b. fine _)
+of_number at n = standing_beside at (λ s s' b. fine _)
 
 pub of_char : (at : Pos) (n : ℕ) → PartBeside (expr_layer least (layer.Char at n)) (expr_layer every (layer.Char at n))
-of_char at n = parts at (λ s s' b. fine _)
+of_char at n = standing_beside at (λ s s' b. fine _)
 
 pub of_text : (at : Pos) (t : List ℕ) → PartBeside (expr_layer least (layer.Text at t)) (expr_layer every (layer.Text at t))
-of_text at t = parts at (λ s s' b. fine _)
+of_text at t = standing_beside at (λ s s' b. fine _)
 
 pub of_term : {e : Part Fault} {e' : Part (List Fault)} → PartBeside e e' → {xs : List (Operator MulOp × Part Fault)} {xs' : List (Operator MulOp × Part (List Fault))} → Pairwise OperandBeside xs xs'
     → PartBeside (expr_layer least (layer.Term e xs)) (expr_layer every (layer.Term e' xs'))
-of_term (parts at d) xs = parts at (λ s s' b. of_value_reports (fold_pairwise Reports OperandBeside (factor least s at) (factor every s' at) (λ v v' x x' p q. factor_reports b at p q) xs _ _ (constant_reports b (parts at d))))
+of_term (parts at d d_n) xs = standing_beside at (λ s s' b. of_value_reports (fold_pairwise Reports OperandBeside (factor least s at) (factor every s' at) (λ v v' x x' p q. factor_reports b at p q) xs _ _ (constant_reports b (parts at d d_n))))
 
 pub of_sum : (o : Option (Operator Sign)) {e : Part Fault} {e' : Part (List Fault)} → PartBeside e e' → {xs : List (Operator AddOp × Part Fault)} {xs' : List (Operator AddOp × Part (List Fault))} → Pairwise OperandBeside xs xs'
     → PartBeside (expr_layer least (layer.Sum o e xs)) (expr_layer every (layer.Sum o e' xs'))
-of_sum o (parts at d) xs = parts (sign_place o at) (λ s s' b. of_value_reports (fold_pairwise Reports OperandBeside (term least s (sign_place o at)) (term every s' (sign_place o at)) (λ v v' x x' p q. term_reports b (sign_place o at) p q) xs _ _
-    (signed_first_reports o (constant_reports b (parts at d)))))
+of_sum o (parts at d d_n) xs = standing_beside (sign_place o at) (λ s s' b. of_value_reports (fold_pairwise Reports OperandBeside (term least s (sign_place o at)) (term every s' (sign_place o at)) (λ v v' x x' p q. term_reports b (sign_place o at) p q) xs _ _
+    (signed_first_reports o (constant_reports b (parts at d d_n)))))
 
 pub of_relation : {e : Part Fault} {e' : Part (List Fault)} → PartBeside e e' → (o : Operator RelOp) {f : Part Fault} {f' : Part (List Fault)} → PartBeside f f' → PartBeside (expr_layer least (layer.Relation e o f)) (expr_layer every (layer.Relation e' o f'))
-of_relation (parts at d) o (parts at' e) = parts at (λ s s' b. of_value_reports (combined_reports (op.Relation o.op) o.pos at (constant_reports b (parts at d)) at' (constant_reports b (parts at' e))))
+of_relation (parts at d d_n) o (parts at' e e_n) = standing_beside at (λ s s' b. of_value_reports (combined_reports (op.Relation o.op) o.pos at (constant_reports b (parts at d d_n)) at' (constant_reports b (parts at' e e_n))))
 
 pub of_set : (name : Option Ident) (at : Pos) {xs : List (Adds Fault)} {xs' : List (Adds (List Fault))} → Pairwise AddsBeside xs xs' → PartBeside (expr_layer least (layer.Set name at xs)) (expr_layer every (layer.Set name at xs'))
-of_set name at xs = parts (set_place name at) (λ s s' b. then_reports (both_reports (set_type_reports b name)
+of_set name at xs = standing_beside (set_place name at) (λ s s' b. then_reports (both_reports (set_type_reports b name)
     (fold_pairwise Reports AddsBeside (with_item least s) (with_item every s') (λ so so' f f' p q. then_reports (both_reports p (q.adds s s' b)) (λ x. fine _)) xs _ _ (fine 0))) (λ x. fine _))
 
 pub of_not : (at : Pos) {e : Part Fault} {e' : Part (List Fault)} → PartBeside e e' → PartBeside (expr_layer least (layer.Not at e)) (expr_layer every (layer.Not at e'))
-of_not at e = parts at (λ s s' b. of_value_reports (negated_reports at (constant_reports b e)))
+of_not at e = standing_beside at (λ s s' b. of_value_reports (negated_reports at (constant_reports b e)))
 
 pub of_bracketed : (at : Pos) {e : Part Fault} {e' : Part (List Fault)} → PartBeside e e' → PartBeside (expr_layer least (layer.Bracketed at e)) (expr_layer every (layer.Bracketed at e'))
-of_bracketed at e = parts at (λ s s' b. of_value_reports (constant_reports b e))
+of_bracketed at e = standing_beside at (λ s s' b. of_value_reports (constant_reports b e))
 
 pub of_use : {d : Part Fault} {d' : Part (List Fault)} → PartBeside d d' → {xs : Option (List (Part Fault))} {xs' : Option (List (Part (List Fault)))} → Optionwise (Pairwise PartBeside) xs xs'
     → PartBeside (expr_layer least (layer.Use d xs)) (expr_layer every (layer.Use d' xs'))
-of_use (parts at d) xs = parts at (λ s s' b. used_with_reports b (parts at d) xs)
+of_use d xs = used_with_beside d xs
 
-pub of_designator : (name : Ident) {ps : List (Pick Fault)} {ps' : List (Pick (List Fault))} → Pairwise PickBeside ps ps' → PartBeside (designator_layer least (record { name = name; selectors = ps })) (designator_layer every (record { name = name; selectors = ps' }))
-of_designator name ps = parts name.pos (λ s s' b. fold_pairwise Reports PickBeside (λ x p. p s x) (λ x p. p s' x) (λ x x' f f' p q. q.picks s s' b x x' p) ps _ _ (named_reports b name))
+-- what a name with selectors stands for
+pub picked_reports : {s : Scope Fault} {s' : Scope (List Fault)} → ScopeBeside s s' → (name : Ident) {ps : List (Pick Fault)} {ps' : List (Pick (List Fault))} → Pairwise PickBeside ps ps' → Reports (picked least s name ps) (picked every s' name ps')
+picked_reports {s = s} {s' = s'} b name ps = fold_pairwise Reports PickBeside (λ x p. p s x) (λ x p. p s' x) (λ x x' f f' p q. q.picks s s' b x x' p) ps _ _ (named_reports b name)

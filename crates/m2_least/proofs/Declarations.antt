@@ -19,8 +19,8 @@ use Rattle.m2_least.specs.Beside.{ScopeBeside, scopes, StateBeside}
 use Rattle.m2_least.proofs.Forms.{then_reports, beside_reports, fold_keeps}
 use Rattle.m2_least.proofs.Scopes.{goes, begun_goes, declared_goes, finished_beside}
 use Rattle.m2_least.proofs.Constants.{constant_reports}
-use Rattle.m2_least.proofs.Parts.{part_beside}
-use Rattle.m2_least.proofs.Making.{heading_of_reports, with_made_goes}
+use Rattle.m2_least.proofs.Exprs.{part_beside}
+use Rattle.m2_least.proofs.Making.{heading_of_reports, names_of_reports, with_made_goes}
 use Rattle.m2_least.proofs.TypeExprs.{nothing_of_reports, type_of_beside}
 
 abbrev One : Type 0
@@ -87,7 +87,7 @@ pub procedure_goes : {st : One} {st' : All} → StateBeside st st' → (h : Head
 procedure_goes p h =
     let t = with_made_goes p.scope (heading_of_reports p.scope h) in
     let d = declared_procedure_goes t.scope h.name t.reported in
-    goes d.scope (beside_reports p.reported (beside_reports (nothing_of_reports t.reported) d.reported))
+    goes d.scope (beside_reports p.reported (beside_reports (names_of_reports h) (beside_reports (nothing_of_reports t.reported) d.reported)))
 
 -- ---- all of them
 

@@ -4,9 +4,10 @@ use Rattle.std.specs.Prelude.{map}
 use Rattle.std.specs.List.{fold}
 use Rattle.m2_tree.specs.declared.pos.Pos.{Pos}
 use Rattle.m2_scopes.specs.declared.fault.Fault.{Fault}
-use Rattle.m2_scopes.specs.Elaborated.{every, least, lesser, reported, reported_where, both, beside, ◌▷◌}
-use Rattle.m2_least.specs.Least.{Reports, fine, is_refused}
-use Rattle.m2_least.specs.Beside.{Pairwise, none, more}
+use Rattle.m2_scopes.specs.declared.meaningless.Meaningless.{Meaningless}
+use Rattle.m2_scopes.specs.Elaborated.{every, least, lesser, reported, reported_where, both, beside, refusal_beside, reported_beside, ahead, of_sort, of_heading, plain, ◌▷◌}
+use Rattle.m2_least.specs.Least.{IsLeast, Reports, fine, is_refused}
+use Rattle.m2_least.specs.Beside.{Pairwise, none, more, SoughtBeside, is_found, is_broken, is_headless}
 use Rattle.m2_least.proofs.Order.{least_of_both, least_of_one}
 
 pub reported_reports : {A : Type 0} (at : Pos) (n : ℕ) → Reports {A = A} (reported least at n) (reported every at n)
@@ -28,6 +29,41 @@ then_reports (is_refused f fs p) h = is_refused f fs p
 
 pub beside_reports : {x : Result (Unit {0}) Fault} {x' : Result (Unit {0}) (List Fault)} {y : Result (Unit {0}) Fault} {y' : Result (Unit {0}) (List Fault)} → Reports x x' → Reports y y' → Reports (beside least x y) (beside every x' y')
 beside_reports p q = then_reports (both_reports p q) (λ x. fine tt)
+
+-- ---- what stands behind a part is looked at, also if the part has no meaning
+
+pub refusal_beside_reports : {A : Type 0} (f : Fault) (fs : List Fault) → IsLeast f fs → {y : Result (Unit {0}) Fault} {y' : Result (Unit {0}) (List Fault)} → Reports y y' → Reports {A = A} (refusal_beside least f y) (refusal_beside every fs y')
+refusal_beside_reports f fs p (fine u) = is_refused f fs p
+refusal_beside_reports f fs p (is_refused g gs q) = is_refused (lesser f g) (fs ++ gs) (least_of_both f g fs gs p q)
+
+pub reported_beside_reports : {A : Type 0} (at : Pos) (n : ℕ) {y : Result (Unit {0}) Fault} {y' : Result (Unit {0}) (List Fault)} → Reports y y' → Reports {A = A} (reported_beside least at n y) (reported_beside every at n y')
+reported_beside_reports at n q = let f : Fault = record { pos = at; number = n } in refusal_beside_reports f (f ∷ []) (least_of_one f) q
+
+pub ahead_reports : {A B : Type 0} {x : Result A Fault} {x' : Result A (List Fault)} {y : Result (Unit {0}) Fault} {y' : Result (Unit {0}) (List Fault)} {k : A → Result B Fault} {k' : A → Result B (List Fault)} → Reports x x' → Reports y y' → ((a : A) → Reports (k a) (k' a))
+    → Reports (ahead least x y k) (ahead every x' y' k')
+ahead_reports (fine a) q h = h a
+ahead_reports (is_refused f fs p) q h = refusal_beside_reports f fs p q
+
+-- ---- names that have no meaning
+
+pub of_sort_reports : {A : Type 0} (at : Pos) (n : ℕ) {x : Result A (Meaningless Fault)} {x' : Result A (Meaningless (List Fault))} → SoughtBeside x x' → Reports (of_sort least at n x) (of_sort every at n x')
+of_sort_reports at n (is_found a) = fine a
+of_sort_reports at n (is_broken f fs p) = is_refused f fs p
+of_sort_reports at n (is_headless f fs p) = reported_reports at n
+
+pub of_heading_reports : {A : Type 0} {x : Result A (Meaningless Fault)} {x' : Result A (Meaningless (List Fault))} → SoughtBeside x x' → Reports (of_heading x) (of_heading x')
+of_heading_reports (is_found a) = fine a
+of_heading_reports (is_broken f fs p) = is_refused f fs p
+of_heading_reports (is_headless f fs p) = is_refused f fs p
+
+pub plain_sought : {A : Type 0} {x : Result A Fault} {x' : Result A (List Fault)} → Reports x x' → SoughtBeside (plain x) (plain x')
+plain_sought (fine a) = is_found a
+plain_sought (is_refused f fs p) = is_broken f fs p
+
+pub then_sought : {A B : Type 0} {x : Result A (Meaningless Fault)} {x' : Result A (Meaningless (List Fault))} {k : A → Result B (Meaningless Fault)} {k' : A → Result B (Meaningless (List Fault))} → SoughtBeside x x' → ((a : A) → SoughtBeside (k a) (k' a)) → SoughtBeside (x ▷ k) (x' ▷ k')
+then_sought (is_found a) h = h a
+then_sought (is_broken f fs p) h = is_broken f fs p
+then_sought (is_headless f fs p) h = is_headless f fs p
 
 -- ---- tests
 

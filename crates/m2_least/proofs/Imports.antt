@@ -1,5 +1,5 @@
 -- What is known where a module begins, and imports.
-use Rattle.std.proofs.Common.{ℕ, not, List, Option, Some, None, Result, Ok}
+use Rattle.std.proofs.Common.{ℕ, not, List, Option, Some, None, Result}
 use Rattle.std.specs.Prelude.{take, drop, slice_get}
 use Rattle.std.specs.List.{fold}
 use Rattle.m2_tree.specs.declared.pos.Pos.{Pos}

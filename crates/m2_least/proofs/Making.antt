@@ -34,12 +34,12 @@ use Rattle.m2_made.specs.declared.field.Fields.{Fields}
 use Rattle.m2_made.specs.Named.{first_of, type_meant, in_module, of_module, named_type}
 use Rattle.m2_made.specs.Subranges.{ordinal_in, bound_of, ordered, base_of, fits_at, based, between, unnamed, is_of_base, is_of, bound_in, ordered_if, alike_ordered, under}
 use Rattle.m2_made.specs.Fields.{no_fields, with_field, with_name}
-use Rattle.m2_made.specs.Headings.{formal_of, result_in, result_of, procedure_made, with_parameter, procedure_type, with_section, heading_of}
+use Rattle.m2_made.specs.Headings.{formal_of, result_in, result_of, procedure_made, with_parameter, procedure_type, with_section, heading_of, with_names, names_of}
 use Rattle.m2_made.specs.Made.{with_shape, with_made, reported_at, enumeration_constant, enumeration_scalar, listed, enumerated, enumeration}
 use Rattle.m2_least.specs.Least.{Reports, fine, is_refused}
 use Rattle.m2_least.specs.Beside.{ScopeBeside, scopes, StateBeside}
-use Rattle.m2_least.proofs.Forms.{reported_reports, where_reports, both_reports, then_reports, beside_reports, cond_keeps, fold_keeps}
-use Rattle.m2_least.proofs.Scopes.{goes, looked_up_reports, declared_goes}
+use Rattle.m2_least.proofs.Forms.{reported_reports, where_reports, both_reports, then_reports, of_sort_reports, beside_reports, cond_keeps, fold_keeps}
+use Rattle.m2_least.proofs.Scopes.{goes, looked_up_sought, declared_goes}
 use Rattle.m2_least.proofs.Constants.{member_reports}
 
 -- ---- names of types
@@ -69,8 +69,8 @@ in_module_reports b at name meaning.Ahead = reported_reports at 33
 in_module_reports b at name (meaning.Standard f) = reported_reports at 33
 
 of_module_reports : {s : Scope Fault} {s' : Scope (List Fault)} → ScopeBeside s s' → (home : Option Ident) (name : Ident) → Reports (of_module least s home name) (of_module every s' home name)
-of_module_reports b None name = then_reports (looked_up_reports name b) (λ m. type_meant_reports name.pos m)
-of_module_reports b (Some home) name = then_reports (looked_up_reports home b) (λ m. in_module_reports b home.pos name m)
+of_module_reports b None name = then_reports (of_sort_reports name.pos 33 (looked_up_sought name b)) (λ m. type_meant_reports name.pos m)
+of_module_reports b (Some home) name = then_reports (of_sort_reports home.pos 33 (looked_up_sought home b)) (λ m. in_module_reports b home.pos name m)
 
 pub named_type_reports : {s : Scope Fault} {s' : Scope (List Fault)} → ScopeBeside s s' → (q : Qualified) → Reports (named_type least s q) (named_type every s' q)
 named_type_reports b q = of_module_reports b q.module q.name
@@ -165,24 +165,17 @@ procedure_type_reports {s = s} {s' = s'} b ps of = procedure_made_reports (fold_
 
 -- ---- headings
 
-record SectionsBeside (st : Fields × Result (Unit {0}) Fault × Result (List Formal) Fault) (st' : Fields × Result (Unit {0}) (List Fault) × Result (List Formal) (List Fault)) : Type 0 where
-  pub names : KeptBeside (st.0, st.1) (st'.0, st'.1)
-  pub formals : Reports st.2 st'.2
-
-names_more : (names : List Ident) {st : Fields × Result (Unit {0}) Fault} {st' : Fields × Result (Unit {0}) (List Fault)} → KeptBeside st st' → KeptBeside (fold (with_name least integer 0) st names) (fold (with_name every integer 0) st' names)
-names_more names (is_kept fs u) = names_kept integer 0 names fs u
-
-with_section_beside : {s : Scope Fault} {s' : Scope (List Fault)} → ScopeBeside s s' → {st : Fields × Result (Unit {0}) Fault × Result (List Formal) Fault} {st' : Fields × Result (Unit {0}) (List Fault) × Result (List Formal) (List Fault)}
-    → SectionsBeside st st' → (x : Section) → SectionsBeside (with_section least s st x) (with_section every s' st' x)
-with_section_beside b p x = record { names = names_more x.names p.names; formals = then_reports (both_reports p.formals (formal_of_reports b x.is_var x.of)) (λ y. fine _) }
-
-all_sections : {s : Scope Fault} {s' : Scope (List Fault)} → ScopeBeside s s' → (xs : List Section) → SectionsBeside (fold (with_section least s) (no_fields, Ok tt, Ok []) xs) (fold (with_section every s') (no_fields, Ok tt, Ok []) xs)
-all_sections {s = s} {s' = s'} b xs = fold_keeps SectionsBeside (with_section least s) (with_section every s') (λ st st' x p. with_section_beside b p x) xs _ _ (record { names = is_kept no_fields (fine tt); formals = fine [] })
+with_section_reports : {s : Scope Fault} {s' : Scope (List Fault)} → ScopeBeside s s' → {so : Result (List Formal) Fault} {so' : Result (List Formal) (List Fault)} → Reports so so' → (x : Section) → Reports (with_section least s so x) (with_section every s' so' x)
+with_section_reports b p x = then_reports (both_reports p (formal_of_reports b x.is_var x.of)) (λ y. fine _)
 
 pub heading_of_reports : {s : Scope Fault} {s' : Scope (List Fault)} → ScopeBeside s s' → (h : Heading) → Reports (heading_of least s h) (heading_of every s' h)
-heading_of_reports b h =
-    let st = all_sections b h.formals in
-    then_reports (both_reports (reported_of st.names) (procedure_made_reports st.formals (result_of_reports b h.result))) (λ x. fine x.1)
+heading_of_reports {s = s} {s' = s'} b h = procedure_made_reports (fold_keeps Reports (with_section least s) (with_section every s') (λ so so' x p. with_section_reports b p x) h.formals _ _ (fine [])) (result_of_reports b h.result)
+
+with_names_kept : {st : Fields × Result (Unit {0}) Fault} {st' : Fields × Result (Unit {0}) (List Fault)} → KeptBeside st st' → (x : Section) → KeptBeside (with_names least st x) (with_names every st' x)
+with_names_kept (is_kept fs u) x = names_kept integer 0 x.names fs u
+
+pub names_of_reports : (h : Heading) → Reports (names_of least h) (names_of every h)
+names_of_reports h = reported_of (fold_keeps KeptBeside (with_names least) (with_names every) (λ st st' x p. with_names_kept p x) h.formals _ _ (is_kept no_fields (fine tt)))
 
 -- ---- new types
 

@@ -1,6 +1,6 @@
 -- Names in scope.
-use Rattle.std.proofs.Common.{◌≡◌, ◌∙◌, ℕ, zero, suc, ◌+◌, Bool, true, false, not, cond, List, [], ◌∷◌, length, Option, Some, None, Result, refl, ap, subst, nat_lt, slice_get}
-use Rattle.std.specs.List.{position, position_or_len}
+use Rattle.std.proofs.Common.{◌≡◌, ◌∙◌, ℕ, zero, suc, ◌+◌, Bool, true, not, cond, List, length, Option, Some, None, Result, refl, ap, subst, nat_lt, slice_get}
+use Rattle.std.specs.List.{position_or_len}
 use Rattle.std.specs.Option.{option_map}
 use Rattle.m2_tree.specs.declared.pos.Pos.{Pos}
 use Rattle.m2_tree.specs.declared.name.Ident.{Ident}
@@ -13,13 +13,14 @@ use Rattle.m2_scopes.specs.declared.fault.Fault.{Fault}
 use Rattle.m2_scopes.specs.declared.known.Origin.{Origin}
 use Rattle.m2_scopes.specs.declared.known.Origin.TheVariants.{Here}
 use Rattle.m2_scopes.specs.declared.known.Known.{Known}
+use Rattle.m2_scopes.specs.declared.meaningless.Meaningless.{Meaningless}
 use Rattle.m2_scopes.specs.declared.scope.Block.{Block}
 use Rattle.m2_scopes.specs.declared.scope.Scope.{Scope}
 use Rattle.m2_scopes.specs.Elaborated.{every, least}
-use Rattle.m2_scopes.specs.Scopes.{Sight, or_outside, seen_at, in_block, nearer, known_outside, or_around, known, means_seen, means_as, opened, means_or, looked_up, is_free, with_known, unless_declared, declared, begun, is_begun, finished, is_again, imported, unless_marked, marked}
-use Rattle.m2_least.specs.Least.{Reports, fine}
-use Rattle.m2_least.specs.Beside.{Pairwise, none, more, Optionwise, nothing, something, KnownBeside, known_later, known_ahead, known_begun, known_headed, known_declared, EntryBeside, entry, BlockBeside, block, SightBeside, sight, ScopeBeside, scopes, StateBeside}
-use Rattle.m2_least.proofs.Forms.{reported_reports, cond_keeps, cond_same, fold_pairwise}
+use Rattle.m2_scopes.specs.Scopes.{Sight, or_outside, seen_at, in_block, nearer, known_outside, or_around, known, heading_means, means_seen, means_as, opened, means_or, looked_up, is_free, with_known, unless_declared, declared, begun, is_begun, finished, is_again, imported, unless_marked, marked}
+use Rattle.m2_least.specs.Least.{Reports, fine, is_refused}
+use Rattle.m2_least.specs.Beside.{Pairwise, none, more, Optionwise, nothing, something, SoughtBeside, is_found, is_headless, KnownBeside, known_later, known_ahead, known_begun, known_headed, known_declared, EntryBeside, entry, BlockBeside, block, SightBeside, sight, ScopeBeside, scopes, StateBeside}
+use Rattle.m2_least.proofs.Forms.{reported_reports, plain_sought, cond_keeps, cond_same, fold_pairwise}
 
 pub goes : {A : Type 0} {s : Scope Fault} {s' : Scope (List Fault)} {r : Result A Fault} {r' : Result A (List Fault)} → ScopeBeside s s' → Reports r r' → StateBeside (s, r) (s', r')
 goes p q = record { scope = p; reported = q }
@@ -83,23 +84,27 @@ or_around_beside (something k) q = something (sight true k)
 pub known_beside : (name : List ℕ) {s : Scope Fault} {s' : Scope (List Fault)} → ScopeBeside s s' → Optionwise SightBeside (known name s) (known name s')
 known_beside name (scopes t ty v p own outer) = or_around_beside (found_beside name own) (outside_beside name outer)
 
-pub means_seen_reports : (at : Pos) (seen : Bool) {k : Known Fault} {k' : Known (List Fault)} → KnownBeside k k' → Reports (means_seen least at k seen) (means_seen every at k' seen)
-means_seen_reports at seen known_later = reported_reports at 30
-means_seen_reports at seen known_ahead = fine meaning.Ahead
-means_seen_reports at seen known_begun = reported_reports at 30
-means_seen_reports at seen (known_headed m) = m
-means_seen_reports at seen (known_declared o m) = cond_keeps Reports seen m (reported_reports at 30)
+heading_means_sought : {m : Result Meaning Fault} {m' : Result Meaning (List Fault)} → Reports m m' → SoughtBeside (heading_means m) (heading_means m')
+heading_means_sought (fine m) = is_found m
+heading_means_sought (is_refused f fs p) = is_headless f fs p
 
-means_as_reports : (at : Pos) {k : Sight Fault} {k' : Sight (List Fault)} → Optionwise SightBeside k k' → Reports (means_as least at k) (means_as every at k')
-means_as_reports at nothing = reported_reports at 30
-means_as_reports at (something (sight seen k)) = means_seen_reports at seen k
+pub means_seen_sought : (at : Pos) (seen : Bool) {k : Known Fault} {k' : Known (List Fault)} → KnownBeside k k' → SoughtBeside (means_seen least at k seen) (means_seen every at k' seen)
+means_seen_sought at seen known_later = plain_sought (reported_reports at 30)
+means_seen_sought at seen known_ahead = is_found meaning.Ahead
+means_seen_sought at seen known_begun = plain_sought (reported_reports at 30)
+means_seen_sought at seen (known_headed m) = heading_means_sought m
+means_seen_sought at seen (known_declared o m) = plain_sought (cond_keeps Reports seen m (reported_reports at 30))
 
-means_or_reports : (f : Option OpenedField) {m : Result Meaning Fault} {m' : Result Meaning (List Fault)} → Reports m m' → Reports (means_or f m) (means_or f m')
-means_or_reports None p = p
-means_or_reports (Some f) p = fine (meaning.Field f)
+means_as_sought : (at : Pos) {k : Sight Fault} {k' : Sight (List Fault)} → Optionwise SightBeside k k' → SoughtBeside (means_as least at k) (means_as every at k')
+means_as_sought at nothing = plain_sought (reported_reports at 30)
+means_as_sought at (something (sight seen k)) = means_seen_sought at seen k
 
-pub looked_up_reports : (name : Ident) {s : Scope Fault} {s' : Scope (List Fault)} → ScopeBeside s s' → Reports (looked_up least s name) (looked_up every s' name)
-looked_up_reports name (scopes t ty v p {withs = withs} own outer) = means_or_reports (opened ty name.name withs) (means_as_reports name.pos (or_around_beside (found_beside name.name own) (outside_beside name.name outer)))
+means_or_sought : (f : Option OpenedField) {m : Result Meaning (Meaningless Fault)} {m' : Result Meaning (Meaningless (List Fault))} → SoughtBeside m m' → SoughtBeside (means_or f m) (means_or f m')
+means_or_sought None p = p
+means_or_sought (Some f) p = is_found (meaning.Field f)
+
+pub looked_up_sought : (name : Ident) {s : Scope Fault} {s' : Scope (List Fault)} → ScopeBeside s s' → SoughtBeside (looked_up least s name) (looked_up every s' name)
+looked_up_sought name (scopes t ty v p {withs = withs} own outer) = means_or_sought (opened ty name.name withs) (means_as_sought name.pos (or_around_beside (found_beside name.name own) (outside_beside name.name outer)))
 
 -- ---- declarations
 

@@ -28,7 +28,7 @@ use Rattle.m2_least.specs.Beside.{Pairwise, ScopeBeside, scopes, StateBeside}
 use Rattle.m2_least.proofs.Forms.{reported_reports, where_reports, both_reports, then_reports, beside_reports, fold_pairwise, pairwise_maps, carry}
 use Rattle.m2_least.proofs.Scopes.{goes}
 use Rattle.m2_least.proofs.Constants.{PartBeside, parts, constant_reports}
-use Rattle.m2_least.proofs.Parts.{part_beside}
+use Rattle.m2_least.proofs.Exprs.{part_beside}
 use Rattle.m2_least.proofs.Making.{named_type_reports, bound_of_reports, unnamed_reports, under_reports, KeptBeside, is_kept, names_kept, procedure_type_reports, with_made_goes, enumeration_goes}
 
 -- ---- simple types
@@ -42,8 +42,8 @@ scalar_named_reports (scopes t types v p {level = lv} {withs = ws} own outer) q 
 
 subrange_reports : {s : Scope Fault} {s' : Scope (List Fault)} → ScopeBeside s s' → (of : Option Qualified) {x : Part Fault} {x' : Part (List Fault)} → PartBeside x x' → {y : Part Fault} {y' : Part (List Fault)} → PartBeside y y'
     → Reports (subrange least s of x y) (subrange every s' of x' y')
-subrange_reports b None (parts at d) (parts at' e) = unnamed_reports at (bound_of_reports at (constant_reports b (parts at d))) at' (bound_of_reports at' (constant_reports b (parts at' e)))
-subrange_reports b (Some q) (parts at d) (parts at' e) = under_reports (scalar_named_reports b q) at (bound_of_reports at (constant_reports b (parts at d))) at' (bound_of_reports at' (constant_reports b (parts at' e)))
+subrange_reports b None (parts at d d_n) (parts at' e e_n) = unnamed_reports at (bound_of_reports at (constant_reports b (parts at d d_n))) at' (bound_of_reports at' (constant_reports b (parts at' e e_n)))
+subrange_reports b (Some q) (parts at d d_n) (parts at' e e_n) = under_reports (scalar_named_reports b q) at (bound_of_reports at (constant_reports b (parts at d d_n))) at' (bound_of_reports at' (constant_reports b (parts at' e e_n)))
 
 pub simple_type_goes : {s : Scope Fault} {s' : Scope (List Fault)} → ScopeBeside s s' → (t : Simple) → StateBeside (simple_type least s t) (simple_type every s' t)
 simple_type_goes b (simple.Named q) = goes b (named_type_reports b q)

@@ -1,5 +1,5 @@
 -- What is known where the least broken rule is reported, beside what is known where all are.
-use Rattle.std.specs.Prelude.{ℕ, Bool, List, [], ◌∷◌, Option, Some, None, Result}
+use Rattle.std.specs.Prelude.{ℕ, Bool, List, [], ◌∷◌, Option, Some, None, Result, Ok, Err}
 use Rattle.m2_typed.specs.declared.types.TypeNo.{TypeNo}
 use Rattle.m2_typed.specs.declared.meaning.Meaning.{Meaning}
 use Rattle.m2_typed.specs.declared.table.Table.{Table}
@@ -7,11 +7,13 @@ use Rattle.m2_scopes.specs.declared.fault.Fault.{Fault}
 use Rattle.m2_scopes.specs.declared.known.Origin.{Origin}
 use Rattle.m2_scopes.specs.declared.known.Known.{Known}
 use Rattle.m2_scopes.specs.declared.known.Known.TheVariants.{Later, Ahead, Begun, Headed, Declared}
+use Rattle.m2_scopes.specs.declared.meaningless.Meaningless.{Meaningless}
+use Rattle.m2_scopes.specs.declared.meaningless.Meaningless.TheVariants.{Broken, Headless}
 use Rattle.m2_typed.specs.declared.known_types.Types.{Types}
 use Rattle.m2_scopes.specs.declared.scope.Block.{Block}
 use Rattle.m2_scopes.specs.declared.scope.OpenedRecord.{OpenedRecord}
 use Rattle.m2_scopes.specs.declared.scope.Scope.{Scope}
-use Rattle.m2_least.specs.Least.{Reports}
+use Rattle.m2_least.specs.Least.{IsLeast, Reports}
 
 -- lists of one length, element by element
 pub data Pairwise {A B : Type 0} (R : A → B → Type 0) : List A → List B → Type 0 where
@@ -22,6 +24,12 @@ pub data Pairwise {A B : Type 0} (R : A → B → Type 0) : List A → List B �
 pub data Optionwise {A B : Type 0} (R : A → B → Type 0) : Option A → Option B → Type 0 where
   nothing : Optionwise R None None
   something : {a : A} {b : B} → R a b → Optionwise R (Some a) (Some b)
+
+-- what a name or a designator means: the same meaning, or no meaning in both for the same reason
+pub data SoughtBeside {A : Type 0} : Result A (Meaningless Fault) → Result A (Meaningless (List Fault)) → Type 0 where
+  is_found : (a : A) → SoughtBeside (Ok a) (Ok a)
+  is_broken : (f : Fault) (fs : List Fault) → IsLeast f fs → SoughtBeside (Err (Broken f)) (Err (Broken fs))
+  is_headless : (f : Fault) (fs : List Fault) → IsLeast f fs → SoughtBeside (Err (Headless f)) (Err (Headless fs))
 
 pub data KnownBeside : Known Fault → Known (List Fault) → Type 0 where
   known_later : KnownBeside Later Later

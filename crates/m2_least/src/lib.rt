@@ -1,9 +1,9 @@
 //! Laws: what is reported of a module is the least of all rules that are broken in it.
 //!
-//! The definitions of m2_scopes, m2_values, m2_constants, m2_made and m2_types gather broken rules in one of two ways,
-//! all of them or the least of them. `specs/Least` says what the two answers have to do with one another, and
-//! `specs/Beside` the same of what is known in a scope. `proofs` has a lemma for each definition, in the order of these
-//! crates.
+//! The definitions of m2_scopes, m2_values, m2_constants, m2_computed, m2_calls, m2_exprs, m2_made and m2_types gather
+//! broken rules in one of two ways, all of them or the least of them. `specs/Least` says what the two answers have to do
+//! with one another, and `specs/Beside` the same of what names mean and of what is known in a scope. `proofs` has a lemma
+//! for each definition, in the order of these crates; `Exprs` and `TypeExprs` have the inductions over trees.
 #![tactic(auto)]
 
 mod definition;

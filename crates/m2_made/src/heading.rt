@@ -3,7 +3,7 @@
 ghost use Rattle.std.specs.Prelude.{◌≡◌, [], Ok, IfOk};
 ghost use Rattle.std.specs.List.{fold};
 ghost use Rattle.m2_scopes.specs.Elaborated.{least};
-ghost use Rattle.m2_made.specs.Headings.{formal_of, result_in, result_of, joined_formal, with_parameter, repeated, joined_formals, with_section, sections, procedure_made, signed_by, heading_of, procedure_type};
+ghost use Rattle.m2_made.specs.Headings.{formal_of, result_in, result_of, joined_formal, with_parameter, repeated, joined_formals, with_section, procedure_made, heading_of, with_names as with_section_names, names_of, procedure_type};
 
 use crate::field::{Fields, no_fields, with_names};
 use crate::named::{first_of, named_type};
@@ -112,37 +112,31 @@ fn joined_formals(
     }
 }
 
-/// One more section: its formals, and its names.
+/// One more section of formals.
 fn with_section(
     alloc: Global,
     scope: &Scope<Fault>,
-    fields: &mut Fields,
-    names: Elaborated<()>,
     formals: Elaborated<Items<Formal>>,
     section: &Section,
-) -> Result<(Elaborated<()>, Elaborated<Items<Formal>>), AllocError>
-    ensures { IfOk result (λ st. (fields.new, st.0, st.1) ≡ with_section least scope.now (fields.old, names, formals) section.now) }
+) -> Result<Elaborated<Items<Formal>>, AllocError>
+    ensures { IfOk result (λ fs. fs ≡ with_section least scope.now formals section.now) }
 {
     let formal = formal_of(scope, section.is_var, &section.of)?;
-    let elaborated = with_names(alloc, fields, names, section.names.as_slice(), INTEGER, 0)?;
-    let all = joined_formals(alloc, formals, formal, section.names.as_slice())?;
-    Ok((elaborated, all))
+    joined_formals(alloc, formals, formal, section.names.as_slice())
 }
 
 fn sections(
     alloc: Global,
     scope: &Scope<Fault>,
     list: &[Section],
-) -> Result<(Elaborated<()>, Elaborated<Items<Formal>>), AllocError>
-    ensures { IfOk result (λ st. st ≡ sections least scope.now list.now) }
+) -> Result<Elaborated<Items<Formal>>, AllocError>
+    ensures { IfOk result (λ fs. fs ≡ fold (with_section least scope.now) (Ok []) list.now) }
 {
-    let mut fields = no_fields(alloc);
-    let mut names = Ok(());
     let mut formals = Ok(Items::new(alloc));
     for section in list {
-        (names, formals) = with_section(alloc, scope, &mut fields, names, formals, section)?;
+        formals = with_section(alloc, scope, formals, section)?;
     }
-    Ok((names, formals))
+    Ok(formals)
 }
 
 fn procedure_made(
@@ -160,16 +154,7 @@ fn procedure_made(
     }
 }
 
-fn signed_by(names: Elaborated<()>, made: Elaborated<Made>) -> Elaborated<Made>
-    ensures { result ≡ signed_by least names made }
-{
-    match both(names, made) {
-        Err(fault) => Err(fault),
-        Ok(((), made)) => Ok(made),
-    }
-}
-
-/// The type of a procedure with this heading.
+/// The type of a procedure with this heading, whatever the names of its formals.
 pub fn heading_of(
     alloc: Global,
     scope: &Scope<Fault>,
@@ -177,9 +162,21 @@ pub fn heading_of(
 ) -> Result<Elaborated<Made>, AllocError>
     ensures { IfOk result (λ m. m ≡ heading_of least scope.now heading.now) }
 {
-    let (names, formals) = sections(alloc, scope, heading.formals.as_slice())?;
+    let formals = sections(alloc, scope, heading.formals.as_slice())?;
     let of = result_of(scope, &heading.result)?;
-    Ok(signed_by(names, procedure_made(formals, of)))
+    Ok(procedure_made(formals, of))
+}
+
+/// What is reported of the names of formals: 31 at a name that stands there twice.
+pub fn names_of(alloc: Global, heading: &Heading) -> Result<Elaborated<()>, AllocError>
+    ensures { IfOk result (λ j. j ≡ names_of least heading.now) }
+{
+    let mut fields = no_fields(alloc);
+    let mut done = Ok(());
+    for section in heading.formals.as_slice() {
+        done = with_names(alloc, &mut fields, done, section.names.as_slice(), INTEGER, 0)?;
+    }
+    Ok(done)
 }
 
 /// A procedure type.

@@ -3,7 +3,7 @@
 ghost use Rattle.std.specs.Prelude.{◌≡◌, Ok, IfOk, length};
 ghost use Rattle.std.specs.List.{fold};
 ghost use Rattle.m2_scopes.specs.Elaborated.{least, ◌▷◌};
-ghost use Rattle.m2_constants.specs.Parts.{part};
+ghost use Rattle.m2_exprs.specs.Meanings.{part};
 ghost use Rattle.m2_made.specs.Made.{with_made, scalar_made, too_many, enumeration_constant, enumeration_scalar, enumerated, enumeration, scalar_in, scalar_named, bound_at, subrange, simple_place, subrange_place, simple_type, index_in, array_in, array_of, index_type, array_made, field_type, nothing_of, record_in, record_of, type_of, with_field_list, field_list};
 
 use crate::cells::{array_cells, count_at, is_index};
@@ -11,7 +11,7 @@ use crate::field::{Fields, no_fields, with_names};
 use crate::heading::procedure_type;
 use crate::named::{first_of, named_type};
 use crate::subrange::{bound_of, under, unnamed};
-use m2_constants::{constant_of, place_of};
+use m2_exprs::{constant_of, place_of};
 use m2_scopes::{Elaborated, Fault, Scope, beside, both, declare, reported};
 use m2_tree::{Expr, Field, Ident, Pos, Qualified, Simple, TypeExpr};
 use m2_typed::{

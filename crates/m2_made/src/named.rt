@@ -5,7 +5,7 @@ ghost use Rattle.m2_scopes.specs.Elaborated.{least, ◌▷◌};
 ghost use Rattle.m2_made.specs.Named.{first_of, type_meant, in_module, of_module, named_type};
 
 use m2_constants::member;
-use m2_scopes::{Elaborated, Fault, Scope, looked_up, reported};
+use m2_scopes::{Elaborated, Fault, Scope, looked_up, of_sort, reported};
 use m2_tree::{Ident, Pos, Qualified};
 use m2_typed::{Meaning, TypeNo};
 use std::alloc::AllocError;
@@ -73,8 +73,8 @@ pub fn named_type(scope: &Scope<Fault>, q: &Qualified) -> Result<Elaborated<Type
     ensures { IfOk result (λ t. t ≡ named_type least scope.now q.now) }
 {
     match &q.module {
-        None => Ok(type_by(q.name.pos, looked_up(scope, &q.name)?)),
-        Some(home) => match looked_up(scope, home)? {
+        None => Ok(type_by(q.name.pos, of_sort(q.name.pos, 33, looked_up(scope, &q.name)?))),
+        Some(home) => match of_sort(home.pos, 33, looked_up(scope, home)?) {
             Err(fault) => Ok(Err(fault)),
             Ok(meaning) => in_module(scope, home.pos, &q.name, meaning),
         },

@@ -1,5 +1,5 @@
 -- A range of labels, from what is known of its bounds.
-use Rattle.std.proofs.Common.{◌≡◌, Some, Result, ap, ◌∙◌}
+use Rattle.std.proofs.Common.{◌≡◌, Option, Some, Result, ap, ◌∙◌}
 use Rattle.m2_tree.specs.declared.pos.Pos.{Pos}
 use Rattle.m2_typed.specs.declared.types.TypeNo.{TypeNo}
 use Rattle.m2_scopes.specs.declared.fault.Fault.{Fault}
@@ -9,7 +9,7 @@ use Rattle.m2_values.specs.declared.operand.Ordinal.{Ordinal}
 use Rattle.m2_exprs.specs.Meanings.{Meant}
 use Rattle.m2_steps.specs.Labels.{bound_of, spanned, label_between}
 
-pub range_is : (s : Scope Fault) (base : TypeNo) (low high : Meant Fault) (at at' : Pos) (first last : Result Ordinal Fault)
+pub range_is : (s : Scope Fault) (base : Option TypeNo) (low high : Meant Fault) (at at' : Pos) (first last : Result Ordinal Fault)
     → at ≡ low.fixed.at → at' ≡ high.fixed.at → first ≡ bound_of least s base at low → last ≡ bound_of least s base at high
     → spanned least base at first at' last ≡ label_between least s base low (Some high)
 range_is s base low high at at' first last p q f l =

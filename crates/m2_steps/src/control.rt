@@ -10,9 +10,9 @@ ghost use Rattle.m2_steps.specs.Control.{controlled, is_own, control_by, control
 use m2_computed::{
     Amount, Class, Computed, Side, bases_suit, class_of, side_of, slot_of, sort_suits, value_suited,
 };
-use m2_constants::constant_of;
+use m2_exprs::constant_of;
 use m2_exprs::{place_of, value_of};
-use m2_scopes::{Elaborated, Fault, Scope, both, looked_up, reported};
+use m2_scopes::{Elaborated, Fault, Scope, both, looked_up, of_sort, reported};
 use m2_tree::{Boxed, Expr, Ident, Items, Pos};
 use m2_typed::{
     LocalKind, Meaning, Place, Root, TypeNo, TypedExpr, TypedStmt, Types, Value, rooted,
@@ -100,7 +100,7 @@ fn control_of(
 ) -> Result<Elaborated<Control>, AllocError>
     ensures { IfOk result (λ j. j ≡ control_of least scope.now name.now) }
 {
-    match looked_up(scope, name)? {
+    match of_sort(name.pos, 47, looked_up(scope, name)?) {
         Err(fault) => Ok(Err(fault)),
         Ok(meaning) => Ok(control_by(alloc, scope, name.pos, meaning)),
     }

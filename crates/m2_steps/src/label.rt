@@ -5,13 +5,13 @@ ghost use Rattle.m2_scopes.specs.Elaborated.{least, ◌▷◌};
 ghost use Rattle.m2_exprs.specs.Meanings.{meant};
 ghost use Rattle.m2_values.specs.Common.{common};
 ghost use Rattle.m2_computed.specs.Classes.{class_at};
-ghost use Rattle.m2_steps.specs.Labels.{ordinal_in, of_type, no_constant, value_bound, variable_bound, bound_by, bound_of, is_of_base, number_fits, suits_base, bound_suits, single, ordered_if, are_ordered, spanned, label_between, item_label, with_new, with_label, with_item, labels_in};
+ghost use Rattle.m2_steps.specs.Labels.{ordinal_in, of_type, no_constant, suits_selector, value_bound, variable_bound, bound_by, bound_in, bound_of, is_of_base, number_fits, suits_base, bound_suits, single, ordered_if, are_ordered, spanned, label_between, item_label, with_new, with_label, with_item, labels_in};
 
 use crate::lists::with_next;
 use m2_computed::{Class, Computed, Designated, class_of};
 use m2_exprs::{place_of, stands_for};
 use m2_labels::Ranges;
-use m2_scopes::{Elaborated, Fault, Scope, beside, both, reported};
+use m2_scopes::{Elaborated, Fault, Meaningless, Scope, Sought, beside, both, reported};
 use m2_tree::{Expr, Item, Items, Pos};
 use m2_typed::{Label, TypeNo, Types, are_same, is_numeric};
 use m2_values::{Operand, Ordinal, common, fits, operand_of};
@@ -47,12 +47,21 @@ fn no_constant(alike: bool, label: Pos, at: Pos) -> Elaborated<Ordinal>
     }
 }
 
-fn value_bound(base: TypeNo, label: Pos, at: Pos, value: Computed) -> Elaborated<Ordinal>
+fn suits_selector(base: Option<TypeNo>, other: TypeNo) -> bool
+    ensures { result ≡ suits_selector base other }
+{
+    match base {
+        None => true,
+        Some(base) => are_same(other, base),
+    }
+}
+
+fn value_bound(base: Option<TypeNo>, label: Pos, at: Pos, value: Computed) -> Elaborated<Ordinal>
     ensures { result ≡ value_bound least base label at value }
 {
     match value {
         Computed::Constant(value) => ordinal_in(at, operand_of(&value)),
-        Computed::Scalar(_, other, _) => no_constant(are_same(other, base), label, at),
+        Computed::Scalar(_, other, _) => no_constant(suits_selector(base, other), label, at),
         Computed::Set(_) => no_constant(false, label, at),
         Computed::Routine(_, _) => no_constant(false, label, at),
         Computed::Procedure(_) => no_constant(false, label, at),
@@ -61,11 +70,16 @@ fn value_bound(base: TypeNo, label: Pos, at: Pos, value: Computed) -> Elaborated
     }
 }
 
-fn variable_bound(base: TypeNo, label: Pos, at: Pos, class: Class) -> Elaborated<Ordinal>
+fn variable_bound(
+    base: Option<TypeNo>,
+    label: Pos,
+    at: Pos,
+    class: Class,
+) -> Elaborated<Ordinal>
     ensures { result ≡ variable_bound least base label at class }
 {
     match class {
-        Class::Scalar(scalar) => no_constant(are_same(scalar.base, base), label, at),
+        Class::Scalar(scalar) => no_constant(suits_selector(base, scalar.base), label, at),
         Class::Set => no_constant(false, label, at),
         Class::Procedure => no_constant(false, label, at),
         Class::Whole => no_constant(false, label, at),
@@ -74,7 +88,7 @@ fn variable_bound(base: TypeNo, label: Pos, at: Pos, class: Class) -> Elaborated
 
 fn bound_by(
     types: &Types,
-    base: TypeNo,
+    base: Option<TypeNo>,
     label: Pos,
     at: Pos,
     designated: Designated,
@@ -87,9 +101,26 @@ fn bound_by(
         Designated::Open(_, _) => no_constant(false, label, at),
         Designated::Type(_) => no_constant(false, label, at),
         Designated::Procedure(_) => no_constant(false, label, at),
-        Designated::Nested(_) => no_constant(false, label, at),
-        Designated::Standard(_) => no_constant(false, label, at),
+        Designated::Nested(_) => reported(at, 53),
+        Designated::Standard(_) => reported(at, 53),
         Designated::Module(_) => no_constant(false, label, at),
+    }
+}
+
+/// What stands at a bound. A procedure is no constant, whatever its heading.
+fn bound_in(
+    types: &Types,
+    base: Option<TypeNo>,
+    label: Pos,
+    at: Pos,
+    sought: Sought<Designated>,
+) -> Elaborated<Ordinal>
+    ensures { result ≡ bound_in least types.now base label at sought }
+{
+    match sought {
+        Ok(designated) => bound_by(types, base, label, at, designated),
+        Err(Meaningless::Broken(fault)) => Err(fault),
+        Err(Meaningless::Headless(_)) => no_constant(false, label, at),
     }
 }
 
@@ -97,16 +128,14 @@ fn bound_by(
 fn bound_of(
     alloc: Global,
     scope: &Scope<Fault>,
-    base: TypeNo,
+    base: Option<TypeNo>,
     label: Pos,
     e: &Expr,
 ) -> Result<Elaborated<Ordinal>, AllocError>
     ensures { IfOk result (λ j. j ≡ bound_of least scope.now base label (meant least e.now)) }
 {
-    match stands_for(alloc, scope, e)? {
-        Err(fault) => Ok(Err(fault)),
-        Ok(designated) => Ok(bound_by(&scope.types, base, label, place_of(e), designated)),
-    }
+    let sought = stands_for(alloc, scope, e)?;
+    Ok(bound_in(&scope.types, base, label, place_of(e), sought))
 }
 
 fn is_of_base(base: TypeNo, sort: Option<TypeNo>) -> bool
@@ -132,17 +161,22 @@ fn number_fits(base: TypeNo, at: Pos, a: Ordinal) -> Elaborated<()>
     }
 }
 
-fn suits_base(base: TypeNo, at: Pos, a: Ordinal) -> Elaborated<()>
+fn suits_base(base: Option<TypeNo>, at: Pos, a: Ordinal) -> Elaborated<()>
     ensures { result ≡ suits_base least base at a }
 {
-    if !is_of_base(base, a.sort) {
-        return reported(at, 40);
+    match base {
+        None => Ok(()),
+        Some(base) => {
+            if !is_of_base(base, a.sort) {
+                return reported(at, 40);
+            }
+            number_fits(base, at, a)
+        }
     }
-    number_fits(base, at, a)
 }
 
 /// The rule that a bound is one of the base type.
-fn bound_suits(base: TypeNo, at: Pos, bound: Elaborated<Ordinal>) -> Elaborated<()>
+fn bound_suits(base: Option<TypeNo>, at: Pos, bound: Elaborated<Ordinal>) -> Elaborated<()>
     ensures { result ≡ bound_suits least base at bound }
 {
     match bound {
@@ -152,7 +186,7 @@ fn bound_suits(base: TypeNo, at: Pos, bound: Elaborated<Ordinal>) -> Elaborated<
 }
 
 /// A label of one value.
-fn single(base: TypeNo, at: Pos, bound: Elaborated<Ordinal>) -> Elaborated<Label>
+fn single(base: Option<TypeNo>, at: Pos, bound: Elaborated<Ordinal>) -> Elaborated<Label>
     ensures { result ≡ single least base at bound }
 {
     match both(bound, bound_suits(base, at, bound)) {
@@ -190,7 +224,7 @@ fn are_ordered(at: Pos, low: Elaborated<Ordinal>, high: Elaborated<Ordinal>) -> 
 
 /// A label of a range of values.
 fn spanned(
-    base: TypeNo,
+    base: Option<TypeNo>,
     at: Pos,
     low: Elaborated<Ordinal>,
     high_at: Pos,
@@ -214,7 +248,7 @@ fn spanned(
 fn range_from(
     alloc: Global,
     scope: &Scope<Fault>,
-    base: TypeNo,
+    base: Option<TypeNo>,
     low: &Expr,
     high: &Expr,
 ) -> Result<Elaborated<Label>, AllocError>
@@ -232,7 +266,7 @@ fn range_from(
 fn label_of(
     alloc: Global,
     scope: &Scope<Fault>,
-    base: TypeNo,
+    base: Option<TypeNo>,
     item: &Item,
 ) -> Result<Elaborated<Label>, AllocError>
     ensures { IfOk result (λ j. j ≡ item_label least scope.now base item.now) }
@@ -281,7 +315,7 @@ fn with_label(
 fn with_item(
     alloc: Global,
     scope: &Scope<Fault>,
-    base: TypeNo,
+    base: Option<TypeNo>,
     ranges: &mut Ranges,
     done: Elaborated<Items<Label>>,
     item: &Item,
@@ -294,12 +328,13 @@ fn with_item(
 }
 
 /// The labels of an arm, with the values of the labels of the arms before it. A bound is a constant: else 49 at the label.
-/// It has the base type of the selector: else 40, and 52 where it is out of range. A range whose bounds are not in order is
+/// A standard procedure, and one in a procedure, is 53. If the selector has a meaning, a bound has its base type: else 40,
+/// and 52 if it is out of range. A range whose bounds are not in order is
 /// 35, and a label with a value of another is 49.
 pub fn labels_in(
     alloc: Global,
     scope: &Scope<Fault>,
-    base: TypeNo,
+    base: Option<TypeNo>,
     ranges: &mut Ranges,
     items: &[Item],
 ) -> Result<Elaborated<Items<Label>>, AllocError>

@@ -2,11 +2,11 @@
 
 ghost use Rattle.std.specs.Prelude.{◌≡◌, IfOk};
 ghost use Rattle.m2_scopes.specs.Elaborated.{least};
-ghost use Rattle.m2_steps.specs.Lists.{with_next, standing, chosen, chosen_else, cased, armed, repeated_while, repeated_until, looped, within};
+ghost use Rattle.m2_steps.specs.Lists.{with_next, standing, chosen, chosen_else, base_in, cased, armed, repeated_while, repeated_until, looped, within, reported_in};
 
 use m2_scopes::{Elaborated, both};
 use m2_tree::Items;
-use m2_typed::{Label, Place, TypedArm, TypedExpr, TypedStmt};
+use m2_typed::{Label, Place, TypeNo, TypedArm, TypedExpr, TypedStmt};
 use std::alloc::{AllocError, Global};
 
 /// One more of a list.
@@ -66,17 +66,27 @@ pub fn chosen_else(
     }
 }
 
-/// CASE: the selector, the arms, and what stands behind the ELSE.
+/// The base type of a selector, if the selector has a meaning.
+pub fn base_in(selector: &Elaborated<(TypeNo, TypedExpr)>) -> Option<TypeNo>
+    ensures { result ≡ base_in selector.now }
+{
+    match selector {
+        Err(_) => None,
+        Ok((base, _)) => Some(*base),
+    }
+}
+
+/// CASE: the selector with its base type, the arms, and what stands behind the ELSE.
 pub fn cased(
-    selector: TypedExpr,
+    selector: Elaborated<(TypeNo, TypedExpr)>,
     arms: Elaborated<Items<TypedArm>>,
     otherwise: Elaborated<Option<Items<TypedStmt>>>,
 ) -> Elaborated<TypedStmt>
     ensures { result ≡ cased least selector arms otherwise }
 {
-    match both(arms, otherwise) {
+    match both(selector, both(arms, otherwise)) {
         Err(fault) => Err(fault),
-        Ok((arms, otherwise)) => Ok(TypedStmt::Case(selector, arms, otherwise)),
+        Ok(((_, e), (arms, otherwise))) => Ok(TypedStmt::Case(e, arms, otherwise)),
     }
 }
 
@@ -136,5 +146,18 @@ pub fn within(place: Place, body: Elaborated<Items<TypedStmt>>) -> Elaborated<Ty
     match body {
         Err(fault) => Err(fault),
         Ok(body) => Ok(TypedStmt::With(place, body)),
+    }
+}
+
+/// What is reported of statements.
+pub fn reported_in(body: Elaborated<Items<TypedStmt>>) -> Elaborated<()>
+    ensures { result ≡ reported_in body }
+{
+    match body {
+        Err(fault) => Err(fault),
+        Ok(body) => {
+            drop(body);
+            Ok(())
+        }
     }
 }

@@ -11,7 +11,9 @@ ghost use Rattle.m2_steps.specs.Simple.{meant_if, given_back, returned, conditio
 use m2_calls::{assigned, target_at, untyped};
 use m2_computed::{Amount, Computed, Designated, Side, side_of, value_suited};
 use m2_exprs::{designated, done_by, first_of, place_of, value_of};
-use m2_scopes::{Elaborated, Fault, OpenedRecord, Scope, both, fields_of, reported};
+use m2_scopes::{
+    Elaborated, Fault, OpenedRecord, Scope, both, fields_of, of_sort, reported, reported_beside,
+};
 use m2_tree::{Designator, Expr, Items, Pos};
 use m2_typed::{BOOLEAN, Place, TypeNo, TypedExpr, TypedStmt, Types};
 use std::alloc::{AllocError, Global};
@@ -48,7 +50,13 @@ pub fn returned(
     match gives {
         None => match value {
             None => Ok(Ok(TypedStmt::Return)),
-            Some(_) => Ok(reported(at, 46)),
+            Some(e) => match value_of(alloc, scope, e)? {
+                Err(fault) => Ok(reported_beside(at, 46, Err(fault))),
+                Ok(value) => {
+                    drop(value);
+                    Ok(reported(at, 46))
+                }
+            },
         },
         Some(t) => match value {
             None => Ok(reported(at, 46)),
@@ -143,7 +151,8 @@ pub fn selected(
     }
 }
 
-fn is_record(types: &Types, t: TypeNo) -> bool
+/// Whether a type is a record type.
+pub fn is_record(types: &Types, t: TypeNo) -> bool
     ensures { result ≡ is_some (fields_at types.now t) }
 {
     match fields_of(types, t) {
@@ -183,9 +192,10 @@ pub fn record_of(
 ) -> Result<Elaborated<(TypeNo, Place)>, AllocError>
     ensures { IfOk result (λ j. j ≡ record_of least scope.now (head least designator.now)) }
 {
-    match designated(alloc, scope, designator)? {
+    let at = first_of(designator);
+    match of_sort(at, 40, designated(alloc, scope, designator)?) {
         Err(fault) => Ok(Err(fault)),
-        Ok(designated) => Ok(record_by(&scope.types, first_of(designator), designated)),
+        Ok(designated) => Ok(record_by(&scope.types, at, designated)),
     }
 }
 

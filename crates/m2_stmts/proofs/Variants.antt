@@ -19,12 +19,12 @@ use Rattle.m2_typed.specs.declared.statement.TypedStmt.{TypedStmt}
 use Rattle.m2_typed.specs.declared.statement.TypedArm.{TypedArm}
 use Rattle.m2_scopes.specs.declared.fault.Fault.{Fault}
 use Rattle.m2_scopes.specs.declared.scope.Scope.{Scope}
-use Rattle.m2_scopes.specs.Elaborated.{least, ◌▷◌}
+use Rattle.m2_scopes.specs.Elaborated.{least, refusal_beside, ahead}
 use Rattle.m2_exprs.specs.Meanings.{meant, head}
 use Rattle.m2_exprs.specs.Effects.{done_by}
 use Rattle.m2_steps.specs.declared.around.Around.{Around}
-use Rattle.m2_steps.specs.Lists.{standing, chosen, chosen_else, cased, armed, repeated_while, repeated_until, looped, within}
-use Rattle.m2_steps.specs.Simple.{meant_if, in_loop, exited, returned, condition, assignment, selected, record_of, opened}
+use Rattle.m2_steps.specs.Lists.{standing, chosen, chosen_else, base_in, cased, armed, repeated_while, repeated_until, looped, within, reported_in}
+use Rattle.m2_steps.specs.Simple.{meant_if, in_loop, exited, returned, condition, assignment, selected, record_of, opened_type, opened, opened_if}
 use Rattle.m2_steps.specs.Labels.{labels_in}
 use Rattle.m2_steps.specs.Control.{course_of, repeated_for}
 use Rattle.m2_stmts.specs.Statements.{Elaborates, ElaboratesRest, ElaboratesArm, Arms, args_meant, with_stmt, with_arm, stmt_layer, rest_layer, arm_layer, stmt, rest, arm, statements, arms}
@@ -103,7 +103,7 @@ module _ (s : Scope Fault) (w : Around Fault) where
   is_For name start limit by body = ap (λ (f : S). f s w) (at (For name start limit by body) (layer.For name start limit by body) (outs-For name start limit by body))
       ∙ ap (λ (x : Steps). repeated_for least (course_of least s name (meant least start) (meant least limit) (meant_if least by)) x) (body_is body)
 
-  arms_are : (base : TypeNo) (xs : List Arm) → (fold (with_arm least s w base) ([], Ok []) (map (arm least) xs)).1 ≡ arms least s w base xs
+  arms_are : (base : Option TypeNo) (xs : List Arm) → (fold (with_arm least s w base) ([], Ok []) (map (arm least) xs)).1 ≡ arms least s w base xs
   arms_are base xs = ap (λ (st : Arms Fault). st.1) (fold_mapped (with_arm least s w base) (arm least) ([], Ok []) xs)
 
   pub is_Elsif : (c : Expr) (body : List Stmt) (r : Rest) →
@@ -120,36 +120,33 @@ module _ (s : Scope Fault) (w : Around Fault) where
 
 -- ---- what the parts decide
 
--- a selector that is refused, or its arms, and what stands behind the ELSE
-abbrev case_of : Result (TypeNo × TypedExpr) Fault → (TypeNo → Result (List TypedArm) Fault) → Result (Option (List TypedStmt)) Fault → Result TypedStmt Fault
-case_of e all otherwise = e ▷ λ x. cased least x.1 (all x.0) otherwise
-
-case_same : (e : Result (TypeNo × TypedExpr) Fault) (f h : TypeNo → Result (List TypedArm) Fault) (o p : Result (Option (List TypedStmt)) Fault) → ((b : TypeNo) → f b ≡ h b) → o ≡ p → case_of e f o ≡ case_of e h p
-case_same (Ok x) f h o p q r = ap (λ (y : Result (List TypedArm) Fault). cased least x.1 y o) (q x.0) ∙ ap (λ (y : Result (Option (List TypedStmt)) Fault). cased least x.1 (h x.0) y) r
-case_same (Err e) f h o p q r = refl
-
-with_same : (e : Result (TypeNo × Place) Fault) (f h : TypeNo → Steps) → ((b : TypeNo) → f b ≡ h b) → (e ▷ λ r. within r.1 (f r.0)) ≡ (e ▷ λ r. within r.1 (h r.0))
-with_same (Ok x) f h q = ap (λ (y : Steps). within x.1 y) (q x.0)
-with_same (Err e) f h q = refl
+with_same : (e : Result (TypeNo × Place) Fault) (a b : Steps) (f h : TypeNo → Steps) → a ≡ b → ((t : TypeNo) → f t ≡ h t) → ahead least e (reported_in a) (λ r. within r.1 (f r.0)) ≡ ahead least e (reported_in b) (λ r. within r.1 (h r.0))
+with_same (Ok x) a b f h p q = ap (λ (y : Steps). within x.1 y) (q x.0)
+with_same (Err e) a b f h p q = ap (λ (y : Steps). refusal_beside least {A = TypedStmt} e (reported_in y)) p
 
 module _ (s : Scope Fault) (w : Around Fault) where
   pub is_Loop : (body : List Stmt) → stmt least (Loop body) s w ≡ looped (statements least s (in_loop w) body)
   is_Loop body = ap (λ (f : S). f s w) (at (Loop body) (layer.Loop body) (outs-Loop body)) ∙ ap (λ (x : Steps). looped x) (body_is s (in_loop w) body)
 
-  pub is_Case : (e : Expr) (xs : List Arm) → stmt least (Case e xs None) s w ≡ (selected least s (meant least e) ▷ λ x. cased least x.1 (arms least s w x.0 xs) (Ok None))
+  abbrev chosen_type : Expr → Result (TypeNo × TypedExpr) Fault
+  chosen_type e = selected least s (meant least e)
+
+  pub is_Case : (e : Expr) (xs : List Arm) → stmt least (Case e xs None) s w ≡ cased least (selected least s (meant least e)) (arms least s w (base_in (selected least s (meant least e))) xs) (Ok None)
   is_Case e xs = ap (λ (f : S). f s w) (at (Case e xs None) (layer.Case e xs None) (outs-Case e xs None))
-      ∙ case_same (selected least s (meant least e)) _ (λ b. arms least s w b xs) (Ok None) (Ok None) (λ b. arms_are s w b xs) refl
+      ∙ ap (λ (y : Result (List TypedArm) Fault). cased least (chosen_type e) y (Ok None)) (arms_are s w (base_in (chosen_type e)) xs)
 
   pub is_CaseElse : (e : Expr) (xs : List Arm) (body : List Stmt) →
-      stmt least (Case e xs (Some body)) s w ≡ (selected least s (meant least e) ▷ λ x. cased least x.1 (arms least s w x.0 xs) (standing (statements least s w body)))
+      stmt least (Case e xs (Some body)) s w ≡ cased least (selected least s (meant least e)) (arms least s w (base_in (selected least s (meant least e))) xs) (standing (statements least s w body))
   is_CaseElse e xs body = ap (λ (f : S). f s w) (at (Case e xs (Some body)) (layer.Case e xs (Some body)) (outs-Case e xs (Some body)))
-      ∙ case_same (selected least s (meant least e)) _ (λ b. arms least s w b xs) _ (standing (statements least s w body)) (λ b. arms_are s w b xs) (ap (λ (x : Steps). standing x) (body_is s w body))
+      ∙ ap (λ (y : Result (List TypedArm) Fault). cased least (chosen_type e) y (standing (fold (with_stmt least s w) (Ok []) (map (stmt least) body)))) (arms_are s w (base_in (chosen_type e)) xs)
+      ∙ ap (λ (x : Steps). cased least (chosen_type e) (arms least s w (base_in (chosen_type e)) xs) (standing x)) (body_is s w body)
 
-  pub is_With : (d : Designator) (body : List Stmt) → stmt least (With d body) s w ≡ (record_of least s (head least d) ▷ λ r. within r.1 (statements least (opened s r.0) w body))
+  pub is_With : (d : Designator) (body : List Stmt) → stmt least (With d body) s w
+      ≡ ahead least (record_of least s (head least d)) (reported_in (statements least (opened_if s (opened_type least s d)) w body)) (λ r. within r.1 (statements least (opened s r.0) w body))
   is_With d body = ap (λ (f : S). f s w) (at (With d body) (layer.With d body) (outs-With d body))
-      ∙ with_same (record_of least s (head least d)) _ (λ t. statements least (opened s t) w body) (λ t. body_is (opened s t) w body)
+      ∙ with_same (record_of least s (head least d)) _ _ _ (λ t. statements least (opened s t) w body) (body_is (opened_if s (opened_type least s d)) w body) (λ t. body_is (opened s t) w body)
 
-  pub arm_is : (a : Arm) (base : TypeNo) (ranges : List (ℤ × ℤ)) →
+  pub arm_is : (a : Arm) (base : Option TypeNo) (ranges : List (ℤ × ℤ)) →
       arm least a s w base ranges ≡ ((labels_in least s base ranges (out-Arm a).labels).0, armed least (labels_in least s base ranges (out-Arm a).labels).1 (statements least s w (out-Arm a).body))
   arm_is a base ranges = ap (λ (f : A). f s w base ranges) (at_arm a)
       ∙ ap (λ (x : Steps). ((labels_in least s base ranges (out-Arm a).labels).0, armed least (labels_in least s base ranges (out-Arm a).labels).1 x)) (body_is s w (out-Arm a).body)

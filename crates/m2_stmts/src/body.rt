@@ -1,19 +1,19 @@
 //! What statements of bodies mean.
 
 ghost use Rattle.std.specs.Prelude.{◌≡◌, None, Ok, IfOk, OnOk};
-ghost use Rattle.m2_scopes.specs.Elaborated.{least, ◌▷◌};
+ghost use Rattle.m2_scopes.specs.Elaborated.{least, ahead};
 ghost use Rattle.m2_exprs.specs.Meanings.{meant, head};
-ghost use Rattle.m2_steps.specs.Lists.{standing, chosen, cased, repeated_while, repeated_until, looped, within};
-ghost use Rattle.m2_steps.specs.Simple.{meant_if, in_loop, condition, selected, record_of, opened};
+ghost use Rattle.m2_steps.specs.Lists.{standing, chosen, base_in, cased, repeated_while, repeated_until, looped, within, reported_in};
+ghost use Rattle.m2_steps.specs.Simple.{meant_if, in_loop, condition, selected, record_of, opened_type, opened, opened_if};
 ghost use Rattle.m2_steps.specs.Control.{course_of, repeated_for};
 ghost use Rattle.m2_stmts.specs.Statements.{stmt, rest, arm, statements, arms};
 
 use m2_labels::Ranges;
-use m2_scopes::{Elaborated, Fault, Scope};
+use m2_scopes::{Elaborated, Fault, Scope, refusal_beside};
 use m2_steps::{
-    Around, armed, assignment, called, cased, chosen, chosen_else, close, condition, course_of,
-    exited, in_loop, labels_in, looped, open, record_of, repeated_for, repeated_until,
-    repeated_while, returned, selected, standing, with_next, within,
+    Around, armed, assignment, base_in, called, cased, chosen, chosen_else, close, condition,
+    course_of, exited, in_loop, labels_in, looped, open, opened_type, record_of, repeated_for,
+    repeated_until, repeated_while, reported_in, returned, selected, standing, with_next, within,
 };
 use m2_tree::{Arm, Boxed, Designator, Expr, Ident, Items, Rest, Stmt};
 use m2_typed::{TypeNo, TypedArm, TypedExpr, TypedStmt};
@@ -132,18 +132,14 @@ fn case_arms(
     around: &Around<Fault>,
     all: &[Arm],
     selector: &Expr,
-) -> Result<Elaborated<(TypedExpr, Elaborated<Items<TypedArm>>)>, AllocError>
+) -> Result<(Elaborated<(TypeNo, TypedExpr)>, Elaborated<Items<TypedArm>>), AllocError>
     ensures stays { OnOk result (scope.new ≡ scope.old) }
-    ensures means { IfOk result (λ j. j ≡ (selected least scope.old (meant least selector.now)
-        ▷ λ x. Ok (x.1, arms least scope.old around.now x.0 all.now))) }
+    ensures means { let s = selected least scope.old (meant least selector.now) in
+        IfOk result (λ p. p ≡ (s, arms least scope.old around.now (base_in s) all.now)) }
 {
-    match selected(alloc, scope, selector)? {
-        Err(fault) => Ok(Err(fault)),
-        Ok((base, e)) => {
-            let done = arms(alloc, scope, around, all, base)?;
-            Ok(Ok((e, done)))
-        }
-    }
+    let first = selected(alloc, scope, selector)?;
+    let done = arms(alloc, scope, around, all, base_in(&first))?;
+    Ok((first, done))
 }
 
 /// Elaborates a CASE without an ELSE.
@@ -156,13 +152,12 @@ fn case_alone(
     selector: &Expr,
 ) -> Result<Elaborated<TypedStmt>, AllocError>
     ensures stays { OnOk result (scope.new ≡ scope.old) }
-    ensures means { IfOk result (λ j. j ≡ (selected least scope.old (meant least selector.now)
-        ▷ λ x. cased least x.1 (arms least scope.old around.now x.0 all.now) (Ok None))) }
+    ensures means { let s = selected least scope.old (meant least selector.now) in
+        IfOk result (λ j. j ≡ cased least s (arms least scope.old around.now (base_in s) all.now)
+        (Ok None)) }
 {
-    match case_arms(alloc, scope, around, all, selector)? {
-        Err(fault) => Ok(Err(fault)),
-        Ok((e, done)) => Ok(cased(e, done, Ok(None))),
-    }
+    let (selector, done) = case_arms(alloc, scope, around, all, selector)?;
+    Ok(cased(selector, done, Ok(None)))
 }
 
 /// Elaborates the ELSE of a CASE.
@@ -172,20 +167,15 @@ fn case_else(
     scope: &mut Scope<Fault>,
     around: &Around<Fault>,
     body: &[Stmt],
-    first: Elaborated<(TypedExpr, Elaborated<Items<TypedArm>>)>,
+    first: (Elaborated<(TypeNo, TypedExpr)>, Elaborated<Items<TypedArm>>),
 ) -> Result<Elaborated<TypedStmt>, AllocError>
     ensures stays { OnOk result (scope.new ≡ scope.old) }
-    ensures means { IfOk result (λ j. j ≡ (first
-        ▷ λ x. cased least x.0 x.1
-        (standing (statements least scope.old around.now body.now)))) }
+    ensures means { IfOk result (λ j. j ≡ cased least first.0 first.1
+        (standing (statements least scope.old around.now body.now))) }
 {
-    match first {
-        Err(fault) => Ok(Err(fault)),
-        Ok((e, done)) => {
-            let body = statements(alloc, scope, around, body)?;
-            Ok(cased(e, done, standing(body)))
-        }
-    }
+    let body = statements(alloc, scope, around, body)?;
+    let (selector, done) = first;
+    Ok(cased(selector, done, standing(body)))
 }
 
 /// Elaborates a WHILE.
@@ -263,7 +253,7 @@ fn for_of(
     Ok(repeated_for(course, body))
 }
 
-/// Elaborates a WITH.
+/// Elaborates a WITH. Its statements are looked at, also if there is no record.
 #[cycle(body)]
 fn with_of(
     alloc: Global,
@@ -273,15 +263,40 @@ fn with_of(
     whole: &Designator,
 ) -> Result<Elaborated<TypedStmt>, AllocError>
     ensures stays { OnOk result (scope.new ≡ scope.old) }
-    ensures means { IfOk result (λ j. j ≡ (record_of least scope.old (head least whole.now)
-        ▷ λ r. within r.1 (statements least (opened scope.old r.0) around.now body.now))) }
+    ensures means { IfOk result (λ j. j ≡ ahead least (record_of least scope.old (head least whole.now))
+        (reported_in (statements least (opened_if scope.old (opened_type least scope.old whole.now))
+        around.now body.now))
+        (λ r. within r.1 (statements least (opened scope.old r.0) around.now body.now))) }
 {
     match record_of(alloc, scope, whole)? {
-        Err(fault) => Ok(Err(fault)),
+        Err(fault) => {
+            let t = opened_type(alloc, scope, whole)?;
+            let rest = opened_if_body(alloc, scope, around, body, t)?;
+            Ok(refusal_beside(fault, reported_in(rest)))
+        }
         Ok((t, place)) => {
             let body = opened_body(alloc, scope, around, body, t)?;
             Ok(within(place, body))
         }
+    }
+}
+
+/// Elaborates statements in which the fields of a record of this type stand for themselves, if there is one.
+#[cycle(body)]
+fn opened_if_body(
+    alloc: Global,
+    scope: &mut Scope<Fault>,
+    around: &Around<Fault>,
+    body: &[Stmt],
+    t: Option<TypeNo>,
+) -> Result<Elaborated<Items<TypedStmt>>, AllocError>
+    ensures stays { OnOk result (scope.new ≡ scope.old) }
+    ensures means { IfOk result
+        (λ j. j ≡ statements least (opened_if scope.old t) around.now body.now) }
+{
+    match t {
+        None => statements(alloc, scope, around, body),
+        Some(t) => opened_body(alloc, scope, around, body, t),
     }
 }
 
@@ -333,7 +348,7 @@ fn rest(
     }
 }
 
-/// Elaborates the arms of a CASE whose selector has this base type. No two of their labels have a
+/// Elaborates the arms of a CASE whose selector has this base type, if it has a meaning. No two of their labels have a
 /// value in common.
 #[cycle(body)]
 fn arms(
@@ -341,7 +356,7 @@ fn arms(
     scope: &mut Scope<Fault>,
     around: &Around<Fault>,
     all: &[Arm],
-    base: TypeNo,
+    base: Option<TypeNo>,
 ) -> Result<Elaborated<Items<TypedArm>>, AllocError>
     ensures stays { OnOk result (scope.new ≡ scope.old) }
     ensures means { IfOk result (λ j. j ≡ arms least scope.old around.now base all.now) }
@@ -363,7 +378,7 @@ fn arm(
     scope: &mut Scope<Fault>,
     around: &Around<Fault>,
     written: &Arm,
-    base: TypeNo,
+    base: Option<TypeNo>,
     ranges: &mut Ranges,
 ) -> Result<Elaborated<TypedArm>, AllocError>
     ensures stays { OnOk result (scope.new ≡ scope.old) }

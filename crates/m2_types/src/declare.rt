@@ -5,8 +5,8 @@ ghost use Rattle.std.specs.List.{fold};
 ghost use Rattle.m2_scopes.specs.Elaborated.{least};
 ghost use Rattle.m2_types.specs.Declare.{constant_meaning, nothing_reported, with_constant, brings_simple, brings_with, type_meaning, with_type, begun_name, variable_meaning, with_variable_type, finished_variable, with_variables, procedure_meaning, with_procedure_type, declared_procedure, with_procedure, with_def};
 
-use m2_constants::constant_of;
-use m2_made::{heading_of, nothing_of, type_of, with_made};
+use m2_exprs::constant_of;
+use m2_made::{heading_of, names_of, nothing_of, type_of, with_made};
 use m2_scopes::{Elaborated, Fault, Scope, begin, beside, declare, finish};
 use m2_tree::{Constant, Def, Heading, Ident, Simple, TypeDecl, TypeExpr, Variables};
 use m2_typed::{Meaning, Procedure, TypeNo, Value, Variable};
@@ -282,10 +282,11 @@ fn with_procedure(
 ) -> Result<Elaborated<()>, AllocError>
     ensures { IfOk result (λ j. (scope.new, j) ≡ with_procedure least (scope.old, before) heading.now) }
 {
+    let names = names_of(alloc, heading)?;
     let made = heading_of(alloc, scope, heading)?;
     let t = with_made(scope, made)?;
     let one = declare_procedure(alloc, scope, &heading.name, t)?;
-    Ok(beside(before, beside(nothing_of(t), one)))
+    Ok(beside(before, beside(names, beside(nothing_of(t), one))))
 }
 
 // ---- all of them

@@ -2,25 +2,25 @@
 use Rattle.std.proofs.Common.{◌≡◌, suc, List, length, Result, refl, ap, map}
 use Rattle.m2_tree.specs.declared.expr.Operator.{Operator}
 use Rattle.m2_scopes.specs.declared.fault.Fault.{Fault}
+use Rattle.m2_scopes.specs.declared.meaningless.Meaningless.{Meaningless}
 use Rattle.m2_scopes.specs.declared.scope.Scope.{Scope}
 use Rattle.m2_constants.specs.Parts.{Part}
 use Rattle.m2_computed.specs.declared.computed.Designated.{Designated}
 use Rattle.m2_exprs.specs.Meanings.{Meant, Picks}
-use Rattle.m2_least.specs.Least.{Reports}
-use Rattle.m2_least.specs.Beside.{Pairwise, none, more, ScopeBeside}
+use Rattle.m2_least.specs.Beside.{Pairwise, none, more, SoughtBeside, ScopeBeside}
 use Rattle.m2_least.proofs.Constants.{PartBeside, PickBeside}
 
 -- what stands for something in any two scopes that go together
-abbrev pub MeansBeside : (Scope Fault → Result Designated Fault) → (Scope (List Fault) → Result Designated (List Fault)) → Type 0
-MeansBeside d d' = (s : Scope Fault) (s' : Scope (List Fault)) → ScopeBeside s s' → Reports (d s) (d' s')
+abbrev pub MeansBeside : (Scope Fault → Result Designated (Meaningless Fault)) → (Scope (List Fault) → Result Designated (Meaningless (List Fault))) → Type 0
+MeansBeside d d' = (s : Scope Fault) (s' : Scope (List Fault)) → ScopeBeside s s' → SoughtBeside (d s) (d' s')
 
 pub data MeantBeside : Meant Fault → Meant (List Fault) → Type 0 where
-  meants : {f : Part Fault} {f' : Part (List Fault)} → PartBeside f f' → {d : Scope Fault → Result Designated Fault} {d' : Scope (List Fault) → Result Designated (List Fault)} → MeansBeside d d'
+  meants : {f : Part Fault} {f' : Part (List Fault)} → PartBeside f f' → {d : Scope Fault → Result Designated (Meaningless Fault)} {d' : Scope (List Fault) → Result Designated (Meaningless (List Fault))} → MeansBeside d d'
       → MeantBeside (record { fixed = f; means = d }) (record { fixed = f'; means = d' })
 
 pub record PicksBeside (f : Picks Fault) (f' : Picks (List Fault)) : Type 0 where
   pub fixed : PickBeside f.fixed f'.fixed
-  pub picks : (s : Scope Fault) (s' : Scope (List Fault)) → ScopeBeside s s' → (d : Result Designated Fault) (d' : Result Designated (List Fault)) → Reports d d' → Reports (f.picks s d) (f'.picks s' d')
+  pub picks : (s : Scope Fault) (s' : Scope (List Fault)) → ScopeBeside s s' → (d : Result Designated (Meaningless Fault)) (d' : Result Designated (Meaningless (List Fault))) → SoughtBeside d d' → SoughtBeside (f.picks s d) (f'.picks s' d')
 
 pub data TermBeside {O : Type 0} : Operator O × Meant Fault → Operator O × Meant (List Fault) → Type 0 where
   is_term : (o : Operator O) {x : Meant Fault} {x' : Meant (List Fault)} → MeantBeside x x' → TermBeside (o, x) (o, x')

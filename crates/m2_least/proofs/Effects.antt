@@ -21,11 +21,13 @@ use Rattle.m2_computed.specs.Classes.{class_at}
 use Rattle.m2_calls.specs.declared.effect.Target.{Target}
 use Rattle.m2_calls.specs.declared.effect.Target.TheVariants as target
 use Rattle.m2_scopes.specs.declared.fault.Fault.{Fault}
+use Rattle.m2_scopes.specs.declared.meaningless.Meaningless.{Meaningless}
 use Rattle.m2_scopes.specs.Elaborated.{every, least}
 use Rattle.m2_least.specs.Least.{Reports, fine}
+use Rattle.m2_least.specs.Beside.{SoughtBeside}
 use Rattle.m2_calls.specs.Effects.{target_of, target_at, assigned_to, assigned, changed_as, changed, known_amount, amount, change_by, set_as, set_variable, element_known, element, membership_of, put}
-use Rattle.m2_least.proofs.Forms.{both_reports, then_reports, reported_reports, where_reports}
-use Rattle.m2_body_least.proofs.Suits.{suited_reports, value_suited_reports}
+use Rattle.m2_least.proofs.Forms.{both_reports, then_reports, reported_reports, where_reports, of_sort_reports}
+use Rattle.m2_least.proofs.Suits.{suited_reports, value_suited_reports}
 
 pub target_of_reports : (at : Pos) → (p1 : Designated) → Reports (target_of least at p1) (target_of every at p1)
 target_of_reports at (designated.Variable t d) = fine _
@@ -37,8 +39,8 @@ target_of_reports at (designated.Nested p) = reported_reports at 40
 target_of_reports at (designated.Standard f) = reported_reports at 40
 target_of_reports at (designated.Module k) = reported_reports at 40
 
-pub target_at_reports : (at : Pos) → {d : Result Designated Fault} {d' : Result Designated (List Fault)} → Reports d d' → Reports (target_at least at d) (target_at every at d')
-target_at_reports at d = then_reports d (λ v. target_of_reports at v)
+pub target_at_reports : (at : Pos) → {d : Result Designated (Meaningless Fault)} {d' : Result Designated (Meaningless (List Fault))} → SoughtBeside d d' → Reports (target_at least at d) (target_at every at d')
+target_at_reports at d = then_reports (of_sort_reports at 40 d) (λ v. target_of_reports at v)
 
 pub assigned_to_reports : (types : Types) → (p1 : Target) → (at : Pos) → (x : Computed) → Reports (assigned_to least types p1 at x) (assigned_to every types p1 at x)
 assigned_to_reports types target.Open at x = reported_reports at 41

@@ -1,4 +1,4 @@
--- Expressions of bodies, by induction.
+-- Expressions, by induction: what they are as constants, and what they mean in bodies.
 use Rattle.std.proofs.Common.{◌≡◌, ℕ, List, Option, Some, None, Result, sym, ap, ◌∙◌}
 use Rattle.std.specs.Prelude.{map}
 use Rattle.m2_tree.specs.declared.pos.Pos.{Pos}
@@ -14,45 +14,46 @@ use Rattle.m2_tree.specs.declared.expr.Selector.{Selector, Selector-F, out-Selec
 use Rattle.m2_tree.specs.declared.expr.Designator.{Designator, Designator-F, out-Designator, roll-Designator, out-roll-Designator, map-Designator, fold_out-Designator, ind-Designator}
 use Rattle.m2_tree.specs.declared.expr.Item.{Item, Item-F, out-Item, roll-Item, out-roll-Item, map-Item, fold_out-Item}
 use Rattle.m2_scopes.specs.declared.fault.Fault.{Fault}
+use Rattle.m2_scopes.specs.declared.meaningless.Meaningless.{Meaningless}
 use Rattle.m2_scopes.specs.declared.scope.Scope.{Scope}
 use Rattle.m2_scopes.specs.Elaborated.{Gathers, every, least}
 use Rattle.m2_constants.specs.Parts.{Adds, sign_place}
 use Rattle.m2_computed.specs.declared.computed.Designated.{Designated}
-use Rattle.m2_exprs.specs.Meanings.{Meant, Picks, index_at, value_of, factor, term as addend, expr_layer, selector_layer, designator_layer, item_layer, meant, picks, head, item}
-use Rattle.m2_least.specs.Least.{Reports}
-use Rattle.m2_least.specs.Beside.{Pairwise, Optionwise, nothing, something, ScopeBeside, scopes}
+use Rattle.m2_exprs.specs.Meanings.{Meant, Picks, index_at, names_by, value_of, factor, term as addend, expr_layer, selector_layer, designation, denotation, designator_layer, item_layer, meant, picks, head, item, part}
+use Rattle.m2_least.specs.Least.{Reports, fine}
+use Rattle.m2_least.specs.Beside.{Pairwise, none, more, Optionwise, nothing, something, SoughtBeside, ScopeBeside, scopes}
 use Rattle.m2_least.proofs.Forms.{then_reports, fold_pairwise, pairwise_maps, carry}
-use Rattle.m2_least.proofs.Constants.{PartBeside, parts, PickBeside, AddsBeside, OperandBeside, operand, field_of_reports, component_reports, added_reports, of_number, of_char, of_text, of_term, of_sum, of_relation, of_set, of_not, of_bracketed, of_use, of_designator}
-use Rattle.m2_body_least.proofs.Pieces.{MeantBeside, meants, PicksBeside, TermBeside, is_term, fixed_beside, pairwise_over}
-use Rattle.m2_body_least.proofs.Signs.{negated_reports}
-use Rattle.m2_body_least.proofs.Meanings.{of_computed_reports, as_constant_reports, value_of_reports, used_with_reports, factor_reports, term_reports, signed_first_reports, relation_reports, field_at_reports, index_at_reports, named_reports}
+use Rattle.m2_least.proofs.Constants.{PartBeside, parts, PickBeside, AddsBeside, OperandBeside, operand, field_of_reports, component_reports, added_reports, of_number, of_char, of_text, of_term, of_sum, of_relation, of_set, of_not, of_bracketed, of_use, picked_reports}
+use Rattle.m2_least.proofs.Pieces.{MeantBeside, meants, PicksBeside, TermBeside, is_term, fixed_beside, pairwise_over}
+use Rattle.m2_least.proofs.Signs.{negated_reports}
+use Rattle.m2_least.proofs.Meanings.{of_computed_sought, as_constant_sought, value_of_reports, used_with_sought, factor_reports, term_reports, signed_first_reports, relation_reports, field_at_sought, index_at_sought, type_of_reports, named_sought}
 
 -- ---- the layers
 
 number_meant : (at : Pos) (n : ℕ) → MeantBeside (expr_layer least (layer.Number at n)) (expr_layer every (layer.Number at n))
-number_meant at n = meants (of_number at n) (λ s s' b. as_constant_reports b (of_number at n))
+number_meant at n = meants (of_number at n) (λ s s' b. as_constant_sought b (of_number at n))
 
 char_meant : (at : Pos) (n : ℕ) → MeantBeside (expr_layer least (layer.Char at n)) (expr_layer every (layer.Char at n))
-char_meant at n = meants (of_char at n) (λ s s' b. as_constant_reports b (of_char at n))
+char_meant at n = meants (of_char at n) (λ s s' b. as_constant_sought b (of_char at n))
 
 text_meant : (at : Pos) (t : List ℕ) → MeantBeside (expr_layer least (layer.Text at t)) (expr_layer every (layer.Text at t))
-text_meant at t = meants (of_text at t) (λ s s' b. as_constant_reports b (of_text at t))
+text_meant at t = meants (of_text at t) (λ s s' b. as_constant_sought b (of_text at t))
 
 set_meant : (name : Option Ident) (at : Pos) {xs : List (Adds Fault)} {xs' : List (Adds (List Fault))} → Pairwise AddsBeside xs xs' → MeantBeside (expr_layer least (layer.Set name at xs)) (expr_layer every (layer.Set name at xs'))
 set_meant name at xs =
     let set = of_set name at (pairwise_over {A = Adds Fault} {B = Adds (List Fault)} AddsBeside (λ e. e) (λ e. e) (λ a b p. p) xs) in
-    meants set (λ s s' b. as_constant_reports b set)
+    meants set (λ s s' b. as_constant_sought b set)
 
 not_meant : (at : Pos) {e : Meant Fault} {e' : Meant (List Fault)} → MeantBeside e e' → MeantBeside (expr_layer least (layer.Not at e)) (expr_layer every (layer.Not at e'))
-not_meant at e = meants (of_not at (fixed_beside e)) (λ s s' b. of_computed_reports (negated_reports at (value_of_reports b e)))
+not_meant at e = meants (of_not at (fixed_beside e)) (λ s s' b. of_computed_sought (negated_reports at (value_of_reports b e)))
 
 bracketed_meant : (at : Pos) {e : Meant Fault} {e' : Meant (List Fault)} → MeantBeside e e' → MeantBeside (expr_layer least (layer.Bracketed at e)) (expr_layer every (layer.Bracketed at e'))
-bracketed_meant at e = meants (of_bracketed at (fixed_beside e)) (λ s s' b. of_computed_reports (value_of_reports b e))
+bracketed_meant at e = meants (of_bracketed at (fixed_beside e)) (λ s s' b. of_computed_sought (value_of_reports b e))
 
 use_meant : {d : Meant Fault} {d' : Meant (List Fault)} → MeantBeside d d' → {xs : Option (List (Meant Fault))} {xs' : Option (List (Meant (List Fault)))} → Optionwise (Pairwise MeantBeside) xs xs'
     → MeantBeside (expr_layer least (layer.Use d xs)) (expr_layer every (layer.Use d' xs'))
-use_meant d nothing = meants (of_use (fixed_beside d) nothing) (λ s s' b. used_with_reports b d nothing)
-use_meant d (something xs) = meants (of_use (fixed_beside d) (something (pairwise_over {A = Meant Fault} {B = Meant (List Fault)} PartBeside (λ e. e.fixed) (λ e. e.fixed) (λ a b p. fixed_beside p) xs))) (λ s s' b. used_with_reports b d (something xs))
+use_meant d nothing = meants (of_use (fixed_beside d) nothing) (λ s s' b. used_with_sought b d nothing)
+use_meant d (something xs) = meants (of_use (fixed_beside d) (something (pairwise_over {A = Meant Fault} {B = Meant (List Fault)} PartBeside (λ e. e.fixed) (λ e. e.fixed) (λ a b p. fixed_beside p) xs))) (λ s s' b. used_with_sought b d (something xs))
 
 operand_fixed : {O : Type 0} {x : Operator O × Meant Fault} {x' : Operator O × Meant (List Fault)} → TermBeside x x' → OperandBeside (x.0, x.1.fixed) (x'.0, x'.1.fixed)
 operand_fixed (is_term o x) = operand o (fixed_beside x)
@@ -63,34 +64,48 @@ operands_fixed {O = O} xs = pairwise_over OperandBeside (λ (x : Operator O × M
 
 term_meant : {e : Meant Fault} {e' : Meant (List Fault)} → MeantBeside e e' → {xs : List (Operator MulOp × Meant Fault)} {xs' : List (Operator MulOp × Meant (List Fault))} → Pairwise TermBeside xs xs'
     → MeantBeside (expr_layer least (layer.Term e xs)) (expr_layer every (layer.Term e' xs'))
-term_meant (meants (parts at p) m) xs = meants (of_term (parts at p) (operands_fixed xs))
-    (λ s s' b. of_computed_reports (fold_pairwise Reports TermBeside (factor least s at) (factor every s' at) (λ v v' x x' t u. factor_reports b at t u) xs _ _ (value_of_reports b (meants (parts at p) m))))
+term_meant (meants (parts at p p_n) m) xs = meants (of_term (parts at p p_n) (operands_fixed xs))
+    (λ s s' b. of_computed_sought (fold_pairwise Reports TermBeside (factor least s at) (factor every s' at) (λ v v' x x' t u. factor_reports b at t u) xs _ _ (value_of_reports b (meants (parts at p p_n) m))))
 
 sum_meant : (o : Option (Operator Sign)) {e : Meant Fault} {e' : Meant (List Fault)} → MeantBeside e e' → {xs : List (Operator AddOp × Meant Fault)} {xs' : List (Operator AddOp × Meant (List Fault))} → Pairwise TermBeside xs xs'
     → MeantBeside (expr_layer least (layer.Sum o e xs)) (expr_layer every (layer.Sum o e' xs'))
-sum_meant o (meants (parts at p) m) xs = meants (of_sum o (parts at p) (operands_fixed xs))
-    (λ s s' b. of_computed_reports (fold_pairwise Reports TermBeside (addend least s (sign_place o at)) (addend every s' (sign_place o at)) (λ v v' x x' t u. term_reports b (sign_place o at) t u) xs _ _ (signed_first_reports o (value_of_reports b (meants (parts at p) m)))))
+sum_meant o (meants (parts at p p_n) m) xs = meants (of_sum o (parts at p p_n) (operands_fixed xs))
+    (λ s s' b. of_computed_sought (fold_pairwise Reports TermBeside (addend least s (sign_place o at)) (addend every s' (sign_place o at)) (λ v v' x x' t u. term_reports b (sign_place o at) t u) xs _ _ (signed_first_reports o (value_of_reports b (meants (parts at p p_n) m)))))
 
 relation_meant : {e : Meant Fault} {e' : Meant (List Fault)} → MeantBeside e e' → (o : Operator RelOp) {f : Meant Fault} {f' : Meant (List Fault)} → MeantBeside f f' → MeantBeside (expr_layer least (layer.Relation e o f)) (expr_layer every (layer.Relation e' o f'))
-relation_meant e o f = meants (of_relation (fixed_beside e) o (fixed_beside f)) (λ s s' b. of_computed_reports (relation_reports b e o f))
+relation_meant e o f = meants (of_relation (fixed_beside e) o (fixed_beside f)) (λ s s' b. of_computed_sought (relation_reports b e o f))
 
 field_picks : (at : Pos) (name : Ident) → PicksBeside (selector_layer least (layer.Field at name)) (selector_layer every (layer.Field at name))
-field_picks at name = record { fixed = record { picks = λ s s' b d d' t. then_reports t (λ x. field_of_reports b at name x) }; picks = λ s s' b d d' t. field_at_reports b at name t }
+field_picks at name = record { fixed = record { picks = λ s s' b d d' t. then_reports t (λ x. field_of_reports b at name x) }; picks = λ s s' b d d' t. field_at_sought b at name t }
 
 index_picks : (at : Pos) {e : Meant Fault} {e' : Meant (List Fault)} → MeantBeside e e' → PicksBeside (selector_layer least (layer.Index at e)) (selector_layer every (layer.Index at e'))
-index_picks at (meants (parts q p) m) = record {
+index_picks at (meants (parts q p p_n) m) = record {
   fixed = record { picks = λ s s' b d d' t. then_reports t (λ x. component_reports at x) };
-  picks = λ s s' b d d' t. index_picked b at t (meants (parts q p) m);
+  picks = λ s s' b d d' t. index_picked b at t (meants (parts q p p_n) m);
 }
   where
-    index_picked : {s : Scope Fault} {s' : Scope (List Fault)} → ScopeBeside s s' → (spot : Pos) {d : Result Designated Fault} {d' : Result Designated (List Fault)} → Reports d d' → {x : Meant Fault} {x' : Meant (List Fault)} → MeantBeside x x'
-        → Reports (index_at least s.types spot d x.fixed.at (value_of least s x)) (index_at every s'.types spot d' x'.fixed.at (value_of every s' x'))
-    index_picked (scopes tables types vars procs {level = level} {withs = withs} own outer) spot t (meants (parts r h) n) = index_at_reports types spot t r (value_of_reports (scopes tables types vars procs {level = level} {withs = withs} own outer) (meants (parts r h) n))
+    index_picked : {s : Scope Fault} {s' : Scope (List Fault)} → ScopeBeside s s' → (spot : Pos) {d : Result Designated (Meaningless Fault)} {d' : Result Designated (Meaningless (List Fault))} → SoughtBeside d d' → {x : Meant Fault} {x' : Meant (List Fault)} → MeantBeside x x'
+        → SoughtBeside (index_at least s.types spot d x.fixed.at (value_of least s x)) (index_at every s'.types spot d' x'.fixed.at (value_of every s' x'))
+    index_picked (scopes tables types vars procs {level = level} {withs = withs} own outer) spot t (meants (parts r h h_n) n) = index_at_sought types spot t r (value_of_reports (scopes tables types vars procs {level = level} {withs = withs} own outer) (meants (parts r h h_n) n))
+
+-- ---- names with selectors
+
+designation_sought : {s : Scope Fault} {s' : Scope (List Fault)} → ScopeBeside s s' → (name : Ident) {ps : List (Picks Fault)} {ps' : List (Picks (List Fault))} → Pairwise PicksBeside ps ps' → SoughtBeside (designation least s name ps) (designation every s' name ps')
+designation_sought {s = s} {s' = s'} b name ps = fold_pairwise SoughtBeside PicksBeside (λ x p. p.picks s x) (λ x p. p.picks s' x) (λ x x' f f' p q. q.picks s s' b x x' p) ps _ _ (named_sought b name)
+
+denotation_reports : {s : Scope Fault} {s' : Scope (List Fault)} → ScopeBeside s s' → (name : Ident) {ps : List (Picks Fault)} {ps' : List (Picks (List Fault))} → Pairwise PicksBeside ps ps' → Reports (denotation least s name ps) (denotation every s' name ps')
+denotation_reports b name ps = picked_reports b name (pairwise_over {A = Picks Fault} {B = Picks (List Fault)} PickBeside (λ e. e.fixed) (λ e. e.fixed) (λ a b p. p.fixed) ps)
+
+names_by_reports : {A B C : Type 0} {R : A → B → Type 0} {xs : List A} {ys : List B} → Pairwise R xs ys → {p q : Result C Fault} {p' q' : Result C (List Fault)} → Reports p p' → Reports q q' → Reports (names_by xs p q) (names_by ys p' q')
+names_by_reports none p q = p
+names_by_reports (more x xs) p q = q
 
 designator_meant : (name : Ident) {ps : List (Picks Fault)} {ps' : List (Picks (List Fault))} → Pairwise PicksBeside ps ps'
     → MeantBeside (designator_layer least (record { name = name; selectors = ps })) (designator_layer every (record { name = name; selectors = ps' }))
-designator_meant name ps = meants (of_designator name (pairwise_over {A = Picks Fault} {B = Picks (List Fault)} PickBeside (λ e. e.fixed) (λ e. e.fixed) (λ a b p. p.fixed) ps))
-    (λ s s' b. fold_pairwise Reports PicksBeside (λ x p. p.picks s x) (λ x p. p.picks s' x) (λ x x' f f' p q. q.picks s s' b x x' p) ps _ _ (named_reports b name))
+designator_meant name ps = meants
+    (parts name.pos (λ s s' b. denotation_reports b name ps)
+    (λ s s' b. names_by_reports ps (then_reports (denotation_reports b name ps) (λ x. fine _)) (type_of_reports name.pos (designation_sought b name ps))))
+    (λ s s' b. designation_sought b name ps)
 
 abbrev PE : Expr → Type 0
 PE e = MeantBeside (meant least e) (meant every e)
@@ -207,3 +222,8 @@ meant_beside = ind-Expr PE PS PD PI step_expr step_selector step_designator step
 
 pub head_beside : (d : Designator) → MeantBeside (head least d) (head every d)
 head_beside = ind-Designator PE PS PD PI step_expr step_selector step_designator step_item
+
+-- ---- constant expressions
+
+pub part_beside : (e : Expr) → PartBeside (part least e) (part every e)
+part_beside e = fixed_beside (meant_beside e)

@@ -13,7 +13,7 @@ use Rattle.m2_scopes.specs.Elaborated.{every, least}
 use Rattle.m2_least.specs.Least.{Reports, fine}
 use Rattle.m2_computed.specs.Signs.{signed_scalar, signed_value, signed, negated_scalar, negated_value, negated}
 use Rattle.m2_least.proofs.Values.{negated_reports as negated_constant_reports, signed_reports as signed_constant_reports}
-use Rattle.m2_body_least.proofs.Operations.{of_value_reports}
+use Rattle.m2_least.proofs.Operations.{of_value_reports}
 use Rattle.m2_least.proofs.Forms.{then_reports, reported_reports, where_reports}
 
 pub signed_scalar_reports : (p0 : Sign) → (spot : Pos) → (b : TypeNo) → (e : TypedExpr) → Reports (signed_scalar least p0 spot b e) (signed_scalar every p0 spot b e)

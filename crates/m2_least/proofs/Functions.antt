@@ -19,7 +19,7 @@ use Rattle.m2_least.specs.Least.{Reports, fine}
 use Rattle.m2_calls.specs.Functions.{unary_takes, unary_scalar, unary_at, type_named, bound_at, converted_scalar, converted_value, conversion_at, high_of}
 use Rattle.m2_least.proofs.Forms.{both_reports, then_reports, reported_reports, where_reports}
 use Rattle.m2_least.proofs.Values.{converted_reports}
-use Rattle.m2_body_least.proofs.Operations.{of_value_reports}
+use Rattle.m2_least.proofs.Operations.{of_value_reports}
 use Rattle.m2_least.proofs.Constants.{scalar_type_reports, unary_of_reports}
 
 pub unary_scalar_reports : (u : Unary) → (at : Pos) → (b : TypeNo) → (e : TypedExpr) → Reports (unary_scalar least u at b e) (unary_scalar every u at b e)

@@ -20,8 +20,8 @@ use Rattle.m2_scopes.specs.Elaborated.{every, least}
 use Rattle.m2_least.specs.Least.{Reports, fine}
 use Rattle.m2_calls.specs.Actuals.{elements_suit, variable_passed, open_passed, text_argument, text_passed, open_value, whole_passed, simple_passed, passed_as, value_passed, actual, with_argument}
 use Rattle.m2_least.proofs.Forms.{both_reports, cond_keeps, then_reports, reported_reports, where_reports}
-use Rattle.m2_body_least.proofs.Taken.{taken_reports}
-use Rattle.m2_body_least.proofs.Suits.{value_suited_reports}
+use Rattle.m2_least.proofs.Taken.{taken_reports}
+use Rattle.m2_least.proofs.Suits.{value_suited_reports}
 
 pub variable_passed_reports : (t : TypeNo) → (at : Pos) → (p2 : Designated) → Reports (variable_passed least t at p2) (variable_passed every t at p2)
 variable_passed_reports t at (designated.Variable u d) = where_reports (not (are_same u t)) at 44 (fine _)

@@ -16,7 +16,7 @@ use Rattle.m2_scopes.specs.Elaborated.{every, least}
 use Rattle.m2_least.specs.Least.{Reports, fine}
 use Rattle.m2_computed.specs.Selection.{numbered_field, field_named, record_field, component, field, array_indexed, indices, asked, with_index, indexed}
 use Rattle.m2_least.proofs.Forms.{both_reports, then_reports, reported_reports}
-use Rattle.m2_body_least.proofs.Suits.{value_suited_reports}
+use Rattle.m2_least.proofs.Suits.{value_suited_reports}
 
 pub field_named_reports : (at : Pos) → (p1 : Option (ℕ × TypeNo)) → Reports (field_named least at p1) (field_named every at p1)
 field_named_reports at None = reported_reports at 30
