@@ -201,7 +201,6 @@ fn step_by(at: Pos, value: &Value) -> Elaborated<i64>
 }
 
 /// The step: a constant, or else 1.
-#[tactic(auto, using(m2_exprs::proofs::Variants::fixed_of))]
 fn step_of(
     alloc: Global,
     scope: &Scope<Fault>,

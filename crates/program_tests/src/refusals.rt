@@ -121,10 +121,13 @@ fn with_next<R: Threads + Sync + Eprint>(
     Ok(count)
 }
 
-/// Builds the files of each row, and compares what is reported of them.
-pub fn check_all<R: Threads + Sync + Files + Eprint + AllocGlobal>(rt: &R) -> Result<Count> {
+/// Builds the files of each row of a file, and compares what is reported of them.
+pub fn check_all<R: Threads + Sync + Files + Eprint + AllocGlobal>(
+    rt: &R,
+    name: &str,
+) -> Result<Count> {
     let alloc = rt.alloc();
-    let bytes = fs::read(rt, "refusals.txt").context("cannot read the rows")?;
+    let bytes = fs::read(rt, name).context("cannot read the rows")?;
     let all = String::from_utf8(bytes)?;
     let mut count = Count::none();
     let mut row = empty_row(alloc);
