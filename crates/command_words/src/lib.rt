@@ -9,7 +9,7 @@ ghost use Rattle.std.specs.Prelude.{◌≡◌, ◌≤◌};
 ghost use Rattle.std.specs.Char.{is_ascii_digit};
 ghost use Rattle.std.specs.List.{list_all};
 
-pub use options::{matches_of, number_option, strings_of};
+pub use options::{are_named, is_named, matches_of, number_option, strings_of};
 use std::env::FillError;
 use std::rt::Env;
 use std::{env, io, str};

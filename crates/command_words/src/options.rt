@@ -1,6 +1,7 @@
 //! The options and names of a command line.
 
-ghost use Rattle.command_words.specs.Words.{number_of};
+ghost use Rattle.command_words.specs.Words.{number_of, has_letters};
+ghost use Rattle.std.specs.List.{list_all};
 ghost use Rattle.std.specs.Option.{IfSome};
 ghost use Rattle.std.specs.Prelude.{◌≡◌, ◌≤◌, map, IfOk, string_bytes};
 
@@ -45,6 +46,30 @@ pub fn number_option(
         );
     }
     number
+}
+
+/// Whether a file or a folder is named. A name without a letter, as a variable that is not set gives it, is reported on
+/// standard error.
+pub fn is_named(rt: &impl Eprint, program: &str, what: &str, name: &str) -> bool
+    ensures { result ≡ has_letters name.now }
+{
+    if name.is_empty() {
+        let _ = eprintln!(rt; "{program}: {what} is an empty name");
+        return false;
+    }
+    true
+}
+
+/// Whether each file is named. One without a name is reported on standard error.
+pub fn are_named(rt: &impl Eprint, program: &str, what: &str, names: &[&str]) -> bool
+    ensures { result ≡ list_all has_letters (map (λ t. t.now) names.now) }
+{
+    match names {
+        [] => true,
+        [name, rest @ ..] => {
+            is_named(rt, program, what, name) && are_named(rt, program, what, rest)
+        }
+    }
 }
 
 /// The same texts once more. The only error is that memory ran out.

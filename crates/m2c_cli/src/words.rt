@@ -2,7 +2,9 @@
 
 use anyhow::Result;
 use clap::{Arg, ArgAction, ArgMatches, Command};
-use command_words::{COMMAND_LINE, Words, command_line, matches_of, number_option, strings_of};
+use command_words::{
+    COMMAND_LINE, Words, are_named, command_line, is_named, matches_of, number_option, strings_of,
+};
 use m2c::{MAX_PAGES, MAX_WORKERS, Options};
 use std::alloc::Global;
 use std::rt::Env;
@@ -55,7 +57,7 @@ fn command<'a>(alloc: Global) -> Result<Command<'a>> {
     )
 }
 
-/// What the options and names ask for. Numbers that they cannot take are reported.
+/// What the options and names ask for. Numbers that they cannot take, and empty names, are reported.
 fn requested<R: Eprint + AllocGlobal>(rt: &R, matches: &ArgMatches) -> Result<Words<Asked>> {
     let alloc = rt.alloc();
     let text = matches.get_str("workers").unwrap_or("");
@@ -66,8 +68,13 @@ fn requested<R: Eprint + AllocGlobal>(rt: &R, matches: &ArgMatches) -> Result<Wo
     let Some(pages) = number_option(rt, PROGRAM, "memory", text, u64::from(MAX_PAGES)) else {
         return Ok(Words::Reported(COMMAND_LINE));
     };
-    let out = String::from_str(alloc, matches.get_str("out").unwrap_or(""))?;
-    let files = strings_of(alloc, matches.get_strs("FILE").unwrap_or(&[]))?;
+    let out = matches.get_str("out").unwrap_or("");
+    let files = matches.get_strs("FILE").unwrap_or(&[]);
+    if !is_named(rt, PROGRAM, "--out", out) || !are_named(rt, PROGRAM, "FILE", files) {
+        return Ok(Words::Reported(COMMAND_LINE));
+    }
+    let out = String::from_str(alloc, out)?;
+    let files = strings_of(alloc, files)?;
     let options = Options {
         workers: workers as usize,
         pages: pages as u32,

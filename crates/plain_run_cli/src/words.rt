@@ -2,7 +2,9 @@
 
 use anyhow::Result;
 use clap::{Arg, ArgAction, ArgMatches, Command};
-use command_words::{COMMAND_LINE, Words, command_line, matches_of, number_option, strings_of};
+use command_words::{
+    COMMAND_LINE, Words, are_named, command_line, matches_of, number_option, strings_of,
+};
 use m2c::MAX_PAGES;
 use std::alloc::Global;
 use std::rt::Env;
@@ -70,7 +72,11 @@ fn requested<R: Eprint + AllocGlobal>(rt: &R, matches: &ArgMatches) -> Result<Wo
     let Some(bound) = number_option(rt, PROGRAM, "bound", text, MAX_BOUND) else {
         return Ok(Words::Reported(COMMAND_LINE));
     };
-    let files = strings_of(alloc, matches.get_strs("FILE").unwrap_or(&[]))?;
+    let files = matches.get_strs("FILE").unwrap_or(&[]);
+    if !are_named(rt, PROGRAM, "FILE", files) {
+        return Ok(Words::Reported(COMMAND_LINE));
+    }
+    let files = strings_of(alloc, files)?;
     Ok(Words::Read(Asked {
         pages: pages as u32,
         bound: bound as usize,
