@@ -4,8 +4,7 @@
 
 # Proves and builds the programs: build/m2c and build/m2run.
 build:
-	tools/build_program m2c_cli m2c
-	tools/build_program m2run_cli m2run
+	tools/build_program m2c_cli m2c m2run_cli m2run
 
 # Proves and builds build/plain_run, which runs programs by their definition.
 plain:
