@@ -1,6 +1,6 @@
 //! Instructions in bytes (Core 1.0, section 5.4).
 
-ghost use Rattle.std.specs.Prelude.{◌≡◌, ◌≢◌, Err, ◌+◌, ◌-◌, ◌<◌, ◌≤◌, true, Ok, [], ◌∷◌, ◌++◌, OnOk, IfOk, MatchOption, length, map, slice_set};
+ghost use Rattle.std.specs.Prelude.{◌≡◌, ◌≢◌, Err, ◌+◌, ◌-◌, ◌<◌, ◌≤◌, true, false, Ok, [], ◌∷◌, ◌++◌, OnOk, IfOk, MatchOption, length, map, slice_set};
 ghost use Rattle.std.specs.List.{flat_map};
 ghost use Rattle.wasm_tree.specs.Code.{tree, head, behind, label_of};
 ghost use Rattle.wasm_tree.specs.Format.{Format, Gives};
@@ -16,7 +16,7 @@ use crate::opcode::{load_of, load_opcode, numeric_of, numeric_opcode, store_of, 
 use sqlite_items::Items;
 use std::alloc::{AllocError, Global};
 use wasm_bytes::{Writer, byte_at, signed32_at, signed64_at, skip, unsigned_at};
-use wasm_tree::{Code, Op, ValueType, WFault, behind, first_of, label_of, split_ops};
+use wasm_tree::{Code, EncodeError, Op, ValueType, WFault, behind, first_of, label_of, split_ops};
 
 /// How deep blocks may nest.
 const DEEPEST: u16 = 4096;
@@ -613,13 +613,15 @@ fn write_ops(out: &mut Writer, ops: &[Op]) -> Result<(), AllocError>
 /// Appends the instructions and the end of their sequence. The only error is that memory ran out, or that the code has no
 /// encoding.
 #[tactic(auto, unfolding(crate::specs::Instructions::code))]
-pub fn write_code(out: &mut Writer, ops: &[Op]) -> Result<(), AllocError>
+pub fn write_code(out: &mut Writer, ops: &[Op]) -> Result<(), EncodeError>
     ensures written { OnOk result (out.new ≡ out.old ++ code.encoding (tree ops.now)) }
     ensures fits { OnOk result (code.fits (tree ops.now) ≡ true) }
+    ensures unfit { result ≡ Err EncodeError.NoEncoding → code.fits (tree ops.now) ≡ false }
 {
     if !code_fits(ops) {
-        return Err(AllocError);
+        return Err(EncodeError::NoEncoding);
     }
     write_ops(out, ops)?;
-    out.byte(0x0B)
+    out.byte(0x0B)?;
+    Ok(())
 }

@@ -6,9 +6,9 @@ ghost use Rattle.wasm_code.specs.Instructions.{value_type};
 ghost use Rattle.wasm_binary.specs.Binary.{func_type, limits, table_type, memory_type};
 
 use crate::binary::{Binary, vector, write_vector};
-use std::alloc::{AllocError, Global};
+use std::alloc::Global;
 use wasm_bytes::{Writer, byte_at, skip, unsigned_at};
-use wasm_tree::{FuncType, Limits, MemoryType, TableType, ValueType, WFault};
+use wasm_tree::{EncodeError, FuncType, Limits, MemoryType, TableType, ValueType, WFault};
 
 #[tactic(auto, unfolding(wasm_code::specs::Instructions::value_type))]
 impl Binary for ValueType {
@@ -25,10 +25,10 @@ impl Binary for ValueType {
         }
     }
 
-    fn write(&self, out: &mut Writer) -> Result<(), AllocError> {
+    fn write(&self, out: &mut Writer) -> Result<(), EncodeError> {
         match self {
-            ValueType::I32 => out.byte(0x7F),
-            ValueType::I64 => out.byte(0x7E),
+            ValueType::I32 => Ok(out.byte(0x7F)?),
+            ValueType::I64 => Ok(out.byte(0x7E)?),
         }
     }
 }
@@ -44,7 +44,7 @@ impl Binary for FuncType {
         Ok((FuncType { params, results }, rest))
     }
 
-    fn write(&self, out: &mut Writer) -> Result<(), AllocError> {
+    fn write(&self, out: &mut Writer) -> Result<(), EncodeError> {
         out.byte(0x60)?;
         write_vector(out, self.params.as_slice())?;
         write_vector(out, self.results.as_slice())
@@ -75,16 +75,18 @@ impl Binary for Limits {
         }
     }
 
-    fn write(&self, out: &mut Writer) -> Result<(), AllocError> {
+    fn write(&self, out: &mut Writer) -> Result<(), EncodeError> {
         match self.max {
             None => {
                 out.byte(0x00)?;
-                out.unsigned(u64::from(self.min))
+                out.unsigned(u64::from(self.min))?;
+                Ok(())
             }
             Some(max) => {
                 out.byte(0x01)?;
                 out.unsigned(u64::from(self.min))?;
-                out.unsigned(u64::from(max))
+                out.unsigned(u64::from(max))?;
+                Ok(())
             }
         }
     }
@@ -103,7 +105,7 @@ impl Binary for TableType {
         Ok((TableType { limits }, rest))
     }
 
-    fn write(&self, out: &mut Writer) -> Result<(), AllocError> {
+    fn write(&self, out: &mut Writer) -> Result<(), EncodeError> {
         out.byte(0x70)?;
         self.limits.write(out)
     }
@@ -121,7 +123,7 @@ impl Binary for MemoryType {
         Ok((MemoryType { limits }, rest))
     }
 
-    fn write(&self, out: &mut Writer) -> Result<(), AllocError> {
+    fn write(&self, out: &mut Writer) -> Result<(), EncodeError> {
         self.limits.write(out)
     }
 }

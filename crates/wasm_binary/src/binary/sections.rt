@@ -6,11 +6,11 @@ ghost use Rattle.wasm_binary.specs.Binary.{import_kind, import, global, export_k
 
 use crate::binary::{Binary, vector, write_vector};
 use sqlite_items::Items;
-use std::alloc::{AllocError, Global};
+use std::alloc::Global;
 use wasm_bytes::{Writer, byte_at, closed, front, name_at, skip, unsigned_at, write_name};
 use wasm_code::{code_at, write_code};
 use wasm_tree::{
-    Data, Element, Export, ExportKind, Global as Constant, Import, ImportKind, MemoryType,
+    Data, Element, EncodeError, Export, ExportKind, Global as Constant, Import, ImportKind, MemoryType,
     TableType, ValueType, WFault,
 };
 
@@ -45,7 +45,7 @@ impl Binary for ImportKind {
         }
     }
 
-    fn write(&self, out: &mut Writer) -> Result<(), AllocError> {
+    fn write(&self, out: &mut Writer) -> Result<(), EncodeError> {
         match self {
             ImportKind::Function(type_index) => {
                 out.byte(0x00)?;
@@ -62,7 +62,8 @@ impl Binary for ImportKind {
             ImportKind::Global(value_type) => {
                 out.byte(0x03)?;
                 value_type.write(out)?;
-                out.byte(0x00)
+                out.byte(0x00)?;
+                Ok(())
             }
         }
     }
@@ -86,7 +87,7 @@ impl Binary for Import {
         ))
     }
 
-    fn write(&self, out: &mut Writer) -> Result<(), AllocError> {
+    fn write(&self, out: &mut Writer) -> Result<(), EncodeError> {
         write_name(out, self.module_name.as_slice())?;
         write_name(out, self.name.as_slice())?;
         self.kind.write(out)
@@ -104,7 +105,7 @@ impl Binary for Constant {
         Ok((Constant { value_type, value }, rest))
     }
 
-    fn write(&self, out: &mut Writer) -> Result<(), AllocError> {
+    fn write(&self, out: &mut Writer) -> Result<(), EncodeError> {
         self.value_type.write(out)?;
         out.byte(0x00)?;
         write_code(out, self.value.ops())
@@ -141,7 +142,7 @@ impl Binary for ExportKind {
         }
     }
 
-    fn write(&self, out: &mut Writer) -> Result<(), AllocError> {
+    fn write(&self, out: &mut Writer) -> Result<(), EncodeError> {
         match self {
             ExportKind::Function(index) => {
                 out.byte(0x00)?;
@@ -173,7 +174,7 @@ impl Binary for Export {
         Ok((Export { name, kind }, rest))
     }
 
-    fn write(&self, out: &mut Writer) -> Result<(), AllocError> {
+    fn write(&self, out: &mut Writer) -> Result<(), EncodeError> {
         write_name(out, self.name.as_slice())?;
         self.kind.write(out)
     }
@@ -197,7 +198,7 @@ impl Binary for Element {
         ))
     }
 
-    fn write(&self, out: &mut Writer) -> Result<(), AllocError> {
+    fn write(&self, out: &mut Writer) -> Result<(), EncodeError> {
         self.table.write(out)?;
         write_code(out, self.offset.ops())?;
         write_vector(out, self.functions.as_slice())
@@ -225,7 +226,7 @@ impl Binary for Data {
         ))
     }
 
-    fn write(&self, out: &mut Writer) -> Result<(), AllocError> {
+    fn write(&self, out: &mut Writer) -> Result<(), EncodeError> {
         self.memory.write(out)?;
         write_code(out, self.offset.ops())?;
         out.sized(self.bytes.as_slice())
