@@ -13,6 +13,7 @@ ghost use Rattle.m2c.specs.Names.{is_word, IsName, AreNamed};
 use m2_emit::ModuleBytes;
 use m2_tree::Name;
 use std::alloc::{AllocError, Global};
+use wasm_tree::EncodeError;
 
 /// Whether these are letters and digits.
 fn are_letters(bytes: &[u8]) -> bool
@@ -38,14 +39,14 @@ fn text_of(alloc: Global, name: &Name) -> Result<String, AllocError>
 
 /// The name of a module as text. Each name in a text consists of letters and digits; memory would be refused where one
 /// does not.
-fn name_of(alloc: Global, name: &Name) -> Result<String, AllocError>
+fn name_of(alloc: Global, name: &Name) -> Result<String, EncodeError>
     ensures text { IfOk result (λ text. string_bytes text ≡ name.now) }
     ensures named { OnOk result (IsName name.now) }
 {
     if !is_word(name.as_bytes()) {
-        return Err(AllocError);
+        return Err(EncodeError::NoEncoding);
     }
-    text_of(alloc, name)
+    Ok(text_of(alloc, name)?)
 }
 
 /// Adds a module, under its name.
@@ -53,7 +54,7 @@ fn add_copy(
     alloc: Global,
     copies: &mut Vec<(String, Vec<u8>)>,
     module: &ModuleBytes,
-) -> Result<(), AllocError>
+) -> Result<(), EncodeError>
     ensures module { OnOk result
         (map named copies.new.items ≡ map named copies.old.items ++ named_bytes module.now ∷ []) }
     ensures named { OnOk result (IsName module.now.name) }
@@ -68,7 +69,7 @@ fn add_copy(
 pub fn copies_of(
     alloc: Global,
     modules: &[&ModuleBytes],
-) -> Result<Vec<(String, Vec<u8>)>, AllocError>
+) -> Result<Vec<(String, Vec<u8>)>, EncodeError>
     ensures modules { IfOk result (λ ms.
         map named ms.items ≡ map (λ m. named_bytes m.now) modules.now) }
     ensures named { OnOk result (AreNamed (map (λ m. m.now.name) modules.now)) }

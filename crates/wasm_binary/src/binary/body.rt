@@ -49,7 +49,7 @@ fn locals_at(alloc: Global, bytes: &[u8]) -> Result<(Items<Locals>, &[u8]), WFau
 #[tactic(auto, unfolding(crate::specs::Binary::locals))]
 fn write_groups(out: &mut Writer, groups: &[Locals]) -> Result<(), EncodeError>
     ensures written { OnOk result (out.new ≡ out.old ++ locals.encoding groups.now) }
-    ensures memory { result ≢ Err EncodeError.NoEncoding }
+    ensures always { result ≢ Err EncodeError.NoEncoding }
 {
     out.unsigned(groups.len() as u64)?;
     for group in groups {

@@ -1,6 +1,6 @@
 //! Types in bytes (Core 1.0, section 5.3).
 
-ghost use Rattle.std.specs.Prelude.{◌≡◌, ◌≢◌, Err, ◌++◌, OnOk};
+ghost use Rattle.std.specs.Prelude.{◌≡◌, ◌≢◌, Err, ◌++◌, OnOk, true, false};
 ghost use Rattle.wasm_tree.specs.Format.{Format, Gives};
 ghost use Rattle.wasm_code.specs.Instructions.{value_type};
 ghost use Rattle.wasm_binary.specs.Binary.{func_type, limits, table_type, memory_type};
@@ -25,7 +25,13 @@ impl Binary for ValueType {
         }
     }
 
-    fn write(&self, out: &mut Writer) -> Result<(), EncodeError> {
+    fn write(&self, out: &mut Writer) -> Result<(), EncodeError>
+        ensures written { OnOk result (out.new ≡ out.old ++ value_type.encoding self.now) }
+        ensures fits { OnOk result (value_type.fits self.now ≡ true) }
+        ensures unfit { result ≡ Err EncodeError.NoEncoding → value_type.fits self.now ≡ false }
+        // Each type has an encoding.
+        ensures always { result ≢ Err EncodeError.NoEncoding }
+    {
         match self {
             ValueType::I32 => Ok(out.byte(0x7F)?),
             ValueType::I64 => Ok(out.byte(0x7E)?),
