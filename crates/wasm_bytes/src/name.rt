@@ -1,6 +1,6 @@
 //! Names in bytes (Core 1.0, section 5.2.4).
 
-ghost use Rattle.std.specs.Prelude.{◌≡◌, ◌++◌, Err, IsOk, OnErr, OnOk, true, false};
+ghost use Rattle.std.specs.Prelude.{◌≡◌, ◌≤◌, ◌++◌, Err, IfOk, length, IsOk, OnErr, OnOk, true, false};
 ghost use Rattle.std.specs.Str.{is_utf8};
 ghost use Rattle.wasm_tree.specs.Format.{Gives};
 ghost use Rattle.wasm_bytes.specs.Parts.{name};
@@ -24,6 +24,7 @@ pub fn name_at(alloc: Global, bytes: &[u8]) -> Result<(Items<u8>, &[u8]), WFault
     ensures gives { Gives (λ x. (x.0, x.1.now)) result (name.reading bytes.now) }
     // Memory is asked for only where there is a name.
     ensures memory { result ≡ Err WFault.NoMemory → IsOk (name.reading bytes.now) }
+    ensures shorter { IfOk result (λ x. length x.1.now ≤ length bytes.now) }
 {
     let (size, rest) = unsigned_at(bytes)?;
     let text = front(rest, size);
