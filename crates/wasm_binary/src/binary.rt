@@ -1,6 +1,6 @@
 //! Values with a binary format, and lists of them.
 
-ghost use Rattle.std.specs.Prelude.{◌≡◌, ◌≢◌, Err, ◌++◌, List, ℕ, OnOk, true, false};
+ghost use Rattle.std.specs.Prelude.{◌≡◌, ◌≢◌, ◌<◌, ◌≤◌, ◌^◌, IfOk, length, Err, ◌++◌, List, ℕ, OnOk, true, false};
 ghost use Rattle.wasm_tree.specs.Format.{Format, Gives};
 ghost use Rattle.wasm_bytes.specs.Number.{unsigned};
 ghost use Rattle.wasm_bytes.specs.Parts.{many, vector, entries, section};
@@ -23,7 +23,9 @@ pub trait Binary: Drop {
     ghost format: { Format Self };
 
     fn read(alloc: Global, bytes: &[u8]) -> Result<(Self, &[u8]), WFault>
-        ensures { Gives (λ x. (x.0, x.1.now)) result (format.reading bytes.now) };
+        requires { length bytes.now < 2 ^ 32 }
+        ensures gives { Gives (λ x. (x.0, x.1.now)) result (format.reading bytes.now) }
+        ensures shorter { IfOk result (λ x. length x.1.now ≤ length bytes.now) };
 
     /// Appends the encoding. The only error is that memory ran out, or that the value has no encoding.
     fn write(&self, out: &mut Writer) -> Result<(), EncodeError>
@@ -38,6 +40,7 @@ impl Binary for u32 {
     fn read(_alloc: Global, bytes: &[u8]) -> Result<(u32, &[u8]), WFault>
         ensures gives { Gives (λ x. (x.0, x.1.now)) result (unsigned.reading bytes.now) }
         ensures memory { result ≢ Err WFault.NoMemory }
+        ensures shorter { IfOk result (λ x. length x.1.now ≤ length bytes.now) }
     {
         unsigned_at(bytes)
     }
@@ -50,7 +53,9 @@ impl Binary for u32 {
 
 /// So many values, one after another.
 pub fn many<T: Binary>(alloc: Global, count: u32, bytes: &[u8]) -> Result<(Items<T>, &[u8]), WFault>
-    ensures { Gives (λ x. (x.0, x.1.now)) result (many T.format count bytes.now) }
+    requires { length bytes.now < 2 ^ 32 }
+    ensures gives { Gives (λ x. (x.0, x.1.now)) result (many T.format count bytes.now) }
+    ensures shorter { IfOk result (λ x. length x.1.now ≤ length bytes.now) }
 {
     let mut items = Items::new(alloc);
     let mut rest = bytes;
@@ -64,7 +69,9 @@ pub fn many<T: Binary>(alloc: Global, count: u32, bytes: &[u8]) -> Result<(Items
 
 /// How many there are, and then each.
 pub fn vector<T: Binary>(alloc: Global, bytes: &[u8]) -> Result<(Items<T>, &[u8]), WFault>
-    ensures { Gives (λ x. (x.0, x.1.now)) result ((vector T.format).reading bytes.now) }
+    requires { length bytes.now < 2 ^ 32 }
+    ensures gives { Gives (λ x. (x.0, x.1.now)) result ((vector T.format).reading bytes.now) }
+    ensures shorter { IfOk result (λ x. length x.1.now ≤ length bytes.now) }
 {
     let (count, rest) = unsigned_at(bytes)?;
     many(alloc, count, rest)
@@ -72,7 +79,9 @@ pub fn vector<T: Binary>(alloc: Global, bytes: &[u8]) -> Result<(Items<T>, &[u8]
 
 /// The same, of at least one.
 fn entries<T: Binary>(alloc: Global, bytes: &[u8]) -> Result<(Items<T>, &[u8]), WFault>
-    ensures { Gives (λ x. (x.0, x.1.now)) result ((entries T.format).reading bytes.now) }
+    requires { length bytes.now < 2 ^ 32 }
+    ensures gives { Gives (λ x. (x.0, x.1.now)) result ((entries T.format).reading bytes.now) }
+    ensures shorter { IfOk result (λ x. length x.1.now ≤ length bytes.now) }
 {
     let (count, rest) = unsigned_at(bytes)?;
     if count == 0 {

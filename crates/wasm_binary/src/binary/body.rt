@@ -1,6 +1,6 @@
 //! Function bodies in bytes (Core 1.0, section 5.5.13).
 
-ghost use Rattle.std.specs.Prelude.{◌≡◌, ◌++◌, ◌+◌, ◌<◌, ◌^◌, ◌≢◌, OnOk, Err, true, false, length};
+ghost use Rattle.std.specs.Prelude.{◌≡◌, ◌++◌, ◌+◌, ◌<◌, ◌≤◌, ◌^◌, ◌≢◌, IfOk, OnOk, Err, true, false, length};
 ghost use Rattle.wasm_tree.specs.Format.{Format, Gives};
 ghost use Rattle.wasm_binary.specs.Binary.{declared, locals, locals_at, locals_encoding, body};
 
@@ -16,7 +16,8 @@ const MAX_LOCALS: u64 = 4294967295;
 
 /// So many groups of locals, where there are so many locals before them.
 fn groups_at(alloc: Global, count: u32, bytes: &[u8]) -> Result<(Items<Locals>, &[u8]), WFault>
-    ensures { Gives (λ x. (x.0, x.1.now)) result (locals_at count 0 bytes.now) }
+    ensures gives { Gives (λ x. (x.0, x.1.now)) result (locals_at count 0 bytes.now) }
+    ensures shorter { IfOk result (λ x. length x.1.now ≤ length bytes.now) }
 {
     let mut groups = Items::new(alloc);
     let mut before = 0u32;
@@ -39,7 +40,8 @@ fn groups_at(alloc: Global, count: u32, bytes: &[u8]) -> Result<(Items<Locals>, 
 
 #[tactic(auto, unfolding(crate::specs::Binary::locals))]
 fn locals_at(alloc: Global, bytes: &[u8]) -> Result<(Items<Locals>, &[u8]), WFault>
-    ensures { Gives (λ x. (x.0, x.1.now)) result (locals.reading bytes.now) }
+    ensures gives { Gives (λ x. (x.0, x.1.now)) result (locals.reading bytes.now) }
+    ensures shorter { IfOk result (λ x. length x.1.now ≤ length bytes.now) }
 {
     let (count, rest) = unsigned_at(bytes)?;
     groups_at(alloc, count, rest)
@@ -91,7 +93,8 @@ pub fn body_over<'a>(
     scratch: &mut Vec<Op>,
     bytes: &'a [u8],
 ) -> Result<(Body, &'a [u8]), WFault>
-    ensures { Gives (λ x. (x.0, x.1.now)) result (body.reading bytes.now) }
+    ensures gives { Gives (λ x. (x.0, x.1.now)) result (body.reading bytes.now) }
+    ensures shorter { IfOk result (λ x. length x.1.now ≤ length bytes.now) }
 {
     let (size, after) = unsigned_at(bytes)?;
     let (locals, rest) = locals_at(alloc, front(after, size))?;

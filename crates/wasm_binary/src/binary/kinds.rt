@@ -1,6 +1,6 @@
 //! Types in bytes (Core 1.0, section 5.3).
 
-ghost use Rattle.std.specs.Prelude.{◌≡◌, ◌≢◌, Err, ◌++◌, OnOk, true, false};
+ghost use Rattle.std.specs.Prelude.{◌≡◌, ◌≢◌, ◌≤◌, IfOk, length, Err, ◌++◌, OnOk, true, false};
 ghost use Rattle.wasm_tree.specs.Format.{Format, Gives};
 ghost use Rattle.wasm_code.specs.Instructions.{value_type};
 ghost use Rattle.wasm_binary.specs.Binary.{func_type, limits, table_type, memory_type};
@@ -17,6 +17,7 @@ impl Binary for ValueType {
     fn read(_alloc: Global, bytes: &[u8]) -> Result<(ValueType, &[u8]), WFault>
         ensures gives { Gives (λ x. (x.0, x.1.now)) result (value_type.reading bytes.now) }
         ensures memory { result ≢ Err WFault.NoMemory }
+        ensures shorter { IfOk result (λ x. length x.1.now ≤ length bytes.now) }
     {
         match byte_at(bytes)? {
             (0x7F, rest) => Ok((ValueType::I32, rest)),
@@ -64,6 +65,7 @@ impl Binary for Limits {
     fn read(_alloc: Global, bytes: &[u8]) -> Result<(Limits, &[u8]), WFault>
         ensures gives { Gives (λ x. (x.0, x.1.now)) result (limits.reading bytes.now) }
         ensures memory { result ≢ Err WFault.NoMemory }
+        ensures shorter { IfOk result (λ x. length x.1.now ≤ length bytes.now) }
     {
         let (flag, rest) = byte_at(bytes)?;
         match flag {
@@ -105,6 +107,7 @@ impl Binary for TableType {
     fn read(alloc: Global, bytes: &[u8]) -> Result<(TableType, &[u8]), WFault>
         ensures gives { Gives (λ x. (x.0, x.1.now)) result (table_type.reading bytes.now) }
         ensures memory { result ≢ Err WFault.NoMemory }
+        ensures shorter { IfOk result (λ x. length x.1.now ≤ length bytes.now) }
     {
         let rest = skip(0x70, bytes)?;
         let (limits, rest) = Limits::read(alloc, rest)?;
@@ -124,6 +127,7 @@ impl Binary for MemoryType {
     fn read(alloc: Global, bytes: &[u8]) -> Result<(MemoryType, &[u8]), WFault>
         ensures gives { Gives (λ x. (x.0, x.1.now)) result (memory_type.reading bytes.now) }
         ensures memory { result ≢ Err WFault.NoMemory }
+        ensures shorter { IfOk result (λ x. length x.1.now ≤ length bytes.now) }
     {
         let (limits, rest) = Limits::read(alloc, bytes)?;
         Ok((MemoryType { limits }, rest))

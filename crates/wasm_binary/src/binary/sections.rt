@@ -1,6 +1,6 @@
 //! The entries of the sections in bytes (Core 1.0, section 5.5).
 
-ghost use Rattle.std.specs.Prelude.{◌≡◌, ◌≢◌, Err, ◌++◌, OnOk};
+ghost use Rattle.std.specs.Prelude.{◌≡◌, ◌≢◌, ◌≤◌, IfOk, length, Err, ◌++◌, OnOk};
 ghost use Rattle.wasm_tree.specs.Format.{Format, Gives};
 ghost use Rattle.wasm_binary.specs.Binary.{import_kind, import, global, export_kind, export, element, data_segment};
 
@@ -21,6 +21,7 @@ impl Binary for ImportKind {
     fn read(alloc: Global, bytes: &[u8]) -> Result<(ImportKind, &[u8]), WFault>
         ensures gives { Gives (λ x. (x.0, x.1.now)) result (import_kind.reading bytes.now) }
         ensures memory { result ≢ Err WFault.NoMemory }
+        ensures shorter { IfOk result (λ x. length x.1.now ≤ length bytes.now) }
     {
         let (kind, rest) = byte_at(bytes)?;
         match kind {
@@ -119,6 +120,7 @@ impl Binary for ExportKind {
     fn read(_alloc: Global, bytes: &[u8]) -> Result<(ExportKind, &[u8]), WFault>
         ensures gives { Gives (λ x. (x.0, x.1.now)) result (export_kind.reading bytes.now) }
         ensures memory { result ≢ Err WFault.NoMemory }
+        ensures shorter { IfOk result (λ x. length x.1.now ≤ length bytes.now) }
     {
         let (kind, rest) = byte_at(bytes)?;
         match kind {
