@@ -43,7 +43,11 @@ pub fn emit(
 /// The bytes of the module link for these modules, which are in start order: it has so many pages (of 65536 bytes) of
 /// memory, and runs the bodies. The only error is that memory ran out, or that link has no encoding, as a number does not
 /// fit into 32 bits.
-pub fn emit_link(alloc: Global, modules: &[&ModuleBytes], pages: u32) -> Result<Vec<u8>, EncodeError>
+pub fn emit_link(
+    alloc: Global,
+    modules: &[&ModuleBytes],
+    pages: u32,
+) -> Result<Vec<u8>, EncodeError>
     requires { pages ≤ max_pages }
     ensures { let ms = parts (map (λ m. m.now) modules.now) in
         IfOk result (λ bytes. Encodes bytes.items (link_of ms pages)) }

@@ -14,7 +14,8 @@ use crate::parts::{constant_global, exported_as, joined, one, type_from};
 use sqlite_items::Items;
 use std::alloc::{AllocError, Global};
 use wasm_tree::{
-    Code, EncodeError, Export, ExportKind, FuncType, Function, Global as Constant, Limits, MemoryType, Op, TableType, ValueType, WModule, plus,
+    Code, EncodeError, Export, ExportKind, FuncType, Function, Global as Constant, Limits,
+    MemoryType, Op, TableType, ValueType, WModule, plus,
 };
 
 /// Where the stack begins: behind the variables and texts of all modules.

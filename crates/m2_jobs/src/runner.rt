@@ -126,11 +126,7 @@ impl<R: Threads + Sync, G: Gate> Runner<'_, R, G> {
     }
 
     /// What each job of a graph comes to.
-    fn all_made(
-        &self,
-        trees: &[(&str, &Module)],
-        graph: &Graph,
-    ) -> Result<Vec<Made>, AllocError>
+    fn all_made(&self, trees: &[(&str, &Module)], graph: &Graph) -> Result<Vec<Made>, AllocError>
         requires graph { IsGraph (numbered 0 (borrowed trees.now)) graph.now.files.items
             (map (λ j. j.items) graph.now.jobs.items) graph.now.starts.items }
         requires each { CompileEach (numbered 0 (borrowed trees.now)) graph.now.files.items }

@@ -128,7 +128,11 @@ pub fn write_vector<T: Binary>(out: &mut Writer, items: &[T]) -> Result<(), Enco
 
 /// Appends the section of this number, or nothing where it has no entry. The only error is that memory ran out, or that
 /// the section has no encoding.
-pub fn write_section<T: Binary>(out: &mut Writer, number: u8, items: &[T]) -> Result<(), EncodeError>
+pub fn write_section<T: Binary>(
+    out: &mut Writer,
+    number: u8,
+    items: &[T],
+) -> Result<(), EncodeError>
     ensures written { OnOk result (out.new ≡ out.old ++ (section number T.format).encoding items.now) }
     ensures fits { OnOk result ((section number T.format).fits items.now ≡ true) }
     ensures unfit { result ≡ Err EncodeError.NoEncoding → (section number T.format).fits items.now ≡ false }

@@ -10,8 +10,8 @@ use std::alloc::Global;
 use wasm_bytes::{Writer, byte_at, closed, front, name_at, skip, unsigned_at, write_name};
 use wasm_code::{code_at, write_code};
 use wasm_tree::{
-    Data, Element, EncodeError, Export, ExportKind, Global as Constant, Import, ImportKind, MemoryType,
-    TableType, ValueType, WFault,
+    Data, Element, EncodeError, Export, ExportKind, Global as Constant, Import, ImportKind,
+    MemoryType, TableType, ValueType, WFault,
 };
 
 #[tactic(auto, unfolding(crate::specs::Binary::import_kind))]

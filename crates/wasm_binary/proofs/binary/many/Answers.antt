@@ -12,7 +12,7 @@ returns-in_err-item-clause-gives g c =
 pub loop-preserved : goal.loop-preserved
 loop-preserved g c = (
   rw c.in_ok-push.ensures.ok (goes_on c.loop.items c.in_ok-item.item _ _ _
-    (many_more g.T.Binary.format c.args.count c.loop.counter c.loop.rest.now c.in_ok-item.item c.in_ok-item.after.now c.loop-test.true c.in_ok-item.ensures.gives) c.loop.invariant.0),
+      (many_more g.T.Binary.format c.args.count c.loop.counter c.loop.rest.now c.in_ok-item.item c.in_ok-item.after.now c.loop-test.true c.in_ok-item.ensures.gives) c.loop.invariant.0),
   omega (arith, c.in_ok-item.ensures.shorter, c.loop.invariant.1),
 )
 

@@ -31,9 +31,12 @@ code_in-returns-in_err-rest t c =
 pub code_in-loop-preserved : goal.code_in-loop-preserved
 code_in-loop-preserved t c =
     let left = behind_instr c.args.levels c.loop.scratch.items c.instr_onto.new.scratch.items c.in_ok-opcode.opcode c.loop.rest.now c.in_ok-opcode.after.now c.in_ok-rest.rest.now c.loop.invariant.1 c.in_ok-opcode.ensures.gives c.in_ok-rest.ensures in
-    let put = instr_onto c.loop.scratch.items c.instr_onto.new.scratch.items (instr_of (opened c.args.levels) c.in_ok-opcode.opcode c.in_ok-opcode.after.now) c.in_ok-rest.rest.now c.in_ok-rest.ensures in
-    (sym (goes_on_onto c.loop.scratch.items c.instr_onto.new.scratch.items put.0 _ _ put.2
-    (sequence_more (opened c.args.levels) (length c.args.bytes.now) c.loop.counter c.loop.rest.now c.in_ok-opcode.opcode c.in_ok-opcode.after.now put.0 c.in_ok-rest.rest.now c.loop-test.true c.in_ok-opcode.ensures.gives (sym c.in_default.ensures) put.1)) ∙ c.loop.invariant.0, left.left, omega (arith, left.shorter, c.loop.invariant.2))
+    let put = instr_onto c.loop.scratch.items c.instr_onto.new.scratch.items (instr_of (opened c.args.levels) c.in_ok-opcode.opcode c.in_ok-opcode.after.now) c.in_ok-rest.rest.now c.in_ok-rest.ensures in (
+      sym (goes_on_onto c.loop.scratch.items c.instr_onto.new.scratch.items put.0 _ _ put.2
+          (sequence_more (opened c.args.levels) (length c.args.bytes.now) c.loop.counter c.loop.rest.now c.in_ok-opcode.opcode c.in_ok-opcode.after.now put.0 c.in_ok-rest.rest.now c.loop-test.true c.in_ok-opcode.ensures.gives (sym c.in_default.ensures) put.1)) ∙ c.loop.invariant.0,
+      left.left,
+      omega (arith, left.shorter, c.loop.invariant.2),
+    )
 
 pub sides_onto-returns-in-End : goal.sides_onto-returns-in-End
 sides_onto-returns-in-End t c =

@@ -12,9 +12,9 @@ returns-in_err-label-clause-gives c =
 
 pub loop-preserved : goal.loop-preserved
 loop-preserved c = (
-    rw c.in_ok-push.ensures.ok (goes_on c.loop.labels c.in_ok-label.label _ _ _
-    (many_more unsigned c.args.count c.loop.counter c.loop.rest.now c.in_ok-label.label c.in_ok-label.after.now c.loop-test.true c.in_ok-label.ensures.gives) c.loop.invariant.0),
-    rw c.in_ok-push.ensures.ok (omega (arith, c.loop.invariant.1, length-append c.loop.labels (c.in_ok-label.label ∷ []))),
+  rw c.in_ok-push.ensures.ok (goes_on c.loop.labels c.in_ok-label.label _ _ _
+      (many_more unsigned c.args.count c.loop.counter c.loop.rest.now c.in_ok-label.label c.in_ok-label.after.now c.loop-test.true c.in_ok-label.ensures.gives) c.loop.invariant.0),
+  rw c.in_ok-push.ensures.ok (omega (arith, c.loop.invariant.1, length-append c.loop.labels (c.in_ok-label.label ∷ []))),
 )
 
 pub returns-clause-gives : goal.returns-clause-gives

@@ -25,7 +25,7 @@ returns-in_err-value_type-clause-gives c =
 pub loop-preserved : goal.loop-preserved
 loop-preserved c = (
   rw (c.in_ok-push.ensures.ok, c.in-Some.ensures.1) (goes_on c.loop.groups _ _ _ _
-    (locals_more c.args.count c.loop.counter c.loop.before c.loop.rest.now c.in_ok-number.number c.in_ok-number.after.now c.in_ok-value_type.value_type c.in_ok-value_type.after.now c.loop-test.true c.in_ok-number.ensures.gives c.in-Some.ensures.0 c.in_ok-value_type.ensures.gives) c.loop.invariant.0),
+      (locals_more c.args.count c.loop.counter c.loop.before c.loop.rest.now c.in_ok-number.number c.in_ok-number.after.now c.in_ok-value_type.value_type c.in_ok-value_type.after.now c.loop-test.true c.in_ok-number.ensures.gives c.in-Some.ensures.0 c.in_ok-value_type.ensures.gives) c.loop.invariant.0),
   omega (arith, c.in_ok-number.ensures.shorter, c.in_ok-value_type.ensures.shorter, c.loop.invariant.1),
 )
 
