@@ -98,7 +98,11 @@ fn other_call(setting: &Setting<'_>, f: Procedure, draft: &mut Draft) -> Result<
 }
 
 /// A call of a procedure of a module.
-pub fn module_call(setting: &Setting<'_>, f: Procedure, draft: &mut Draft) -> Result<(), EncodeError>
+pub fn module_call(
+    setting: &Setting<'_>,
+    f: Procedure,
+    draft: &mut Draft,
+) -> Result<(), EncodeError>
     ensures { let m = setting.now.home in
         OnOk result (draft.new ≡ put (module_call (numbered m) m f) draft.old) }
 {

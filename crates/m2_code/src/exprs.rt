@@ -128,7 +128,11 @@ fn ord_value(setting: &Setting<'_>, e: &TypedExpr, draft: &mut Draft) -> Result<
 /// The code of an expression. The only error is that memory ran out, or that a number does not fit.
 #[cycle(exprs)]
 #[tactic(auto, using(crate::proofs::Variants::variants))]
-pub fn value_code(setting: &Setting<'_>, e: &TypedExpr, draft: &mut Draft) -> Result<(), EncodeError>
+pub fn value_code(
+    setting: &Setting<'_>,
+    e: &TypedExpr,
+    draft: &mut Draft,
+) -> Result<(), EncodeError>
     ensures { OnOk result (draft.new ≡ with_value (meant setting.now) e.now draft.old) }
 {
     match e {
@@ -265,7 +269,11 @@ fn links_code(setting: &Setting<'_>, links: &[Link], draft: &mut Draft) -> Resul
 /// The code of a designator.
 #[cycle(exprs)]
 #[tactic(auto, using(crate::proofs::Variants::variants))]
-pub fn place_code(setting: &Setting<'_>, place: &Place, draft: &mut Draft) -> Result<(), EncodeError>
+pub fn place_code(
+    setting: &Setting<'_>,
+    place: &Place,
+    draft: &mut Draft,
+) -> Result<(), EncodeError>
     ensures { OnOk result (draft.new ≡ with_place (meant setting.now) place.now draft.old) }
 {
     root_code(setting, place.root, draft)?;

@@ -1,12 +1,10 @@
 //! The work of the jobs of a graph.
 
-ghost use Rattle.std.specs.Prelude.{◌≡◌, ℕ, List, ◌<◌, ◌≤◌, ◌^◌, length, map, slice_get, IfOk, OnOk};
+ghost use Rattle.std.specs.Prelude.{◌≡◌, ◌<◌, ◌≤◌, ◌^◌, length, map, slice_get, IfOk, OnOk};
 ghost use Rattle.m2_graph.specs.Refused.{max_files};
 ghost use Rattle.m2_jobs.specs.Jobs.{compiled_in};
 ghost use Rattle.m2_jobs.specs.Encoded.{encoded_in, Defines};
-ghost use Rattle.m2_jobs.specs.Made.{MayMake};
-ghost use Rattle.m2_jobs.specs.declared.made.Made.{Made as MadeRecords};
-ghost use Rattle.m2_compile.specs.declared.outcome.Compiled.{Compiled as Records};
+ghost use Rattle.m2_jobs.specs.Made.{IsMadeOf, MayMake};
 ghost use Rattle.m2_jobs.specs.Borrowed.{modules_borrowed};
 
 use crate::made::{Made, modules_in};
@@ -38,31 +36,39 @@ fn compiled_in(
     }
 }
 
-/// The same of what jobs came to. The only error is that memory ran out, or that one of the modules has no encoding.
-fn module_in(
+/// What becomes of the module of a job, from what the jobs that it needs came to.
+#[tactic(auto, using(crate::proofs::Making::made_from))]
+fn compiled_from(
     alloc: Global,
     trees: &[(&str, &Module)],
     files: &[usize],
     job: usize,
     needed: &[&Made],
-) -> Result<Made, EncodeError>
+) -> Result<Compiled, EncodeError>
+    requires low { job < length files.now }
+    requires few { length files.now ≤ max_files }
+    ensures { let defines = Defines (modules_borrowed trees.now) files.now in
+        IfOk result (IsMadeOf defines job (map (λ n. n.now) needed.now)) }
+{
+    let modules = modules_in(alloc, needed)?;
+    compiled_in(alloc, trees, files[job], job, &modules)
+}
+
+/// What a job comes to, from what the jobs that it needs came to. That a module has no encoding is no want of memory.
+fn made_of(
+    alloc: Global,
+    trees: &[(&str, &Module)],
+    files: &[usize],
+    job: usize,
+    needed: &[&Made],
+) -> Result<Made, AllocError>
     requires low { job < length files.now }
     requires few { length files.now ≤ max_files }
     ensures { let defines = Defines (modules_borrowed trees.now) files.now in
         IfOk result (MayMake defines job (map (λ n. n.now) needed.now)) }
 {
-    let needed = modules_in(alloc, needed)?;
-    let compiled = compiled_in(alloc, trees, files[job], job, &needed)?;
-    Ok(Made::Module(compiled))
-}
-
-/// What a job comes to: that its module has no encoding is no want of memory.
-fn made_of(made: Result<Made, EncodeError>) -> Result<Made, AllocError>
-    ensures { (defines : ℕ → List Records → Records → Type 0) (job : ℕ) (outs : List MadeRecords)
-        → IfOk made (MayMake defines job outs) → IfOk result (MayMake defines job outs) }
-{
-    match made {
-        Ok(made) => Ok(made),
+    match compiled_from(alloc, trees, files, job, needed) {
+        Ok(compiled) => Ok(Made::Module(compiled)),
         Err(EncodeError::NoEncoding) => Ok(Made::NoEncoding),
         Err(EncodeError::NoMemory) => Err(AllocError),
     }
@@ -91,7 +97,7 @@ impl Work for Modules<'_> {
     ghost defines = { λ w. MayMake (Defines (modules_borrowed w.trees.now) w.files.now) };
 
     fn run(&self, job: usize, prerequisites: &[&Made]) -> Result<Made, AllocError> {
-        made_of(module_in(self.alloc, self.trees, self.files, job, prerequisites))
+        made_of(self.alloc, self.trees, self.files, job, prerequisites)
     }
 
     fn copy(&self, out: &Made) -> Result<Made, AllocError> {

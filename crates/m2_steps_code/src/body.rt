@@ -7,8 +7,7 @@ ghost use Rattle.m2_steps_code.specs.Written.{with_step, with_steps, with_arm, w
 
 use crate::cases::{arm_begun, arm_ended, jump_begun, more, selected, table_begun};
 use crate::control::{
-    Turns, close_turns, condition, for_begun, for_tested, for_turned, open_turns, record_kept,
-    turn_again, unless,
+    condition, for_begun, for_ended, for_opened, open_turns, record_kept, turn_again, unless,
 };
 use crate::plan::plan_of;
 use crate::simple::{
@@ -96,14 +95,11 @@ fn stmt_code(
         TypedStmt::Give(t, e) => give(setting, *t, e, draft),
         TypedStmt::For(place, t, start, limit, by, body) => {
             let n = for_begun(setting, place, *t, start, limit, draft)?;
-            let block = draft.open()?;
             let outer = setting.within(1)?;
-            for_tested(&outer, place, *t, *by, n, draft)?;
-            let turn = draft.open()?;
+            let turns = for_opened(&outer, place, *t, *by, n, draft)?;
             let inner = outer.within(1)?;
             stmts_code(alloc, &inner, body.as_slice(), draft)?;
-            for_turned(&inner, place, *t, *by, n, draft)?;
-            close_turns(Turns { block, turn }, draft)
+            for_ended(&inner, place, *t, *by, n, turns, draft)
         }
         TypedStmt::With(place, body) => {
             let w = record_kept(setting, place, draft)?;

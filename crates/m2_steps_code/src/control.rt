@@ -38,7 +38,7 @@ pub fn open_turns(draft: &mut Draft) -> Result<Turns, AllocError>
 }
 
 /// Ends a loop in a block, both by their places.
-pub fn close_turns(turns: Turns, draft: &mut Draft) -> Result<(), EncodeError>
+fn close_turns(turns: Turns, draft: &mut Draft) -> Result<(), EncodeError>
     ensures { let inner = closed_loop turns.turn None draft.old in
         OnOk result (draft.new ≡ closed_block turns.block None inner) }
 {
@@ -140,7 +140,7 @@ pub fn for_begun(
 }
 
 /// The test before the first turn of a FOR.
-pub fn for_tested(
+fn for_tested(
     setting: &Setting<'_>,
     place: &Place,
     t: TypeNo,
@@ -202,7 +202,7 @@ fn for_next(
 }
 
 /// What stands behind the statements of a FOR.
-pub fn for_turned(
+fn for_turned(
     setting: &Setting<'_>,
     place: &Place,
     t: TypeNo,
@@ -215,4 +215,44 @@ pub fn for_turned(
 {
     for_passed(setting, place, t, by, n, draft)?;
     for_next(setting, place, t, by, draft)
+}
+
+/// Begins the block and the loop of a FOR, with the test before the first turn between the two.
+pub fn for_opened(
+    setting: &Setting<'_>,
+    place: &Place,
+    t: TypeNo,
+    by: i64,
+    n: u32,
+    draft: &mut Draft,
+) -> Result<Turns, EncodeError>
+    ensures block { IfOk result (λ x. x.block ≡ place_of draft.old) }
+    ensures turn { let s = meant setting.now in
+        let tested = for_tested s place.now t by n (opened draft.old) in
+        IfOk result (λ x. x.turn ≡ place_of tested) }
+    ensures begun { let s = meant setting.now in
+        OnOk result (draft.new ≡ opened (for_tested s place.now t by n (opened draft.old))) }
+{
+    let block = draft.open()?;
+    for_tested(setting, place, t, by, n, draft)?;
+    let turn = draft.open()?;
+    Ok(Turns { block, turn })
+}
+
+/// Ends the turns of a FOR.
+pub fn for_ended(
+    setting: &Setting<'_>,
+    place: &Place,
+    t: TypeNo,
+    by: i64,
+    n: u32,
+    turns: Turns,
+    draft: &mut Draft,
+) -> Result<(), EncodeError>
+    ensures { let s = meant setting.now in
+        let inner = closed_loop turns.turn None (for_turned s place.now t by n draft.old) in
+        OnOk result (draft.new ≡ closed_block turns.block None inner) }
+{
+    for_turned(setting, place, t, by, n, draft)?;
+    close_turns(turns, draft)
 }

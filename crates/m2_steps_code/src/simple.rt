@@ -9,7 +9,10 @@ ghost use Rattle.m2_scheme.specs.Steps.{read_again, changed, change_operation, m
 ghost use Rattle.m2_steps_code.specs.Written.{with_step, address_kept, number_kept};
 
 use m2_code::{call_code, place_code, taken_code, value_code};
-use m2_draft::{Draft, Setting, check_changed, checked, complement, fault, load, operation, raised, size_in, store, text};
+use m2_draft::{
+    Draft, Setting, check_changed, checked, complement, fault, load, operation, raised, size_in,
+    store, text,
+};
 use m2_typed::{BITSET, CHAR, Call, Change, Membership, Place, TypeNo, TypedExpr};
 use std::alloc::AllocError;
 use wasm_tree::{EncodeError, Op, Operation, small};
