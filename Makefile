@@ -28,8 +28,9 @@ programs: build
 compare: build plain
 	tools/compare_programs
 
-# The gate: each edit still fits its file; then every proof from nothing, the tests, the programs and the edits of
+# The gate: no source makes up want of memory, and each edit still fits its file; then every proof from nothing, the tests, the programs and the edits of
 # must-fail/, which the prover must refuse.
 test:
+	tools/check_sources
 	tools/try_edits --applies
 	rt ci

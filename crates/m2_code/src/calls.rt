@@ -11,16 +11,14 @@ ghost use Rattle.m2_draft.specs.Frames.{meant};
 ghost use Rattle.m2_code.specs.Called.{nested_called, slot_added, own_call, other_call, link_passed, kept_procedure, called_value, array_behind, open_code, with_passed};
 
 use crate::places::{frame_code, high_code, index_of, open_address, twice};
-use m2_draft::{
-    Draft, Home, Setting, checked, extended, operation, plus, raised, small, text, wrapped,
-};
+use m2_draft::{Draft, Home, Setting, checked, extended, operation, raised, text, wrapped};
 use m2_signatures::{arguments_in, has_result, is_own};
 use m2_typed::{LocalProcedure, Procedure, Slot, TypeNo};
 use std::alloc::AllocError;
-use wasm_tree::{Op, Operation};
+use wasm_tree::{EncodeError, Op, Operation, plus, small};
 
 /// The global with the first slot of a module.
-fn slots_global(home: &Home<'_>, number: u32) -> Result<u32, AllocError>
+fn slots_global(home: &Home<'_>, number: u32) -> Result<u32, EncodeError>
     ensures { IfOk result (λ g. g ≡ slots_global home.now number) }
 {
     if is_own(home.module_body(), number) {
@@ -30,7 +28,7 @@ fn slots_global(home: &Home<'_>, number: u32) -> Result<u32, AllocError>
 }
 
 /// The slot of a procedure, behind the module's first.
-fn slot_number(f: Procedure) -> Result<u32, AllocError>
+fn slot_number(f: Procedure) -> Result<u32, EncodeError>
     ensures { IfOk result (λ n. n ≡ suc f.number) }
 {
     plus(1, small(f.number)?)
@@ -49,13 +47,14 @@ pub fn procedure_code(
     setting: &Setting<'_>,
     f: Procedure,
     draft: &mut Draft,
-) -> Result<(), AllocError>
+) -> Result<(), EncodeError>
     ensures { OnOk result (draft.new ≡ put (procedure_code setting.now.home f) draft.old) }
 {
     let global = slots_global(setting.home(), f.home)?;
     let number = slot_number(f)?;
     draft.push(Op::GlobalGet(global))?;
-    slot_added(number, draft)
+    slot_added(number, draft)?;
+    Ok(())
 }
 
 /// The top of the stack, where the frame of the procedure that is called begins.
@@ -72,32 +71,38 @@ fn indirect(setting: &Setting<'_>, heading: TypeNo, draft: &mut Draft) -> Result
 {
     let home = setting.home();
     let types = &home.module_body().types;
-    let arguments = arguments_in(types, heading)?;
+    let arguments = arguments_in(types, heading);
     let number = home.number(arguments, has_result(types, heading));
     draft.push(Op::CallIndirect(number))
 }
 
 /// A call of a procedure of this module.
-fn own_call(f: Procedure, draft: &mut Draft) -> Result<(), AllocError>
+fn own_call(f: Procedure, draft: &mut Draft) -> Result<(), EncodeError>
     ensures { OnOk result (draft.new ≡ put (own_call f) draft.old) }
 {
-    draft.push(Op::Call(plus(8, small(f.number)?)?))
+    draft.push(Op::Call(plus(8, small(f.number)?)?))?;
+    Ok(())
 }
 
 /// A call of a procedure of another module.
 #[tactic(auto, using(m2_draft::proofs::Emitted::put_append))]
-fn other_call(setting: &Setting<'_>, f: Procedure, draft: &mut Draft) -> Result<(), AllocError>
+fn other_call(setting: &Setting<'_>, f: Procedure, draft: &mut Draft) -> Result<(), EncodeError>
     ensures { OnOk result (draft.new ≡ put (other_call setting.now.home f) draft.old) }
 {
     let global = slots_global(setting.home(), f.home)?;
     let number = slot_number(f)?;
     draft.push(Op::GlobalGet(global))?;
     raised(number, draft)?;
-    indirect(setting, f.heading, draft)
+    indirect(setting, f.heading, draft)?;
+    Ok(())
 }
 
 /// A call of a procedure of a module.
-pub fn module_call(setting: &Setting<'_>, f: Procedure, draft: &mut Draft) -> Result<(), AllocError>
+pub fn module_call(
+    setting: &Setting<'_>,
+    f: Procedure,
+    draft: &mut Draft,
+) -> Result<(), EncodeError>
     ensures { let m = setting.now.home in
         OnOk result (draft.new ≡ put (module_call (numbered m) m f) draft.old) }
 {
@@ -121,15 +126,16 @@ pub fn nested_call(
     setting: &Setting<'_>,
     f: LocalProcedure,
     draft: &mut Draft,
-) -> Result<(), AllocError>
+) -> Result<(), EncodeError>
     ensures { OnOk result (draft.new ≡ put (nested_called setting.now.home f) draft.old) }
 {
     let before = small(setting.home().module_body().procedures.len())?;
-    draft.push(Op::Call(plus(8, plus(before, small(f.number)?)?)?))
+    draft.push(Op::Call(plus(8, plus(before, small(f.number)?)?)?))?;
+    Ok(())
 }
 
 /// Keeps the procedure that a variable holds.
-pub fn keep_procedure(setting: &Setting<'_>, draft: &mut Draft) -> Result<u32, AllocError>
+pub fn keep_procedure(setting: &Setting<'_>, draft: &mut Draft) -> Result<u32, EncodeError>
     ensures local { let k = (put (checked (pos 1) (pos 4294967295) 7) draft.old).counts.numbers in
         IfOk result (λ t. t ≡ number_local (meant setting.now) k) }
     ensures kept { OnOk result (draft.new ≡ kept_procedure (meant setting.now) draft.old) }
@@ -174,7 +180,7 @@ pub fn array_behind(setting: &Setting<'_>, t: TypeNo, draft: &mut Draft) -> Resu
 
 /// An open array for a formal ARRAY OF.
 #[tactic(auto, using(m2_draft::proofs::Emitted::put_append))]
-pub fn open_code(setting: &Setting<'_>, slot: Slot, draft: &mut Draft) -> Result<(), AllocError>
+pub fn open_code(setting: &Setting<'_>, slot: Slot, draft: &mut Draft) -> Result<(), EncodeError>
     ensures { OnOk result (draft.new ≡ put (open_code (meant setting.now) slot) draft.old) }
 {
     open_address(setting, slot, draft)?;
@@ -193,12 +199,13 @@ fn passed_bytes(text: &[u8]) -> usize
 }
 
 /// A string for a formal ARRAY OF CHAR.
-pub fn passed_text(bytes: &[u8], draft: &mut Draft) -> Result<(), AllocError>
+pub fn passed_text(bytes: &[u8], draft: &mut Draft) -> Result<(), EncodeError>
     ensures { OnOk result (draft.new ≡ with_passed bytes.now draft.old) }
 {
     let count = passed_bytes(bytes);
     let at = draft.next_text(count)?;
     text(at, draft)?;
     extended(draft)?;
-    draft.push(Op::I64Const(count.saturating_sub(1) as u64))
+    draft.push(Op::I64Const(count.saturating_sub(1) as u64))?;
+    Ok(())
 }

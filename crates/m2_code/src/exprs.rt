@@ -24,7 +24,7 @@ use m2_typed::{
     TypeNo, TypedExpr,
 };
 use std::alloc::AllocError;
-use wasm_tree::{Op, ValueType};
+use wasm_tree::{EncodeError, Op, ValueType};
 
 /// The type of what an operator gives.
 #[tactic(auto, using(crate::proofs::Variants::types))]
@@ -128,21 +128,27 @@ fn ord_value(setting: &Setting<'_>, e: &TypedExpr, draft: &mut Draft) -> Result<
 /// The code of an expression. The only error is that memory ran out, or that a number does not fit.
 #[cycle(exprs)]
 #[tactic(auto, using(crate::proofs::Variants::variants))]
-pub fn value_code(setting: &Setting<'_>, e: &TypedExpr, draft: &mut Draft) -> Result<(), AllocError>
+pub fn value_code(
+    setting: &Setting<'_>,
+    e: &TypedExpr,
+    draft: &mut Draft,
+) -> Result<(), EncodeError>
     ensures { OnOk result (draft.new ≡ with_value (meant setting.now) e.now draft.old) }
 {
     match e {
-        TypedExpr::Constant(_, n) => number(*n, draft),
+        TypedExpr::Constant(_, n) => Ok(number(*n, draft)?),
         TypedExpr::Load(t, place) => {
             place_code(setting, place, draft)?;
-            load(setting, *t, draft)
+            load(setting, *t, draft)?;
+            Ok(())
         }
         TypedExpr::Procedure(f) => procedure_code(setting, *f, draft),
         TypedExpr::Plus(_, a) => value_code(setting, a.get(), draft),
         TypedExpr::Negate(a) => {
             draft.push(Op::I64Const(0))?;
             value_code(setting, a.get(), draft)?;
-            negated_behind(setting, draft)
+            negated_behind(setting, draft)?;
+            Ok(())
         }
         TypedExpr::Chain(first, links) => {
             value_code(setting, first.get(), draft)?;
@@ -151,30 +157,35 @@ pub fn value_code(setting: &Setting<'_>, e: &TypedExpr, draft: &mut Draft) -> Re
         TypedExpr::Compare(o, a, b) => {
             value_code(setting, a.get(), draft)?;
             value_code(setting, b.get(), draft)?;
-            compared(*o, draft)
+            compared(*o, draft)?;
+            Ok(())
         }
         TypedExpr::Not(a) => {
             value_code(setting, a.get(), draft)?;
-            empty(draft)
+            empty(draft)?;
+            Ok(())
         }
         TypedExpr::Include(o, a, b) => match o {
             Inclusion::Within => {
                 value_code(setting, a.get(), draft)?;
                 value_code(setting, b.get(), draft)?;
-                within_behind(draft)
+                within_behind(draft)?;
+                Ok(())
             }
             Inclusion::Around => {
                 value_code(setting, a.get(), draft)?;
                 complement(draft)?;
                 value_code(setting, b.get(), draft)?;
-                around_behind(draft)
+                around_behind(draft)?;
+                Ok(())
             }
         },
         TypedExpr::In(a, b) => {
             value_code(setting, a.get(), draft)?;
             let t = keep_element(setting, draft)?;
             value_code(setting, b.get(), draft)?;
-            element_bit(t, draft)
+            element_bit(t, draft)?;
+            Ok(())
         }
         TypedExpr::Abs(t, a) => {
             value_code(setting, a.get(), draft)?;
@@ -186,19 +197,23 @@ pub fn value_code(setting: &Setting<'_>, e: &TypedExpr, draft: &mut Draft) -> Re
         }
         TypedExpr::Chr(a) => {
             value_code(setting, a.get(), draft)?;
-            char_check(draft)
+            char_check(draft)?;
+            Ok(())
         }
         TypedExpr::Odd(a) => {
             value_code(setting, a.get(), draft)?;
-            odd(draft)
+            odd(draft)?;
+            Ok(())
         }
         TypedExpr::Ord(a) => {
             value_code(setting, a.get(), draft)?;
-            ord_value(setting, a.get(), draft)
+            ord_value(setting, a.get(), draft)?;
+            Ok(())
         }
         TypedExpr::Val(t, a) => {
             value_code(setting, a.get(), draft)?;
-            in_type(setting, *t, 1, draft)
+            in_type(setting, *t, 1, draft)?;
+            Ok(())
         }
         TypedExpr::High(slot) => high_code(setting, *slot, draft),
         TypedExpr::Call(_, call) => call_code(setting, call.get(), draft),
@@ -208,13 +223,14 @@ pub fn value_code(setting: &Setting<'_>, e: &TypedExpr, draft: &mut Draft) -> Re
 /// The code of an operator with its second operand, behind the first.
 #[cycle(exprs)]
 #[tactic(auto, using(crate::proofs::Variants::variants))]
-fn link_code_of(setting: &Setting<'_>, link: &Link, draft: &mut Draft) -> Result<(), AllocError>
+fn link_code_of(setting: &Setting<'_>, link: &Link, draft: &mut Draft) -> Result<(), EncodeError>
     ensures { OnOk result (draft.new ≡ with_link (meant setting.now) draft.old link.now) }
 {
     match link {
         Link::Arithmetic(o, t, b) => {
             value_code(setting, b, draft)?;
-            arithmetic(setting, *o, *t, draft)
+            arithmetic(setting, *o, *t, draft)?;
+            Ok(())
         }
         Link::And(b) => {
             wrapped(draft)?;
@@ -232,14 +248,15 @@ fn link_code_of(setting: &Setting<'_>, link: &Link, draft: &mut Draft) -> Result
         }
         Link::Combine(o, b) => {
             value_code(setting, b, draft)?;
-            combined(*o, draft)
+            combined(*o, draft)?;
+            Ok(())
         }
     }
 }
 
 /// The code of the operators of a chain.
 #[cycle(exprs)]
-fn links_code(setting: &Setting<'_>, links: &[Link], draft: &mut Draft) -> Result<(), AllocError>
+fn links_code(setting: &Setting<'_>, links: &[Link], draft: &mut Draft) -> Result<(), EncodeError>
     ensures { let with = with_link (meant setting.now) in
         OnOk result (draft.new ≡ fold with draft.old links.now) }
 {
@@ -252,7 +269,11 @@ fn links_code(setting: &Setting<'_>, links: &[Link], draft: &mut Draft) -> Resul
 /// The code of a designator.
 #[cycle(exprs)]
 #[tactic(auto, using(crate::proofs::Variants::variants))]
-pub fn place_code(setting: &Setting<'_>, place: &Place, draft: &mut Draft) -> Result<(), AllocError>
+pub fn place_code(
+    setting: &Setting<'_>,
+    place: &Place,
+    draft: &mut Draft,
+) -> Result<(), EncodeError>
     ensures { OnOk result (draft.new ≡ with_place (meant setting.now) place.now draft.old) }
 {
     root_code(setting, place.root, draft)?;
@@ -266,7 +287,7 @@ fn component_code(
     setting: &Setting<'_>,
     component: &Component,
     draft: &mut Draft,
-) -> Result<(), AllocError>
+) -> Result<(), EncodeError>
     ensures { OnOk result (draft.new ≡ with_component (meant setting.now) draft.old component.now) }
 {
     match component {
@@ -288,7 +309,7 @@ fn components_code(
     setting: &Setting<'_>,
     components: &[Component],
     draft: &mut Draft,
-) -> Result<(), AllocError>
+) -> Result<(), EncodeError>
     ensures { let with = with_component (meant setting.now) in
         OnOk result (draft.new ≡ fold with draft.old components.now) }
 {
@@ -301,7 +322,7 @@ fn components_code(
 /// The code of a call.
 #[cycle(exprs)]
 #[tactic(auto, using(crate::proofs::Variants::variants))]
-pub fn call_code(setting: &Setting<'_>, call: &Call, draft: &mut Draft) -> Result<(), AllocError>
+pub fn call_code(setting: &Setting<'_>, call: &Call, draft: &mut Draft) -> Result<(), EncodeError>
     ensures { OnOk result (draft.new ≡ with_call (meant setting.now) call.now draft.old) }
 {
     match call {
@@ -322,7 +343,8 @@ pub fn call_code(setting: &Setting<'_>, call: &Call, draft: &mut Draft) -> Resul
             let kept = keep_procedure(setting, draft)?;
             top_code(setting, draft)?;
             arguments_code(setting, arguments.as_slice(), draft)?;
-            called_value(setting, kept, *t, draft)
+            called_value(setting, kept, *t, draft)?;
+            Ok(())
         }
     }
 }
@@ -334,21 +356,24 @@ fn argument_code(
     setting: &Setting<'_>,
     argument: &Argument,
     draft: &mut Draft,
-) -> Result<(), AllocError>
+) -> Result<(), EncodeError>
     ensures { OnOk result (draft.new ≡ with_argument (meant setting.now) draft.old argument.now) }
 {
     match argument {
         Argument::Value(t, e) => {
             value_code(setting, e, draft)?;
-            check_value(setting, *t, e, draft)
+            check_value(setting, *t, e, draft)?;
+            Ok(())
         }
         Argument::Place(place) => {
             place_code(setting, place, draft)?;
-            extended(draft)
+            extended(draft)?;
+            Ok(())
         }
         Argument::Array(t, place) => {
             place_code(setting, place, draft)?;
-            array_behind(setting, *t, draft)
+            array_behind(setting, *t, draft)?;
+            Ok(())
         }
         Argument::Open(slot) => open_code(setting, *slot, draft),
         Argument::Text(text) => passed_text(text.get().as_bytes(), draft),
@@ -361,7 +386,7 @@ fn arguments_code(
     setting: &Setting<'_>,
     arguments: &[Argument],
     draft: &mut Draft,
-) -> Result<(), AllocError>
+) -> Result<(), EncodeError>
     ensures { let with = with_argument (meant setting.now) in
         OnOk result (draft.new ≡ fold with draft.old arguments.now) }
 {
@@ -378,9 +403,10 @@ pub fn taken_code(
     t: TypeNo,
     e: &TypedExpr,
     draft: &mut Draft,
-) -> Result<(), AllocError>
+) -> Result<(), EncodeError>
     ensures { OnOk result (draft.new ≡ with_taken (meant setting.now) t e.now draft.old) }
 {
     value_code(setting, e, draft)?;
-    check_value(setting, t, e, draft)
+    check_value(setting, t, e, draft)?;
+    Ok(())
 }

@@ -13,7 +13,7 @@ use m2_draft::{
 };
 use m2_typed::{Arithmetic, Comparison, INTEGER, SetOperator, TypeNo, are_same};
 use std::alloc::AllocError;
-use wasm_tree::{Op, Operation, Relation, ValueType};
+use wasm_tree::{EncodeError, Op, Operation, Relation, ValueType};
 
 fn relation_of(comparison: Comparison) -> Relation
     ensures { result ≡ relation_of comparison }
@@ -143,7 +143,7 @@ pub fn ord_check(setting: &Setting<'_>, t: TypeNo, draft: &mut Draft) -> Result<
 }
 
 /// Ends an `if` whose first side is the second operand of AND.
-pub fn end_and(at: usize, draft: &mut Draft) -> Result<(), AllocError>
+pub fn end_and(at: usize, draft: &mut Draft) -> Result<(), EncodeError>
     ensures { OnOk result (draft.new ≡ ending_and at draft.old) }
 {
     let middle = draft.place();
@@ -164,7 +164,7 @@ pub fn begin_or(draft: &mut Draft) -> Result<(usize, usize), AllocError>
 }
 
 /// Keeps an element that is in a BITSET.
-pub fn keep_element(setting: &Setting<'_>, draft: &mut Draft) -> Result<u32, AllocError>
+pub fn keep_element(setting: &Setting<'_>, draft: &mut Draft) -> Result<u32, EncodeError>
     ensures local { let k = (put (checked (pos 0) (pos 31) 1) draft.old).counts.numbers in
         IfOk result (λ t. t ≡ number_local (meant setting.now) k) }
     ensures kept { OnOk result (draft.new ≡ kept_element (meant setting.now) draft.old) }
@@ -204,7 +204,7 @@ fn negative(t: u32, draft: &mut Draft) -> Result<(), AllocError>
 
 /// An `if` whose second side is the number itself.
 #[tactic(auto, using(crate::proofs::Sides::negative_is))]
-fn negative_or_same(t: u32, draft: &mut Draft) -> Result<(), AllocError>
+fn negative_or_same(t: u32, draft: &mut Draft) -> Result<(), EncodeError>
     ensures { OnOk result (draft.new ≡ one (negative_or_same t) draft.old) }
 {
     let at = draft.open()?;
@@ -214,16 +214,17 @@ fn negative_or_same(t: u32, draft: &mut Draft) -> Result<(), AllocError>
     draft.close_if_else(at, middle, Some(ValueType::I64))
 }
 
-fn absolute_of(t: u32, draft: &mut Draft) -> Result<(), AllocError>
+fn absolute_of(t: u32, draft: &mut Draft) -> Result<(), EncodeError>
     ensures { OnOk result (draft.new ≡ put (absolute_code t) draft.old) }
 {
     before_sign(t, draft)?;
     negative_or_same(t, draft)?;
-    checked(0, 2_147_483_647, 2, draft)
+    checked(0, 2_147_483_647, 2, draft)?;
+    Ok(())
 }
 
 /// The absolute value of a number of this type.
-pub fn absolute(setting: &Setting<'_>, t: TypeNo, draft: &mut Draft) -> Result<(), AllocError>
+pub fn absolute(setting: &Setting<'_>, t: TypeNo, draft: &mut Draft) -> Result<(), EncodeError>
     ensures { OnOk result (draft.new ≡ with_absolute (meant setting.now) t draft.old) }
 {
     if are_same(t, INTEGER) {
@@ -259,7 +260,7 @@ fn lifted(t: u32, draft: &mut Draft) -> Result<(), AllocError>
 }
 
 #[tactic(auto, using(crate::proofs::Sides::lifted_is))]
-fn lifted_or_same(t: u32, draft: &mut Draft) -> Result<(), AllocError>
+fn lifted_or_same(t: u32, draft: &mut Draft) -> Result<(), EncodeError>
     ensures { OnOk result (draft.new ≡ one (lifted_or_same t) draft.old) }
 {
     let at = draft.open()?;
@@ -270,7 +271,7 @@ fn lifted_or_same(t: u32, draft: &mut Draft) -> Result<(), AllocError>
 }
 
 /// The capital letter.
-pub fn capital(setting: &Setting<'_>, draft: &mut Draft) -> Result<(), AllocError>
+pub fn capital(setting: &Setting<'_>, draft: &mut Draft) -> Result<(), EncodeError>
     ensures { OnOk result (draft.new ≡ with_capital (meant setting.now) draft.old) }
 {
     let local = draft.next_number(setting)?;

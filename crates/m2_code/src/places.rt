@@ -10,14 +10,14 @@ ghost use Rattle.m2_draft.specs.Drafts.{put};
 ghost use Rattle.m2_draft.specs.Frames.{meant};
 ghost use Rattle.m2_draft.specs.Slots.{behind_high, field_code, root_code};
 
-use m2_draft::{Draft, Home, Setting, in_range, operation, plus, raised, shifted, wrapped};
+use m2_draft::{Draft, Home, Setting, in_range, operation, raised, shifted, wrapped};
 use m2_signatures::is_own;
 use m2_typed::{Made, Root, Scalar, Shape, Slot, TypeNo, Types, Variable, made_of, scalar_of};
 use std::alloc::AllocError;
-use wasm_tree::{Load, Numeric, Op, Operation};
+use wasm_tree::{EncodeError, Load, Numeric, Op, Operation, plus, small};
 
 /// The global with the place of a module's variables.
-fn base_global(home: &Home<'_>, number: u32) -> Result<u32, AllocError>
+fn base_global(home: &Home<'_>, number: u32) -> Result<u32, EncodeError>
     ensures { IfOk result (λ g. g ≡ base_global home.now number) }
 {
     if is_own(home.module_body(), number) {
@@ -27,24 +27,23 @@ fn base_global(home: &Home<'_>, number: u32) -> Result<u32, AllocError>
 }
 
 /// The number behind so many pairs.
-pub fn twice(first: u32, pairs: usize) -> Result<u32, AllocError>
+pub fn twice(first: u32, pairs: usize) -> Result<u32, EncodeError>
     ensures { IfOk result (λ n. n ≡ first + 2 * pairs) }
 {
-    match u32::try_from(pairs) {
-        Err(_) => Err(AllocError),
-        Ok(n) => plus(first, plus(n, n)?),
-    }
+    let n = small(pairs)?;
+    plus(first, plus(n, n)?)
 }
 
 /// A variable of a module.
-pub fn global_code(setting: &Setting<'_>, v: Variable, draft: &mut Draft) -> Result<(), AllocError>
+pub fn global_code(setting: &Setting<'_>, v: Variable, draft: &mut Draft) -> Result<(), EncodeError>
     ensures { OnOk result (draft.new ≡ put (global_code setting.now.home v) draft.old) }
 {
     let home = setting.home();
     let global = base_global(home, v.home)?;
     let offset = home.variable_offset(v)?;
     draft.push(Op::GlobalGet(global))?;
-    raised(offset, draft)
+    raised(offset, draft)?;
+    Ok(())
 }
 
 /// So many frames outwards.
@@ -69,12 +68,13 @@ pub fn frame_code(up: usize, draft: &mut Draft) -> Result<(), AllocError>
 
 /// A formal or a variable of a procedure.
 #[tactic(auto, using(m2_draft::proofs::Emitted::put_append))]
-pub fn slot_code(setting: &Setting<'_>, slot: Slot, draft: &mut Draft) -> Result<(), AllocError>
+pub fn slot_code(setting: &Setting<'_>, slot: Slot, draft: &mut Draft) -> Result<(), EncodeError>
     ensures { OnOk result (draft.new ≡ put (slot_code (meant setting.now) slot []) draft.old) }
 {
     let offset = setting.slot_offset(slot)?;
     frame_code(slot.up, draft)?;
-    raised(offset, draft)
+    raised(offset, draft)?;
+    Ok(())
 }
 
 fn word(draft: &mut Draft) -> Result<(), AllocError>
@@ -85,17 +85,18 @@ fn word(draft: &mut Draft) -> Result<(), AllocError>
 
 /// What a VAR formal stands for.
 #[tactic(auto, using(m2_draft::proofs::Emitted::put_append))]
-pub fn alias_code(setting: &Setting<'_>, slot: Slot, draft: &mut Draft) -> Result<(), AllocError>
+pub fn alias_code(setting: &Setting<'_>, slot: Slot, draft: &mut Draft) -> Result<(), EncodeError>
     ensures { OnOk result (draft.new ≡ put (kept_address (meant setting.now) slot []) draft.old) }
 {
     slot_code(setting, slot, draft)?;
     word(draft)?;
-    wrapped(draft)
+    wrapped(draft)?;
+    Ok(())
 }
 
 /// The elements of a formal ARRAY OF.
 #[tactic(auto, using(m2_draft::proofs::Slots::first_cell))]
-pub fn open_address(setting: &Setting<'_>, slot: Slot, draft: &mut Draft) -> Result<(), AllocError>
+pub fn open_address(setting: &Setting<'_>, slot: Slot, draft: &mut Draft) -> Result<(), EncodeError>
     ensures { OnOk result (draft.new ≡ put (open_address (meant setting.now) slot) draft.old) }
 {
     alias_code(setting, slot, draft)
@@ -103,13 +104,14 @@ pub fn open_address(setting: &Setting<'_>, slot: Slot, draft: &mut Draft) -> Res
 
 /// The greatest index of a formal ARRAY OF.
 #[tactic(auto, using(m2_draft::proofs::Emitted::put_append))]
-pub fn high_code(setting: &Setting<'_>, slot: Slot, draft: &mut Draft) -> Result<(), AllocError>
+pub fn high_code(setting: &Setting<'_>, slot: Slot, draft: &mut Draft) -> Result<(), EncodeError>
     ensures { OnOk result (draft.new ≡ put (high_code (meant setting.now) slot) draft.old) }
 {
     let offset = setting.high_offset(slot)?;
     frame_code(slot.up, draft)?;
     raised(offset, draft)?;
-    word(draft)
+    word(draft)?;
+    Ok(())
 }
 
 /// The record of a WITH.
@@ -166,7 +168,7 @@ fn from_lower(index: Option<Scalar>, draft: &mut Draft) -> Result<(), AllocError
 
 /// An element of an array, behind its address and the index.
 #[tactic(auto, using(m2_draft::proofs::Emitted::put_append, m2_draft::proofs::Slots::element_is))]
-pub fn element_code(setting: &Setting<'_>, t: TypeNo, draft: &mut Draft) -> Result<(), AllocError>
+pub fn element_code(setting: &Setting<'_>, t: TypeNo, draft: &mut Draft) -> Result<(), EncodeError>
     ensures { OnOk result (draft.new ≡ put (element_code setting.now.home.types t) draft.old) }
 {
     let home = setting.home();
@@ -174,7 +176,8 @@ pub fn element_code(setting: &Setting<'_>, t: TypeNo, draft: &mut Draft) -> Resu
     let bytes = home.element_size(t)?;
     in_range(index, 3, draft)?;
     from_lower(index, draft)?;
-    scaled(bytes, draft)
+    scaled(bytes, draft)?;
+    Ok(())
 }
 
 fn behind_high(bytes: u32, draft: &mut Draft) -> Result<(), AllocError>
@@ -192,13 +195,14 @@ pub fn open_element_code(
     slot: Slot,
     t: TypeNo,
     draft: &mut Draft,
-) -> Result<(), AllocError>
+) -> Result<(), EncodeError>
     ensures { OnOk result (draft.new ≡ put (open_element_code (meant setting.now) slot t) draft.old) }
 {
     let bytes = setting.home().size(t)?;
     draft.push(Op::I64Const(0))?;
     high_code(setting, slot, draft)?;
-    behind_high(bytes, draft)
+    behind_high(bytes, draft)?;
+    Ok(())
 }
 
 /// A field, behind the address of the record.
@@ -207,15 +211,16 @@ pub fn field_code(
     t: TypeNo,
     number: usize,
     draft: &mut Draft,
-) -> Result<(), AllocError>
+) -> Result<(), EncodeError>
     ensures { OnOk result (draft.new ≡ put (field_code setting.now.home.types t number) draft.old) }
 {
     let offset = setting.home().offset(t, number)?;
-    raised(offset, draft)
+    raised(offset, draft)?;
+    Ok(())
 }
 
 /// What a variable's name stands for.
-pub fn root_code(setting: &Setting<'_>, root: Root, draft: &mut Draft) -> Result<(), AllocError>
+pub fn root_code(setting: &Setting<'_>, root: Root, draft: &mut Draft) -> Result<(), EncodeError>
     ensures { OnOk result (draft.new ≡ put (root_code (meant setting.now) root) draft.old) }
 {
     match root {
@@ -223,6 +228,6 @@ pub fn root_code(setting: &Setting<'_>, root: Root, draft: &mut Draft) -> Result
         Root::Local(slot) => slot_code(setting, slot, draft),
         Root::Alias(slot) => alias_code(setting, slot, draft),
         Root::Open(slot) => open_address(setting, slot, draft),
-        Root::With(k) => with_code(setting.withs().get(k), draft),
+        Root::With(k) => Ok(with_code(setting.withs().get(k), draft)?),
     }
 }

@@ -17,6 +17,7 @@ use m2_tree::{Contents, Items, Module};
 use m2_typed::{Shared, Table, TypedModule};
 use m2_types::compile_definition;
 use std::alloc::{AllocError, Global};
+use wasm_tree::EncodeError;
 
 /// A definition gives its table, or breaks a rule.
 fn definition(
@@ -48,7 +49,7 @@ fn typed_body(
 }
 
 /// The module of a body that breaks no rule, or 60 where its storage is too large.
-fn fitted(alloc: Global, typed: &TypedModule) -> Result<Compiled, AllocError>
+fn fitted(alloc: Global, typed: &TypedModule) -> Result<Compiled, EncodeError>
     ensures becomes { IfOk result (λ c. c ≡ of_fit typed.now (too_large typed.now)) }
     ensures encoded { OnOk result (fit_encoded typed.now (too_large typed.now)) }
 {
@@ -67,7 +68,7 @@ fn body(
     tree: &Module,
     number: u32,
     tables: &[Shared<Table>],
-) -> Result<Compiled, AllocError>
+) -> Result<Compiled, EncodeError>
     ensures becomes { IfOk result (λ c.
         c ≡ of_checked (typed_body tree.now number tables.now)) }
     ensures encoded { OnOk result (checked_encoded (typed_body tree.now number tables.now)) }
@@ -89,7 +90,7 @@ pub fn compile(
     tree: &Module,
     number: u32,
     needed: &[&Compiled],
-) -> Result<Compiled, AllocError>
+) -> Result<Compiled, EncodeError>
     ensures becomes { IfOk result (λ c.
         c ≡ compiled tree.now number (map (λ n. n.now) needed.now)) }
     ensures encoded { OnOk result (IsEncoded tree.now number (map (λ n. n.now) needed.now)) }
@@ -99,7 +100,7 @@ pub fn compile(
     }
     let tables = tables_of(alloc, needed)?;
     match &tree.contents {
-        Contents::Definition(_) => definition(alloc, tree, number, tables),
+        Contents::Definition(_) => Ok(definition(alloc, tree, number, tables)?),
         Contents::Implementation(_) => body(alloc, tree, number, tables.as_slice()),
         Contents::Program(_) => body(alloc, tree, number, tables.as_slice()),
     }

@@ -15,10 +15,10 @@ use crate::setting::Setting;
 use m2_layout::{Kind, Width, width_of};
 use m2_typed::{Scalar, TypeNo, Types, are_same, scalar_of};
 use std::alloc::AllocError;
-use wasm_tree::{Load, Op, Operation, StoreWidth};
+use wasm_tree::{EncodeError, Load, Op, Operation, StoreWidth};
 
 /// The bytes of a variable of a type. The only error is that they do not fit into 32 bits.
-pub fn size_in(setting: &Setting<'_>, t: TypeNo) -> Result<u32, AllocError>
+pub fn size_in(setting: &Setting<'_>, t: TypeNo) -> Result<u32, EncodeError>
     ensures { IfOk result (λ n. n ≡ size (tree setting.now.home.types t)) }
 {
     setting.home().size(t)

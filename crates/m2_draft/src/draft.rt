@@ -6,11 +6,10 @@ ghost use Rattle.m2_scheme.specs.Functions.{from_text};
 ghost use Rattle.m2_draft.specs.Frames.{meant};
 ghost use Rattle.m2_draft.specs.Drafts.{with_ops, one, opened, set_at, place_of, inside, closed_block, closed_loop, closed_if, closed_if_else, next_address, next_number, next_text, is_plain, instr_of};
 
-use crate::amounts::small;
 use crate::setting::Setting;
 use std::alloc::{AllocError, Global};
 use std::marker::Model;
-use wasm_tree::{Op, ValueType};
+use wasm_tree::{EncodeError, Op, ValueType, plus, small};
 
 /// Operations, and how many locals for addresses and for numbers and how many bytes of texts they need. Contracts see
 /// `Drafted`.
@@ -131,7 +130,7 @@ impl Draft {
         }
     }
 
-    fn behind(&self, at: usize) -> Result<u32, AllocError>
+    fn behind(&self, at: usize) -> Result<u32, EncodeError>
         ensures { IfOk result (λ n. n ≡ inside at self.now) }
     {
         small(self.ops.len().saturating_sub(at).saturating_sub(1))
@@ -139,7 +138,7 @@ impl Draft {
 
     /// Makes the place a block with all behind it.
     #[tactic(auto, unfolding(crate::specs::Drafts::closed_block))]
-    pub fn close_block(&mut self, at: usize, kind: Option<ValueType>) -> Result<(), AllocError>
+    pub fn close_block(&mut self, at: usize, kind: Option<ValueType>) -> Result<(), EncodeError>
         ensures { OnOk result (self.new ≡ closed_block at kind self.old) }
     {
         let count = self.behind(at)?;
@@ -149,7 +148,7 @@ impl Draft {
 
     /// Makes the place a loop with all behind it.
     #[tactic(auto, unfolding(crate::specs::Drafts::closed_loop))]
-    pub fn close_loop(&mut self, at: usize, kind: Option<ValueType>) -> Result<(), AllocError>
+    pub fn close_loop(&mut self, at: usize, kind: Option<ValueType>) -> Result<(), EncodeError>
         ensures { OnOk result (self.new ≡ closed_loop at kind self.old) }
     {
         let count = self.behind(at)?;
@@ -159,7 +158,7 @@ impl Draft {
 
     /// Makes the place an `if` with one side, all behind it.
     #[tactic(auto, unfolding(crate::specs::Drafts::closed_if))]
-    pub fn close_if(&mut self, at: usize, kind: Option<ValueType>) -> Result<(), AllocError>
+    pub fn close_if(&mut self, at: usize, kind: Option<ValueType>) -> Result<(), EncodeError>
         ensures { OnOk result (self.new ≡ closed_if at kind self.old) }
     {
         let count = self.behind(at)?;
@@ -174,7 +173,7 @@ impl Draft {
         at: usize,
         middle: usize,
         kind: Option<ValueType>,
-    ) -> Result<(), AllocError>
+    ) -> Result<(), EncodeError>
         ensures { OnOk result (self.new ≡ closed_if_else at middle kind self.old) }
     {
         let first = small(middle.saturating_sub(at).saturating_sub(1))?;
@@ -183,47 +182,32 @@ impl Draft {
         Ok(())
     }
 
-    fn with_address(&mut self) -> Result<(), AllocError>
+    fn with_address(&mut self) -> Result<(), EncodeError>
         ensures { OnOk result (self.new ≡ next_address self.old) }
     {
-        match self.addresses.checked_add(1) {
-            None => Err(AllocError),
-            Some(n) => {
-                self.addresses = n;
-                Ok(())
-            }
-        }
+        self.addresses = plus(self.addresses, 1)?;
+        Ok(())
     }
 
-    fn with_number(&mut self) -> Result<(), AllocError>
+    fn with_number(&mut self) -> Result<(), EncodeError>
         ensures { OnOk result (self.new ≡ next_number self.old) }
     {
-        match self.numbers.checked_add(1) {
-            None => Err(AllocError),
-            Some(n) => {
-                self.numbers = n;
-                Ok(())
-            }
-        }
+        self.numbers = plus(self.numbers, 1)?;
+        Ok(())
     }
 
     /// Takes so many bytes of texts, and answers the offset of the first.
-    pub fn next_text(&mut self, bytes: usize) -> Result<u32, AllocError>
+    pub fn next_text(&mut self, bytes: usize) -> Result<u32, EncodeError>
         ensures offset { IfOk result (λ at. at ≡ self.old.counts.texts) }
         ensures taken { OnOk result (self.new ≡ next_text bytes self.old) }
     {
         let at = self.texts;
-        match self.texts.checked_add(small(bytes)?) {
-            None => Err(AllocError),
-            Some(n) => {
-                self.texts = n;
-                Ok(at)
-            }
-        }
+        self.texts = plus(self.texts, small(bytes)?)?;
+        Ok(at)
     }
 
     /// Takes a fresh local for an address, and answers which.
-    pub fn next_address(&mut self, setting: &Setting<'_>) -> Result<u32, AllocError>
+    pub fn next_address(&mut self, setting: &Setting<'_>) -> Result<u32, EncodeError>
         ensures local { let k = self.old.counts.addresses in
             IfOk result (λ w. w ≡ address_local (meant setting.now) k) }
         ensures taken { OnOk result (self.new ≡ next_address self.old) }
@@ -234,7 +218,7 @@ impl Draft {
     }
 
     /// Takes a fresh local for a number, and answers which.
-    pub fn next_number(&mut self, setting: &Setting<'_>) -> Result<u32, AllocError>
+    pub fn next_number(&mut self, setting: &Setting<'_>) -> Result<u32, EncodeError>
         ensures local { let k = self.old.counts.numbers in
             IfOk result (λ t. t ≡ number_local (meant setting.now) k) }
         ensures taken { OnOk result (self.new ≡ next_number self.old) }

@@ -22,6 +22,7 @@ use m2_signatures::{Signatures, is_own};
 use m2_typed::{Imported, Routine, TypeNo, TypedModule, Types, Variable, Which};
 use std::alloc::{AllocError, Global};
 use std::marker::Model;
+use wasm_tree::EncodeError;
 
 /// A module, where its variables stand, the types of functions that it needs, and by the numbers of modules their places
 /// among its imports. Contracts see the module.
@@ -186,21 +187,21 @@ impl<'a> Home<'a> {
     }
 
     /// The bytes of a variable of a type. The only error is that they do not fit into 32 bits.
-    pub fn size(&self, t: TypeNo) -> Result<u32, AllocError>
+    pub fn size(&self, t: TypeNo) -> Result<u32, EncodeError>
         ensures { IfOk result (λ n. n ≡ size (tree self.now.types t)) }
     {
         exact(size_of(&self.module_body.types, &self.layout.extents, t))
     }
 
     /// The bytes of an element of an array type.
-    pub fn element_size(&self, t: TypeNo) -> Result<u32, AllocError>
+    pub fn element_size(&self, t: TypeNo) -> Result<u32, EncodeError>
         ensures { IfOk result (λ n. n ≡ size (element_tree (tree self.now.types t))) }
     {
         exact(element_of(&self.module_body.types, &self.layout.extents, t))
     }
 
     /// The offset of a component of a type.
-    pub fn offset(&self, t: TypeNo, number: usize) -> Result<u32, AllocError>
+    pub fn offset(&self, t: TypeNo, number: usize) -> Result<u32, EncodeError>
         ensures { IfOk result (λ n. n ≡ offset (tree self.now.types t) (number ∷ [])) }
     {
         exact(field_of(&self.module_body.types, &self.layout.extents, t, number))
@@ -218,7 +219,7 @@ impl<'a> Home<'a> {
 
     /// The offset of a variable of a module.
     #[tactic(auto, using(crate::proofs::Offsets::variable_is))]
-    pub fn variable_offset(&self, v: Variable) -> Result<u32, AllocError>
+    pub fn variable_offset(&self, v: Variable) -> Result<u32, EncodeError>
         ensures { let row = variables_row self.now v.home in
             IfOk result (λ n. n ≡ offset row (v.number ∷ [])) }
     {

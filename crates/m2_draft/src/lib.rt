@@ -15,7 +15,7 @@ mod home;
 mod pieces;
 mod setting;
 
-pub use amounts::{exact, plus, small};
+pub use amounts::exact;
 pub use cells::{
     base_of, check_changed, check_taken, in_range, in_type, load, shifted, size_in, store,
 };

@@ -8,13 +8,14 @@ ghost use Rattle.m2_scheme.specs.Coded.{top_local, address_local, number_local};
 ghost use Rattle.m2_scheme.specs.Functions.{setting};
 ghost use Rattle.m2_draft.specs.Frames.{meant, frames_of, routines_in, AreFramed};
 
-use crate::amounts::{exact, plus};
+use crate::amounts::exact;
 use crate::frame::Framed;
 use crate::home::{Home, start_or};
 use m2_layout::Row;
 use m2_typed::{Formal, Routine, Shape, Slot, Types, made_of};
 use std::alloc::{AllocError, Global};
 use std::marker::Model;
+use wasm_tree::{EncodeError, plus};
 
 /// The module, the frames that are seen, the procedure's own first, and the function's arguments and locals. Contracts see
 /// the record of the scheme.
@@ -130,24 +131,22 @@ impl<'a> Setting<'a> {
     }
 
     /// The setting inside so many more blocks.
-    pub fn within(&self, labels: u32) -> Result<Setting<'a>, AllocError>
+    pub fn within(&self, labels: u32) -> Result<Setting<'a>, EncodeError>
         ensures { IfOk result (λ s. s ≡ record self.now { exit = self.now.exit + labels }) }
     {
-        match self.exit.checked_add(labels) {
-            None => Err(AllocError),
-            Some(exit) => self.leaving(exit),
-        }
+        let exit = plus(self.exit, labels)?;
+        Ok(self.leaving(exit)?)
     }
 
     /// The local for an address of this number.
-    pub fn address_local(&self, number: u32) -> Result<u32, AllocError>
+    pub fn address_local(&self, number: u32) -> Result<u32, EncodeError>
         ensures { IfOk result (λ w. w ≡ address_local (meant self.now) number) }
     {
         plus(self.arguments, plus(2, number)?)
     }
 
     /// The local for a number of this number.
-    pub fn number_local(&self, number: u32) -> Result<u32, AllocError>
+    pub fn number_local(&self, number: u32) -> Result<u32, EncodeError>
         ensures { IfOk result (λ t. t ≡ number_local (meant self.now) number) }
     {
         plus(self.arguments, plus(2, plus(self.addresses, number)?)?)
@@ -214,7 +213,7 @@ impl<'a> Setting<'a> {
 
     /// The offset of a formal or a variable in its frame. The only error is that it does not fit into 32 bits.
     #[tactic(auto, using(crate::proofs::Slots::slot_is))]
-    pub fn slot_offset(&self, slot: Slot) -> Result<u32, AllocError>
+    pub fn slot_offset(&self, slot: Slot) -> Result<u32, EncodeError>
         ensures { IfOk result (λ n. n ≡ slot_path (meant self.now) slot []) }
     {
         exact(slot_from(self.frames, slot))
@@ -222,11 +221,11 @@ impl<'a> Setting<'a> {
 
     /// The offset of the greatest index of a formal ARRAY OF. An error also where the slot is none.
     #[tactic(auto, using(crate::proofs::Slots::high_is))]
-    pub fn high_offset(&self, slot: Slot) -> Result<u32, AllocError>
+    pub fn high_offset(&self, slot: Slot) -> Result<u32, EncodeError>
         ensures { IfOk result (λ n. n ≡ slot_path (meant self.now) slot (1 ∷ [])) }
     {
         if !open_at(&self.home.module_body().types, self.frames, slot) {
-            return Err(AllocError);
+            return Err(EncodeError::NoEncoding);
         }
         plus(self.slot_offset(slot)?, 4)
     }

@@ -12,8 +12,9 @@ use crate::module::{module_of, slots_of};
 use m2_layout::Layout;
 use m2_tree::Items;
 use m2_typed::TypedModule;
-use std::alloc::{AllocError, Global};
+use std::alloc::Global;
 use wasm_binary::write_module;
+use wasm_tree::EncodeError;
 
 /// The bytes of a body's module, and what link needs of it. The layout is the module's, and nothing of it is too large, as
 /// `layout_of` answers it. The module has an encoding. The only error is that memory ran out, or that it has none, as a
@@ -22,7 +23,7 @@ pub fn emit(
     alloc: Global,
     module_body: &TypedModule,
     layout: &Layout,
-) -> Result<ModuleBytes, AllocError>
+) -> Result<ModuleBytes, EncodeError>
     requires layout { IsLayout module_body.now layout.now }
     requires fits { AllFits module_body.now }
     ensures emitted { IfOk result (λ x. x ≡ emitted module_body.now) }
@@ -42,7 +43,11 @@ pub fn emit(
 /// The bytes of the module link for these modules, which are in start order: it has so many pages (of 65536 bytes) of
 /// memory, and runs the bodies. The only error is that memory ran out, or that link has no encoding, as a number does not
 /// fit into 32 bits.
-pub fn emit_link(alloc: Global, modules: &[&ModuleBytes], pages: u32) -> Result<Vec<u8>, AllocError>
+pub fn emit_link(
+    alloc: Global,
+    modules: &[&ModuleBytes],
+    pages: u32,
+) -> Result<Vec<u8>, EncodeError>
     requires { pages ≤ max_pages }
     ensures { let ms = parts (map (λ m. m.now) modules.now) in
         IfOk result (λ bytes. Encodes bytes.items (link_of ms pages)) }

@@ -12,8 +12,8 @@ use m2_routine_code::{module_function, routine_function};
 use m2_texts::ModuleTexts;
 use m2_typed::{Routine, Which};
 use sqlite_items::Items;
-use std::alloc::{AllocError, Global};
-use wasm_tree::Function;
+use std::alloc::Global;
+use wasm_tree::{EncodeError, Function};
 
 /// The function of a procedure of the module.
 fn procedure(
@@ -22,7 +22,7 @@ fn procedure(
     texts: &ModuleTexts,
     number: usize,
     routine: &Routine,
-) -> Result<Function, AllocError>
+) -> Result<Function, EncodeError>
     requires texts { AreTexts home.now texts.now }
     requires found { slice_get home.now.procedures number ≡ Some routine.now }
     ensures { let m = home.now in
@@ -39,7 +39,7 @@ fn local(
     texts: &ModuleTexts,
     number: usize,
     routine: &Routine,
-) -> Result<Function, AllocError>
+) -> Result<Function, EncodeError>
     requires texts { AreTexts home.now texts.now }
     requires found { slice_get home.now.locals number ≡ Some routine.now }
     ensures { let m = home.now in
@@ -55,7 +55,7 @@ fn push_procedures(
     functions: &mut Items<Function>,
     home: &Home<'_>,
     texts: &ModuleTexts,
-) -> Result<(), AllocError>
+) -> Result<(), EncodeError>
     requires { AreTexts home.now texts.now }
     ensures { let m = home.now in
         OnOk result
@@ -75,7 +75,7 @@ fn push_locals(
     functions: &mut Items<Function>,
     home: &Home<'_>,
     texts: &ModuleTexts,
-) -> Result<(), AllocError>
+) -> Result<(), EncodeError>
     requires { AreTexts home.now texts.now }
     ensures { let m = home.now in
         OnOk result
@@ -89,7 +89,7 @@ fn push_locals(
 }
 
 /// The function of the module's body.
-fn body(alloc: Global, home: &Home<'_>, texts: &ModuleTexts) -> Result<Function, AllocError>
+fn body(alloc: Global, home: &Home<'_>, texts: &ModuleTexts) -> Result<Function, EncodeError>
     requires { AreTexts home.now texts.now }
     ensures { let m = home.now in
         IfOk result (λ f. f ≡ module_function (numbered m) m) }
@@ -102,7 +102,7 @@ pub fn functions_of(
     alloc: Global,
     home: &Home<'_>,
     texts: &ModuleTexts,
-) -> Result<Items<Function>, AllocError>
+) -> Result<Items<Function>, EncodeError>
     requires { AreTexts home.now texts.now }
     ensures { IfOk result (λ found. found ≡ functions home.now) }
 {

@@ -11,7 +11,6 @@ mod helpers;
 mod imports;
 mod link;
 mod module;
-mod numbers;
 mod parts;
 mod segments;
 mod types;

@@ -10,33 +10,32 @@ ghost use Rattle.m2_emit.specs.Emitted.{parts, link_exports};
 
 use crate::emitted::ModuleBytes;
 use crate::helpers::helper;
-use crate::numbers::added;
 use crate::parts::{constant_global, exported_as, joined, one, type_from};
 use sqlite_items::Items;
 use std::alloc::{AllocError, Global};
 use wasm_tree::{
-    Code, Export, ExportKind, FuncType, Function, Global as Constant, Limits, MemoryType, Op,
-    TableType, ValueType, WModule,
+    Code, EncodeError, Export, ExportKind, FuncType, Function, Global as Constant, Limits,
+    MemoryType, Op, TableType, ValueType, WModule, plus,
 };
 
 /// Where the stack begins: behind the variables and texts of all modules.
-fn stack_begin(modules: &[&ModuleBytes]) -> Result<u32, AllocError>
+fn stack_begin(modules: &[&ModuleBytes]) -> Result<u32, EncodeError>
     ensures { IfOk result (λ n. n ≡ stack_begin (parts (map (λ m. m.now) modules.now))) }
 {
     let mut all = 0;
     for module in modules {
-        all = added(all, added(module.variables, module.texts)?)?;
+        all = plus(all, plus(module.variables, module.texts)?)?;
     }
     Ok(all)
 }
 
 /// The slots of all modules.
-fn all_slots(modules: &[&ModuleBytes]) -> Result<u32, AllocError>
+fn all_slots(modules: &[&ModuleBytes]) -> Result<u32, EncodeError>
     ensures { IfOk result (λ n. n ≡ all_slots (parts (map (λ m. m.now) modules.now))) }
 {
     let mut all = 0;
     for module in modules {
-        all = added(all, module.slots)?;
+        all = plus(all, module.slots)?;
     }
     Ok(all)
 }
@@ -65,17 +64,17 @@ fn push_globals(
     alloc: Global,
     globals: &mut Items<Constant>,
     modules: &[&ModuleBytes],
-) -> Result<(), AllocError>
+) -> Result<(), EncodeError>
     ensures { OnOk result
         (globals.new ≡ globals.old ++ globals_from 0 1 (parts (map (λ m. m.now) modules.now))) }
 {
     let mut place = 0;
     let mut slot = 1;
     for module in modules {
-        let texts = added(place, module.variables)?;
+        let texts = plus(place, module.variables)?;
         push_places(alloc, globals, place, texts, slot)?;
-        place = added(texts, module.texts)?;
-        slot = added(slot, module.slots)?;
+        place = plus(texts, module.texts)?;
+        slot = plus(slot, module.slots)?;
     }
     Ok(())
 }
@@ -85,7 +84,7 @@ fn link_globals(
     alloc: Global,
     modules: &[&ModuleBytes],
     pages: u32,
-) -> Result<Items<Constant>, AllocError>
+) -> Result<Items<Constant>, EncodeError>
     requires { pages ≤ max_pages }
     ensures { IfOk result (λ globals.
         globals
@@ -136,13 +135,13 @@ fn push_modules(
     alloc: Global,
     exports: &mut Items<Export>,
     modules: &[&ModuleBytes],
-) -> Result<(), AllocError>
+) -> Result<(), EncodeError>
     ensures { OnOk result
         (exports.new ≡ exports.old ++ exports_from 1 (parts (map (λ m. m.now) modules.now))) }
 {
     let mut global = 1;
     for module in modules {
-        let next = added(global, 3)?;
+        let next = plus(global, 3)?;
         push_exports(alloc, exports, module.name.as_bytes(), global)?;
         global = next;
     }
@@ -150,7 +149,7 @@ fn push_modules(
 }
 
 /// The memory, the table, the globals, and the function that runs the bodies.
-fn link_exports(alloc: Global, modules: &[&ModuleBytes]) -> Result<Items<Export>, AllocError>
+fn link_exports(alloc: Global, modules: &[&ModuleBytes]) -> Result<Items<Export>, EncodeError>
     ensures { IfOk result (λ exports.
         exports ≡ link_exports (parts (map (λ m. m.now) modules.now))) }
 {
@@ -175,7 +174,7 @@ fn push_call(ops: &mut Vec<Op>, stack: u32, global: u32) -> Result<(), AllocErro
 }
 
 /// Calls of the bodies, one after another.
-fn calls(alloc: Global, stack: u32, modules: &[&ModuleBytes]) -> Result<Code, AllocError>
+fn calls(alloc: Global, stack: u32, modules: &[&ModuleBytes]) -> Result<Code, EncodeError>
     ensures { IfOk result (λ code.
         code ≡ calls_from stack 3 (parts (map (λ m. m.now) modules.now))) }
 {
@@ -183,13 +182,13 @@ fn calls(alloc: Global, stack: u32, modules: &[&ModuleBytes]) -> Result<Code, Al
     let mut global = 3;
     for _ in modules {
         push_call(&mut ops, stack, global)?;
-        global = added(global, 3)?;
+        global = plus(global, 3)?;
     }
     Ok(Code::new(ops))
 }
 
 /// The function that calls the bodies.
-fn run_function(alloc: Global, modules: &[&ModuleBytes]) -> Result<Function, AllocError>
+fn run_function(alloc: Global, modules: &[&ModuleBytes]) -> Result<Function, EncodeError>
     ensures { let ms = parts (map (λ m. m.now) modules.now) in
         IfOk result (λ f. f ≡ helper 0 (calls_from (stack_begin ms) 3 ms)) }
 {
@@ -215,11 +214,11 @@ fn fixed(size: u32) -> Limits
 }
 
 /// The module link for these modules in start order, with so many pages of memory.
-pub fn link_of(alloc: Global, modules: &[&ModuleBytes], pages: u32) -> Result<WModule, AllocError>
+pub fn link_of(alloc: Global, modules: &[&ModuleBytes], pages: u32) -> Result<WModule, EncodeError>
     requires { pages ≤ max_pages }
     ensures { IfOk result (λ m. m ≡ link_of (parts (map (λ m. m.now) modules.now)) pages) }
 {
-    let slots = fixed(added(1, all_slots(modules)?)?);
+    let slots = fixed(plus(1, all_slots(modules)?)?);
     Ok(WModule {
         types: link_types(alloc)?,
         imports: Items::new(alloc),

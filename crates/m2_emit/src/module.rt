@@ -8,7 +8,6 @@ ghost use Rattle.m2_texts.specs.Offsets.{AreTexts};
 
 use crate::functions::functions_of;
 use crate::imports::imports_of;
-use crate::numbers::one_more;
 use crate::segments::{data_of, elements_of};
 use crate::types::types_of;
 use m2_draft::Home;
@@ -17,14 +16,14 @@ use m2_signatures::{Signatures, signatures_of};
 use m2_texts::{ModuleTexts, module_texts};
 use m2_typed::TypedModule;
 use sqlite_items::Items;
-use std::alloc::{AllocError, Global};
-use wasm_tree::{Function, WModule};
+use std::alloc::Global;
+use wasm_tree::{EncodeError, Function, WModule, plus, small};
 
 /// How many slots a module fills.
-pub fn slots_of(module_body: &TypedModule) -> Result<u32, AllocError>
+pub fn slots_of(module_body: &TypedModule) -> Result<u32, EncodeError>
     ensures { IfOk result (λ n. n ≡ slots module_body.now) }
 {
-    one_more(module_body.procedures.len())
+    plus(1, small(module_body.procedures.len())?)
 }
 
 /// The functions of a module that has these texts and needs these signatures.
@@ -34,7 +33,7 @@ fn functions(
     layout: &Layout,
     needed: &Signatures,
     texts: &ModuleTexts,
-) -> Result<Items<Function>, AllocError>
+) -> Result<Items<Function>, EncodeError>
     requires layout { IsLayout module_body.now layout.now }
     requires fits { AllFits module_body.now }
     requires signatures { needed.now ≡ signatures module_body.now }
@@ -52,7 +51,7 @@ fn assembled(
     needed: &Signatures,
     found: Items<Function>,
     bytes: Items<u8>,
-) -> Result<WModule, AllocError>
+) -> Result<WModule, EncodeError>
     requires signatures { needed.now ≡ signatures module_body.now }
     requires functions { found ≡ functions module_body.now }
     requires texts { bytes ≡ all_characters (module_texts module_body.now) }
@@ -76,7 +75,7 @@ pub fn module_of(
     alloc: Global,
     module_body: &TypedModule,
     layout: &Layout,
-) -> Result<WModule, AllocError>
+) -> Result<WModule, EncodeError>
     requires layout { IsLayout module_body.now layout.now }
     requires fits { AllFits module_body.now }
     ensures { IfOk result (λ tree. tree ≡ typed_module module_body.now) }

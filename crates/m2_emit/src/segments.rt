@@ -7,26 +7,25 @@ ghost use Rattle.m2_scheme.specs.Coded.{body_index};
 ghost use Rattle.m2_scheme.specs.Modules.{data_of};
 
 use crate::code::global_code;
-use crate::numbers::added;
 use crate::parts::one;
 use sqlite_items::Items;
 use std::alloc::{AllocError, Global};
-use wasm_tree::{Data, Element};
+use wasm_tree::{Data, Element, EncodeError, plus};
 
 /// The body, and the procedures behind it.
 #[tactic(auto, using(crate::proofs::Lists::range_more))]
-fn indices(alloc: Global, slots: u32) -> Result<Items<u32>, AllocError>
+fn indices(alloc: Global, slots: u32) -> Result<Items<u32>, EncodeError>
     ensures { IfOk result (λ found. found ≡ range_with_len body_index slots) }
 {
     let mut found = Items::new(alloc);
     for slot in 0..slots {
-        found.push(added(7, slot)?)?;
+        found.push(plus(7, slot)?)?;
     }
     Ok(found)
 }
 
 /// The body and the procedures stand in the table from the module's first slot on.
-pub fn elements_of(alloc: Global, slots: u32) -> Result<Items<Element>, AllocError>
+pub fn elements_of(alloc: Global, slots: u32) -> Result<Items<Element>, EncodeError>
     ensures { IfOk result (λ elements. elements ≡ record {
       table = 0;
       offset = GlobalGet 3 ∷ [];
@@ -38,7 +37,7 @@ pub fn elements_of(alloc: Global, slots: u32) -> Result<Items<Element>, AllocErr
         offset: global_code(alloc, 3)?,
         functions: indices(alloc, slots)?,
     };
-    one(alloc, element)
+    Ok(one(alloc, element)?)
 }
 
 /// The texts stand in the memory where the module's texts begin.

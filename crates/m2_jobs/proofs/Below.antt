@@ -5,12 +5,15 @@ use Rattle.std.proofs.lemmas.Bool.{cases_lt}
 use Rattle.std.proofs.lemmas.List.{map-id}
 use Rattle.m2_board.specs.Lists.{times}
 use Rattle.m2_board.specs.Graph.{prerequisites_of, IsJobGraph}
-use Rattle.m2_worker.specs.Results.{results_below, results, picked, with_item, AreResults, IsResult, all_jobs}
+use Rattle.m2_worker.specs.Results.{results_below, results, picked, with_item, AreResults, NoJobs, OneMore, IsResult, all_jobs}
 use Rattle.m2_worker.proofs.Resulting.{results-length, as_many, as_picked, one_of, job_at, all_long, here_once, there_too, item}
 use Rattle.m2_tree.specs.declared.decl.Module.{Module}
 use Rattle.m2_compile.specs.declared.outcome.Compiled.{Compiled}
 use Rattle.m2_jobs.specs.Jobs.{compiled_at}
-use Rattle.m2_jobs.specs.Encoded.{encoded_at, needed_of, AreEncoded}
+use Rattle.m2_jobs.specs.Encoded.{encoded_at, needed_of, AreEncoded, Defines}
+use Rattle.m2_jobs.specs.declared.made.Made.{Made}
+use Rattle.m2_jobs.specs.declared.made.Made.TheVariants.{Module as Became, NoEncoding}
+use Rattle.m2_jobs.specs.Made.{modules, IsMadeOf, MayMake}
 
 get_front : {X : Type 0} (xs ys : List X) (i : ℕ) → i < length xs → slice_get (xs ++ ys) i ≡ slice_get xs i
 get_front [] ys i l = absurd (omega (arith, l))
@@ -53,22 +56,39 @@ module _ (trees : List Module) (files : List ℕ) (jobs : List (List ℕ)) where
   abbrev f : ℕ → List Compiled → Compiled
   f = compiled_at trees files
 
-  abbrev pub Defines : ℕ → List Compiled → Compiled → Type 0
-  Defines job outs c = (c ≡ compiled_at trees files job outs) × encoded_at trees files job outs
-
-  pub gives : (job : ℕ) (outs : List Compiled) (x : Compiled) → Defines job outs x → x ≡ f job (map (λ c. c) outs)
+  pub gives : (job : ℕ) (outs : List Compiled) (x : Compiled) → Defines trees files job outs x → x ≡ f job (map (λ c. c) outs)
   gives job outs x is = is.0 ∙ ap (f job) (sym (map-id outs))
 
-  pub all_encoded : (all : List Compiled) → IsJobGraph jobs → AreResults jobs Defines (all_jobs (length jobs)) all → AreEncoded trees files jobs
+  pub all_encoded : (all : List Compiled) → IsJobGraph jobs → AreResults jobs (Defines trees files) (all_jobs (length jobs)) all → AreEncoded trees files jobs
   all_encoded all is_graph are = record {
     each = λ job low.
-        let many : length all ≡ length jobs = as_many jobs Defines (all_jobs (length jobs)) all are ∙ all_long (length jobs) in
+        let many : length all ≡ length jobs = as_many jobs (Defines trees files) (all_jobs (length jobs)) all are ∙ all_long (length jobs) in
         let x = item all job (omega (arith, low, many)) in
-        let r : IsResult jobs Defines job x.0 = one_of jobs Defines (all_jobs (length jobs)) all are job job x.0 (job_at (length jobs) job low) x.1 in
+        let r : IsResult jobs (Defines trees files) job x.0 = one_of jobs (Defines trees files) (all_jobs (length jobs)) all are job job x.0 (job_at (length jobs) job low) x.1 in
         let inputs : r.outs ≡ needed_of trees files jobs job =
         sym (map-id r.outs)
-        ∙ as_picked jobs Defines (λ c. c) f is_graph gives (prerequisites_of jobs job) r.outs (λ j some. let less : j < job = (is_graph job j low).0 some in omega (arith, less, low)) r.are
+        ∙ as_picked jobs (Defines trees files) (λ c. c) f is_graph gives (prerequisites_of jobs job) r.outs (λ j some. let less : j < job = (is_graph job j low).0 some in omega (arith, less, low)) r.are
         ∙ picked_below jobs f is_graph job low
         in
         subst (encoded_at trees files job) inputs r.defined.1;
   }
+
+-- ---- results of which some may have no encoding
+
+one_is : (x : Made) (xs : List Made) (c : Compiled) (cs : List Compiled) → x ∷ xs ≡ modules (c ∷ cs) → (x ≡ Became c) × (xs ≡ modules cs)
+one_is x xs c cs e = (cc, cc)
+
+-- what a module came of, where the result is that module
+of_modules : (defines : ℕ → List Compiled → Compiled → Type 0) (job : ℕ) (outs : List Made) (x : Made) (c : Compiled) → x ≡ Became c → MayMake defines job outs x → IsMadeOf defines job outs c
+of_modules defines job outs x c e may = subst (MayMake defines job outs) e may
+
+-- where all results are modules, they are results of the definition
+pub unmade : (graph : List (List ℕ)) (defines : ℕ → List Compiled → Compiled → Type 0) (jobs : List ℕ) (made : List Made) (cs : List Compiled)
+    → AreResults graph (MayMake defines) jobs made → made ≡ modules cs → AreResults graph defines jobs cs
+unmade graph defines _ _ [] NoJobs e = NoJobs
+unmade graph defines _ _ (c ∷ cs) NoJobs e = absurd cc
+unmade graph defines _ _ [] (OneMore job outs x jobs xs before may more) e = absurd cc
+unmade graph defines _ _ (c ∷ cs) (OneMore job outs x jobs xs before may more) e =
+    let is = one_is x xs c cs e in
+    let m = of_modules defines job outs x c is.0 may in
+    OneMore job m.needed c jobs cs (unmade graph defines _ _ m.needed before m.outs_are) m.defined (unmade graph defines _ _ cs more is.1)

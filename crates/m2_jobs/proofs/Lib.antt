@@ -2,3 +2,4 @@ pub mod Crossing
 pub mod CrossingModules
 pub mod Rounds
 pub mod Below
+pub mod Making

@@ -22,7 +22,8 @@ use Rattle.m2_read.proofs.All.{are_read}
 use Rattle.m2_tree.specs.declared.decl.Module.{Module}
 use Rattle.m2_compile.specs.declared.outcome.Compiled.{Compiled}
 use Rattle.m2_jobs.specs.Jobs.{compiled_at, all_compiled}
-use Rattle.m2_jobs.proofs.Below.{Defines, gives}
+use Rattle.m2_jobs.specs.Encoded.{Defines}
+use Rattle.m2_jobs.proofs.Below.{gives}
 
 -- ---- rows
 
@@ -102,6 +103,6 @@ read_count [] (r ∷ rs) h = absurd h
 read_count (f ∷ fs) [] h = absurd h
 
 -- where the results of all jobs are there, they are what becomes of the modules
-pub each_compiled : (trees : List Module) (files : List ℕ) (jobs : List (List ℕ)) (all : List Compiled) → IsJobGraph jobs → AreResults jobs (Defines trees files jobs) (all_jobs (length jobs)) all → all ≡ all_compiled trees files jobs
+pub each_compiled : (trees : List Module) (files : List ℕ) (jobs : List (List ℕ)) (all : List Compiled) → IsJobGraph jobs → AreResults jobs (Defines trees files) (all_jobs (length jobs)) all → all ≡ all_compiled trees files jobs
 each_compiled trees files jobs all graph are =
-    sym (map-id all) ∙ as_defined jobs (Defines trees files jobs) (λ c. c) (compiled_at trees files) graph (gives trees files jobs) all are
+    sym (map-id all) ∙ as_defined jobs (Defines trees files) (λ c. c) (compiled_at trees files) graph (gives trees files jobs) all are

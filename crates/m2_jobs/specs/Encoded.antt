@@ -1,5 +1,5 @@
 -- The modules of all jobs have encodings.
-use Rattle.std.specs.Prelude.{ℕ, ◌<◌, List, length, Option, Some, None, slice_get, slice_index_or}
+use Rattle.std.specs.Prelude.{◌≡◌, ℕ, ◌<◌, List, length, Option, Some, None, slice_get, slice_index_or}
 use Rattle.m2_tree.specs.declared.decl.Module.{Module}
 use Rattle.m2_board.specs.Graph.{prerequisites_of}
 use Rattle.m2_worker.specs.Results.{results_below, picked}
@@ -14,6 +14,10 @@ encoded_in (Some m) job needed = IsEncoded m job needed
 -- that of a job, from what its prerequisites came to
 abbrev pub encoded_at : List Module → (files : List ℕ) → (job : ℕ) → List Compiled → Type 0
 encoded_at trees files job needed = encoded_in (slice_get trees (slice_index_or files job 0)) job needed
+
+-- what becomes of a job, and that it has an encoding
+abbrev pub Defines : List Module → (files : List ℕ) → (job : ℕ) → List Compiled → Compiled → Type 0
+Defines trees files job needed c = (c ≡ compiled_at trees files job needed) × encoded_at trees files job needed
 
 -- what the prerequisites of a job come to
 abbrev pub needed_of : List Module → (files : List ℕ) → (jobs : List (List ℕ)) → (job : ℕ) → List Compiled

@@ -1,3 +1,4 @@
 pub mod Borrowed
 pub mod Jobs
 pub mod Encoded
+pub mod Made

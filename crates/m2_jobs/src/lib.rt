@@ -2,6 +2,7 @@
 //! a job does stands in `m2_read` and `m2_compile`.
 #![tactic(auto)]
 
+mod made;
 mod modules;
 mod runner;
 mod texts;

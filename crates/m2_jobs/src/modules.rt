@@ -2,15 +2,18 @@
 
 ghost use Rattle.std.specs.Prelude.{◌≡◌, ◌<◌, ◌≤◌, ◌^◌, length, map, slice_get, IfOk, OnOk};
 ghost use Rattle.m2_graph.specs.Refused.{max_files};
-ghost use Rattle.m2_jobs.specs.Jobs.{compiled_in, compiled_at};
-ghost use Rattle.m2_jobs.specs.Encoded.{encoded_in, encoded_at};
+ghost use Rattle.m2_jobs.specs.Jobs.{compiled_in};
+ghost use Rattle.m2_jobs.specs.Encoded.{encoded_in, Defines};
+ghost use Rattle.m2_jobs.specs.Made.{IsMadeOf, MayMake};
 ghost use Rattle.m2_jobs.specs.Borrowed.{modules_borrowed};
 
+use crate::made::{Made, modules_in};
 use m2_compile::{Compiled, compile};
 use m2_tree::Module;
 use m2_worker::Work;
 use sqlite_items::at;
 use std::alloc::{AllocError, Global};
+use wasm_tree::EncodeError;
 
 /// What becomes of the module in this place.
 fn compiled_in(
@@ -19,7 +22,7 @@ fn compiled_in(
     file: usize,
     job: usize,
     needed: &[&Compiled],
-) -> Result<Compiled, AllocError>
+) -> Result<Compiled, EncodeError>
     requires { job < 2 ^ 32 }
     ensures becomes { IfOk result (λ c.
         c ≡ compiled_in (slice_get (modules_borrowed trees.now) file) job
@@ -30,6 +33,44 @@ fn compiled_in(
     match at(trees, file) {
         None => Ok(Compiled::Blocked),
         Some(tree) => compile(alloc, tree.1, job as u32, needed),
+    }
+}
+
+/// What becomes of the module of a job, from what the jobs that it needs came to.
+#[tactic(auto, using(crate::proofs::Making::made_from))]
+fn compiled_from(
+    alloc: Global,
+    trees: &[(&str, &Module)],
+    files: &[usize],
+    job: usize,
+    needed: &[&Made],
+) -> Result<Compiled, EncodeError>
+    requires low { job < length files.now }
+    requires few { length files.now ≤ max_files }
+    ensures { let defines = Defines (modules_borrowed trees.now) files.now in
+        IfOk result (IsMadeOf defines job (map (λ n. n.now) needed.now)) }
+{
+    let modules = modules_in(alloc, needed)?;
+    compiled_in(alloc, trees, files[job], job, &modules)
+}
+
+/// What a job comes to, from what the jobs that it needs came to. That a module has no encoding is no want of memory.
+fn made_of(
+    alloc: Global,
+    trees: &[(&str, &Module)],
+    files: &[usize],
+    job: usize,
+    needed: &[&Made],
+) -> Result<Made, AllocError>
+    requires low { job < length files.now }
+    requires few { length files.now ≤ max_files }
+    ensures { let defines = Defines (modules_borrowed trees.now) files.now in
+        IfOk result (MayMake defines job (map (λ n. n.now) needed.now)) }
+{
+    match compiled_from(alloc, trees, files, job, needed) {
+        Ok(compiled) => Ok(Made::Module(compiled)),
+        Err(EncodeError::NoEncoding) => Ok(Made::NoEncoding),
+        Err(EncodeError::NoMemory) => Err(AllocError),
     }
 }
 
@@ -49,19 +90,17 @@ pub struct Modules<'a> {
 }
 
 impl Work for Modules<'_> {
-    type Out = Compiled;
+    type Out = Made;
 
     ghost graph = { λ w. map (λ job. job.items) w.jobs.now };
 
-    ghost defines = { λ w job outs c.
-        (c ≡ compiled_at (modules_borrowed w.trees.now) w.files.now job outs)
-        × encoded_at (modules_borrowed w.trees.now) w.files.now job outs };
+    ghost defines = { λ w. MayMake (Defines (modules_borrowed w.trees.now) w.files.now) };
 
-    fn run(&self, job: usize, prerequisites: &[&Compiled]) -> Result<Compiled, AllocError> {
-        compiled_in(self.alloc, self.trees, self.files[job], job, prerequisites)
+    fn run(&self, job: usize, prerequisites: &[&Made]) -> Result<Made, AllocError> {
+        made_of(self.alloc, self.trees, self.files, job, prerequisites)
     }
 
-    fn copy(&self, out: &Compiled) -> Result<Compiled, AllocError> {
+    fn copy(&self, out: &Made) -> Result<Made, AllocError> {
         out.share()
     }
 }

@@ -5,13 +5,15 @@ ghost use Rattle.m2_board.specs.Graph.{IsJobGraph};
 ghost use Rattle.m2_board.specs.Seats.{max_workers};
 ghost use Rattle.m2_board.specs.declared.board.Tally.{Tally as Records};
 ghost use Rattle.m2_jobs.specs.Jobs.{all_compiled};
-ghost use Rattle.m2_jobs.specs.Encoded.{AreEncoded};
+ghost use Rattle.m2_jobs.specs.Encoded.{AreEncoded, Defines};
+ghost use Rattle.m2_jobs.specs.Made.{MayMake};
 ghost use Rattle.m2_jobs.specs.Borrowed.{borrowed, modules_borrowed};
 ghost use Rattle.m2_graph.specs.Files.{numbered};
 ghost use Rattle.m2_graph.specs.Graph.{IsGraph, CompileEach};
 ghost use Rattle.m2_read.specs.Reading.{AreRead};
 ghost use Rattle.m2_worker.specs.Results.{AreResults, all_jobs};
 
+use crate::made::{Made, all_modules};
 use crate::modules::Modules;
 use crate::texts::Texts;
 use m2_board::{JobGraph, PoolRefusal, Tally};
@@ -23,6 +25,7 @@ use m2_tree::Module;
 use m2_worker::{Gate, Work};
 use std::alloc::{AllocError, Global};
 use std::thread::Threads;
+use wasm_tree::EncodeError;
 
 /// What a build runs on: threads and how many of them, its gate, and memory.
 #[derive(Drop)]
@@ -122,12 +125,28 @@ impl<R: Threads + Sync, G: Gate> Runner<'_, R, G> {
         self.run(&graph, &Texts { alloc, files })
     }
 
-    /// The second round: what becomes of the module of each job of a graph.
+    /// What each job of a graph comes to.
+    fn all_made(&self, trees: &[(&str, &Module)], graph: &Graph) -> Result<Vec<Made>, AllocError>
+        requires graph { IsGraph (numbered 0 (borrowed trees.now)) graph.now.files.items
+            (map (λ j. j.items) graph.now.jobs.items) graph.now.starts.items }
+        requires each { CompileEach (numbered 0 (borrowed trees.now)) graph.now.files.items }
+        ensures made { let jobs = map (λ job. job.items) graph.now.jobs.items in
+            let defines = Defines (modules_borrowed trees.now) graph.now.files.items in
+            IfOk result (λ made.
+            AreResults jobs (MayMake defines) (all_jobs (length jobs)) made.items) }
+        ensures sound { IsJobGraph (map (λ job. job.items) graph.now.jobs.items) }
+    {
+        let jobs = pooled(self.alloc, graph)?;
+        self.run(&jobs, &modules_of(self.alloc, trees, graph))
+    }
+
+    /// The second round: what becomes of the module of each job of a graph. The only error is that memory ran out, or that
+    /// one of the modules has no encoding.
     pub fn compile_all(
         &self,
         trees: &[(&str, &Module)],
         graph: &Graph,
-    ) -> Result<Vec<Compiled>, AllocError>
+    ) -> Result<Vec<Compiled>, EncodeError>
         requires graph { IsGraph (numbered 0 (borrowed trees.now)) graph.now.files.items
             (map (λ j. j.items) graph.now.jobs.items) graph.now.starts.items }
         requires each { CompileEach (numbered 0 (borrowed trees.now)) graph.now.files.items }
@@ -137,7 +156,7 @@ impl<R: Threads + Sync, G: Gate> Runner<'_, R, G> {
         ensures encoded { OnOk result (AreEncoded (modules_borrowed trees.now)
             graph.now.files.items (map (λ job. job.items) graph.now.jobs.items)) }
     {
-        let jobs = pooled(self.alloc, graph)?;
-        self.run(&jobs, &modules_of(self.alloc, trees, graph))
+        let made = self.all_made(trees, graph)?;
+        all_modules(self.alloc, made)
     }
 }

@@ -22,10 +22,7 @@ pub enum Read {
 fn shared(alloc: Global, tree: Module) -> Result<Read, AllocError>
     ensures { IfOk result (λ r. (text : List ℕ) → HasTree text tree → IsRead text r) }
 {
-    match Arc::new(alloc, tree) {
-        Ok(tree) => Ok(Read::Parsed(tree)),
-        Err(_) => Err(AllocError),
-    }
+    Ok(Read::Parsed(Arc::new(alloc, tree)?))
 }
 
 /// What is read of a text with these tokens.

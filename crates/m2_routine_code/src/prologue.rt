@@ -14,14 +14,14 @@ ghost use Rattle.m2_scheme.specs.Exprs.{arguments_of};
 ghost use Rattle.m2_scheme.specs.Functions.{link_arguments, prologue, limit_check, enter_code, link_kept, word_kept, value_kept, bytes_code, open_copied, formal_kept, formals_kept};
 ghost use Rattle.m2_routine_code.specs.Kept.{own, word_at, copy_begun, copy_made};
 
-use m2_draft::{Draft, Setting, extended, fault, operation, plus, raised, size_in, store, wrapped};
+use m2_draft::{Draft, Setting, extended, fault, operation, raised, size_in, store, wrapped};
 use m2_typed::{Formal, Made, Routine, Shape, Slot, TypeNo, made_of};
 use std::alloc::AllocError;
-use wasm_tree::{Numeric, Op, Operation, Relation, StoreWidth};
+use wasm_tree::{EncodeError, Numeric, Op, Operation, Relation, StoreWidth, plus};
 
 /// Ends the run where the stack's top is past the limit.
 #[tactic(auto, using(crate::proofs::Entered::limit_fault))]
-fn limit_check(draft: &mut Draft) -> Result<(), AllocError>
+fn limit_check(draft: &mut Draft) -> Result<(), EncodeError>
     ensures { OnOk result (draft.new ≡ put limit_check draft.old) }
 {
     draft.push(Op::GlobalGet(0))?;
@@ -32,7 +32,7 @@ fn limit_check(draft: &mut Draft) -> Result<(), AllocError>
 }
 
 /// Puts the stack's top behind a frame of so many bytes.
-fn top_raised(top: u32, bytes: u32, draft: &mut Draft) -> Result<(), AllocError>
+fn top_raised(top: u32, bytes: u32, draft: &mut Draft) -> Result<(), EncodeError>
     ensures { let code = LocalGet 0 ∷ (raised bytes ++ (LocalTee top ∷ limit_check)) in
         OnOk result (draft.new ≡ put code draft.old) }
 {
@@ -43,13 +43,14 @@ fn top_raised(top: u32, bytes: u32, draft: &mut Draft) -> Result<(), AllocError>
 }
 
 /// Puts the stack's top behind a frame of so many bytes, which are filled with zeros.
-pub fn enter_code(top: u32, bytes: u32, draft: &mut Draft) -> Result<(), AllocError>
+pub fn enter_code(top: u32, bytes: u32, draft: &mut Draft) -> Result<(), EncodeError>
     ensures { OnOk result (draft.new ≡ put (enter_code top bytes) draft.old) }
 {
     top_raised(top, bytes, draft)?;
     draft.push(Op::LocalGet(0))?;
     draft.push(Op::I32Const(bytes))?;
-    draft.push(Op::Call(3))
+    draft.push(Op::Call(3))?;
+    Ok(())
 }
 
 /// A nested procedure keeps the frame of the procedure around it.
@@ -86,14 +87,14 @@ fn address_at(at: u32, p: u32, draft: &mut Draft) -> Result<(), AllocError>
 }
 
 /// The offset of a formal in the frame.
-fn offset_of(setting: &Setting<'_>, v: usize) -> Result<u32, AllocError>
+fn offset_of(setting: &Setting<'_>, v: usize) -> Result<u32, EncodeError>
     ensures { IfOk result (λ n. n ≡ offset (own (meant setting.now)) (suc v ∷ [])) }
 {
     setting.slot_offset(Slot { up: 0, number: v })
 }
 
 /// The offset of the second cell of an open array in the frame.
-fn high_of(setting: &Setting<'_>, v: usize) -> Result<u32, AllocError>
+fn high_of(setting: &Setting<'_>, v: usize) -> Result<u32, EncodeError>
     ensures { IfOk result (λ n. n ≡ offset (own (meant setting.now)) (suc v ∷ 1 ∷ [])) }
 {
     setting.high_offset(Slot { up: 0, number: v })
@@ -101,13 +102,14 @@ fn high_of(setting: &Setting<'_>, v: usize) -> Result<u32, AllocError>
 
 /// Keeps the two cells of a VAR formal ARRAY OF.
 #[tactic(auto, using(m2_draft::proofs::Emitted::put_append, crate::proofs::Entered::first_cell))]
-fn open_kept(setting: &Setting<'_>, v: usize, x: u32, draft: &mut Draft) -> Result<(), AllocError>
+fn open_kept(setting: &Setting<'_>, v: usize, x: u32, draft: &mut Draft) -> Result<(), EncodeError>
     ensures { let f = own (meant setting.now) in
         let first = word_kept f v (0 ∷ []) (LocalGet x ∷ []) in
         OnOk result (draft.new ≡ put (first ++ word_kept f v (1 ∷ []) (LocalGet (suc x) ∷ [])) draft.old) }
 {
     word_at(offset_of(setting, v)?, x, draft)?;
-    word_at(high_of(setting, v)?, plus(1, x)?, draft)
+    word_at(high_of(setting, v)?, plus(1, x)?, draft)?;
+    Ok(())
 }
 
 /// Stores a scalar in the frame.
@@ -134,7 +136,7 @@ fn whole_kept(
     at: u32,
     x: u32,
     draft: &mut Draft,
-) -> Result<(), AllocError>
+) -> Result<(), EncodeError>
     ensures { let bytes = size (tree setting.now.home.types t) in
         let value = LocalGet x ∷ wrapped ∷ I32Const bytes ∷ Call copy ∷ [] in
         OnOk result (draft.new ≡ put (LocalGet 0 ∷ (raised at ++ value)) draft.old) }
@@ -144,7 +146,8 @@ fn whole_kept(
     draft.push(Op::LocalGet(x))?;
     wrapped(draft)?;
     draft.push(Op::I32Const(size_in(setting, t)?))?;
-    draft.push(Op::Call(2))
+    draft.push(Op::Call(2))?;
+    Ok(())
 }
 
 /// Keeps a value formal that is no open array.
@@ -155,13 +158,13 @@ fn value_kept(
     v: usize,
     x: u32,
     draft: &mut Draft,
-) -> Result<(), AllocError>
+) -> Result<(), EncodeError>
     ensures { let f = own (meant setting.now) in
         OnOk result (draft.new ≡ put (value_kept f v x (tree setting.now.home.types t)) draft.old) }
 {
     let at = offset_of(setting, v)?;
     match setting.home().kind(t) {
-        Some(_) => scalar_kept(setting, t, at, x, draft),
+        Some(_) => Ok(scalar_kept(setting, t, at, x, draft)?),
         None => whole_kept(setting, t, at, x, draft),
     }
 }
@@ -179,7 +182,7 @@ fn bytes_code(h: u32, element: u32, draft: &mut Draft) -> Result<(), AllocError>
 }
 
 /// Raises the stack's top by the bytes of a copy.
-fn copy_begun(top: u32, p: u32, x: u32, element: u32, draft: &mut Draft) -> Result<(), AllocError>
+fn copy_begun(top: u32, p: u32, x: u32, element: u32, draft: &mut Draft) -> Result<(), EncodeError>
     ensures { OnOk result (draft.new ≡ put (copy_begun top p x element) draft.old) }
 {
     draft.push(Op::LocalGet(top))?;
@@ -192,14 +195,15 @@ fn copy_begun(top: u32, p: u32, x: u32, element: u32, draft: &mut Draft) -> Resu
 }
 
 /// Copies an open array.
-fn copy_made(p: u32, x: u32, element: u32, draft: &mut Draft) -> Result<(), AllocError>
+fn copy_made(p: u32, x: u32, element: u32, draft: &mut Draft) -> Result<(), EncodeError>
     ensures { OnOk result (draft.new ≡ put (copy_made p x element) draft.old) }
 {
     draft.push(Op::LocalGet(p))?;
     draft.push(Op::LocalGet(x))?;
     wrapped(draft)?;
     bytes_code(plus(1, x)?, element, draft)?;
-    draft.push(Op::Call(2))
+    draft.push(Op::Call(2))?;
+    Ok(())
 }
 
 /// Keeps the address of a copy, and HIGH.
@@ -210,13 +214,14 @@ fn copy_kept(
     p: u32,
     x: u32,
     draft: &mut Draft,
-) -> Result<(), AllocError>
+) -> Result<(), EncodeError>
     ensures { let f = own (meant setting.now) in
         let first = word_kept f v (0 ∷ []) (LocalGet p ∷ extended ∷ []) in
         OnOk result (draft.new ≡ put (first ++ word_kept f v (1 ∷ []) (LocalGet (suc x) ∷ [])) draft.old) }
 {
     address_at(offset_of(setting, v)?, p, draft)?;
-    word_at(high_of(setting, v)?, plus(1, x)?, draft)
+    word_at(high_of(setting, v)?, plus(1, x)?, draft)?;
+    Ok(())
 }
 
 /// Copies an open array behind the frame, and keeps its address and HIGH.
@@ -228,7 +233,7 @@ fn open_copied(
     v: usize,
     x: u32,
     draft: &mut Draft,
-) -> Result<(), AllocError>
+) -> Result<(), EncodeError>
     ensures { let f = own (meant setting.now) in
         OnOk result (draft.new ≡ put (open_copied locals.top locals.copy f v x element) draft.old) }
 {
@@ -252,7 +257,7 @@ fn formal_kept(
     v: usize,
     x: u32,
     draft: &mut Draft,
-) -> Result<(), AllocError>
+) -> Result<(), EncodeError>
     ensures { let f = own (meant setting.now) in
         let code = formal_kept setting.now.home.types locals.top locals.copy f v x formal.now in
         OnOk result (draft.new ≡ put code draft.old) }
@@ -264,7 +269,7 @@ fn formal_kept(
         return open_copied(setting, locals, size_in(setting, formal.of)?, v, x, draft);
     }
     if formal.is_var {
-        return word_at(offset_of(setting, v)?, x, draft);
+        return Ok(word_at(offset_of(setting, v)?, x, draft)?);
     }
     value_kept(setting, formal.of, v, x, draft)
 }
@@ -283,7 +288,7 @@ fn formals_kept(
     formals: &[Formal],
     first: u32,
     draft: &mut Draft,
-) -> Result<(), AllocError>
+) -> Result<(), EncodeError>
     ensures { let f = own (meant setting.now) in
         let code = formals_kept setting.now.home.types locals.top locals.copy f 0 first formals.now in
         OnOk result (draft.new ≡ put code draft.old) }
@@ -305,7 +310,7 @@ fn heading_kept(
     heading: Option<&Made>,
     first: u32,
     draft: &mut Draft,
-) -> Result<(), AllocError>
+) -> Result<(), EncodeError>
     ensures { let f = own (meant setting.now) in
         let formals = formals_made (option_copied heading.entry) in
         let code = formals_kept setting.now.home.types locals.top locals.copy f 0 first formals in
@@ -340,7 +345,7 @@ pub fn prologue(
     locals: Locals,
     bytes: u32,
     draft: &mut Draft,
-) -> Result<(), AllocError>
+) -> Result<(), EncodeError>
     requires frame { own (meant setting.now) ≡ frame setting.now.home.types routine.now }
     requires bytes { bytes ≡ size (frame setting.now.home.types routine.now) }
     ensures { let code = prologue setting.now.home.types routine.now locals.top locals.copy in

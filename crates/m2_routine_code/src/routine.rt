@@ -16,16 +16,16 @@ ghost use Rattle.m2_steps_code.specs.Written.{with_steps};
 ghost use Rattle.m2_routine_code.specs.Around.{routines_around, routine_setting, begun, finished};
 
 use crate::prologue::{Locals as Kept, enter_code, prologue};
-use m2_draft::{Draft, Framed, Home, Setting, exact, fault, plus, small};
+use m2_draft::{Draft, Framed, Home, Setting, exact, fault};
 use m2_signatures::{has_result, numbers_of};
 use m2_steps_code::{addresses_in, body_code};
 use m2_typed::{Routine, Which};
 use sqlite_items::Items;
 use std::alloc::{AllocError, Global};
-use wasm_tree::{Body, Code, Function, Locals, ValueType};
+use wasm_tree::{Body, Code, EncodeError, Function, Locals, ValueType, plus, small};
 
 /// The function of a code that was made.
-fn finished(alloc: Global, type_index: u32, draft: Draft) -> Result<Function, AllocError>
+fn finished(alloc: Global, type_index: u32, draft: Draft) -> Result<Function, EncodeError>
     ensures { IfOk result (λ f. f ≡ finished type_index draft) }
 {
     let (ops, addresses, numbers) = draft.finish();
@@ -47,7 +47,7 @@ fn finished(alloc: Global, type_index: u32, draft: Draft) -> Result<Function, Al
 }
 
 /// What stands before the statements of the module's body, and these.
-fn module_draft(alloc: Global, home: &Home<'_>, texts: u32) -> Result<Draft, AllocError>
+fn module_draft(alloc: Global, home: &Home<'_>, texts: u32) -> Result<Draft, EncodeError>
     ensures { let s = setting home.now (frame_of [] ∷ []) 1 (addresses_in home.now.body) in
         IfOk result (λ d. d ≡ with_steps s (put (enter_code 1 16) (begun texts)) home.now.body) }
 {
@@ -62,7 +62,7 @@ fn module_draft(alloc: Global, home: &Home<'_>, texts: u32) -> Result<Draft, All
 /// The function of the module's body, where so many characters of texts stand before its own. The only error is that memory
 /// ran out, or that a number does not fit into 32 bits.
 #[tactic(auto, using(crate::proofs::Finished::module_is))]
-pub fn module_function(alloc: Global, home: &Home<'_>, texts: u32) -> Result<Function, AllocError>
+pub fn module_function(alloc: Global, home: &Home<'_>, texts: u32) -> Result<Function, EncodeError>
     requires { texts ≡ characters (routines_texts home.now) }
     ensures { IfOk result (λ f. f ≡ module_function (numbered home.now) home.now) }
 {
@@ -147,7 +147,7 @@ fn routine_draft<'a>(
     numbers: u32,
     bytes: u32,
     draft: &mut Draft,
-) -> Result<(), AllocError>
+) -> Result<(), EncodeError>
     requires framed { AreFramed home.now.types frames.now }
     requires routines { let r = routine.now in
         routines_in frames.now ≡ r ∷ routines_around home.now r.level r.around }
@@ -175,7 +175,7 @@ fn framed_function(
     home: &Home<'_>,
     framed: Framed<'_>,
     texts: u32,
-) -> Result<Function, AllocError>
+) -> Result<Function, EncodeError>
     requires { IsFramed home.now.types framed }
     ensures { let r = framed.entry.routine.now in
         let n = numbers_of home.now.types r in
@@ -187,7 +187,7 @@ fn framed_function(
 {
     let routine = framed.routine;
     let types = &home.module_body().types;
-    let count = numbers_of(types, routine)?;
+    let count = numbers_of(types, routine);
     let gives = has_result(types, routine.heading);
     let frames = frames_of(alloc, home, framed)?;
     let mut draft = Draft::new(alloc, texts);
@@ -213,14 +213,14 @@ pub fn routine_function(
     which: Which,
     routine: &Routine,
     texts: u32,
-) -> Result<Function, AllocError>
+) -> Result<Function, EncodeError>
     requires found { routine_of home.now which ≡ Some routine.now }
     requires texts { texts ≡ characters (texts_before home.now which home.now.order) }
     ensures { let numbers = numbered home.now in
         IfOk result (λ f. f ≡ routine_function numbers home.now which routine.now) }
 {
     match home.framed(which) {
-        None => Err(AllocError),
+        None => unreachable!(),
         Some(framed) => framed_function(alloc, home, framed, texts),
     }
 }

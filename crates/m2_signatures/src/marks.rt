@@ -77,7 +77,7 @@ pub fn mark_heading(types: &Types, marks: &mut Vec<Mark>, heading: TypeNo) -> Re
 {
     mark_signature(
         marks,
-        arguments_in(types, heading)?,
+        arguments_in(types, heading),
         has_result(types, heading),
     )
 }

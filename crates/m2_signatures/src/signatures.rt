@@ -17,6 +17,7 @@ use m2_tree::Items;
 use m2_typed::TypedModule;
 use std::alloc::{AllocError, Global};
 use std::marker::Model;
+use wasm_tree::EncodeError;
 
 /// The signatures that a module needs, in order of their numbers. Contracts see the list.
 #[derive(Drop)]
@@ -87,7 +88,7 @@ fn marks_of(alloc: Global, module_body: &TypedModule) -> Result<Vec<Mark>, Alloc
     Ok(marks)
 }
 
-fn module_table(alloc: Global, module_body: &TypedModule) -> Result<Table, AllocError>
+fn module_table(alloc: Global, module_body: &TypedModule) -> Result<Table, EncodeError>
     ensures { IfOk result (λ t. t ≡ table_of (marks_of module_body.now)) }
 {
     let marks = marks_of(alloc, module_body)?;
@@ -96,7 +97,7 @@ fn module_table(alloc: Global, module_body: &TypedModule) -> Result<Table, Alloc
 
 /// The types of functions that a module needs. The only error is that memory ran out, or that they are too many.
 #[tactic(auto, using(crate::proofs::Places::module_list, crate::proofs::Places::module_numbers))]
-pub fn signatures_of(alloc: Global, module_body: &TypedModule) -> Result<Signatures, AllocError>
+pub fn signatures_of(alloc: Global, module_body: &TypedModule) -> Result<Signatures, EncodeError>
     ensures { IfOk result (λ s. s ≡ signatures module_body.now) }
 {
     let Table { list, numbers } = module_table(alloc, module_body)?;

@@ -150,7 +150,7 @@ fn routine_marks(
     let types = &module_body.types;
     mark_signature(
         marks,
-        numbers_of(types, routine)?,
+        numbers_of(types, routine),
         has_result(types, routine.heading),
     )?;
     stmts_marks(module_body, marks, routine.body.as_slice())

@@ -6,7 +6,8 @@ ghost use Rattle.m2_signatures.specs.Tables.{entered, number_behind, with_mark, 
 use crate::marks::Mark;
 use crate::signature::{Numbers, Signature};
 use m2_tree::Items;
-use std::alloc::{AllocError, Global};
+use std::alloc::Global;
+use wasm_tree::{EncodeError, plus, small};
 
 /// Types of functions in order, and their numbers by how many arguments they have.
 #[derive(Drop)]
@@ -15,33 +16,20 @@ pub struct Table {
     pub numbers: Items<Numbers>,
 }
 
-/// The number of the next type in the list. The only error is that it does not fit.
-fn next_number(count: usize) -> Result<u32, AllocError>
-    ensures { IfOk result (λ n. n ≡ 6 + count) }
-{
-    match u32::try_from(count) {
-        Err(_) => Err(AllocError),
-        Ok(count) => match count.checked_add(6) {
-            None => Err(AllocError),
-            Some(n) => Ok(n),
-        },
-    }
-}
-
 /// Enters a type if it is wanted, and answers its number.
 fn entered(
     list: &mut Items<Signature>,
     wanted: bool,
     arguments: usize,
     has_result: bool,
-) -> Result<u32, AllocError>
+) -> Result<u32, EncodeError>
     ensures number { IfOk result (λ n. n ≡ number_behind wanted list.old) }
     ensures list { OnOk result (list.new ≡ list.old ++ entered wanted arguments has_result) }
 {
     if !wanted {
         return Ok(6);
     }
-    let number = next_number(list.len())?;
+    let number = plus(6, small(list.len())?)?;
     list.push(Signature {
         arguments,
         has_result,
@@ -50,18 +38,19 @@ fn entered(
 }
 
 /// Enters the types with one more argument.
-fn with_mark(table: &mut Table, mark: Mark) -> Result<(), AllocError>
+fn with_mark(table: &mut Table, mark: Mark) -> Result<(), EncodeError>
     ensures { OnOk result (table.new ≡ with_mark table.old mark) }
 {
     let arguments = table.numbers.len();
     let wanted = mark.without && arguments != 0;
     let without = entered(&mut table.list, wanted, arguments, false)?;
     let giving = entered(&mut table.list, mark.giving, arguments, true)?;
-    table.numbers.push(Numbers { without, giving })
+    table.numbers.push(Numbers { without, giving })?;
+    Ok(())
 }
 
 /// The types that are marked. The only error is that memory ran out, or that they are too many.
-pub fn table_of(alloc: Global, marks: &[Mark]) -> Result<Table, AllocError>
+pub fn table_of(alloc: Global, marks: &[Mark]) -> Result<Table, EncodeError>
     ensures { IfOk result (λ t. t ≡ table_of marks.now) }
 {
     let mut table = Table {

@@ -3,14 +3,13 @@
 ghost use Rattle.std.specs.Prelude.{◌≡◌, ◌+◌, ℕ, IfOk, map};
 ghost use Rattle.m2_scheme.specs.Addresses.{total, addresses_of, addresses_armed, addresses_in};
 
-use m2_draft::plus;
 use m2_typed::{TypedArm, TypedStmt};
-use std::alloc::AllocError;
+use wasm_tree::{EncodeError, plus};
 
 /// The addresses of a statement.
 #[cycle(addresses)]
 #[tactic(auto, using(crate::proofs::Addressed::variants))]
-fn stmt_addresses(stmt: &TypedStmt) -> Result<u32, AllocError>
+fn stmt_addresses(stmt: &TypedStmt) -> Result<u32, EncodeError>
     ensures { IfOk result (λ n. n ≡ addresses_of stmt.now) }
 {
     match stmt {
@@ -49,7 +48,7 @@ fn stmt_addresses(stmt: &TypedStmt) -> Result<u32, AllocError>
 
 /// The addresses of statements.
 #[cycle(addresses)]
-fn stmts_addresses(stmts: &[TypedStmt]) -> Result<u32, AllocError>
+fn stmts_addresses(stmts: &[TypedStmt]) -> Result<u32, EncodeError>
     ensures { IfOk result (λ n. n ≡ addresses_in stmts.now) }
 {
     let mut all = 0;
@@ -62,7 +61,7 @@ fn stmts_addresses(stmts: &[TypedStmt]) -> Result<u32, AllocError>
 /// The addresses of an arm.
 #[cycle(addresses)]
 #[tactic(auto, using(crate::proofs::Addressed::variants))]
-fn arm_addresses(arm: &TypedArm) -> Result<u32, AllocError>
+fn arm_addresses(arm: &TypedArm) -> Result<u32, EncodeError>
     ensures { IfOk result (λ n. n ≡ addresses_armed arm.now) }
 {
     stmts_addresses(arm.body.as_slice())
@@ -70,7 +69,7 @@ fn arm_addresses(arm: &TypedArm) -> Result<u32, AllocError>
 
 /// The addresses of the arms of a CASE.
 #[cycle(addresses)]
-fn arms_addresses(arms: &[TypedArm]) -> Result<u32, AllocError>
+fn arms_addresses(arms: &[TypedArm]) -> Result<u32, EncodeError>
     ensures { IfOk result (λ n. n ≡ total (map addresses_armed arms.now)) }
 {
     let mut all = 0;
@@ -81,7 +80,7 @@ fn arms_addresses(arms: &[TypedArm]) -> Result<u32, AllocError>
 }
 
 /// How many addresses the code of a body keeps in locals. An error says that so many do not fit into 32 bits.
-pub fn addresses_in(body: &[TypedStmt]) -> Result<u32, AllocError>
+pub fn addresses_in(body: &[TypedStmt]) -> Result<u32, EncodeError>
     ensures { IfOk result (λ n. n ≡ addresses_in body.now) }
 {
     stmts_addresses(body)

@@ -7,8 +7,7 @@ ghost use Rattle.m2_steps_code.specs.Written.{with_step, with_steps, with_arm, w
 
 use crate::cases::{arm_begun, arm_ended, jump_begun, more, selected, table_begun};
 use crate::control::{
-    Turns, close_turns, condition, for_begun, for_tested, for_turned, open_turns, record_kept,
-    turn_again, unless,
+    condition, for_begun, for_ended, for_opened, open_turns, record_kept, turn_again, unless,
 };
 use crate::plan::plan_of;
 use crate::simple::{
@@ -16,8 +15,8 @@ use crate::simple::{
 };
 use m2_draft::{Draft, Setting, fault};
 use m2_typed::{TypedArm, TypedStmt};
-use std::alloc::{AllocError, Global};
-use wasm_tree::Op;
+use std::alloc::Global;
+use wasm_tree::{EncodeError, Op};
 
 /// The code of a statement.
 #[cycle(body)]
@@ -27,7 +26,7 @@ fn stmt_code(
     setting: &Setting<'_>,
     stmt: &TypedStmt,
     draft: &mut Draft,
-) -> Result<(), AllocError>
+) -> Result<(), EncodeError>
     ensures { OnOk result (draft.new ≡ with_step (meant setting.now) draft.old stmt.now) }
 {
     match stmt {
@@ -40,7 +39,7 @@ fn stmt_code(
         TypedStmt::Put(e) => print(setting, e, draft),
         TypedStmt::Change(how, place, t, e) => change(setting, *how, place, *t, e, draft),
         TypedStmt::Membership(how, place, e) => membership(setting, *how, place, e, draft),
-        TypedStmt::Halt => halt(setting, draft),
+        TypedStmt::Halt => Ok(halt(setting, draft)?),
         TypedStmt::If(e, body, others) => {
             condition(setting, e, draft)?;
             let place = draft.open()?;
@@ -91,19 +90,16 @@ fn stmt_code(
             stmts_code(alloc, &inner, body.as_slice(), draft)?;
             turn_again(turns, draft)
         }
-        TypedStmt::Exit => exit(setting, draft),
-        TypedStmt::Return => leave(setting, draft),
+        TypedStmt::Exit => Ok(exit(setting, draft)?),
+        TypedStmt::Return => Ok(leave(setting, draft)?),
         TypedStmt::Give(t, e) => give(setting, *t, e, draft),
         TypedStmt::For(place, t, start, limit, by, body) => {
             let n = for_begun(setting, place, *t, start, limit, draft)?;
-            let block = draft.open()?;
             let outer = setting.within(1)?;
-            for_tested(&outer, place, *t, *by, n, draft)?;
-            let turn = draft.open()?;
+            let turns = for_opened(&outer, place, *t, *by, n, draft)?;
             let inner = outer.within(1)?;
             stmts_code(alloc, &inner, body.as_slice(), draft)?;
-            for_turned(&inner, place, *t, *by, n, draft)?;
-            close_turns(Turns { block, turn }, draft)
+            for_ended(&inner, place, *t, *by, n, turns, draft)
         }
         TypedStmt::With(place, body) => {
             let w = record_kept(setting, place, draft)?;
@@ -120,7 +116,7 @@ fn stmts_code(
     setting: &Setting<'_>,
     stmts: &[TypedStmt],
     draft: &mut Draft,
-) -> Result<(), AllocError>
+) -> Result<(), EncodeError>
     ensures { OnOk result (draft.new ≡ with_steps (meant setting.now) draft.old stmts.now) }
 {
     for stmt in stmts {
@@ -138,7 +134,7 @@ fn arm_code(
     t: u32,
     arm: &TypedArm,
     draft: &mut Draft,
-) -> Result<(), AllocError>
+) -> Result<(), EncodeError>
     ensures { OnOk result (draft.new ≡ with_arm t (meant setting.now) draft.old arm.now) }
 {
     let place = arm_begun(t, arm, draft)?;
@@ -155,7 +151,7 @@ fn arms_code(
     t: u32,
     arms: &[TypedArm],
     draft: &mut Draft,
-) -> Result<(), AllocError>
+) -> Result<(), EncodeError>
     ensures { OnOk result (draft.new ≡ with_arms t (meant setting.now) draft.old arms.now) }
 {
     for arm in arms {
@@ -174,14 +170,15 @@ fn jump_code(
     left: usize,
     arm: &TypedArm,
     draft: &mut Draft,
-) -> Result<(), AllocError>
+) -> Result<(), EncodeError>
     ensures { let s = meant setting.now in
         OnOk result (draft.new ≡ with_jump place left s draft.old arm.now) }
 {
     jump_begun(place, left, draft)?;
     let inner = setting.within(more(left, 2)?)?;
     stmts_code(alloc, &inner, arm.body.as_slice(), draft)?;
-    draft.push(Op::Br(more(left, 1)?))
+    draft.push(Op::Br(more(left, 1)?))?;
+    Ok(())
 }
 
 /// The code of the arms of a CASE by a table, whose blocks begin at a place.
@@ -193,7 +190,7 @@ fn jumps_code(
     place: usize,
     arms: &[TypedArm],
     draft: &mut Draft,
-) -> Result<(), AllocError>
+) -> Result<(), EncodeError>
     ensures { let s = meant setting.now in
         OnOk result (draft.new ≡ with_jumps place s draft.old arms.now) }
 {
@@ -214,7 +211,7 @@ fn cases_code(
     t: u32,
     arms: &[TypedArm],
     draft: &mut Draft,
-) -> Result<(), AllocError>
+) -> Result<(), EncodeError>
     ensures { OnOk result (draft.new ≡ by_cases t (meant setting.now) draft.old arms.now) }
 {
     match plan_of(arms) {
@@ -237,7 +234,7 @@ pub fn body_code(
     setting: &Setting<'_>,
     body: &[TypedStmt],
     draft: &mut Draft,
-) -> Result<(), AllocError>
+) -> Result<(), EncodeError>
     ensures { OnOk result (draft.new ≡ with_steps (meant setting.now) draft.old body.now) }
 {
     stmts_code(alloc, setting, body, draft)

@@ -13,13 +13,13 @@ use crate::control::open_turns;
 use crate::plan::{Plan, targets};
 use crate::simple::keep_number;
 use m2_code::value_code;
-use m2_draft::{Draft, Setting, number, operation, plus, relation, small, wrapped};
+use m2_draft::{Draft, Setting, number, operation, relation, wrapped};
 use m2_typed::{Label, TypedArm, TypedExpr};
 use std::alloc::{AllocError, Global};
-use wasm_tree::{Op, Operation, Relation};
+use wasm_tree::{EncodeError, Op, Operation, Relation, plus, small};
 
 /// The selector of a CASE, kept in a local.
-pub fn selected(setting: &Setting<'_>, e: &TypedExpr, draft: &mut Draft) -> Result<u32, AllocError>
+pub fn selected(setting: &Setting<'_>, e: &TypedExpr, draft: &mut Draft) -> Result<u32, EncodeError>
     ensures local { let s = meant setting.now in
         IfOk result (λ t. t ≡ selected_local s e.now draft.old) }
     ensures kept { let s = meant setting.now in
@@ -30,23 +30,24 @@ pub fn selected(setting: &Setting<'_>, e: &TypedExpr, draft: &mut Draft) -> Resu
 }
 
 /// Leaves a block where the selector is one of the values of a label.
-fn label_code(t: u32, label: Label, draft: &mut Draft) -> Result<(), AllocError>
+fn label_code(t: u32, label: Label, draft: &mut Draft) -> Result<(), EncodeError>
     ensures { OnOk result (draft.new ≡ put (label_code t label) draft.old) }
 {
     let Some(width) = label.high.checked_sub(label.low) else {
-        return Err(AllocError);
+        return Err(EncodeError::NoEncoding);
     };
     draft.push(Op::LocalGet(t))?;
     number(label.low, draft)?;
     operation(Operation::Sub, draft)?;
     number(width, draft)?;
     relation(Relation::LeU, draft)?;
-    draft.push(Op::BrIf(0))
+    draft.push(Op::BrIf(0))?;
+    Ok(())
 }
 
 /// Leaves a block where the selector is a value of the labels of an arm.
 #[tactic(auto, using(m2_draft::proofs::Emitted::put_append))]
-fn labels_code(t: u32, labels: &[Label], draft: &mut Draft) -> Result<(), AllocError>
+fn labels_code(t: u32, labels: &[Label], draft: &mut Draft) -> Result<(), EncodeError>
     ensures { OnOk result (draft.new ≡ put (flat_map (label_code t) labels.now) draft.old) }
 {
     for label in labels {
@@ -57,15 +58,16 @@ fn labels_code(t: u32, labels: &[Label], draft: &mut Draft) -> Result<(), AllocE
 
 /// Leaves a block where the selector is a value of the labels of an arm, and else goes to the next arm.
 #[tactic(auto, using(m2_draft::proofs::Emitted::put_append))]
-fn tests_code(t: u32, labels: &[Label], draft: &mut Draft) -> Result<(), AllocError>
+fn tests_code(t: u32, labels: &[Label], draft: &mut Draft) -> Result<(), EncodeError>
     ensures { OnOk result (draft.new ≡ put (tests_code t labels.now) draft.old) }
 {
     labels_code(t, labels, draft)?;
-    draft.push(Op::Br(1))
+    draft.push(Op::Br(1))?;
+    Ok(())
 }
 
 /// Begins an arm with its tests, and answers its place.
-pub fn arm_begun(t: u32, arm: &TypedArm, draft: &mut Draft) -> Result<usize, AllocError>
+pub fn arm_begun(t: u32, arm: &TypedArm, draft: &mut Draft) -> Result<usize, EncodeError>
     ensures place { IfOk result (λ at. at ≡ place_of draft.old) }
     ensures begun { OnOk result (draft.new ≡ arm_begun t draft.old arm.now) }
 {
@@ -77,7 +79,7 @@ pub fn arm_begun(t: u32, arm: &TypedArm, draft: &mut Draft) -> Result<usize, All
 }
 
 /// Ends an arm.
-pub fn arm_ended(place: usize, draft: &mut Draft) -> Result<(), AllocError>
+pub fn arm_ended(place: usize, draft: &mut Draft) -> Result<(), EncodeError>
     ensures { OnOk result (draft.new ≡ closed_block place None (put (Br 1 ∷ []) draft.old)) }
 {
     draft.push(Op::Br(1))?;
@@ -85,17 +87,17 @@ pub fn arm_ended(place: usize, draft: &mut Draft) -> Result<(), AllocError>
 }
 
 /// Ends the block behind which an arm stands, with so many arms behind it.
-pub fn jump_begun(place: usize, left: usize, draft: &mut Draft) -> Result<(), AllocError>
+pub fn jump_begun(place: usize, left: usize, draft: &mut Draft) -> Result<(), EncodeError>
     ensures { OnOk result (draft.new ≡ closed_block (place + left) None draft.old) }
 {
     match place.checked_add(left) {
-        None => Err(AllocError),
+        None => Err(EncodeError::NoEncoding),
         Some(at) => draft.close_block(at, None),
     }
 }
 
 /// So many and these, in 32 bits.
-pub fn more(left: usize, labels: u32) -> Result<u32, AllocError>
+pub fn more(left: usize, labels: u32) -> Result<u32, EncodeError>
     ensures { IfOk result (λ n. n ≡ left + labels) }
 {
     plus(small(left)?, labels)
@@ -131,11 +133,12 @@ fn branches(targets: &[u32], draft: &mut Draft) -> Result<(), AllocError>
 
 /// A branch by a table.
 #[tactic(auto, using(crate::proofs::Cased::table_flat))]
-fn table_code(targets: &[u32], last: u32, draft: &mut Draft) -> Result<(), AllocError>
+fn table_code(targets: &[u32], last: u32, draft: &mut Draft) -> Result<(), EncodeError>
     ensures { OnOk result (draft.new ≡ one (BrTable targets.now last) draft.old) }
 {
     draft.push_op(Op::BrTable(small(targets.len())?, last))?;
-    branches(targets, draft)
+    branches(targets, draft)?;
+    Ok(())
 }
 
 /// Branches to what is done else where the selector is beyond the greatest value.
@@ -156,7 +159,7 @@ fn dispatch(
     targets: &[u32],
     last: u32,
     draft: &mut Draft,
-) -> Result<(), AllocError>
+) -> Result<(), EncodeError>
     ensures { OnOk result
         (draft.new ≡ put (dispatch_to t plan.least plan.span targets.now last) draft.old) }
 {
@@ -192,7 +195,7 @@ pub fn table_begun(
     arms: &[TypedArm],
     plan: Plan,
     draft: &mut Draft,
-) -> Result<Begun, AllocError>
+) -> Result<Begun, EncodeError>
     ensures rest { IfOk result (λ x. x.rest ≡ place_of (opened draft.old)) }
     ensures first { IfOk result (λ x. x.first ≡ place_of (opened (opened draft.old))) }
     ensures begun { OnOk result

@@ -17,7 +17,7 @@ use m2_draft::{
 };
 use m2_typed::{Place, TypeNo, TypedExpr};
 use std::alloc::AllocError;
-use wasm_tree::{Op, Operation, Relation};
+use wasm_tree::{EncodeError, Op, Operation, Relation};
 
 /// A block with a loop in it, by their places.
 #[derive(Clone, Copy, PartialEq, Eq)]
@@ -38,7 +38,7 @@ pub fn open_turns(draft: &mut Draft) -> Result<Turns, AllocError>
 }
 
 /// Ends a loop in a block, both by their places.
-pub fn close_turns(turns: Turns, draft: &mut Draft) -> Result<(), AllocError>
+fn close_turns(turns: Turns, draft: &mut Draft) -> Result<(), EncodeError>
     ensures { let inner = closed_loop turns.turn None draft.old in
         OnOk result (draft.new ≡ closed_block turns.block None inner) }
 {
@@ -47,7 +47,7 @@ pub fn close_turns(turns: Turns, draft: &mut Draft) -> Result<(), AllocError>
 }
 
 /// Begins the loop again, and ends both.
-pub fn turn_again(turns: Turns, draft: &mut Draft) -> Result<(), AllocError>
+pub fn turn_again(turns: Turns, draft: &mut Draft) -> Result<(), EncodeError>
     ensures { let inner = closed_loop turns.turn None (one (Br 0) draft.old) in
         OnOk result (draft.new ≡ closed_block turns.block None inner) }
 {
@@ -61,22 +61,24 @@ pub fn unless(
     e: &TypedExpr,
     label: u32,
     draft: &mut Draft,
-) -> Result<(), AllocError>
+) -> Result<(), EncodeError>
     ensures { let value = with_value (meant setting.now) e.now draft.old in
         OnOk result (draft.new ≡ one (BrIf label) (one is_zero value)) }
 {
     value_code(setting, e, draft)?;
     is_zero(draft)?;
-    draft.push(Op::BrIf(label))
+    draft.push(Op::BrIf(label))?;
+    Ok(())
 }
 
 /// The condition of an IF.
-pub fn condition(setting: &Setting<'_>, e: &TypedExpr, draft: &mut Draft) -> Result<(), AllocError>
+pub fn condition(setting: &Setting<'_>, e: &TypedExpr, draft: &mut Draft) -> Result<(), EncodeError>
     ensures { let value = with_value (meant setting.now) e.now draft.old in
         OnOk result (draft.new ≡ one wrapped value) }
 {
     value_code(setting, e, draft)?;
-    wrapped(draft)
+    wrapped(draft)?;
+    Ok(())
 }
 
 /// The record of a WITH, kept in a local.
@@ -84,7 +86,7 @@ pub fn record_kept(
     setting: &Setting<'_>,
     place: &Place,
     draft: &mut Draft,
-) -> Result<u32, AllocError>
+) -> Result<u32, EncodeError>
     ensures local { let d = with_place (meant setting.now) place.now draft.old in
         IfOk result (λ w. w ≡ address_local (meant setting.now) d.counts.addresses) }
     ensures kept { let d = with_place (meant setting.now) place.now draft.old in
@@ -106,12 +108,13 @@ fn held(
     place: &Place,
     t: TypeNo,
     draft: &mut Draft,
-) -> Result<(), AllocError>
+) -> Result<(), EncodeError>
     ensures { let d = with_place (meant setting.now) place.now draft.old in
         OnOk result (draft.new ≡ put (loaded setting.now.home.types t) d) }
 {
     place_code(setting, place, draft)?;
-    load(setting, t, draft)
+    load(setting, t, draft)?;
+    Ok(())
 }
 
 /// Stores the start of a FOR, and answers the local that keeps its limit.
@@ -122,7 +125,7 @@ pub fn for_begun(
     start: &TypedExpr,
     limit: &TypedExpr,
     draft: &mut Draft,
-) -> Result<u32, AllocError>
+) -> Result<u32, EncodeError>
     ensures local { let s = meant setting.now in
         IfOk result (λ n. n ≡ for_local s place.now t start.now limit.now draft.old) }
     ensures begun { let s = meant setting.now in
@@ -137,21 +140,22 @@ pub fn for_begun(
 }
 
 /// The test before the first turn of a FOR.
-pub fn for_tested(
+fn for_tested(
     setting: &Setting<'_>,
     place: &Place,
     t: TypeNo,
     by: i64,
     n: u32,
     draft: &mut Draft,
-) -> Result<(), AllocError>
+) -> Result<(), EncodeError>
     ensures { let s = meant setting.now in
         OnOk result (draft.new ≡ for_tested s place.now t by n draft.old) }
 {
     held(setting, place, t, draft)?;
     draft.push(Op::LocalGet(n))?;
     relation(passes(by), draft)?;
-    draft.push(Op::BrIf(0))
+    draft.push(Op::BrIf(0))?;
+    Ok(())
 }
 
 /// The test behind a turn of a FOR.
@@ -162,7 +166,7 @@ fn for_passed(
     by: i64,
     n: u32,
     draft: &mut Draft,
-) -> Result<(), AllocError>
+) -> Result<(), EncodeError>
     ensures { let s = meant setting.now in
         OnOk result (draft.new ≡ for_passed s place.now t by n draft.old) }
 {
@@ -171,7 +175,8 @@ fn for_passed(
     operation(Operation::Add, draft)?;
     draft.push(Op::LocalGet(n))?;
     relation(passes(by), draft)?;
-    draft.push(Op::BrIf(1))
+    draft.push(Op::BrIf(1))?;
+    Ok(())
 }
 
 /// The next turn of a FOR.
@@ -182,7 +187,7 @@ fn for_next(
     t: TypeNo,
     by: i64,
     draft: &mut Draft,
-) -> Result<(), AllocError>
+) -> Result<(), EncodeError>
     ensures { let s = meant setting.now in
         OnOk result (draft.new ≡ for_next s place.now t by draft.old) }
 {
@@ -192,21 +197,62 @@ fn for_next(
     operation(Operation::Add, draft)?;
     in_type(setting, t, 1, draft)?;
     store(setting, t, draft)?;
-    draft.push(Op::Br(0))
+    draft.push(Op::Br(0))?;
+    Ok(())
 }
 
 /// What stands behind the statements of a FOR.
-pub fn for_turned(
+fn for_turned(
     setting: &Setting<'_>,
     place: &Place,
     t: TypeNo,
     by: i64,
     n: u32,
     draft: &mut Draft,
-) -> Result<(), AllocError>
+) -> Result<(), EncodeError>
     ensures { let s = meant setting.now in
         OnOk result (draft.new ≡ for_turned s place.now t by n draft.old) }
 {
     for_passed(setting, place, t, by, n, draft)?;
     for_next(setting, place, t, by, draft)
+}
+
+/// Begins the block and the loop of a FOR, with the test before the first turn between the two.
+pub fn for_opened(
+    setting: &Setting<'_>,
+    place: &Place,
+    t: TypeNo,
+    by: i64,
+    n: u32,
+    draft: &mut Draft,
+) -> Result<Turns, EncodeError>
+    ensures block { IfOk result (λ x. x.block ≡ place_of draft.old) }
+    ensures turn { let s = meant setting.now in
+        let tested = for_tested s place.now t by n (opened draft.old) in
+        IfOk result (λ x. x.turn ≡ place_of tested) }
+    ensures begun { let s = meant setting.now in
+        OnOk result (draft.new ≡ opened (for_tested s place.now t by n (opened draft.old))) }
+{
+    let block = draft.open()?;
+    for_tested(setting, place, t, by, n, draft)?;
+    let turn = draft.open()?;
+    Ok(Turns { block, turn })
+}
+
+/// Ends the turns of a FOR.
+pub fn for_ended(
+    setting: &Setting<'_>,
+    place: &Place,
+    t: TypeNo,
+    by: i64,
+    n: u32,
+    turns: Turns,
+    draft: &mut Draft,
+) -> Result<(), EncodeError>
+    ensures { let s = meant setting.now in
+        let inner = closed_loop turns.turn None (for_turned s place.now t by n draft.old) in
+        OnOk result (draft.new ≡ closed_block turns.block None inner) }
+{
+    for_turned(setting, place, t, by, n, draft)?;
+    close_turns(turns, draft)
 }

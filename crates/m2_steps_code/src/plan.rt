@@ -6,9 +6,9 @@ ghost use Rattle.m2_scheme.specs.Steps.{lesser, greater, values_of, is_dense, le
 ghost use Rattle.m2_steps_code.specs.Plans.{few, with_label, gap_of, dense, plan_by};
 ghost use Rattle.m2_steps_code.specs.Written.{has_value, labels_in, target_in, targets_in};
 
-use m2_draft::small;
 use m2_typed::{Label, TypedArm};
-use std::alloc::{AllocError, Global};
+use std::alloc::Global;
+use wasm_tree::{EncodeError, small};
 
 /// The least and the greatest value of labels, and how many values they have, or 4096.
 #[derive(Clone, Copy, PartialEq, Eq)]
@@ -169,13 +169,13 @@ fn target_of(arms: &[TypedArm], value: i64) -> usize
 }
 
 /// The number of the arm for a value from the least on.
-fn target_from(arms: &[TypedArm], least: i64, distance: usize) -> Result<u32, AllocError>
+fn target_from(arms: &[TypedArm], least: i64, distance: usize) -> Result<u32, EncodeError>
     ensures { IfOk result (λ n. n ≡ target_in arms.now (least +ℤ pos distance)) }
 {
     match i64::try_from(distance) {
-        Err(_) => Err(AllocError),
+        Err(_) => Err(EncodeError::NoEncoding),
         Ok(distance) => match least.checked_add(distance) {
-            None => Err(AllocError),
+            None => Err(EncodeError::NoEncoding),
             Some(value) => small(target_of(arms, value)),
         },
     }
@@ -183,7 +183,7 @@ fn target_from(arms: &[TypedArm], least: i64, distance: usize) -> Result<u32, Al
 
 /// The numbers of the arms for the values from the least on.
 #[tactic(auto, using(crate::proofs::Planned::targets_more))]
-pub fn targets(alloc: Global, arms: &[TypedArm], plan: Plan) -> Result<Vec<u32>, AllocError>
+pub fn targets(alloc: Global, arms: &[TypedArm], plan: Plan) -> Result<Vec<u32>, EncodeError>
     ensures { IfOk result (λ ts. ts.items ≡ targets_in arms.now plan.least plan.span) }
 {
     let mut targets = Vec::new(alloc);

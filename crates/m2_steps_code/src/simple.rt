@@ -11,11 +11,11 @@ ghost use Rattle.m2_steps_code.specs.Written.{with_step, address_kept, number_ke
 use m2_code::{call_code, place_code, taken_code, value_code};
 use m2_draft::{
     Draft, Setting, check_changed, checked, complement, fault, load, operation, raised, size_in,
-    small, store, text,
+    store, text,
 };
 use m2_typed::{BITSET, CHAR, Call, Change, Membership, Place, TypeNo, TypedExpr};
 use std::alloc::AllocError;
-use wasm_tree::{Op, Operation};
+use wasm_tree::{EncodeError, Op, Operation, small};
 
 /// An assignment of a scalar.
 #[tactic(auto, using(crate::proofs::Stepped::step_Assign))]
@@ -25,13 +25,14 @@ pub fn assign(
     t: TypeNo,
     e: &TypedExpr,
     draft: &mut Draft,
-) -> Result<(), AllocError>
+) -> Result<(), EncodeError>
     ensures { OnOk result
         (draft.new ≡ with_step (meant setting.now) draft.old (stmt.Assign place.now t e.now)) }
 {
     place_code(setting, place, draft)?;
     taken_code(setting, t, e, draft)?;
-    store(setting, t, draft)
+    store(setting, t, draft)?;
+    Ok(())
 }
 
 /// An assignment of an array or a record.
@@ -42,19 +43,20 @@ pub fn copy(
     from: &Place,
     t: TypeNo,
     draft: &mut Draft,
-) -> Result<(), AllocError>
+) -> Result<(), EncodeError>
     ensures { OnOk result
         (draft.new ≡ with_step (meant setting.now) draft.old (stmt.Copy to.now from.now t)) }
 {
     place_code(setting, to, draft)?;
     place_code(setting, from, draft)?;
     draft.push(Op::I32Const(size_in(setting, t)?))?;
-    draft.push(Op::Call(2))
+    draft.push(Op::Call(2))?;
+    Ok(())
 }
 
 /// The call of a procedure.
 #[tactic(auto, using(crate::proofs::Stepped::step_Call))]
-pub fn call(setting: &Setting<'_>, call: &Call, draft: &mut Draft) -> Result<(), AllocError>
+pub fn call(setting: &Setting<'_>, call: &Call, draft: &mut Draft) -> Result<(), EncodeError>
     ensures { OnOk result (draft.new ≡ with_step (meant setting.now) draft.old (stmt.Call call.now)) }
 {
     call_code(setting, call, draft)
@@ -62,11 +64,12 @@ pub fn call(setting: &Setting<'_>, call: &Call, draft: &mut Draft) -> Result<(),
 
 /// The output of a character.
 #[tactic(auto, using(crate::proofs::Stepped::step_Put))]
-pub fn print(setting: &Setting<'_>, e: &TypedExpr, draft: &mut Draft) -> Result<(), AllocError>
+pub fn print(setting: &Setting<'_>, e: &TypedExpr, draft: &mut Draft) -> Result<(), EncodeError>
     ensures { OnOk result (draft.new ≡ with_step (meant setting.now) draft.old (stmt.Put e.now)) }
 {
     taken_code(setting, CHAR, e, draft)?;
-    draft.push(Op::Call(0))
+    draft.push(Op::Call(0))?;
+    Ok(())
 }
 
 #[tactic(auto, using(crate::proofs::Stepped::step_Halt))]
@@ -97,15 +100,16 @@ pub fn give(
     t: TypeNo,
     e: &TypedExpr,
     draft: &mut Draft,
-) -> Result<(), AllocError>
+) -> Result<(), EncodeError>
     ensures { OnOk result (draft.new ≡ with_step (meant setting.now) draft.old (stmt.Give t e.now)) }
 {
     taken_code(setting, t, e, draft)?;
-    draft.push(Op::Return)
+    draft.push(Op::Return)?;
+    Ok(())
 }
 
 /// Keeps an address in a fresh local, and answers which.
-pub fn keep_address(setting: &Setting<'_>, draft: &mut Draft) -> Result<u32, AllocError>
+pub fn keep_address(setting: &Setting<'_>, draft: &mut Draft) -> Result<u32, EncodeError>
     ensures local { let k = draft.old.counts.addresses in
         IfOk result (λ w. w ≡ address_local (meant setting.now) k) }
     ensures kept { OnOk result (draft.new ≡ address_kept (meant setting.now) draft.old) }
@@ -116,7 +120,7 @@ pub fn keep_address(setting: &Setting<'_>, draft: &mut Draft) -> Result<u32, All
 }
 
 /// Keeps a number in a fresh local, and answers which.
-pub fn keep_number(setting: &Setting<'_>, draft: &mut Draft) -> Result<u32, AllocError>
+pub fn keep_number(setting: &Setting<'_>, draft: &mut Draft) -> Result<u32, EncodeError>
     ensures local { let k = draft.old.counts.numbers in
         IfOk result (λ n. n ≡ number_local (meant setting.now) k) }
     ensures kept { OnOk result (draft.new ≡ number_kept (meant setting.now) draft.old) }
@@ -174,7 +178,7 @@ pub fn change(
     t: TypeNo,
     e: &TypedExpr,
     draft: &mut Draft,
-) -> Result<(), AllocError>
+) -> Result<(), EncodeError>
     ensures { OnOk result
         (draft.new ≡ with_step (meant setting.now) draft.old (stmt.Change change place.now t e.now)) }
 {
@@ -182,7 +186,8 @@ pub fn change(
     let w = keep_address(setting, draft)?;
     value_code(setting, e, draft)?;
     let n = keep_number(setting, draft)?;
-    changed(setting, change, w, n, t, draft)
+    changed(setting, change, w, n, t, draft)?;
+    Ok(())
 }
 
 fn member_operation(membership: Membership, draft: &mut Draft) -> Result<(), AllocError>
@@ -225,7 +230,7 @@ pub fn membership(
     place: &Place,
     e: &TypedExpr,
     draft: &mut Draft,
-) -> Result<(), AllocError>
+) -> Result<(), EncodeError>
     ensures { OnOk result
         (draft.new ≡ with_step (meant setting.now) draft.old (stmt.Membership membership place.now e.now)) }
 {
@@ -234,11 +239,12 @@ pub fn membership(
     value_code(setting, e, draft)?;
     checked(0, 31, 1, draft)?;
     let n = keep_number(setting, draft)?;
-    with_member(setting, membership, w, n, draft)
+    with_member(setting, membership, w, n, draft)?;
+    Ok(())
 }
 
 /// The rest of an array behind the characters of a string.
-fn rest_of(size: u32, text: &[u8]) -> Result<u32, AllocError>
+fn rest_of(size: u32, text: &[u8]) -> Result<u32, EncodeError>
     ensures { IfOk result (λ n. n ≡ size - length text.now) }
 {
     let bytes = small(text.len())?;
@@ -267,7 +273,7 @@ pub fn copy_text(
     t: TypeNo,
     characters: &[u8],
     draft: &mut Draft,
-) -> Result<(), AllocError>
+) -> Result<(), EncodeError>
     ensures { OnOk result (draft.new
         ≡ with_step (meant setting.now) draft.old (stmt.CopyText place.now t characters.now)) }
 {
@@ -276,5 +282,6 @@ pub fn copy_text(
     draft.push(Op::LocalTee(w))?;
     let at = draft.next_text(characters.len())?;
     let rest = rest_of(size_in(setting, t)?, characters)?;
-    text_copied(at, small(characters.len())?, rest, w, draft)
+    text_copied(at, small(characters.len())?, rest, w, draft)?;
+    Ok(())
 }

@@ -7,7 +7,8 @@ use crate::body::{push_body, push_which};
 use crate::characters::Characters;
 use crate::offsets::Offsets;
 use m2_typed::{TypedModule, Which};
-use std::alloc::{AllocError, Global};
+use std::alloc::Global;
+use wasm_tree::{EncodeError, small};
 
 /// The characters of the texts of some procedures, and where those of each begin.
 #[derive(Drop)]
@@ -35,27 +36,18 @@ impl ModuleTexts {
     }
 }
 
-/// A length in 32 bits. An error says that it does not fit.
-fn narrow(length: usize) -> Result<u32, AllocError>
-    ensures { IfOk result (λ n. n ≡ length) }
-{
-    match u32::try_from(length) {
-        Ok(length) => Ok(length),
-        Err(_) => Err(AllocError),
-    }
-}
-
 /// The texts of one more procedure.
 fn gather_which(
     gathering: &mut Gathering,
     module_body: &TypedModule,
     which: Which,
-) -> Result<(), AllocError>
+) -> Result<(), EncodeError>
     ensures { OnOk result (gathering.new ≡ with_which module_body.now gathering.old which) }
 {
-    let at = narrow(gathering.characters.len())?;
+    let at = small(gathering.characters.len())?;
     gathering.offsets.note(which, at);
-    push_which(&mut gathering.characters, module_body, which)
+    push_which(&mut gathering.characters, module_body, which)?;
+    Ok(())
 }
 
 /// The texts of all procedures.
@@ -63,7 +55,7 @@ fn gathered(
     alloc: Global,
     module_body: &TypedModule,
     capacity: usize,
-) -> Result<Gathering, AllocError>
+) -> Result<Gathering, EncodeError>
     ensures { IfOk result (λ x. x ≡ gathered module_body.now) }
 {
     let mut gathering = Gathering {
@@ -76,19 +68,20 @@ fn gathered(
     Ok(gathering)
 }
 
-/// The texts of a module. There is room for so many characters from the start. The only error is that memory ran out.
+/// The texts of a module. There is room for so many characters from the start. The only error is that memory ran out,
+/// or that a number of the module has no encoding.
 pub fn module_texts(
     alloc: Global,
     module_body: &TypedModule,
     capacity: usize,
-) -> Result<ModuleTexts, AllocError>
+) -> Result<ModuleTexts, EncodeError>
     ensures { IfOk result (AreTexts module_body.now) }
 {
     let Gathering {
         mut characters,
         offsets,
     } = gathered(alloc, module_body, capacity)?;
-    let body = narrow(characters.len())?;
+    let body = small(characters.len())?;
     push_body(&mut characters, module_body.body.as_slice())?;
     Ok(ModuleTexts {
         characters,

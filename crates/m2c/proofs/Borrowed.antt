@@ -7,7 +7,3 @@ use Rattle.m2c.specs.Build.{named_bytes}
 pub copies_borrowed : (bs : List (Bor ModuleBytes)) → map (λ m. named_bytes m.now) bs ≡ map named_bytes (map (λ m. m.now) bs)
 copies_borrowed [] = refl
 copies_borrowed (b ∷ bs) = ap (λ (xs : List (List ℕ × List ℕ)). named_bytes b.now ∷ xs) (copies_borrowed bs)
-
-pub names_borrowed : (bs : List (Bor ModuleBytes)) → map (λ m. m.now.name) bs ≡ map (λ m. m.name) (map (λ m. m.now) bs)
-names_borrowed [] = refl
-names_borrowed (b ∷ bs) = ap (λ (xs : List (List ℕ)). b.now.name ∷ xs) (names_borrowed bs)

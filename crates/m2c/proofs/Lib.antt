@@ -1,4 +1,3 @@
-pub mod Fragments
 pub mod Bodies
 pub mod Two
 pub mod EachOnce
@@ -8,6 +7,7 @@ pub mod Linked
 pub mod Valid
 pub mod Fitting
 pub mod Graphs
+pub mod Named
 pub mod Borrowed
 pub mod Same
 pub mod Ranks

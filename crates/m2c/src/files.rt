@@ -14,6 +14,7 @@ use m2_worker::Gate;
 use std::alloc::{AllocError, Global};
 use std::thread::Threads;
 use thiserror::Error;
+use wasm_tree::EncodeError;
 
 /// How many pages of 65536 bytes a program's memory may have.
 pub const MAX_PAGES: u32 = 1024;
@@ -51,19 +52,23 @@ pub enum BuildFault {
     /// 90: a request for memory was refused.
     #[error("refusal 90")]
     NoMemory,
+    /// A module has no encoding: a number of it does not fit into 32 bits, a part is too long, or blocks nest too deep.
+    #[error("a module is too large to encode")]
+    NoEncoding,
 }
 
 impl BuildFault {
     ghost use Rattle.m2c.specs.FaultNumber.{number_of};
 
-    /// The number by which the fault is reported.
-    pub fn number(self) -> u32
+    /// The number by which the fault is reported, if it has one.
+    pub fn number(self) -> Option<u32>
         ensures { result ≡ number_of self }
     {
         match self {
-            BuildFault::Workers => 70,
-            BuildFault::Pages => 73,
-            BuildFault::NoMemory => 90,
+            BuildFault::Workers => Some(70),
+            BuildFault::Pages => Some(73),
+            BuildFault::NoMemory => Some(90),
+            BuildFault::NoEncoding => None,
         }
     }
 }
@@ -75,6 +80,19 @@ impl From<AllocError> for BuildFault {
 
     fn from(_: AllocError) -> BuildFault {
         BuildFault::NoMemory
+    }
+}
+
+impl From<EncodeError> for BuildFault {
+    ghost use Rattle.m2c.specs.FaultNumber.{fault_of};
+
+    ghost from_gives = { λ error fault. fault ≡ fault_of error };
+
+    fn from(error: EncodeError) -> BuildFault {
+        match error {
+            EncodeError::NoMemory => BuildFault::NoMemory,
+            EncodeError::NoEncoding => BuildFault::NoEncoding,
+        }
     }
 }
 
@@ -99,7 +117,8 @@ impl From<AllocError> for BuildFault {
 /// many workers there are, on whom the gate lets in, or on who comes first.
 ///
 /// `Workers` (70) where the number of workers is not from 1 to 64, else `Pages` (73) where the number of pages is not
-/// from 1 to 1024; both come before memory is asked for.
+/// from 1 to 1024; both come before memory is asked for. Else the only error is that memory ran out (`NoMemory`, 90), or
+/// that a module has no encoding (`NoEncoding`, which has no number).
 pub fn build<R: Threads + Sync, G: Gate>(
     rt: &R,
     alloc: Global,

@@ -1,32 +1,16 @@
 //! The modules that a build hands out, and the storage that they need.
 
-ghost use Rattle.std.specs.Prelude.{◌≡◌, ◌≤◌, ◌<◌, ◌*◌, ◌+◌, ◌++◌, ◌∷◌, ◌↔◌, ◌&&◌, [], length, IfOk, IsTrue, OnOk, map};
-ghost use Rattle.std.specs.Char.{is_ascii_alphanumeric};
-ghost use Rattle.std.specs.List.{list_all};
+ghost use Rattle.std.specs.Prelude.{◌≡◌, ◌≤◌, ◌<◌, ◌*◌, ◌+◌, ◌++◌, ◌∷◌, [], All, length, IfOk, OnOk, map};
 ghost use Rattle.std.specs.String.{string_bytes};
 ghost use Rattle.m2_emit.specs.Emitted.{parts};
 ghost use Rattle.m2_graph.specs.Refused.{max_files};
 ghost use Rattle.m2_scheme.specs.Modules.{stack_begin};
 ghost use Rattle.m2c.specs.Build.{named, named_bytes};
-ghost use Rattle.m2c.specs.Names.{is_word, IsName, AreNamed};
+ghost use Rattle.m2c.specs.Names.{IsName};
 
 use m2_emit::ModuleBytes;
 use m2_tree::Name;
 use std::alloc::{AllocError, Global};
-
-/// Whether these are letters and digits.
-fn are_letters(bytes: &[u8]) -> bool
-    ensures { result ≡ list_all is_ascii_alphanumeric bytes.now }
-{
-    bytes.iter().all(|byte| byte.is_ascii_alphanumeric())
-}
-
-/// Whether a name consists of letters and digits, 64 at most.
-fn is_word(bytes: &[u8]) -> bool
-    ensures { result ≡ is_word bytes.now }
-{
-    bytes.len() <= 64 && are_letters(bytes)
-}
 
 /// A name as text.
 fn text_of(alloc: Global, name: &Name) -> Result<String, AllocError>
@@ -36,29 +20,17 @@ fn text_of(alloc: Global, name: &Name) -> Result<String, AllocError>
     String::from_utf8_lossy(alloc, name.as_bytes())
 }
 
-/// The name of a module as text. Each name in a text consists of letters and digits; memory would be refused where one
-/// does not.
-fn name_of(alloc: Global, name: &Name) -> Result<String, AllocError>
-    ensures text { IfOk result (λ text. string_bytes text ≡ name.now) }
-    ensures named { OnOk result (IsName name.now) }
-{
-    if !is_word(name.as_bytes()) {
-        return Err(AllocError);
-    }
-    text_of(alloc, name)
-}
-
 /// Adds a module, under its name.
 fn add_copy(
     alloc: Global,
     copies: &mut Vec<(String, Vec<u8>)>,
     module: &ModuleBytes,
 ) -> Result<(), AllocError>
-    ensures module { OnOk result
+    requires { IsName module.now.name }
+    ensures { OnOk result
         (map named copies.new.items ≡ map named copies.old.items ++ named_bytes module.now ∷ []) }
-    ensures named { OnOk result (IsName module.now.name) }
 {
-    let name = name_of(alloc, &module.name)?;
+    let name = text_of(alloc, &module.name)?;
     let bytes = Vec::from_slice(alloc, module.bytes.as_slice())?;
     copies.push((name, bytes))?;
     Ok(())
@@ -69,9 +41,9 @@ pub fn copies_of(
     alloc: Global,
     modules: &[&ModuleBytes],
 ) -> Result<Vec<(String, Vec<u8>)>, AllocError>
-    ensures modules { IfOk result (λ ms.
+    requires { All (λ m. IsName m.now.name) modules.now }
+    ensures { IfOk result (λ ms.
         map named ms.items ≡ map (λ m. named_bytes m.now) modules.now) }
-    ensures named { OnOk result (AreNamed (map (λ m. m.now.name) modules.now)) }
 {
     let mut copies = Vec::new(alloc);
     for module in modules {

@@ -29,6 +29,7 @@ use m2_worker::Gate;
 use std::alloc::{AllocError, AllocFailed, Global};
 use std::thread;
 use std::thread::Threads;
+use wasm_tree::EncodeError;
 
 /// The least stack, in bytes, that a program has.
 const LEAST_STACK: u64 = 4096;
@@ -90,7 +91,7 @@ fn built(
     graph: &Graph,
     modules: &[&ModuleBytes],
     pages: u32,
-) -> Result<Outcome, AllocError>
+) -> Result<Outcome, EncodeError>
     requires least { 1 ≤ pages }
     requires most { pages ≤ max_pages }
     requires graph { HaveGraph files.now (borrowed trees.now) graph.now.files.items
@@ -118,7 +119,7 @@ fn program(
     graph: &Graph,
     modules: &[&ModuleBytes],
     pages: u32,
-) -> Result<Outcome, AllocError>
+) -> Result<Outcome, EncodeError>
     requires least { 1 ≤ pages }
     requires most { pages ≤ max_pages }
     requires graph { HaveGraph files.now (borrowed trees.now) graph.now.files.items
@@ -159,7 +160,7 @@ fn of_results(
     graph: &Graph,
     results: &[Compiled],
     pages: u32,
-) -> Result<Outcome, AllocError>
+) -> Result<Outcome, EncodeError>
     requires least { 1 ≤ pages }
     requires most { pages ≤ max_pages }
     requires graph { HaveGraph files.now (borrowed trees.now) graph.now.files.items
@@ -186,7 +187,7 @@ fn of_graph<R: Threads + Sync, G: Gate>(
     trees: &[(&str, &Module)],
     graph: &Graph,
     pages: u32,
-) -> Result<Outcome, AllocError>
+) -> Result<Outcome, EncodeError>
     requires least { 1 ≤ pages }
     requires most { pages ≤ max_pages }
     requires graph { HaveGraph files.now (borrowed trees.now) graph.now.files.items
@@ -203,7 +204,7 @@ fn of_trees<R: Threads + Sync, G: Gate>(
     files: &[SourceFile],
     trees: &[(&str, &Module)],
     pages: u32,
-) -> Result<Outcome, AllocError>
+) -> Result<Outcome, EncodeError>
     requires least { 1 ≤ pages }
     requires most { pages ≤ max_pages }
     requires trees { AreTrees files.now (borrowed trees.now) }
@@ -212,7 +213,7 @@ fn of_trees<R: Threads + Sync, G: Gate>(
     match Graph::of(runner.alloc, trees) {
         Ok(graph) => of_graph(runner, files, trees, &graph, pages),
         Err(GraphError::Refused(refusals)) => Ok(Outcome::Refused(refusals)),
-        Err(GraphError::NoMemory) => Err(AllocError),
+        Err(GraphError::NoMemory) => Err(EncodeError::NoMemory),
     }
 }
 
@@ -222,7 +223,7 @@ fn of_reads<R: Threads + Sync, G: Gate>(
     files: &[SourceFile],
     reads: &[Read],
     pages: u32,
-) -> Result<Outcome, AllocError>
+) -> Result<Outcome, EncodeError>
     requires least { 1 ≤ pages }
     requires most { pages ≤ max_pages }
     requires read { AreRead files.now reads.now }
@@ -254,7 +255,7 @@ pub fn outcome_of<R: Threads + Sync, G: Gate>(
     runner: &Runner<'_, R, G>,
     files: &[SourceFile],
     pages: u32,
-) -> Result<Outcome, AllocError>
+) -> Result<Outcome, EncodeError>
     requires least { 1 ≤ pages }
     requires most { pages ≤ max_pages }
     ensures { IfOk result (IsBuilt files.now pages) }

@@ -1,9 +1,10 @@
+use sqlite_items::Items;
 use std::alloc::{AllocError, Global};
 use std::process::Abort;
 use std::test::*;
 use wasm_binary::{read_module, write_module};
 use wasm_bytes::Writer;
-use wasm_tree::WFault;
+use wasm_tree::{EncodeError, Export, ExportKind, WFault};
 
 /// The header, one type of no operands and no results, and one function of it.
 const BEFORE_CODE: [u8; 18] = [
@@ -31,7 +32,7 @@ fn number_of(alloc: Global, bytes: &[u8]) -> u32 {
 }
 
 /// A module of one function with this code.
-fn with_code(alloc: Global, code: &[u8]) -> Result<Vec<u8>, AllocError> {
+fn with_code(alloc: Global, code: &[u8]) -> Result<Vec<u8>, EncodeError> {
     let mut body = Writer::new(alloc);
     body.byte(0x00)?;
     body.bytes(code)?;
@@ -169,4 +170,19 @@ fn constants_are_signed(rt: HostRuntime) -> Result<(), Fail> {
         assert!(rt; out.as_slice() == wanted, "{bits}");
     }
     Ok(())
+}
+
+#[test]
+fn a_name_that_is_not_utf8_has_no_encoding(rt: HostRuntime) {
+    let alloc = rt.alloc();
+    let mut tree = read_module(alloc, b"\x00asm\x01\x00\x00\x00").expect(&rt, "a module");
+    let name = Items::from_slice(alloc, &[0xFF]).expect(&rt, "memory");
+    let kind = ExportKind::Function(0);
+    let is_pushed = tree.exports.push(Export { name, kind }).is_ok();
+    assert!(rt; is_pushed, "memory");
+    let is_refused = match write_module(alloc, &tree) {
+        Err(EncodeError::NoEncoding) => true,
+        Ok(_) | Err(EncodeError::NoMemory) => false,
+    };
+    assert!(rt; is_refused, "the tree is written");
 }

@@ -1,6 +1,6 @@
 //! Values with a binary format, and lists of them.
 
-ghost use Rattle.std.specs.Prelude.{◌≡◌, ◌≢◌, Err, ◌++◌, List, ℕ, OnOk, true};
+ghost use Rattle.std.specs.Prelude.{◌≡◌, ◌≢◌, ◌<◌, ◌≤◌, ◌^◌, IfOk, length, Err, ◌++◌, List, ℕ, OnOk, true, false};
 ghost use Rattle.wasm_tree.specs.Format.{Format, Gives};
 ghost use Rattle.wasm_bytes.specs.Number.{unsigned};
 ghost use Rattle.wasm_bytes.specs.Parts.{many, vector, entries, section};
@@ -11,9 +11,9 @@ mod sections;
 
 pub use body::body_over;
 use sqlite_items::Items;
-use std::alloc::{AllocError, Global};
+use std::alloc::Global;
 use wasm_bytes::{Writer, closed, front, unsigned_at};
-use wasm_tree::WFault;
+use wasm_tree::{EncodeError, WFault};
 
 /// The most entries of a list.
 pub const MAX_ENTRIES: usize = 4294967295;
@@ -23,12 +23,15 @@ pub trait Binary: Drop {
     ghost format: { Format Self };
 
     fn read(alloc: Global, bytes: &[u8]) -> Result<(Self, &[u8]), WFault>
-        ensures { Gives (λ x. (x.0, x.1.now)) result (format.reading bytes.now) };
+        requires { length bytes.now < 2 ^ 32 }
+        ensures gives { Gives (λ x. (x.0, x.1.now)) result (format.reading bytes.now) }
+        ensures shorter { IfOk result (λ x. length x.1.now ≤ length bytes.now) };
 
     /// Appends the encoding. The only error is that memory ran out, or that the value has no encoding.
-    fn write(&self, out: &mut Writer) -> Result<(), AllocError>
+    fn write(&self, out: &mut Writer) -> Result<(), EncodeError>
         ensures written { OnOk result (out.new ≡ out.old ++ format.encoding self.now) }
-        ensures fits { OnOk result (format.fits self.now ≡ true) };
+        ensures fits { OnOk result (format.fits self.now ≡ true) }
+        ensures unfit { result ≡ Err EncodeError.NoEncoding → format.fits self.now ≡ false };
 }
 
 impl Binary for u32 {
@@ -37,18 +40,22 @@ impl Binary for u32 {
     fn read(_alloc: Global, bytes: &[u8]) -> Result<(u32, &[u8]), WFault>
         ensures gives { Gives (λ x. (x.0, x.1.now)) result (unsigned.reading bytes.now) }
         ensures memory { result ≢ Err WFault.NoMemory }
+        ensures shorter { IfOk result (λ x. length x.1.now ≤ length bytes.now) }
     {
         unsigned_at(bytes)
     }
 
-    fn write(&self, out: &mut Writer) -> Result<(), AllocError> {
-        out.unsigned(u64::from(*self))
+    fn write(&self, out: &mut Writer) -> Result<(), EncodeError> {
+        out.unsigned(u64::from(*self))?;
+        Ok(())
     }
 }
 
 /// So many values, one after another.
 pub fn many<T: Binary>(alloc: Global, count: u32, bytes: &[u8]) -> Result<(Items<T>, &[u8]), WFault>
-    ensures { Gives (λ x. (x.0, x.1.now)) result (many T.format count bytes.now) }
+    requires { length bytes.now < 2 ^ 32 }
+    ensures gives { Gives (λ x. (x.0, x.1.now)) result (many T.format count bytes.now) }
+    ensures shorter { IfOk result (λ x. length x.1.now ≤ length bytes.now) }
 {
     let mut items = Items::new(alloc);
     let mut rest = bytes;
@@ -62,7 +69,9 @@ pub fn many<T: Binary>(alloc: Global, count: u32, bytes: &[u8]) -> Result<(Items
 
 /// How many there are, and then each.
 pub fn vector<T: Binary>(alloc: Global, bytes: &[u8]) -> Result<(Items<T>, &[u8]), WFault>
-    ensures { Gives (λ x. (x.0, x.1.now)) result ((vector T.format).reading bytes.now) }
+    requires { length bytes.now < 2 ^ 32 }
+    ensures gives { Gives (λ x. (x.0, x.1.now)) result ((vector T.format).reading bytes.now) }
+    ensures shorter { IfOk result (λ x. length x.1.now ≤ length bytes.now) }
 {
     let (count, rest) = unsigned_at(bytes)?;
     many(alloc, count, rest)
@@ -70,7 +79,9 @@ pub fn vector<T: Binary>(alloc: Global, bytes: &[u8]) -> Result<(Items<T>, &[u8]
 
 /// The same, of at least one.
 fn entries<T: Binary>(alloc: Global, bytes: &[u8]) -> Result<(Items<T>, &[u8]), WFault>
-    ensures { Gives (λ x. (x.0, x.1.now)) result ((entries T.format).reading bytes.now) }
+    requires { length bytes.now < 2 ^ 32 }
+    ensures gives { Gives (λ x. (x.0, x.1.now)) result ((entries T.format).reading bytes.now) }
+    ensures shorter { IfOk result (λ x. length x.1.now ≤ length bytes.now) }
 {
     let (count, rest) = unsigned_at(bytes)?;
     if count == 0 {
@@ -100,12 +111,13 @@ pub fn section<T: Binary>(
 
 /// Appends how many there are, and then each. The only error is that memory ran out, or that one of them has no encoding,
 /// or that they are too many.
-pub fn write_vector<T: Binary>(out: &mut Writer, items: &[T]) -> Result<(), AllocError>
+pub fn write_vector<T: Binary>(out: &mut Writer, items: &[T]) -> Result<(), EncodeError>
     ensures written { OnOk result (out.new ≡ out.old ++ (vector T.format).encoding items.now) }
     ensures fits { OnOk result ((vector T.format).fits items.now ≡ true) }
+    ensures unfit { result ≡ Err EncodeError.NoEncoding → (vector T.format).fits items.now ≡ false }
 {
     if items.len() > MAX_ENTRIES {
-        return Err(AllocError);
+        return Err(EncodeError::NoEncoding);
     }
     out.unsigned(items.len() as u64)?;
     for item in items {
@@ -116,9 +128,14 @@ pub fn write_vector<T: Binary>(out: &mut Writer, items: &[T]) -> Result<(), Allo
 
 /// Appends the section of this number, or nothing where it has no entry. The only error is that memory ran out, or that
 /// the section has no encoding.
-pub fn write_section<T: Binary>(out: &mut Writer, number: u8, items: &[T]) -> Result<(), AllocError>
+pub fn write_section<T: Binary>(
+    out: &mut Writer,
+    number: u8,
+    items: &[T],
+) -> Result<(), EncodeError>
     ensures written { OnOk result (out.new ≡ out.old ++ (section number T.format).encoding items.now) }
     ensures fits { OnOk result ((section number T.format).fits items.now ≡ true) }
+    ensures unfit { result ≡ Err EncodeError.NoEncoding → (section number T.format).fits items.now ≡ false }
 {
     if items.is_empty() {
         return Ok(());

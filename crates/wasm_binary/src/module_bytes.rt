@@ -1,6 +1,6 @@
 //! Whole modules in bytes (Core 1.0, section 5.5.15).
 
-ghost use Rattle.std.specs.Prelude.{◌≡◌, ◌≢◌, Err, IsOk, ◌++◌, List, ℕ, true, [], map, OnOk, IfOk, Ok, MatchResult, ◌⊎◌, length, nat_lt, ◌^◌};
+ghost use Rattle.std.specs.Prelude.{◌≡◌, ◌≢◌, Err, IsOk, ◌++◌, List, ℕ, true, false, ◌&&◌, [], map, OnOk, IfOk, Ok, MatchResult, ◌⊎◌, length, nat_lt, ◌^◌};
 ghost use Rattle.std.specs.List.{list_all};
 ghost use Rattle.wasm_bytes.specs.Number.{unsigned};
 ghost use Rattle.wasm_bytes.specs.Parts.{section};
@@ -13,7 +13,7 @@ use crate::binary::{Binary, body_over, section, write_section};
 use sqlite_items::Items;
 use std::alloc::{AllocError, Global};
 use wasm_bytes::{Writer, closed, front, skip, unsigned_at};
-use wasm_tree::{Function, WFault, WModule};
+use wasm_tree::{EncodeError, Function, WFault, WModule};
 
 /// The magic number and the version.
 const HEADER: [u8; 8] = [0x00, 0x61, 0x73, 0x6D, 0x01, 0x00, 0x00, 0x00];
@@ -157,10 +157,14 @@ pub fn read_module(alloc: Global, bytes: &[u8]) -> Result<WModule, WFault>
 }
 
 /// Appends the code section, or nothing where there is no function.
-fn write_code_section(out: &mut Writer, functions: &[Function]) -> Result<(), AllocError>
+fn write_code_section(out: &mut Writer, functions: &[Function]) -> Result<(), EncodeError>
     ensures written { OnOk result (out.new ≡ out.old ++ code_encoding functions.now) }
     ensures bodies { OnOk result (list_all (λ f. body.fits f.body) functions.now ≡ true) }
     ensures size { OnOk result (nat_lt (length (bodies_encoding functions.now)) (2 ^ 32) ≡ true) }
+    ensures unfit { result ≡ Err EncodeError.NoEncoding
+        → (list_all (λ f. body.fits f.body) functions.now
+        && nat_lt (length (bodies_encoding functions.now)) (2 ^ 32))
+        ≡ false }
 {
     if functions.is_empty() {
         return Ok(());
@@ -171,9 +175,11 @@ fn write_code_section(out: &mut Writer, functions: &[Function]) -> Result<(), Al
     out.sized(content.as_slice())
 }
 
-fn write_bodies(out: &mut Writer, functions: &[Function]) -> Result<(), AllocError>
+fn write_bodies(out: &mut Writer, functions: &[Function]) -> Result<(), EncodeError>
     ensures written { OnOk result (out.new ≡ out.old ++ bodies_encoding functions.now) }
     ensures fits { OnOk result (list_all (λ f. body.fits f.body) functions.now ≡ true) }
+    ensures unfit { result ≡ Err EncodeError.NoEncoding
+        → list_all (λ f. body.fits f.body) functions.now ≡ false }
 {
     out.unsigned(functions.len() as u64)?;
     for function in functions {
@@ -193,13 +199,14 @@ fn types_of(alloc: Global, functions: &[Function]) -> Result<Vec<u32>, AllocErro
 }
 
 /// The header, and the sections of types, imports and functions.
-#[tactic(auto, unfolding(crate::specs::Binary::first_sections))]
-fn write_first(out: &mut Writer, uses: &[u32], tree: &WModule) -> Result<(), AllocError>
+#[tactic(auto, using(crate::proofs::Whole::unfit_types, crate::proofs::Whole::unfit_imports, crate::proofs::Whole::unfit_uses), unfolding(crate::specs::Binary::first_sections))]
+fn write_first(out: &mut Writer, uses: &[u32], tree: &WModule) -> Result<(), EncodeError>
     requires { uses.now ≡ types_of tree.now.functions }
     ensures written { OnOk result (out.new ≡ out.old ++ first_sections tree.now) }
     ensures types { OnOk result ((section 1 func_type).fits tree.now.types ≡ true) }
     ensures imports { OnOk result ((section 2 import).fits tree.now.imports ≡ true) }
     ensures uses { OnOk result ((section 3 unsigned).fits uses.now ≡ true) }
+    ensures unfit { result ≡ Err EncodeError.NoEncoding → module_fits tree.now ≡ false }
 {
     out.bytes(&HEADER)?;
     write_section(out, 1, tree.types.as_slice())?;
@@ -208,13 +215,14 @@ fn write_first(out: &mut Writer, uses: &[u32], tree: &WModule) -> Result<(), All
 }
 
 /// The sections of tables, memories, globals and exports.
-#[tactic(auto, unfolding(crate::specs::Binary::middle_sections))]
-fn write_middle(out: &mut Writer, tree: &WModule) -> Result<(), AllocError>
+#[tactic(auto, using(crate::proofs::Whole::unfit_tables, crate::proofs::Whole::unfit_memories, crate::proofs::Whole::unfit_globals, crate::proofs::Whole::unfit_exports), unfolding(crate::specs::Binary::middle_sections))]
+fn write_middle(out: &mut Writer, tree: &WModule) -> Result<(), EncodeError>
     ensures written { OnOk result (out.new ≡ out.old ++ middle_sections tree.now) }
     ensures tables { OnOk result ((section 4 table_type).fits tree.now.tables ≡ true) }
     ensures memories { OnOk result ((section 5 memory_type).fits tree.now.memories ≡ true) }
     ensures globals { OnOk result ((section 6 global).fits tree.now.globals ≡ true) }
     ensures exports { OnOk result ((section 7 export).fits tree.now.exports ≡ true) }
+    ensures unfit { result ≡ Err EncodeError.NoEncoding → module_fits tree.now ≡ false }
 {
     write_section(out, 4, tree.tables.as_slice())?;
     write_section(out, 5, tree.memories.as_slice())?;
@@ -223,14 +231,15 @@ fn write_middle(out: &mut Writer, tree: &WModule) -> Result<(), AllocError>
 }
 
 /// The sections of elements, code and data.
-#[tactic(auto, unfolding(crate::specs::Binary::last_sections))]
-fn write_last(out: &mut Writer, tree: &WModule) -> Result<(), AllocError>
+#[tactic(auto, using(crate::proofs::Whole::unfit_elements, crate::proofs::Whole::unfit_code, crate::proofs::Whole::unfit_contents), unfolding(crate::specs::Binary::last_sections))]
+fn write_last(out: &mut Writer, tree: &WModule) -> Result<(), EncodeError>
     ensures written { OnOk result (out.new ≡ out.old ++ last_sections tree.now) }
     ensures elements { OnOk result ((section 9 element).fits tree.now.elements ≡ true) }
     ensures bodies { OnOk result (list_all (λ f. body.fits f.body) tree.now.functions ≡ true) }
     ensures size { OnOk result
         (nat_lt (length (bodies_encoding tree.now.functions)) (2 ^ 32) ≡ true) }
     ensures contents { OnOk result ((section 11 data_segment).fits tree.now.data ≡ true) }
+    ensures unfit { result ≡ Err EncodeError.NoEncoding → module_fits tree.now ≡ false }
 {
     write_section(out, 9, tree.elements.as_slice())?;
     write_code_section(out, tree.functions.as_slice())?;
@@ -238,9 +247,10 @@ fn write_last(out: &mut Writer, tree: &WModule) -> Result<(), AllocError>
 }
 
 #[tactic(auto, using(crate::proofs::Whole::whole_fits), unfolding(crate::specs::Binary::module_encoding))]
-fn written(alloc: Global, tree: &WModule) -> Result<Vec<u8>, AllocError>
+fn written(alloc: Global, tree: &WModule) -> Result<Vec<u8>, EncodeError>
     ensures written { IfOk result (λ v. v.items ≡ module_encoding tree.now) }
     ensures fits { OnOk result (module_fits tree.now ≡ true) }
+    ensures unfit { result ≡ Err EncodeError.NoEncoding → module_fits tree.now ≡ false }
 {
     let uses = types_of(alloc, tree.functions.as_slice())?;
     let mut out = Writer::new(alloc);
@@ -252,9 +262,11 @@ fn written(alloc: Global, tree: &WModule) -> Result<Vec<u8>, AllocError>
 
 /// The bytes that encode the module: no others do. The only error is that memory ran out, or that the module has no
 /// encoding: a vector or a part too long, blocks that nest too deep, a name that is not UTF-8.
-pub fn write_module(alloc: Global, tree: &WModule) -> Result<Vec<u8>, AllocError>
+pub fn write_module(alloc: Global, tree: &WModule) -> Result<Vec<u8>, EncodeError>
     ensures written { IfOk result (λ v. v.items ≡ module_encoding tree.now) }
     ensures only { IfOk result (λ v. IsOnlyEncoding v.items tree.now) }
+    // Each module that has an encoding is written, as long as there is memory.
+    ensures unfit { result ≡ Err EncodeError.NoEncoding → module_fits tree.now ≡ false }
 {
     written(alloc, tree)
 }

@@ -1,6 +1,6 @@
 //! Numbers in groups of seven bits (Core 1.0, section 5.2.2), in their shortest encoding alone.
 
-ghost use Rattle.std.specs.Prelude.{◌≡◌, ◌+◌, ◌*◌, ◌%◌, ◌<◌, ◌≤◌, ◌^◌, ◌-◌, ◌/◌, ◌≢◌, IfOk, Err};
+ghost use Rattle.std.specs.Prelude.{◌≡◌, ◌+◌, ◌*◌, ◌%◌, ◌<◌, ◌≤◌, ◌^◌, ◌-◌, ◌/◌, ◌≢◌, IfOk, Err, length};
 ghost use Rattle.wasm_tree.specs.Format.{Format, Gives};
 ghost use Rattle.wasm_bytes.specs.Number.{unsigned, groups_at, joined, signed32, signed64, signed_groups_at, signed_joined};
 
@@ -9,6 +9,7 @@ use wasm_tree::WFault;
 fn joined(low: u8, high: u32, rest: &[u8]) -> Result<(u32, &[u8]), WFault>
     ensures gives { Gives (λ x. (x.0, x.1.now)) result (joined low high rest.now) }
     ensures memory { result ≢ Err WFault.NoMemory }
+    ensures shorter { IfOk result (λ x. length x.1.now ≤ length rest.now) }
 {
     if high == 0 {
         return Err(WFault::Malformed);
@@ -24,6 +25,7 @@ fn joined(low: u8, high: u32, rest: &[u8]) -> Result<(u32, &[u8]), WFault>
 fn groups_at(most: u8, bytes: &[u8]) -> Result<(u32, &[u8]), WFault>
     ensures gives { Gives (λ x. (x.0, x.1.now)) result (groups_at most bytes.now) }
     ensures memory { result ≢ Err WFault.NoMemory }
+    ensures shorter { IfOk result (λ x. length x.1.now ≤ length bytes.now) }
 {
     if most == 0 {
         return Err(WFault::Malformed);
@@ -44,6 +46,7 @@ fn groups_at(most: u8, bytes: &[u8]) -> Result<(u32, &[u8]), WFault>
 pub fn unsigned_at(bytes: &[u8]) -> Result<(u32, &[u8]), WFault>
     ensures gives { Gives (λ x. (x.0, x.1.now)) result (unsigned.reading bytes.now) }
     ensures memory { result ≢ Err WFault.NoMemory }
+    ensures shorter { IfOk result (λ x. length x.1.now ≤ length bytes.now) }
 {
     match bytes {
         [byte, rest @ ..] if *byte < 128 => Ok((u32::from(*byte), rest)),

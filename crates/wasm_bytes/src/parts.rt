@@ -1,6 +1,6 @@
 //! Parts of a module whose number of bytes stands before them.
 
-ghost use Rattle.std.specs.Prelude.{◌≡◌, ◌≢◌, take, Err};
+ghost use Rattle.std.specs.Prelude.{◌≡◌, ◌≢◌, ◌≤◌, take, Err, IfOk, length};
 ghost use Rattle.wasm_tree.specs.Format.{Gives, skip, byte_at};
 ghost use Rattle.wasm_bytes.specs.Parts.{closed};
 
@@ -8,7 +8,9 @@ use wasm_tree::WFault;
 
 /// The first bytes, so many or as many as there are.
 pub fn front(bytes: &[u8], size: u32) -> &[u8]
-    ensures { result.now ≡ take size bytes.now }
+    ensures front { result.now ≡ take size bytes.now }
+    ensures short { length result.now ≤ size }
+    ensures shorter { length result.now ≤ length bytes.now }
 {
     let size = size as usize;
     if size < bytes.len() {
@@ -22,6 +24,7 @@ pub fn front(bytes: &[u8], size: u32) -> &[u8]
 pub fn closed<'a>(size: u32, bytes: &'a [u8], left: &[u8]) -> Result<&'a [u8], WFault>
     ensures gives { Gives (λ x. x.now) result (closed size bytes.now left.now) }
     ensures memory { result ≢ Err WFault.NoMemory }
+    ensures shorter { IfOk result (λ x. length x.now ≤ length bytes.now) }
 {
     let size = size as usize;
     if left.is_empty() && size <= bytes.len() {
@@ -35,6 +38,7 @@ pub fn closed<'a>(size: u32, bytes: &'a [u8], left: &[u8]) -> Result<&'a [u8], W
 pub fn skip(byte: u8, bytes: &[u8]) -> Result<&[u8], WFault>
     ensures gives { Gives (λ x. (tt, x.now)) result (skip byte bytes.now) }
     ensures memory { result ≢ Err WFault.NoMemory }
+    ensures shorter { IfOk result (λ x. length x.now ≤ length bytes.now) }
 {
     match bytes {
         [first, rest @ ..] if *first == byte => Ok(rest),
@@ -46,6 +50,7 @@ pub fn skip(byte: u8, bytes: &[u8]) -> Result<&[u8], WFault>
 pub fn byte_at(bytes: &[u8]) -> Result<(u8, &[u8]), WFault>
     ensures gives { Gives (λ x. (x.0, x.1.now)) result (byte_at bytes.now) }
     ensures memory { result ≢ Err WFault.NoMemory }
+    ensures shorter { IfOk result (λ x. length x.1.now ≤ length bytes.now) }
 {
     match bytes {
         [first, rest @ ..] => Ok((*first, rest)),

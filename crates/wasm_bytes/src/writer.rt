@@ -1,12 +1,13 @@
 //! A buffer that bytes are appended to.
 
-ghost use Rattle.std.specs.Prelude.{◌≡◌, ◌++◌, ◌∷◌, [], ◌+◌, ◌-◌, ◌*◌, ◌/◌, ◌%◌, ◌^◌, ◌<◌, ◌≤◌, length, vec_len, vec_capacity, OnOk, OnErr, IsTrue, ◌↔◌, true};
+ghost use Rattle.std.specs.Prelude.{◌≡◌, ◌++◌, ◌∷◌, [], ◌+◌, ◌-◌, ◌*◌, ◌/◌, ◌%◌, ◌^◌, ◌<◌, ◌≤◌, length, vec_len, vec_capacity, OnOk, OnErr, Err, IsTrue, ◌↔◌, true, false, nat_lt};
 ghost use Rattle.wasm_tree.specs.Format.{Format};
 ghost use Rattle.wasm_bytes.specs.Parts.{bytes_left, sized};
 ghost use Rattle.wasm_bytes.specs.Number.{unsigned, groups, signed32, signed64, signed_groups, shifted};
 
 use std::alloc::{AllocError, Global};
 use std::marker::Model;
+use wasm_tree::EncodeError;
 
 /// The most bytes that a number takes.
 const LONGEST: u8 = 10;
@@ -108,18 +109,20 @@ impl Writer {
     }
 
     /// Appends a part behind the number of its bytes: a section's content, a body or a name. The only error is that memory
-    /// ran out, or that the part has more than `MAX_PART` bytes.
-    pub fn sized(&mut self, part: &[u8]) -> Result<(), AllocError>
+    /// ran out, or that the part has no encoding: it has more than `MAX_PART` bytes.
+    pub fn sized(&mut self, part: &[u8]) -> Result<(), EncodeError>
         ensures ok { OnOk result (self.new ≡ self.old ++ (unsigned.encoding (length part.now) ++ part.now)) }
         ensures err { OnErr result (self.new ≡ self.old) }
         ensures fits { OnOk result ((sized bytes_left).fits part.now ≡ true) }
+        ensures unfit { result ≡ Err EncodeError.NoEncoding → nat_lt (length part.now) (2 ^ 32) ≡ false }
     {
         if part.len() > MAX_PART {
-            return Err(AllocError);
+            return Err(EncodeError::NoEncoding);
         }
         self.bytes.reserve(usize::from(LONGEST) + part.len())?;
         push_groups(&mut self.bytes, LONGEST, part.len() as u64);
-        self.bytes.extend_from_slice(part)
+        self.bytes.extend_from_slice(part)?;
+        Ok(())
     }
 
     /// What was written.

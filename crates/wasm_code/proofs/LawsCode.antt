@@ -35,12 +35,12 @@ use Rattle.wasm_code.proofs.Encoded.{encoded-Block, encoded-Loop, encoded-If-Non
 use Rattle.wasm_code.proofs.Fitting.{all_fit, none-Block, none-Loop, none-If, fits-Block, fits-Loop, fits-If-None, fits-If-Some, fits-Unreachable, fits-Br, fits-BrIf, fits-BrTable, fits-Return, fits-Call, fits-CallIndirect, fits-Drop, fits-LocalGet, fits-LocalSet, fits-LocalTee, fits-GlobalGet, fits-Load, fits-Store, fits-I32Const, fits-I64Const, fits-Numeric}
 
 -- an instruction, where so many levels of nesting are left
-abbrev instr : (levels : ℕ) → Format Instr
+abbrev pub instr : (levels : ℕ) → Format Instr
 instr levels = record { encoding = instr_encoding; reading = λ bytes. byte_at bytes >>= λ b. instr_of (opened levels) b.0 b.1; fits = λ i. instr_fits i levels }
 
 -- ---- block types
 
-block_type_takes : (bytes : List ℕ) (x : Option ValueType) (rest : List ℕ) → IsBytes bytes → block_type.reading bytes ≡ Ok (x, rest) → Taken block_type bytes x rest
+pub block_type_takes : (bytes : List ℕ) (x : Option ValueType) (rest : List ℕ) → IsBytes bytes → block_type.reading bytes ≡ Ok (x, rest) → Taken block_type bytes x rest
 unfolding block_type value_type
 block_type_takes [] x rest fits e = absurd cc
 block_type_takes (b ∷ bytes) x rest fits e =
@@ -233,7 +233,7 @@ record SequenceTaken (levels : ℕ) (bytes : List ℕ) (is : List Instr) (e : En
 abbrev SequenceIs : (levels : ℕ) → List ℕ → Sequence × List ℕ → Type 0
 SequenceIs levels bytes s = SequenceTaken levels bytes s.0.0 s.0.1 s.1
 
-abbrev InstrTakes : (levels : ℕ) → Type 0
+abbrev pub InstrTakes : (levels : ℕ) → Type 0
 InstrTakes levels = (b : ℕ) (bytes : List ℕ) (x : Instr) (rest : List ℕ) → IsBytes bytes → instr_of (opened levels) b bytes ≡ Ok (x, rest) → Taken (instr levels) (b ∷ bytes) x rest
 
 abbrev SequenceTakes : (levels : ℕ) → Type 0
@@ -361,7 +361,7 @@ none_opened : (b : ℕ) (bytes : List ℕ) → opened 0 b bytes ≡ Err OutsideP
 unfolding opened
 none_opened b bytes = refl
 
-instr_takes : (levels : ℕ) → InstrTakes levels
+pub instr_takes : (levels : ℕ) → InstrTakes levels
 instr_takes zero b bytes x rest fits e =
     elim (cases_Bool (opens b)) [
       | inl yes' ↦ let f : opened 0 b bytes ≡ Ok (x, rest) = rw yes' at e in absurd (refused x rest (sym (none_opened b bytes) ∙ f))
@@ -372,6 +372,13 @@ instr_takes (suc levels) b bytes x rest fits e =
       | inl yes' ↦ opened_takes levels (code_in_takes levels (instr_takes levels)) b bytes x rest fits yes' (rw yes' at e)
       | inr no' ↦ plain_takes (suc levels) b bytes x rest fits (rw no' at e)
     ]
+
+-- a sequence is its instructions and one more byte
+pub code_in_taken : (levels : ℕ) (bytes : List ℕ) (is : List Instr) (e : Ending) (rest : List ℕ) → IsBytes bytes → code_in levels bytes ≡ Ok ((is, e), rest)
+    → ((b : ℕ) × (bytes ≡ flat_map instr_encoding is ++ (b ∷ rest))) × IsBytes rest
+code_in_taken levels bytes is e rest fits h =
+    let t = code_in_takes levels (instr_takes levels) bytes ((is, e), rest) fits h in
+    ((ending_byte e, t.parts), t.rest_fits)
 
 -- ---- what is encoded is read again
 
@@ -654,7 +661,7 @@ instr_again (suc levels) i = each_again (suc levels) (nested_again levels (instr
 
 -- ---- code
 
-code_takes : (levels : ℕ) (bytes : List ℕ) (is : List Instr) (rest : List ℕ) → IsBytes bytes → (code_within levels).reading bytes ≡ Ok (is, rest) → Taken (code_within levels) bytes is rest
+pub code_takes : (levels : ℕ) (bytes : List ℕ) (is : List Instr) (rest : List ℕ) → IsBytes bytes → (code_within levels).reading bytes ≡ Ok (is, rest) → Taken (code_within levels) bytes is rest
 code_takes levels bytes is rest fits e =
     let t = ended_takes levels (code_in_takes levels (instr_takes levels)) bytes is rest fits e in
     record { parts = t.parts ∙ sym (append_assoc (flat_map instr_encoding is) (0x0B ∷ []) rest); rest_fits = t.rest_fits; fits = t.fits }

@@ -6,3 +6,4 @@ pub mod Loop
 pub mod LawsTagged
 pub mod Fitting
 pub mod LawsCode
+pub mod Counted

@@ -1,6 +1,6 @@
 //! Instructions in bytes (Core 1.0, section 5.4).
 
-ghost use Rattle.std.specs.Prelude.{◌≡◌, ◌≢◌, Err, ◌+◌, ◌-◌, ◌<◌, ◌≤◌, true, Ok, [], ◌∷◌, ◌++◌, OnOk, IfOk, MatchOption, length, map, slice_set};
+ghost use Rattle.std.specs.Prelude.{◌≡◌, ◌≢◌, Err, ◌+◌, ◌-◌, ◌<◌, ◌≤◌, ◌^◌, true, false, Ok, [], ◌∷◌, ◌++◌, OnOk, IfOk, MatchOption, length, map, slice_set};
 ghost use Rattle.std.specs.List.{flat_map};
 ghost use Rattle.wasm_tree.specs.Code.{tree, head, behind, label_of};
 ghost use Rattle.wasm_tree.specs.Format.{Format, Gives};
@@ -16,7 +16,7 @@ use crate::opcode::{load_of, load_opcode, numeric_of, numeric_opcode, store_of, 
 use sqlite_items::Items;
 use std::alloc::{AllocError, Global};
 use wasm_bytes::{Writer, byte_at, signed32_at, signed64_at, skip, unsigned_at};
-use wasm_tree::{Code, Op, ValueType, WFault, behind, first_of, label_of, split_ops};
+use wasm_tree::{Code, EncodeError, Op, ValueType, WFault, behind, first_of, label_of, split_ops};
 
 /// How deep blocks may nest.
 const DEEPEST: u16 = 4096;
@@ -88,7 +88,8 @@ fn put_branches(scratch: &mut Vec<Op>, labels: &[u32]) -> Result<(), AllocError>
 
 /// So many labels, one after another.
 fn many_labels(alloc: Global, count: u32, bytes: &[u8]) -> Result<(Items<u32>, &[u8]), WFault>
-    ensures { Gives (λ x. (x.0, x.1.now)) result (many unsigned count bytes.now) }
+    ensures gives { Gives (λ x. (x.0, x.1.now)) result (many unsigned count bytes.now) }
+    ensures count { IfOk result (λ x. length x.0 ≡ count) }
 {
     let mut labels = Items::new(alloc);
     let mut rest = bytes;
@@ -102,7 +103,8 @@ fn many_labels(alloc: Global, count: u32, bytes: &[u8]) -> Result<(Items<u32>, &
 
 /// How many labels there are, and then each.
 fn labels_at(alloc: Global, bytes: &[u8]) -> Result<(Items<u32>, &[u8]), WFault>
-    ensures { Gives (λ x. (x.0, x.1.now)) result ((vector unsigned).reading bytes.now) }
+    ensures few { IfOk result (λ x. length x.0 < 2 ^ 32) }
+    ensures gives { Gives (λ x. (x.0, x.1.now)) result ((vector unsigned).reading bytes.now) }
 {
     let (count, rest) = unsigned_at(bytes)?;
     many_labels(alloc, count, rest)
@@ -115,12 +117,11 @@ fn put_table<'a>(
     last: u32,
     rest: &'a [u8],
 ) -> Result<&'a [u8], WFault>
+    requires { length labels.now < 2 ^ 32 }
     ensures { Gives (λ x. (scratch.new.items, x.now)) result
         (onto scratch.old.items (Ok (instr.BrTable labels.now last, rest.now))) }
 {
-    let Ok(count) = u32::try_from(labels.len()) else {
-        return Err(WFault::NoMemory);
-    };
+    let count = labels.len() as u32;
     put_op(scratch, Op::BrTable(count, last))?;
     put_branches(scratch, labels)?;
     Ok(rest)
@@ -261,45 +262,28 @@ fn set_op(scratch: &mut Vec<Op>, place: usize, op: Op)
 }
 
 /// Puts the operation with one sequence into its place: all behind it are inside.
-fn close_one(
-    scratch: &mut Vec<Op>,
-    place: usize,
-    opcode: u8,
-    kind: Option<ValueType>,
-) -> Result<(), AllocError>
-    requires { place < length scratch.old.items }
-    ensures { OnOk result
-        (scratch.new.items ≡ slice_set scratch.old.items place
-        (one_sided_op opcode kind (length scratch.old.items - (place + 1)))) }
+fn close_one(scratch: &mut Vec<Op>, place: usize, opcode: u8, kind: Option<ValueType>)
+    requires place { place < length scratch.old.items }
+    requires few { length scratch.old.items - (place + 1) < 2 ^ 32 }
+    ensures { scratch.new.items ≡ slice_set scratch.old.items place
+        (one_sided_op opcode kind (length scratch.old.items - (place + 1))) }
 {
-    let Ok(count) = u32::try_from(scratch.len() - (place + 1)) else {
-        return Err(AllocError);
-    };
+    let count = (scratch.len() - (place + 1)) as u32;
     set_op(scratch, place, one_sided(opcode, kind, count));
-    Ok(())
 }
 
 /// Puts an `if` with two sides into its place: the second side begins at that length, and goes up to the end.
-fn close_two(
-    scratch: &mut Vec<Op>,
-    place: usize,
-    second: usize,
-    kind: Option<ValueType>,
-) -> Result<(), AllocError>
+fn close_two(scratch: &mut Vec<Op>, place: usize, second: usize, kind: Option<ValueType>)
     requires first { place < second }
     requires second { second ≤ length scratch.old.items }
-    ensures { OnOk result
-        (scratch.new.items ≡ slice_set scratch.old.items place
-        (IfElse kind (second - (place + 1)) (length scratch.old.items - second))) }
+    requires few { second - (place + 1) < 2 ^ 32 }
+    requires others { length scratch.old.items - second < 2 ^ 32 }
+    ensures { scratch.new.items ≡ slice_set scratch.old.items place
+        (IfElse kind (second - (place + 1)) (length scratch.old.items - second)) }
 {
-    let Ok(count) = u32::try_from(second - (place + 1)) else {
-        return Err(AllocError);
-    };
-    let Ok(others) = u32::try_from(scratch.len() - second) else {
-        return Err(AllocError);
-    };
+    let count = (second - (place + 1)) as u32;
+    let others = (scratch.len() - second) as u32;
     set_op(scratch, place, Op::IfElse(kind, count, others));
-    Ok(())
 }
 
 /// Reads what stands behind the type of an instruction that holds others, where so many levels of nesting are left for
@@ -313,6 +297,7 @@ fn sides_onto<'a>(
     kind: Option<ValueType>,
     bytes: &'a [u8],
 ) -> Result<&'a [u8], WFault>
+    requires { length bytes.now < 2 ^ 32 }
     ensures { Gives (λ x. (scratch.new.items, x.now)) result
         (onto scratch.old.items (sides_of levels opcode kind bytes.now)) }
 {
@@ -321,7 +306,7 @@ fn sides_onto<'a>(
     let (ending, rest) = code_in(alloc, levels, scratch, bytes)?;
     match ending {
         Ending::End => {
-            close_one(scratch, place, opcode, kind)?;
+            close_one(scratch, place, opcode, kind);
             Ok(rest)
         }
         Ending::Else => {
@@ -330,7 +315,7 @@ fn sides_onto<'a>(
             }
             let second = scratch.len();
             let rest = code_within(alloc, levels, scratch, rest)?;
-            close_two(scratch, place, second, kind)?;
+            close_two(scratch, place, second, kind);
             Ok(rest)
         }
     }
@@ -346,6 +331,7 @@ fn opened_onto<'a>(
     opcode: u8,
     bytes: &'a [u8],
 ) -> Result<&'a [u8], WFault>
+    requires { length bytes.now < 2 ^ 32 }
     ensures { Gives (λ x. (scratch.new.items, x.now)) result
         (onto scratch.old.items (opened levels opcode bytes.now)) }
 {
@@ -365,6 +351,7 @@ fn instr_onto<'a>(
     opcode: u8,
     bytes: &'a [u8],
 ) -> Result<&'a [u8], WFault>
+    requires { length bytes.now < 2 ^ 32 }
     ensures { Gives (λ x. (scratch.new.items, x.now)) result
         (onto scratch.old.items (instr_of (opened levels) opcode bytes.now)) }
 {
@@ -383,6 +370,7 @@ fn code_in<'a>(
     scratch: &mut Vec<Op>,
     bytes: &'a [u8],
 ) -> Result<(Ending, &'a [u8]), WFault>
+    requires { length bytes.now < 2 ^ 32 }
     ensures { Gives (λ x. ((scratch.new.items, x.0), x.1.now)) result
         (onto_sequence scratch.old.items (code_in levels bytes.now)) }
 {
@@ -405,6 +393,7 @@ fn code_within<'a>(
     scratch: &mut Vec<Op>,
     bytes: &'a [u8],
 ) -> Result<&'a [u8], WFault>
+    requires { length bytes.now < 2 ^ 32 }
     ensures { Gives (λ x. (scratch.new.items, x.now)) result
         (onto_code scratch.old.items ((code_within levels).reading bytes.now)) }
 {
@@ -422,14 +411,16 @@ fn taken_off(scratch: &mut Vec<Op>) -> Result<Code, AllocError>
 }
 
 /// The instructions up to the end of their sequence, read over a scratch that may be used again. So each list asks for memory
-/// once.
+/// once. Each operation has a byte of its own, so there are fewer than 2^32 of them.
 #[tactic(auto, unfolding(crate::specs::Instructions::code))]
 pub fn code_over<'a>(
     alloc: Global,
     scratch: &mut Vec<Op>,
     bytes: &'a [u8],
 ) -> Result<(Code, &'a [u8]), WFault>
-    ensures { Gives (λ x. (x.0, x.1.now)) result (code.reading bytes.now) }
+    requires { length bytes.now < 2 ^ 32 }
+    ensures gives { Gives (λ x. (x.0, x.1.now)) result (code.reading bytes.now) }
+    ensures shorter { IfOk result (λ x. length x.1.now ≤ length bytes.now) }
 {
     scratch.clear();
     let rest = code_within(alloc, DEEPEST, scratch, bytes)?;
@@ -439,7 +430,9 @@ pub fn code_over<'a>(
 
 /// The instructions up to the end of their sequence.
 pub fn code_at(alloc: Global, bytes: &[u8]) -> Result<(Code, &[u8]), WFault>
-    ensures { Gives (λ x. (x.0, x.1.now)) result (code.reading bytes.now) }
+    requires { length bytes.now < 2 ^ 32 }
+    ensures gives { Gives (λ x. (x.0, x.1.now)) result (code.reading bytes.now) }
+    ensures shorter { IfOk result (λ x. length x.1.now ≤ length bytes.now) }
 {
     let mut scratch = Vec::new(alloc);
     code_over(alloc, &mut scratch, bytes)
@@ -613,13 +606,15 @@ fn write_ops(out: &mut Writer, ops: &[Op]) -> Result<(), AllocError>
 /// Appends the instructions and the end of their sequence. The only error is that memory ran out, or that the code has no
 /// encoding.
 #[tactic(auto, unfolding(crate::specs::Instructions::code))]
-pub fn write_code(out: &mut Writer, ops: &[Op]) -> Result<(), AllocError>
+pub fn write_code(out: &mut Writer, ops: &[Op]) -> Result<(), EncodeError>
     ensures written { OnOk result (out.new ≡ out.old ++ code.encoding (tree ops.now)) }
     ensures fits { OnOk result (code.fits (tree ops.now) ≡ true) }
+    ensures unfit { result ≡ Err EncodeError.NoEncoding → code.fits (tree ops.now) ≡ false }
 {
     if !code_fits(ops) {
-        return Err(AllocError);
+        return Err(EncodeError::NoEncoding);
     }
     write_ops(out, ops)?;
-    out.byte(0x0B)
+    out.byte(0x0B)?;
+    Ok(())
 }

@@ -3,13 +3,16 @@
 #![tactic(auto)]
 
 mod code;
+mod encode;
 mod fault;
 mod instr;
 mod kinds;
 mod module;
 mod store;
+mod width;
 
 pub use code::{Code, Op, behind, first_of, label_of, split_ops};
+pub use encode::EncodeError;
 pub use fault::WFault;
 pub use instr::{Instr, Load, Numeric, Operation, Relation, StoreWidth};
 pub use kinds::{FuncType, Limits, MemoryType, TableType, ValueType};
@@ -17,3 +20,4 @@ pub use module::{
     Body, Data, Element, Export, ExportKind, Function, Global, Import, ImportKind, Locals, WModule,
 };
 pub use store::{Callee, Extern, Instance, Memory, Store, Table, Value};
+pub use width::{plus, small};

@@ -26,12 +26,12 @@ fn result_of(results: &[ValueType]) -> Option<ValueType>
     }
 }
 
-/// Whether the body is that of a function of this type. `Invalid` where it is not; `NoMemory` where memory is refused, also
-/// where its locals are more than fit into a `usize`. `spares` and `ends` are room that the next body may use again.
+/// Whether the body is that of a function of this type. `Invalid` where it is not; `NoMemory` where memory is refused.
+/// `spares` and `ends` are room that the next body may use again.
 pub fn check_body<'a>(
     alloc: Global,
     spares: &mut Spares,
-    ends: &'a mut Vec<usize>,
+    ends: &'a mut Vec<u128>,
     scope: Scope<'a>,
     func_type: &'a FuncType,
     body: &'a Body,

@@ -14,22 +14,18 @@ use wasm_tree::{Locals, ValueType};
 pub struct Groups<'a> {
     pub groups: &'a [Locals],
     /// How many locals there are up to the end of each group.
-    pub ends: &'a [usize],
+    pub ends: &'a [u128],
     ghost counted: { ends.now ≡ ends_from 0 groups.now },
 }
 
-/// Puts into the list how many locals there are up to the end of each group. An error also where they are more than fit into
-/// a number.
-pub fn count_ends(ends: &mut Vec<usize>, groups: &[Locals]) -> Result<(), AllocError>
+/// Puts into the list how many locals there are up to the end of each group. The only error is that memory ran out.
+pub fn count_ends(ends: &mut Vec<u128>, groups: &[Locals]) -> Result<(), AllocError>
     ensures { OnOk result (ends.new.items ≡ ends_from 0 groups.now) }
 {
     ends.clear();
-    let mut end: usize = 0;
+    let mut end: u128 = 0;
     for group in groups {
-        end = match end.checked_add(group.count as usize) {
-            Some(next) => next,
-            None => return Err(AllocError),
-        };
+        end += u128::from(group.count);
         ends.push(end)?;
     }
     Ok(())
@@ -40,6 +36,7 @@ fn group_of(locals: Groups<'_>, index: usize) -> usize
     ensures { option_map (λ g. g.value_type) (slice_get locals.entry.groups.now result)
         ≡ slice_get (declared locals.entry.groups.now) index }
 {
+    let index = index as u128;
     locals.ends.partition_point(|end| *end <= index)
 }
 

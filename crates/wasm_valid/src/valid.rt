@@ -49,7 +49,7 @@ fn is_import(scope: Scope<'_>, import: &Import) -> bool
 fn check_function(
     alloc: Global,
     spares: &mut Spares,
-    ends: &mut Vec<usize>,
+    ends: &mut Vec<u128>,
     scope: Scope<'_>,
     function: &Function,
 ) -> Result<(), WFault>

@@ -1,19 +1,23 @@
 //! Function bodies in bytes (Core 1.0, section 5.5.13).
 
-ghost use Rattle.std.specs.Prelude.{◌≡◌, ◌++◌, ◌+◌, OnOk, IfSome, true};
+ghost use Rattle.std.specs.Prelude.{◌≡◌, ◌++◌, ◌+◌, ◌<◌, ◌≤◌, ◌^◌, ◌≢◌, IfOk, OnOk, Err, true, false, length};
 ghost use Rattle.wasm_tree.specs.Format.{Format, Gives};
 ghost use Rattle.wasm_binary.specs.Binary.{declared, locals, locals_at, locals_encoding, body};
 
 use crate::binary::{Binary, MAX_ENTRIES};
 use sqlite_items::Items;
-use std::alloc::{AllocError, Global};
+use std::alloc::Global;
 use wasm_bytes::{Writer, closed, front, unsigned_at};
 use wasm_code::{code_over, write_code};
-use wasm_tree::{Body, Locals, Op, ValueType, WFault};
+use wasm_tree::{Body, EncodeError, Locals, Op, ValueType, WFault};
+
+/// The most locals of a body.
+const MAX_LOCALS: u64 = 4294967295;
 
 /// So many groups of locals, where there are so many locals before them.
 fn groups_at(alloc: Global, count: u32, bytes: &[u8]) -> Result<(Items<Locals>, &[u8]), WFault>
-    ensures { Gives (λ x. (x.0, x.1.now)) result (locals_at count 0 bytes.now) }
+    ensures gives { Gives (λ x. (x.0, x.1.now)) result (locals_at count 0 bytes.now) }
+    ensures shorter { IfOk result (λ x. length x.1.now ≤ length bytes.now) }
 {
     let mut groups = Items::new(alloc);
     let mut before = 0u32;
@@ -36,7 +40,8 @@ fn groups_at(alloc: Global, count: u32, bytes: &[u8]) -> Result<(Items<Locals>, 
 
 #[tactic(auto, unfolding(crate::specs::Binary::locals))]
 fn locals_at(alloc: Global, bytes: &[u8]) -> Result<(Items<Locals>, &[u8]), WFault>
-    ensures { Gives (λ x. (x.0, x.1.now)) result (locals.reading bytes.now) }
+    ensures gives { Gives (λ x. (x.0, x.1.now)) result (locals.reading bytes.now) }
+    ensures shorter { IfOk result (λ x. length x.1.now ≤ length bytes.now) }
 {
     let (count, rest) = unsigned_at(bytes)?;
     groups_at(alloc, count, rest)
@@ -44,8 +49,9 @@ fn locals_at(alloc: Global, bytes: &[u8]) -> Result<(Items<Locals>, &[u8]), WFau
 
 /// Appends the groups, one after another.
 #[tactic(auto, unfolding(crate::specs::Binary::locals))]
-fn write_groups(out: &mut Writer, groups: &[Locals]) -> Result<(), AllocError>
-    ensures { OnOk result (out.new ≡ out.old ++ locals.encoding groups.now) }
+fn write_groups(out: &mut Writer, groups: &[Locals]) -> Result<(), EncodeError>
+    ensures written { OnOk result (out.new ≡ out.old ++ locals.encoding groups.now) }
+    ensures always { result ≢ Err EncodeError.NoEncoding }
 {
     out.unsigned(groups.len() as u64)?;
     for group in groups {
@@ -55,30 +61,29 @@ fn write_groups(out: &mut Writer, groups: &[Locals]) -> Result<(), AllocError>
     Ok(())
 }
 
-/// How many locals there are, or nothing where they are too many.
-fn declared(groups: &[Locals]) -> Option<u32>
-    ensures { IfSome result (λ n. n ≡ declared groups.now) }
+/// How many locals there are.
+fn declared(groups: &[Locals]) -> u64
+    requires { length groups.now < 2 ^ 32 }
+    ensures { result ≡ declared groups.now }
 {
-    let mut total = 0u32;
+    let mut total = 0u64;
     for group in groups {
-        total = total.checked_add(group.count)?;
+        total += u64::from(group.count);
     }
-    Some(total)
+    total
 }
 
 /// Appends the groups of locals. The only error is that memory ran out, or that the locals are too many.
 #[tactic(auto, unfolding(crate::specs::Binary::locals))]
-fn write_locals(out: &mut Writer, groups: &[Locals]) -> Result<(), AllocError>
+fn write_locals(out: &mut Writer, groups: &[Locals]) -> Result<(), EncodeError>
     ensures written { OnOk result (out.new ≡ out.old ++ locals.encoding groups.now) }
     ensures fits { OnOk result (locals.fits groups.now ≡ true) }
+    ensures unfit { result ≡ Err EncodeError.NoEncoding → locals.fits groups.now ≡ false }
 {
-    if groups.len() > MAX_ENTRIES {
-        return Err(AllocError);
+    if groups.len() > MAX_ENTRIES || declared(groups) > MAX_LOCALS {
+        return Err(EncodeError::NoEncoding);
     }
-    match declared(groups) {
-        None => Err(AllocError),
-        Some(_) => write_groups(out, groups),
-    }
+    write_groups(out, groups)
 }
 
 /// A body, read over a scratch that may be used again.
@@ -88,7 +93,8 @@ pub fn body_over<'a>(
     scratch: &mut Vec<Op>,
     bytes: &'a [u8],
 ) -> Result<(Body, &'a [u8]), WFault>
-    ensures { Gives (λ x. (x.0, x.1.now)) result (body.reading bytes.now) }
+    ensures gives { Gives (λ x. (x.0, x.1.now)) result (body.reading bytes.now) }
+    ensures shorter { IfOk result (λ x. length x.1.now ≤ length bytes.now) }
 {
     let (size, after) = unsigned_at(bytes)?;
     let (locals, rest) = locals_at(alloc, front(after, size))?;
@@ -106,7 +112,7 @@ impl Binary for Body {
         body_over(alloc, &mut scratch, bytes)
     }
 
-    fn write(&self, out: &mut Writer) -> Result<(), AllocError> {
+    fn write(&self, out: &mut Writer) -> Result<(), EncodeError> {
         let mut content = out.nested();
         write_locals(&mut content, self.locals.as_slice())?;
         write_code(&mut content, self.code.ops())?;

@@ -1,14 +1,14 @@
 //! Types in bytes (Core 1.0, section 5.3).
 
-ghost use Rattle.std.specs.Prelude.{◌≡◌, ◌≢◌, Err, ◌++◌, OnOk};
+ghost use Rattle.std.specs.Prelude.{◌≡◌, ◌≢◌, ◌≤◌, IfOk, length, Err, ◌++◌, OnOk, true, false};
 ghost use Rattle.wasm_tree.specs.Format.{Format, Gives};
 ghost use Rattle.wasm_code.specs.Instructions.{value_type};
 ghost use Rattle.wasm_binary.specs.Binary.{func_type, limits, table_type, memory_type};
 
 use crate::binary::{Binary, vector, write_vector};
-use std::alloc::{AllocError, Global};
+use std::alloc::Global;
 use wasm_bytes::{Writer, byte_at, skip, unsigned_at};
-use wasm_tree::{FuncType, Limits, MemoryType, TableType, ValueType, WFault};
+use wasm_tree::{EncodeError, FuncType, Limits, MemoryType, TableType, ValueType, WFault};
 
 #[tactic(auto, unfolding(wasm_code::specs::Instructions::value_type))]
 impl Binary for ValueType {
@@ -17,6 +17,7 @@ impl Binary for ValueType {
     fn read(_alloc: Global, bytes: &[u8]) -> Result<(ValueType, &[u8]), WFault>
         ensures gives { Gives (λ x. (x.0, x.1.now)) result (value_type.reading bytes.now) }
         ensures memory { result ≢ Err WFault.NoMemory }
+        ensures shorter { IfOk result (λ x. length x.1.now ≤ length bytes.now) }
     {
         match byte_at(bytes)? {
             (0x7F, rest) => Ok((ValueType::I32, rest)),
@@ -25,10 +26,16 @@ impl Binary for ValueType {
         }
     }
 
-    fn write(&self, out: &mut Writer) -> Result<(), AllocError> {
+    fn write(&self, out: &mut Writer) -> Result<(), EncodeError>
+        ensures written { OnOk result (out.new ≡ out.old ++ value_type.encoding self.now) }
+        ensures fits { OnOk result (value_type.fits self.now ≡ true) }
+        ensures unfit { result ≡ Err EncodeError.NoEncoding → value_type.fits self.now ≡ false }
+        // Each type has an encoding.
+        ensures always { result ≢ Err EncodeError.NoEncoding }
+    {
         match self {
-            ValueType::I32 => out.byte(0x7F),
-            ValueType::I64 => out.byte(0x7E),
+            ValueType::I32 => Ok(out.byte(0x7F)?),
+            ValueType::I64 => Ok(out.byte(0x7E)?),
         }
     }
 }
@@ -44,7 +51,7 @@ impl Binary for FuncType {
         Ok((FuncType { params, results }, rest))
     }
 
-    fn write(&self, out: &mut Writer) -> Result<(), AllocError> {
+    fn write(&self, out: &mut Writer) -> Result<(), EncodeError> {
         out.byte(0x60)?;
         write_vector(out, self.params.as_slice())?;
         write_vector(out, self.results.as_slice())
@@ -58,6 +65,7 @@ impl Binary for Limits {
     fn read(_alloc: Global, bytes: &[u8]) -> Result<(Limits, &[u8]), WFault>
         ensures gives { Gives (λ x. (x.0, x.1.now)) result (limits.reading bytes.now) }
         ensures memory { result ≢ Err WFault.NoMemory }
+        ensures shorter { IfOk result (λ x. length x.1.now ≤ length bytes.now) }
     {
         let (flag, rest) = byte_at(bytes)?;
         match flag {
@@ -75,16 +83,18 @@ impl Binary for Limits {
         }
     }
 
-    fn write(&self, out: &mut Writer) -> Result<(), AllocError> {
+    fn write(&self, out: &mut Writer) -> Result<(), EncodeError> {
         match self.max {
             None => {
                 out.byte(0x00)?;
-                out.unsigned(u64::from(self.min))
+                out.unsigned(u64::from(self.min))?;
+                Ok(())
             }
             Some(max) => {
                 out.byte(0x01)?;
                 out.unsigned(u64::from(self.min))?;
-                out.unsigned(u64::from(max))
+                out.unsigned(u64::from(max))?;
+                Ok(())
             }
         }
     }
@@ -97,13 +107,14 @@ impl Binary for TableType {
     fn read(alloc: Global, bytes: &[u8]) -> Result<(TableType, &[u8]), WFault>
         ensures gives { Gives (λ x. (x.0, x.1.now)) result (table_type.reading bytes.now) }
         ensures memory { result ≢ Err WFault.NoMemory }
+        ensures shorter { IfOk result (λ x. length x.1.now ≤ length bytes.now) }
     {
         let rest = skip(0x70, bytes)?;
         let (limits, rest) = Limits::read(alloc, rest)?;
         Ok((TableType { limits }, rest))
     }
 
-    fn write(&self, out: &mut Writer) -> Result<(), AllocError> {
+    fn write(&self, out: &mut Writer) -> Result<(), EncodeError> {
         out.byte(0x70)?;
         self.limits.write(out)
     }
@@ -116,12 +127,13 @@ impl Binary for MemoryType {
     fn read(alloc: Global, bytes: &[u8]) -> Result<(MemoryType, &[u8]), WFault>
         ensures gives { Gives (λ x. (x.0, x.1.now)) result (memory_type.reading bytes.now) }
         ensures memory { result ≢ Err WFault.NoMemory }
+        ensures shorter { IfOk result (λ x. length x.1.now ≤ length bytes.now) }
     {
         let (limits, rest) = Limits::read(alloc, bytes)?;
         Ok((MemoryType { limits }, rest))
     }
 
-    fn write(&self, out: &mut Writer) -> Result<(), AllocError> {
+    fn write(&self, out: &mut Writer) -> Result<(), EncodeError> {
         self.limits.write(out)
     }
 }

@@ -1,17 +1,17 @@
 //! The entries of the sections in bytes (Core 1.0, section 5.5).
 
-ghost use Rattle.std.specs.Prelude.{◌≡◌, ◌≢◌, Err, ◌++◌, OnOk};
+ghost use Rattle.std.specs.Prelude.{◌≡◌, ◌≢◌, ◌≤◌, IfOk, length, Err, ◌++◌, OnOk};
 ghost use Rattle.wasm_tree.specs.Format.{Format, Gives};
 ghost use Rattle.wasm_binary.specs.Binary.{import_kind, import, global, export_kind, export, element, data_segment};
 
 use crate::binary::{Binary, vector, write_vector};
 use sqlite_items::Items;
-use std::alloc::{AllocError, Global};
+use std::alloc::Global;
 use wasm_bytes::{Writer, byte_at, closed, front, name_at, skip, unsigned_at, write_name};
 use wasm_code::{code_at, write_code};
 use wasm_tree::{
-    Data, Element, Export, ExportKind, Global as Constant, Import, ImportKind, MemoryType,
-    TableType, ValueType, WFault,
+    Data, Element, EncodeError, Export, ExportKind, Global as Constant, Import, ImportKind,
+    MemoryType, TableType, ValueType, WFault,
 };
 
 #[tactic(auto, unfolding(crate::specs::Binary::import_kind))]
@@ -21,6 +21,7 @@ impl Binary for ImportKind {
     fn read(alloc: Global, bytes: &[u8]) -> Result<(ImportKind, &[u8]), WFault>
         ensures gives { Gives (λ x. (x.0, x.1.now)) result (import_kind.reading bytes.now) }
         ensures memory { result ≢ Err WFault.NoMemory }
+        ensures shorter { IfOk result (λ x. length x.1.now ≤ length bytes.now) }
     {
         let (kind, rest) = byte_at(bytes)?;
         match kind {
@@ -45,7 +46,7 @@ impl Binary for ImportKind {
         }
     }
 
-    fn write(&self, out: &mut Writer) -> Result<(), AllocError> {
+    fn write(&self, out: &mut Writer) -> Result<(), EncodeError> {
         match self {
             ImportKind::Function(type_index) => {
                 out.byte(0x00)?;
@@ -62,7 +63,8 @@ impl Binary for ImportKind {
             ImportKind::Global(value_type) => {
                 out.byte(0x03)?;
                 value_type.write(out)?;
-                out.byte(0x00)
+                out.byte(0x00)?;
+                Ok(())
             }
         }
     }
@@ -86,7 +88,7 @@ impl Binary for Import {
         ))
     }
 
-    fn write(&self, out: &mut Writer) -> Result<(), AllocError> {
+    fn write(&self, out: &mut Writer) -> Result<(), EncodeError> {
         write_name(out, self.module_name.as_slice())?;
         write_name(out, self.name.as_slice())?;
         self.kind.write(out)
@@ -104,7 +106,7 @@ impl Binary for Constant {
         Ok((Constant { value_type, value }, rest))
     }
 
-    fn write(&self, out: &mut Writer) -> Result<(), AllocError> {
+    fn write(&self, out: &mut Writer) -> Result<(), EncodeError> {
         self.value_type.write(out)?;
         out.byte(0x00)?;
         write_code(out, self.value.ops())
@@ -118,6 +120,7 @@ impl Binary for ExportKind {
     fn read(_alloc: Global, bytes: &[u8]) -> Result<(ExportKind, &[u8]), WFault>
         ensures gives { Gives (λ x. (x.0, x.1.now)) result (export_kind.reading bytes.now) }
         ensures memory { result ≢ Err WFault.NoMemory }
+        ensures shorter { IfOk result (λ x. length x.1.now ≤ length bytes.now) }
     {
         let (kind, rest) = byte_at(bytes)?;
         match kind {
@@ -141,7 +144,7 @@ impl Binary for ExportKind {
         }
     }
 
-    fn write(&self, out: &mut Writer) -> Result<(), AllocError> {
+    fn write(&self, out: &mut Writer) -> Result<(), EncodeError> {
         match self {
             ExportKind::Function(index) => {
                 out.byte(0x00)?;
@@ -173,7 +176,7 @@ impl Binary for Export {
         Ok((Export { name, kind }, rest))
     }
 
-    fn write(&self, out: &mut Writer) -> Result<(), AllocError> {
+    fn write(&self, out: &mut Writer) -> Result<(), EncodeError> {
         write_name(out, self.name.as_slice())?;
         self.kind.write(out)
     }
@@ -197,7 +200,7 @@ impl Binary for Element {
         ))
     }
 
-    fn write(&self, out: &mut Writer) -> Result<(), AllocError> {
+    fn write(&self, out: &mut Writer) -> Result<(), EncodeError> {
         self.table.write(out)?;
         write_code(out, self.offset.ops())?;
         write_vector(out, self.functions.as_slice())
@@ -225,7 +228,7 @@ impl Binary for Data {
         ))
     }
 
-    fn write(&self, out: &mut Writer) -> Result<(), AllocError> {
+    fn write(&self, out: &mut Writer) -> Result<(), EncodeError> {
         self.memory.write(out)?;
         write_code(out, self.offset.ops())?;
         out.sized(self.bytes.as_slice())

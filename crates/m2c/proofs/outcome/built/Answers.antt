@@ -1,4 +1,5 @@
-use Rattle.std.proofs.Common.{◌≡◌, ◌≤◌, ◌+◌, ◌*◌, ℕ, List, map, ap, subst, ◌∙◌}
+use Rattle.std.proofs.Common.{◌≡◌, ◌≤◌, ◌+◌, ◌*◌, ℕ, List, map, ap, sym, subst, ◌∙◌}
+use Rattle.std.specs.Prelude.{All}
 use Rattle.std.specs.Global.{Vec}
 use Rattle.wasm_binary.specs.Binary.{Encodes}
 use Rattle.m2_scheme.specs.Modules.{link_of, stack_begin}
@@ -8,10 +9,21 @@ use Rattle.m2_jobs.specs.Borrowed.{borrowed}
 use Rattle.m2c.specs.Build.{named, named_bytes, started}
 use Rattle.m2c.proofs.Graphs.{is_program, encoded_borrowed}
 use Rattle.m2c.proofs.Borrowed.{copies_borrowed}
+use Rattle.m2c.proofs.Named.{borrowed_named, started_named}
+use Rattle.m2c.specs.Names.{IsName}
 use Rattle.m2c.proofs.outcome.built.Goals as goal
 
 abbrev items_of : Vec ℕ → List ℕ
 items_of v = v.items
+
+pub copies_of-requires : goal.copies_of-requires
+copies_of-requires c =
+    let g = c.args.graph.now in
+    let fs = borrowed c.args.trees.now in
+    let jobs = map items_of g.jobs.items in
+    let encoded = encoded_borrowed c.args.trees.now g.files.items jobs c.requires.encoded in
+    borrowed_named c.args.modules.now
+    (subst (All (λ (x : ModuleBytes). IsName x.name)) (sym c.requires.modules) (started_named c.args.files.now fs g.files.items jobs g.starts.items c.requires.graph c.requires.none encoded))
 
 pub returns : goal.returns
 returns c =
@@ -21,7 +33,7 @@ returns c =
     let link_is : Encodes c.in_ok-link.link.items (link_of (parts whole) c.args.pages) =
     subst (λ (ms : List ModuleBytes). Encodes c.in_ok-link.link.items (link_of (parts ms) c.args.pages)) c.requires.modules c.in_ok-link.ensures
     in
-    let built_are : map named c.in_ok-modules.modules.items ≡ map named_bytes whole = c.in_ok-modules.ensures.modules ∙ copies_borrowed c.args.modules.now ∙ ap (map named_bytes) c.requires.modules in
+    let built_are : map named c.in_ok-modules.modules.items ≡ map named_bytes whole = c.in_ok-modules.ensures ∙ copies_borrowed c.args.modules.now ∙ ap (map named_bytes) c.requires.modules in
     let fits : stack_begin (parts whole) + 4096 ≤ 65536 * c.args.pages = subst (λ (ms : List ModuleBytes). stack_begin (parts ms) + 4096 ≤ 65536 * c.args.pages) c.requires.modules c.requires.fits in
     let encoded = encoded_borrowed c.args.trees.now g.files.items (map items_of g.jobs.items) c.requires.encoded in
     is_program c.args.files.now fs g.files.items (map items_of g.jobs.items) g.starts.items c.requires.graph c.requires.none encoded c.args.pages c.requires.least c.requires.most fits
