@@ -111,7 +111,7 @@ fn push_imported(
         (imports.new ≡ imports.old ++ imported_globals (map (λ i. i.name) imported.now)) }
 {
     for module in imported {
-        push_globals(alloc, imports, module.name.as_bytes())?;
+        push_globals(alloc, imports, module.name.as_slice())?;
     }
     Ok(())
 }

@@ -8,7 +8,7 @@ ghost use Rattle.m2_types.specs.Export.{with_import_of};
 ghost use Rattle.m2_modules.specs.Imports.{with_import_copy, definition_imports, all_imports, imported_as, with_table_of, with_name_of, with_place_of, with_module_of, typed_imports};
 
 use crate::own::exported_variables;
-use m2_tree::{Import, Items, Name, is_console};
+use m2_tree::{Import, Items, is_console};
 use m2_typed::{Dictionary, Imported, Shared, Table};
 use m2_types::with_import_of;
 use std::alloc::{AllocError, Global};
@@ -71,7 +71,7 @@ fn imported_as(alloc: Global, table: &Table) -> Result<Imported, AllocError>
     ensures { IfOk result (λ imported. imported ≡ imported_as table.now) }
 {
     Ok(Imported {
-        name: table.name.clone()?,
+        name: Items::from_slice(alloc, table.name.as_bytes())?,
         number: table.number,
         variables: exported_variables(alloc, &table.exported)?,
     })
@@ -95,16 +95,6 @@ fn with_table_of(
     }
 }
 
-/// A name of at most 64 bytes, as each name is. The only error is that memory ran out, or that it has more.
-fn name_of(alloc: Global, name: &[u8]) -> Result<Name, AllocError>
-    ensures { IfOk result (λ copy. copy ≡ name.now) }
-{
-    if name.len() > 64 {
-        return Err(AllocError);
-    }
-    Name::new(alloc, name)
-}
-
 fn with_name_of(
     alloc: Global,
     imports: &mut Items<Imported>,
@@ -117,7 +107,7 @@ fn with_name_of(
         return Ok(());
     }
     imports.push(Imported {
-        name: name_of(alloc, name)?,
+        name: Items::from_slice(alloc, name)?,
         number,
         variables: Items::new(alloc),
     })

@@ -33,7 +33,8 @@ pub enum Which {
 /// A module that is imported.
 #[derive(Drop)]
 pub struct Imported {
-    pub name: Name,
+    /// Its name.
+    pub name: Items<u8>,
     /// The number of the module, by which its types, variables and procedures are known.
     pub number: u32,
     /// The types of the variables that it exports, in order.
