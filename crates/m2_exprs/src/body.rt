@@ -10,8 +10,9 @@ ghost use Rattle.m2_exprs.specs.Meanings.{part, meant, picks, head, item, as_con
 
 use crate::fixed::denoted;
 use crate::pieces::{
-    argument_by, call_given, field_at, first_of, formals_of, high_at, index_at, named, of_computed,
-    looked, place_of, related, related_parts, signed_first, taken_at, type_at, type_of, unary_of,
+    argument_by, call_given, field_at, first_of, formals_of, high_at, index_at, looked, named,
+    of_computed, place_of, related, related_parts, signed_first, taken_at, type_at, type_of,
+    unary_of,
 };
 use m2_calls::{
     Called, Callee, Form, Unary, bound_at, callee_of, conversion_at, form_of, function_of,
@@ -29,8 +30,9 @@ use m2_scopes::{
 };
 use m2_tree::{AddOp, Designator, Expr, Item, Items, MulOp, Operator, Pos, Selector};
 use m2_typed::{Argument, CHAR, Formal, Scalar, Standard, TypeNo, Value};
-use m2_values::{add_op, mul_op, spanned, valued};
-use m2_values::{combined as combined_constants, negated as negated_constant};
+use m2_values::{
+    add_op, combined as combined_constants, mul_op, negated as negated_constant, spanned, valued,
+};
 use std::alloc::{AllocError, Global};
 
 /// What an expression stands for.
@@ -447,11 +449,7 @@ fn high(
 
 /// A constant expression that stands for itself.
 #[cycle(body)]
-fn itself(
-    alloc: Global,
-    scope: &Scope<Fault>,
-    e: &Expr,
-) -> Result<Sought<Designated>, AllocError>
+fn itself(alloc: Global, scope: &Scope<Fault>, e: &Expr) -> Result<Sought<Designated>, AllocError>
     ensures { IfOk result (λ d. d ≡ as_constant least scope.now (part least e.now)) }
 {
     match constant_of(alloc, scope, e)? {

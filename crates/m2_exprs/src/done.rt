@@ -13,9 +13,7 @@ use m2_calls::{
     proper_of, put, set_variable,
 };
 use m2_computed::signature_of;
-use m2_scopes::{
-    Elaborated, Fault, Scope, of_heading, of_sort, refusal_beside, reported_beside,
-};
+use m2_scopes::{Elaborated, Fault, Scope, of_heading, of_sort, refusal_beside, reported_beside};
 use m2_tree::{Designator, Expr, Items, Pos};
 use m2_typed::{
     Argument, CARDINAL, Change, Membership, Place, Standard, TypeNo, TypedExpr, TypedStmt,

@@ -16,9 +16,7 @@ use m2_scopes::{
     Elaborated, Fault, Scope, Sought, looked_up, of_heading, of_sort, plain, reported,
 };
 use m2_tree::{Boxed, Designator, Expr, Ident, Items, Operator, Pos, RelOp, Sign};
-use m2_typed::{
-    Argument, Formal, Scalar, Signature, Standard, TypeNo, TypedExpr, Types, Value,
-};
+use m2_typed::{Argument, Formal, Scalar, Signature, Standard, TypeNo, TypedExpr, Types, Value};
 use m2_values::BinaryOp;
 use std::alloc::{AllocError, Global};
 

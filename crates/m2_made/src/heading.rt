@@ -174,7 +174,14 @@ pub fn names_of(alloc: Global, heading: &Heading) -> Result<Elaborated<()>, Allo
     let mut fields = no_fields(alloc);
     let mut done = Ok(());
     for section in heading.formals.as_slice() {
-        done = with_names(alloc, &mut fields, done, section.names.as_slice(), INTEGER, 0)?;
+        done = with_names(
+            alloc,
+            &mut fields,
+            done,
+            section.names.as_slice(),
+            INTEGER,
+            0,
+        )?;
     }
     Ok(done)
 }

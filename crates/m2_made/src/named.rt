@@ -73,7 +73,10 @@ pub fn named_type(scope: &Scope<Fault>, q: &Qualified) -> Result<Elaborated<Type
     ensures { IfOk result (λ t. t ≡ named_type least scope.now q.now) }
 {
     match &q.module {
-        None => Ok(type_by(q.name.pos, of_sort(q.name.pos, 33, looked_up(scope, &q.name)?))),
+        None => Ok(type_by(
+            q.name.pos,
+            of_sort(q.name.pos, 33, looked_up(scope, &q.name)?),
+        )),
         Some(home) => match of_sort(home.pos, 33, looked_up(scope, home)?) {
             Err(fault) => Ok(Err(fault)),
             Ok(meaning) => in_module(scope, home.pos, &q.name, meaning),

@@ -6,7 +6,9 @@ mod known;
 mod meaningless;
 mod scope;
 
-pub use fault::{Elaborated, Fault, beside, both, lesser, refusal_beside, reported, reported_beside};
+pub use fault::{
+    Elaborated, Fault, beside, both, lesser, refusal_beside, reported, reported_beside,
+};
 pub use known::{Known, Origin};
 pub use meaningless::{Meaningless, Sought, of_heading, of_sort, plain};
 pub use scope::{

@@ -10,8 +10,7 @@ ghost use Rattle.m2_steps.specs.Control.{controlled, is_own, control_by, control
 use m2_computed::{
     Amount, Class, Computed, Side, bases_suit, class_of, side_of, slot_of, sort_suits, value_suited,
 };
-use m2_exprs::constant_of;
-use m2_exprs::{place_of, value_of};
+use m2_exprs::{constant_of, place_of, value_of};
 use m2_scopes::{Elaborated, Fault, Scope, both, looked_up, of_sort, reported};
 use m2_tree::{Boxed, Expr, Ident, Items, Pos};
 use m2_typed::{

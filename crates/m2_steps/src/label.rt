@@ -70,12 +70,7 @@ fn value_bound(base: Option<TypeNo>, label: Pos, at: Pos, value: Computed) -> El
     }
 }
 
-fn variable_bound(
-    base: Option<TypeNo>,
-    label: Pos,
-    at: Pos,
-    class: Class,
-) -> Elaborated<Ordinal>
+fn variable_bound(base: Option<TypeNo>, label: Pos, at: Pos, class: Class) -> Elaborated<Ordinal>
     ensures { result ≡ variable_bound least base label at class }
 {
     match class {

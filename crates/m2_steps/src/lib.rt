@@ -12,8 +12,8 @@ pub use around::{Around, exited, in_loop};
 pub use control::{Control, Course, course_of, repeated_for};
 pub use label::labels_in;
 pub use lists::{
-    armed, base_in, cased, chosen, chosen_else, looped, repeated_until, repeated_while, reported_in,
-    standing, with_next, within,
+    armed, base_in, cased, chosen, chosen_else, looped, repeated_until, repeated_while,
+    reported_in, standing, with_next, within,
 };
 pub use opened::opened_type;
 pub use simple::{assignment, called, close, condition, open, record_of, returned, selected};

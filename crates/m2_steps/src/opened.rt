@@ -73,9 +73,7 @@ fn led(
     match from {
         None => Ok(None),
         Some(from) => match selector {
-            Selector::Field(at, name) => {
-                Ok(known_of(field_of(alloc, scope, *at, name, from)?))
-            }
+            Selector::Field(at, name) => { Ok(known_of(field_of(alloc, scope, *at, name, from)?)) }
             Selector::Index(_, _) => Ok(element_of(alloc, &scope.types, from)),
         },
     }
@@ -100,13 +98,7 @@ fn type_led_to(types: &Types, designated: Designated) -> Option<TypeNo>
     ensures { result ≡ type_led_to types.now designated }
 {
     match designated {
-        Designated::Variable(t, _) => {
-            if is_record(types, t) {
-                Some(t)
-            } else {
-                None
-            }
-        }
+        Designated::Variable(t, _) => { if is_record(types, t) { Some(t) } else { None } }
         Designated::Value(value) => {
             drop(value);
             None
