@@ -16,7 +16,7 @@ returns-clause-becomes g c =
     let files : List ℕ = c.args.graph.now.files.items in
     let jobs : List (List ℕ) = map (λ job. job.items) c.args.graph.now.jobs.items in
     IfOk-weaker c.all_modules.result _ (λ all. all.items ≡ all_compiled trees files jobs)
-    (λ all h. each_compiled trees files jobs all.items c.all_made-made.ensures.sound
+    (λ all h. each_compiled trees files jobs all.items c.in_ok-made.ensures.sound
     (unmade jobs (Defines trees files) (all_jobs (length jobs)) c.in_ok-made.made.items all.items c.in_ok-made.ensures.made h)) c.all_modules.ensures
 
 pub returns-clause-encoded : goal.returns-clause-encoded
@@ -25,5 +25,5 @@ returns-clause-encoded g c =
     let files : List ℕ = c.args.graph.now.files.items in
     let jobs : List (List ℕ) = map (λ job. job.items) c.args.graph.now.jobs.items in
     IfOk-weaker c.all_modules.result _ (λ all. AreEncoded trees files jobs)
-    (λ all h. all_encoded trees files jobs all.items c.all_made-made.ensures.sound
+    (λ all h. all_encoded trees files jobs all.items c.in_ok-made.ensures.sound
     (unmade jobs (Defines trees files) (all_jobs (length jobs)) c.in_ok-made.made.items all.items c.in_ok-made.ensures.made h)) c.all_modules.ensures
