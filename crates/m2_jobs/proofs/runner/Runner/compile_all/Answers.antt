@@ -1,7 +1,6 @@
 use Rattle.std.proofs.Common.{List, ℕ, map, length, ◌≡◌}
 use Rattle.std.proofs.lemmas.Result.{IfOk-weaker}
 use Rattle.m2_tree.specs.declared.decl.Module.{Module}
-use Rattle.m2_compile.specs.declared.outcome.Compiled.{Compiled}
 use Rattle.m2_worker.specs.Results.{all_jobs}
 use Rattle.m2_jobs.specs.Jobs.{all_compiled}
 use Rattle.m2_jobs.specs.Encoded.{AreEncoded, Defines}
