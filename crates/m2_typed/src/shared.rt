@@ -42,9 +42,7 @@ impl<T: Drop> Shared<T> {
     pub fn new(alloc: Global, value: T) -> Result<Shared<T>, AllocError>
         ensures { IfOk result (λ s. s ≡ value) }
     {
-        match Arc::new(alloc, value) {
-            Ok(inner) => Ok(Shared { inner }),
-            Err(_) => Err(AllocError),
-        }
+        let inner = Arc::new(alloc, value)?;
+        Ok(Shared { inner })
     }
 }
