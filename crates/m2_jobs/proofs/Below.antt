@@ -1,5 +1,5 @@
 -- What the prerequisites of a job came to: the same among the jobs before it as among all.
-use Rattle.std.proofs.Common.{◌≡◌, ℕ, zero, suc, ◌+◌, ◌<◌, ◌≤◌, List, [], ◌∷◌, ◌++◌, length, map, Option, Some, refl, sym, ap, subst, ◌∙◌, arith, inl, inr}
+use Rattle.std.proofs.Common.{◌≡◌, ℕ, zero, suc, ◌<◌, List, [], ◌∷◌, ◌++◌, length, map, Option, Some, refl, sym, ap, subst, ◌∙◌, arith, inl, inr}
 use Rattle.std.specs.Prelude.{slice_get}
 use Rattle.std.proofs.lemmas.Bool.{cases_lt}
 use Rattle.std.proofs.lemmas.List.{map-id}
@@ -12,7 +12,7 @@ use Rattle.m2_compile.specs.declared.outcome.Compiled.{Compiled}
 use Rattle.m2_jobs.specs.Jobs.{compiled_at}
 use Rattle.m2_jobs.specs.Encoded.{encoded_at, needed_of, AreEncoded, Defines}
 use Rattle.m2_jobs.specs.declared.made.Made.{Made}
-use Rattle.m2_jobs.specs.declared.made.Made.TheVariants.{Module as Became, NoEncoding}
+use Rattle.m2_jobs.specs.declared.made.Made.TheVariants.{Module as Became}
 use Rattle.m2_jobs.specs.Made.{modules, IsMadeOf, MayMake}
 
 get_front : {X : Type 0} (xs ys : List X) (i : ℕ) → i < length xs → slice_get (xs ++ ys) i ≡ slice_get xs i

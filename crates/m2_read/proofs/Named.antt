@@ -1,5 +1,5 @@
 -- The name of a module that is read consists of letters and digits, 64 at most.
-use Rattle.std.proofs.Common.{◌≡◌, ◌⊎◌, inl, inr, ℕ, ◌<◌, ◌≤◌, Bool, true, false, cond, ◌&&◌, ◌||◌, List, [], ◌∷◌, ◌++◌, length, Option, Some, None, refl, sym, ap, subst, ◌∙◌, arith}
+use Rattle.std.proofs.Common.{◌≡◌, ◌⊎◌, inl, inr, ℕ, ◌<◌, ◌≤◌, Bool, true, false, ◌&&◌, ◌||◌, List, [], ◌∷◌, ◌++◌, length, Option, Some, None, refl, sym, ap, subst, arith}
 use Rattle.std.specs.Prelude.{nat_le, All, if◌then◌else◌}
 use Rattle.std.specs.List.{AllByRecursion, list_all}
 use Rattle.std.proofs.lemmas.Bool.{leb-true, le-leb, false≢true, and_from, and_parts}
@@ -15,7 +15,7 @@ use Rattle.m2_scan.specs.Forms.{IsRun, Member}
 use Rattle.m2_scan.specs.Forms as forms
 use Rattle.m2_scan.specs.Division.{place, Divides, tokens_behind, HasTokens}
 use Rattle.m2_grammar.specs.Rule.{Rule, Ast, module_rule, import_rule, idents_rule, def_rule, block_rule, decl_rule, constant_rule, type_decl_rule, variables_rule, formals_rule, section_rule, formal_rule, qual_rule, simple_rule, type_rule, dims_rule, parameter_rule, field_rule, stmts_rule, stmt_rule, rest_rule, arm_rule, item_rule, desig_rule, selectors_rule, args_rule, expr_rule, sum_rule, term_rule, factor_rule, set_rule}
-use Rattle.m2_grammar.specs.Grammar.{Ty, token, ast, both, either, maybe, list, El, Gr, rule}
+use Rattle.m2_grammar.specs.Grammar.{Ty, token, ast, both, either, maybe, list, El, Gr}
 use Rattle.m2_grammar.specs.Ebnf.{grammar}
 use Rattle.m2_grammar.specs.Trees.{name_said, name_of, module_of, tree}
 use Rattle.m2_grammar.specs.Spelling.{Spells, one, made, pair, left, right, before, behind, absent, there_is, none, more, nested, closed}

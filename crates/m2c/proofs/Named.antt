@@ -1,5 +1,5 @@
 -- The modules of a program have names of letters and digits.
-use Rattle.std.proofs.Common.{◌≡◌, ℕ, zero, suc, List, [], ◌∷◌, map, Option, Some, None, refl, sym, ap, subst, ◌∙◌}
+use Rattle.std.proofs.Common.{◌≡◌, ℕ, zero, suc, List, [], ◌∷◌, map, Option, Some, None, refl, sym, subst}
 use Rattle.std.specs.Prelude.{All, slice_get}
 use Rattle.std.specs.List.{AllByRecursion}
 use Rattle.std.specs.Arc.{arc_value}

@@ -1,5 +1,5 @@
 -- Code has no more operations than its encoding has bytes.
-use Rattle.std.proofs.Common.{◌≡◌, ℕ, suc, ◌+◌, ◌≤◌, Bool, true, false, List, [], ◌∷◌, ◌++◌, length, map, Option, None, Some, Ok, refl, sym, ap, subst, ◌∙◌, arith, length-append, inl, inr}
+use Rattle.std.proofs.Common.{◌≡◌, ℕ, suc, ◌+◌, ◌≤◌, List, [], ◌∷◌, ◌++◌, length, map, Option, None, Some, Ok, refl, ap, subst, ◌∙◌, arith, length-append, inl, inr}
 use Rattle.std.specs.Prelude.{nat_lt}
 use Rattle.std.specs.List.{concat, flat_map}
 use Rattle.std.proofs.lemmas.Bool.{cases_Bool}
@@ -12,7 +12,7 @@ use Rattle.wasm_tree.specs.Code.{joined, flat_step, flat_one, flat}
 use Rattle.wasm_bytes.specs.Number.{unsigned, signed32, signed64, groups}
 use Rattle.wasm_code.specs.Instructions.{block_type, encoding_step, instr_encoding, opened, instr_of, code_in, code_within}
 use Rattle.wasm_tree.specs.declared.kinds.ValueType.{ValueType}
-use Rattle.wasm_tree.specs.Format.{Reading, byte_at}
+use Rattle.wasm_tree.specs.Format.{byte_at}
 use Rattle.wasm_bytes.proofs.Laws.{IsBytes, IsBytes-tail, read_is}
 use Rattle.wasm_code.specs.declared.code.Ending.{Ending}
 use Rattle.wasm_code.specs.ScratchStack.{onto, onto_sequence, onto_code}

@@ -5,7 +5,7 @@ use Rattle.wasm_tree.specs.declared.code.Op.TheVariants as op
 use Rattle.wasm_code.specs.Instructions.{opened, instr_of}
 use Rattle.wasm_code.proofs.Loop.{sequence_more, sequence_fail, sequence_end, sequence_cut, sequence_none}
 use Rattle.wasm_code.proofs.ScratchStacks.{instr_onto, faults, fails_onto, ends_onto, goes_on_onto, sides_end, sides_two}
-use Rattle.wasm_code.proofs.Counted.{behind_byte, behind_instr, behind_type, sequence_counted, code_counted, one_longer}
+use Rattle.wasm_code.proofs.Counted.{behind_instr, behind_type, sequence_counted, code_counted, one_longer}
 use Rattle.wasm_code.proofs.code.+code.Goals as goal
 
 pub code_in-returns-in_err-opcode : goal.code_in-returns-in_err-opcode

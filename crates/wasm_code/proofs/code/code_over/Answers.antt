@@ -1,4 +1,4 @@
-use Rattle.std.proofs.Common.{◌+◌, ◌≤◌, length, arith}
+use Rattle.std.proofs.Common.{arith}
 use Rattle.wasm_code.proofs.Counted.{code_counted}
 use Rattle.wasm_code.proofs.ScratchStacks.{code_taken}
 use Rattle.wasm_code.proofs.code.code_over.Goals as goal

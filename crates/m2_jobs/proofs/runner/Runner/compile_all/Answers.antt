@@ -1,7 +1,6 @@
 use Rattle.std.proofs.Common.{List, ℕ, map, length, ◌≡◌}
 use Rattle.std.proofs.lemmas.Result.{IfOk-weaker}
 use Rattle.m2_tree.specs.declared.decl.Module.{Module}
-use Rattle.m2_compile.specs.declared.outcome.Compiled.{Compiled}
 use Rattle.m2_worker.specs.Results.{all_jobs}
 use Rattle.m2_jobs.specs.Jobs.{all_compiled}
 use Rattle.m2_jobs.specs.Encoded.{AreEncoded, Defines}
@@ -16,7 +15,7 @@ returns-clause-becomes g c =
     let files : List ℕ = c.args.graph.now.files.items in
     let jobs : List (List ℕ) = map (λ job. job.items) c.args.graph.now.jobs.items in
     IfOk-weaker c.all_modules.result _ (λ all. all.items ≡ all_compiled trees files jobs)
-    (λ all h. each_compiled trees files jobs all.items c.all_made-made.ensures.sound
+    (λ all h. each_compiled trees files jobs all.items c.in_ok-made.ensures.sound
     (unmade jobs (Defines trees files) (all_jobs (length jobs)) c.in_ok-made.made.items all.items c.in_ok-made.ensures.made h)) c.all_modules.ensures
 
 pub returns-clause-encoded : goal.returns-clause-encoded
@@ -25,5 +24,5 @@ returns-clause-encoded g c =
     let files : List ℕ = c.args.graph.now.files.items in
     let jobs : List (List ℕ) = map (λ job. job.items) c.args.graph.now.jobs.items in
     IfOk-weaker c.all_modules.result _ (λ all. AreEncoded trees files jobs)
-    (λ all h. all_encoded trees files jobs all.items c.all_made-made.ensures.sound
+    (λ all h. all_encoded trees files jobs all.items c.in_ok-made.ensures.sound
     (unmade jobs (Defines trees files) (all_jobs (length jobs)) c.in_ok-made.made.items all.items c.in_ok-made.ensures.made h)) c.all_modules.ensures
