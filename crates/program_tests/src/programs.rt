@@ -1,4 +1,4 @@
-//! The programs of `data/programs.txt`.
+//! The programs of `data/programs.txt` and `data/rows-programs.txt`.
 
 use crate::count::Count;
 use crate::program::{Expected, Program, decided, no_program};
@@ -142,10 +142,13 @@ fn with_next<R: Threads + Sync + Eprint>(
     Ok(count)
 }
 
-/// Decides each program.
-pub fn check_all<R: Threads + Sync + Files + Eprint + AllocGlobal>(rt: &R) -> Result<Count> {
+/// Decides each program of a file.
+pub fn check_all<R: Threads + Sync + Files + Eprint + AllocGlobal>(
+    rt: &R,
+    name: &str,
+) -> Result<Count> {
     let alloc = rt.alloc();
-    let bytes = fs::read(rt, "programs.txt").context("cannot read the programs")?;
+    let bytes = fs::read(rt, name).context("cannot read the programs")?;
     let all = String::from_utf8(bytes)?;
     let mut count = Count::none();
     let mut reading = begun(alloc);
