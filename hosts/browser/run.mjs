@@ -101,21 +101,37 @@ function choose(find) {
   run();
 }
 
+/** One of the three ways to choose a program was taken: the others say nothing. */
+function clearOthers(taken) {
+  for (const other of [element("examples"), element("folder"), element("files")]) {
+    if (other !== taken) {
+      other.value = "";
+    }
+  }
+}
+
 function chooseFiles({ target }) {
   const files = [...target.files];
-  target.value = "";
   if (files.length > 0) {
-    element("examples").selectedIndex = 0;
+    clearOthers(target);
     choose(() => sourceOfFiles(files));
   }
 }
 
-async function stop() {
+function chooseExample({ target }) {
+  clearOthers(target);
+  choose(() => sourceBeside(target.value));
+}
+
+/** The same files can be chosen again, after they have changed. */
+function forgetFiles({ target }) {
+  target.value = "";
+}
+
+function stop() {
   leave();
-  await screen.finish();
-  if (running === undefined) {
-    show("stopped", "The program was stopped.");
-  }
+  screen.finish();
+  show("stopped", "The program was stopped.");
 }
 
 async function offerPrograms() {
@@ -125,9 +141,11 @@ async function offerPrograms() {
 }
 
 function begin() {
-  element("folder").addEventListener("change", chooseFiles);
-  element("files").addEventListener("change", chooseFiles);
-  element("examples").addEventListener("change", ({ target }) => choose(() => sourceBeside(target.value)));
+  for (const id of ["folder", "files"]) {
+    element(id).addEventListener("click", forgetFiles);
+    element(id).addEventListener("change", chooseFiles);
+  }
+  element("examples").addEventListener("change", chooseExample);
   element("again").addEventListener("click", run);
   element("stop").addEventListener("click", stop);
   show("", "Choose a program.");

@@ -7,17 +7,19 @@ const MOST_KEPT = 16777216;
 const CHARACTERS_OF_A_BLOCK = 16384;
 const MOST_OF_A_BLOCK = 65536;
 /** The text is drawn for so long, and then the page may do other things. */
-const MILLISECONDS_OF_A_TURN = 20;
+const MILLISECONDS_OF_A_TURN = 8;
 const MILLISECONDS_OF_A_PAUSE = 10;
-/** A reader who is so near to the end follows the text. */
+/** A block that was never seen has as many lines as it has ends of lines, or as it has so many characters. */
+const CHARACTERS_OF_A_LINE = 100;
+/** A reader who goes back by more than this does not follow the text. */
 const PIXELS_AT_THE_END = 40;
 
 function pause() {
   return new Promise((resume) => setTimeout(resume, MILLISECONDS_OF_A_PAUSE));
 }
 
-function linesIn(text) {
-  return text.split("\n").length;
+function guessedLines(text) {
+  return Math.max(text.split("\n").length - 1, Math.ceil(text.length / CHARACTERS_OF_A_LINE));
 }
 
 /** Where a block ends that has so many characters and goes on with this text: how much of the text it takes. */
@@ -45,6 +47,7 @@ export class Screen {
   #block = undefined;
   #drawing = undefined;
   #turn = 0;
+  #followedTo = 0;
 
   /** `element` gets the text; `leftOut` is shown where the begin of the text is left out. */
   constructor(element, leftOut) {
@@ -76,6 +79,7 @@ export class Screen {
   async finish() {
     const turn = this.#turn;
     await this.#drawing;
+    await pause();
     if (turn === this.#turn) {
       this.#show(this.#reader.end());
     }
@@ -86,6 +90,7 @@ export class Screen {
     this.#reader = new TextReader();
     this.#block = undefined;
     this.#kept = 0;
+    this.#followedTo = 0;
   }
 
   async #drawAll() {
@@ -119,13 +124,14 @@ export class Screen {
 
   #show(text) {
     const element = this.#element;
-    const isFollowed = element.scrollHeight - element.scrollTop - element.clientHeight < PIXELS_AT_THE_END;
+    const isFollowed = element.scrollTop > this.#followedTo - PIXELS_AT_THE_END;
     for (let at = 0; at < text.length; ) {
       at += this.#showSome(text.slice(at));
     }
     this.#dropOldest();
     if (isFollowed) {
       element.scrollTop = element.scrollHeight;
+      this.#followedTo = element.scrollTop;
     }
   }
 
@@ -149,9 +155,11 @@ export class Screen {
     return text;
   }
 
-  /** The height of a block that is not seen is guessed from its lines. */
+  /** A block that is closed is laid out when it is seen. */
   #closeBlock() {
-    this.#block.parentNode.style.containIntrinsicBlockSize = `auto ${linesIn(this.#block.data) - 1}lh`;
+    const element = this.#block.parentNode;
+    element.className = "closed";
+    element.style.containIntrinsicBlockSize = `auto ${guessedLines(this.#block.data)}lh`;
     this.#block = undefined;
   }
 

@@ -22,27 +22,25 @@ function folderOf(file) {
   return pathOf(file).slice(0, -1).join("/");
 }
 
-/** The folders that hold programs, the nearest first. */
-function foldersOfPrograms(files) {
-  return files
-    .filter(({ name }) => name === LINK)
-    .map(folderOf)
-    .sort((one, other) => one.split("/").length - other.split("/").length);
+function depthOf(folder) {
+  return folder.split("/").length;
 }
 
+/** The folder of the program that is meant: the only one, or that which is nearest to the chosen folder. */
 function folderOfProgram(files) {
-  const folders = foldersOfPrograms(files);
-  if (folders.length === 0) {
+  const folders = files.filter(({ name }) => name === LINK).map(folderOf).sort();
+  const least = Math.min(...folders.map(depthOf));
+  const nearest = folders.filter((folder) => depthOf(folder) === least);
+  if (nearest.length === 0) {
     throw new Refused(`${LINK} is not among the files`);
   }
-  const isNearest = folders.length === 1 || folders[0].split("/").length < folders[1].split("/").length;
-  if (!isNearest) {
-    throw new Refused(`there are several programs: choose one of ${folders.join(", ")}`);
+  if (nearest.length > 1) {
+    throw new Refused(`there are several programs: choose one of ${nearest.join(", ")}`);
   }
-  return folders[0];
+  return nearest[0];
 }
 
-/** A program of the files that were chosen. Where they hold several, the one in the chosen folder itself is meant. */
+/** A program of the files that were chosen. */
 export function sourceOfFiles(files) {
   const folder = folderOfProgram(files);
   const own = new Map(files.filter((file) => folderOf(file) === folder).map((file) => [file.name, file]));
