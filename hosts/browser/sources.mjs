@@ -72,7 +72,7 @@ async function bytesAt(path) {
 /** A program in a folder beside the page. */
 export function sourceBeside(name) {
   if (!FOLDER_NAME.test(name)) {
-    throw new Refused(`${name} is no name of a folder beside this page`);
+    throw new Refused(`"${name}" is no name of a folder beside this page`);
   }
   return { name, read: (file) => bytesAt(`${name}/${file}`) };
 }
