@@ -5,7 +5,7 @@ import { namesBeside, sourceBeside, sourceOfFiles } from "./sources.mjs";
 
 const element = (id) => document.getElementById(id);
 const screen = new Screen(element("output"), element("left-out"));
-const MORE_STACK = "A page cannot give it more; m2run and node can.";
+const STACK = "The browser's call stack is used up before the program's storage. A page cannot give it more; m2run and node can.";
 
 /** The program that was chosen last, and the run that goes on. */
 let source;
@@ -26,7 +26,7 @@ function showEnd({ kind, words }) {
     case "halted":
       return show("well", "The program has ended by HALT.");
     case "stack":
-      return show("wrong", `${words}. ${MORE_STACK}`);
+      return show("wrong", STACK);
     default:
       return show("wrong", words);
   }
