@@ -1,6 +1,6 @@
 # The toolchain's command `rt` proves, builds and tests; see README.md.
 
-.PHONY: build plain example programs compare test
+.PHONY: build plain example programs compare browser test
 
 # Proves and builds the programs: build/m2c and build/m2run.
 build:
@@ -27,6 +27,10 @@ programs: build
 # Compares what programs do by their definition with what is stated of them, and with what their modules do.
 compare: build plain
 	tools/compare_programs
+
+# Tries the hosts of hosts/ on programs that are compiled: the one on node, and the page in a headless Chromium.
+browser:
+	tools/try_hosts
 
 # The gate: no source makes up want of memory, and each edit still fits its file; then every proof from nothing, the tests, the programs and the edits of
 # must-fail/, which the prover must refuse.
