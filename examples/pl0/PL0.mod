@@ -9,7 +9,7 @@ FROM PL0Source IMPORT Add;
 IMPORT PL0Generator, PL0Source;
 
 CONST
-  MostSteps = 50000;
+  MostSteps = 20000;
 
 PROCEDURE Begin(title: ARRAY OF CHAR);
 (* Begins the text of a program. *)
