@@ -1,7 +1,6 @@
 IMPLEMENTATION MODULE PL0Source;
 
 FROM InOut IMPORT Write, WriteCard, WriteLn;
-FROM Strings IMPORT Length;
 
 CONST
   Room = 2000;
@@ -29,7 +28,7 @@ PROCEDURE Add(line: ARRAY OF CHAR);
 VAR i: CARDINAL;
 BEGIN
   i := 0;
-  WHILE i < Length(line) DO
+  WHILE (i <= HIGH(line)) AND (line[i] # 0C) DO
     Append(line[i]);
     INC(i)
   END;
