@@ -1,6 +1,8 @@
 # The toolchain's command `rt` proves, builds and tests; see README.md.
 
-.PHONY: build plain example programs compare browser test
+.PHONY: build plain example programs compare browser test test-tools book install dist
+
+PREFIX ?= /usr/local
 
 # Proves and builds the programs: build/m2c and build/m2run.
 build:
@@ -38,3 +40,19 @@ test:
 	tools/check_sources
 	tools/try_edits --applies
 	rt ci
+
+# Tries the tools themselves, in seconds.
+test-tools:
+	tools/test_tools
+
+# Tries the programs of docs/book/.
+book: build
+	tools/try_book
+
+# Installs what `make build` built: make install PREFIX=DIR. It builds nothing.
+install:
+	tools/install "$(PREFIX)" $(if $(DESTDIR),"$(DESTDIR)")
+
+# Makes an archive of the proved programs with checksums, in build/.
+dist: build
+	tools/dist
