@@ -19,18 +19,27 @@ use std::{env, fs};
 
 /// A definition, its implementation, which prints a greeting, and a program that imports it.
 const RIGHT: [(&str, &str); 3] = [
-    ("Greet.def", "DEFINITION MODULE Greet; PROCEDURE Hello; END Greet."),
+    (
+        "Greet.def",
+        "DEFINITION MODULE Greet; PROCEDURE Hello; END Greet.",
+    ),
     (
         "Greet.mod",
         "IMPLEMENTATION MODULE Greet; FROM Console IMPORT Put;
         PROCEDURE Hello; BEGIN Put(\"H\"); Put(\"i\"); Put(12C) END Hello;
         BEGIN END Greet.",
     ),
-    ("Main.mod", "MODULE Main; IMPORT Greet; BEGIN Greet.Hello END Main."),
+    (
+        "Main.mod",
+        "MODULE Main; IMPORT Greet; BEGIN Greet.Hello END Main.",
+    ),
 ];
 
 /// A program that calls what the definition does not have.
-const WRONG: (&str, &str) = ("Main.mod", "MODULE Main; IMPORT Greet; BEGIN Greet.Bye END Main.");
+const WRONG: (&str, &str) = (
+    "Main.mod",
+    "MODULE Main; IMPORT Greet; BEGIN Greet.Bye END Main.",
+);
 
 /// Two workers, and 16 pages of memory.
 const OPTIONS: Options = Options {
