@@ -1,6 +1,6 @@
 # The toolchain's command `rt` proves, builds and tests; see README.md.
 
-.PHONY: build plain example programs compare browser test test-tools book install dist
+.PHONY: build plain example programs compare browser test test-tools book explanations install dist
 
 PREFIX ?= /usr/local
 
@@ -12,15 +12,10 @@ build:
 plain:
 	tools/build_program plain_run_cli plain_run
 
-# Compiles examples/hello and examples/hanoi and runs them, and runs hello again on node's own engine where node is there.
-example: build
-	mkdir -p build/hello build/hanoi
-	build/m2c --out build/hello examples/hello/Hello.mod
-	build/m2c --out build/hanoi examples/hanoi/Hanoi.mod lib/InOut.def lib/InOut.mod
-	ls -l build/hello build/hanoi
-	build/m2run build/hello
-	build/m2run build/hanoi
-	if command -v node; then node hosts/node/run.mjs build/hello; fi
+# Compiles examples/hello and examples/hanoi, and runs them: with the proved programs if they are built, and else with the
+# libraries as they stand, unproved.
+example:
+	tools/try_example
 
 # Tries the two programs on command lines, files and streams, good and bad, and on the outside examples of modules.
 programs: build
@@ -48,6 +43,10 @@ test-tools:
 # Tries the programs of docs/book/.
 book: build
 	tools/try_book
+
+# Tries the examples of docs/refusals/ and docs/faults/.
+explanations: build
+	tools/try_explanations
 
 # Installs what `make build` built: make install PREFIX=DIR. It builds nothing.
 install:

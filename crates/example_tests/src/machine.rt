@@ -22,6 +22,14 @@ impl<R: Files + AllocGlobal> InDir for Folder<'_, R> {
         let path = format!(in alloc; "{}/{name}", self.path).ok()?;
         fs::read(self.rt, path.as_str()).ok()
     }
+
+    fn front(&self) -> &str {
+        ""
+    }
+
+    fn reason(&self) -> &str {
+        ""
+    }
 }
 
 /// What came of a directory's modules.

@@ -22,4 +22,12 @@ impl InDir for Pair<'_> {
         }
         None
     }
+
+    fn front(&self) -> &str {
+        ""
+    }
+
+    fn reason(&self) -> &str {
+        ""
+    }
 }

@@ -1,13 +1,13 @@
 // Why a graph or a board is refused.
-ghost use Rattle.std.specs.Prelude.{◌≡◌};
-ghost use Rattle.m2_board.specs.Refusal.{number_of};
+ghost use Rattle.std.specs.Prelude.{◌≡◌, Some};
+ghost use Rattle.m2_board.specs.Refusal.{number_of, words_of};
 
 use std::alloc::AllocError;
-use std::error::Error;
 use std::fmt;
+use thiserror::Error;
 
 /// Why a graph, a board or the results of its jobs were not made.
-#[derive(Clone, Copy, PartialEq, Eq, Debug)]
+#[derive(Clone, Copy, PartialEq, Eq, Debug, Error)]
 pub enum PoolRefusal {
     /// There are not 1 to 64 workers.
     Workers,
@@ -31,6 +31,8 @@ impl PoolRefusal {
 }
 
 impl fmt::Display for PoolRefusal {
+    ghost output = { λ refusal. Some (words_of refusal) };
+
     fn fmt<W: fmt::Write>(&self, f: &mut fmt::Formatter<W>) -> fmt::Result {
         match self {
             PoolRefusal::Workers => write!(f, "there are not 1 to 64 workers"),
@@ -41,8 +43,6 @@ impl fmt::Display for PoolRefusal {
         }
     }
 }
-
-impl Error for PoolRefusal {}
 
 impl From<AllocError> for PoolRefusal {
     ghost use Rattle.std.specs.Prelude.{◌≡◌};

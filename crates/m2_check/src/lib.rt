@@ -4,3 +4,4 @@
 mod checker;
 
 pub use checker::check;
+pub use m2_typed::TypedModule as Typed;

@@ -11,7 +11,7 @@ use crate::outcome::{Compiled, are_sound, tables_of};
 use crate::tables::{own_table, tables_behind};
 use m2_check::check;
 use m2_emit::emit;
-use m2_layout::layout_of;
+use m2_layout::Layout;
 use m2_scopes::{Elaborated, Fault};
 use m2_tree::{Contents, Items, Module};
 use m2_typed::{Shared, Table, TypedModule};
@@ -53,7 +53,7 @@ fn fitted(alloc: Global, typed: &TypedModule) -> Result<Compiled, EncodeError>
     ensures becomes { IfOk result (λ c. c ≡ of_fit typed.now (too_large typed.now)) }
     ensures encoded { OnOk result (fit_encoded typed.now (too_large typed.now)) }
 {
-    match layout_of(alloc, typed)? {
+    match Layout::of(alloc, typed)? {
         Err(pos) => Ok(Compiled::Refused(Fault { pos, number: 60 })),
         Ok(layout) => {
             let module = emit(alloc, typed, &layout)?;

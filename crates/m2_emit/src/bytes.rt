@@ -17,7 +17,7 @@ use wasm_binary::write_module;
 use wasm_tree::EncodeError;
 
 /// The bytes of a body's module, and what link needs of it. The layout is the module's, and nothing of it is too large, as
-/// `layout_of` answers it. The module has an encoding. The only error is that memory ran out, or that it has none, as a
+/// `Layout::of` answers it. The module has an encoding. The only error is that memory ran out, or that it has none, as a
 /// number does not fit into 32 bits.
 pub fn emit(
     alloc: Global,

@@ -1,4 +1,4 @@
-mod Saying
-mod Missing
+pub mod Saying
+pub mod Missing
 mod Running
 mod Words

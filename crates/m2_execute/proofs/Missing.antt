@@ -89,7 +89,7 @@ module _ {X Y : Type 0} (f : X → Y) (xs : List X) (k : ℕ) (x : X) (y : Y) (h
   pub map_one_more : map f (take (k + 1) xs) ≡ map f (take k xs) ++ y ∷ []
   map_one_more = map_more f xs k x h ∙ ap (λ (z : _). map f (take k xs) ++ z ∷ []) (sym (of ∙ ap f is))
 
-  map_one_between : map f xs ≡ map f (take k xs) ++ y ∷ map f (drop (suc k) xs)
+  pub map_one_between : map f xs ≡ map f (take k xs) ++ y ∷ map f (drop (suc k) xs)
   map_one_between =
       ap (map f) (sym (take-append-drop k xs))
       ∙ map-append f (take k xs) (drop k xs)

@@ -16,17 +16,14 @@ no_bytes : (reported : Option (List ℕ)) → with_bytes reported [] ≡ reporte
 no_bytes None = refl
 no_bytes (Some bytes) = ap (λ (x : List ℕ). Some x) (append-nil bytes)
 
-abbrev now_of : Bor (List ℕ) → List ℕ
-now_of t = t.now
-
 -- what stands before a text, the text, and what stands behind it
-split : (texts : List (Bor (List ℕ))) (k : ℕ) (d : Bor (List ℕ)) (said : List ℕ) → k < length texts → said ≡ (get_or texts k d).now → (flat_map now_of (take k texts) ++ said) ++ flat_map now_of (drop (suc k) texts) ≡ flat_map now_of texts
-split texts k d said h is =
-    append_assoc (flat_map now_of (take k texts)) said (flat_map now_of (drop (suc k) texts))
-    ∙ ap (λ (x : List ℕ). flat_map now_of (take k texts) ++ (x ++ flat_map now_of (drop (suc k) texts))) is
-    ∙ sym (flat_map-append now_of (take k texts) (get_or texts k d ∷ drop (suc k) texts))
-    ∙ ap (λ (ts : List (Bor (List ℕ))). flat_map now_of (take k texts ++ ts)) (sym (drop-cons texts k d h))
-    ∙ ap (flat_map now_of) (take-append-drop k texts)
+split : {X : Type 0} (text : X → List ℕ) (xs : List X) (k : ℕ) (x : X) (said : List ℕ) → k < length xs → said ≡ text (get_or xs k x) → (flat_map text (take k xs) ++ said) ++ flat_map text (drop (suc k) xs) ≡ flat_map text xs
+split {X = X} text xs k x said h is =
+    append_assoc (flat_map text (take k xs)) said (flat_map text (drop (suc k) xs))
+    ∙ ap (λ (t : List ℕ). flat_map text (take k xs) ++ (t ++ flat_map text (drop (suc k) xs))) is
+    ∙ sym (flat_map-append text (take k xs) (get_or xs k x ∷ drop (suc k) xs))
+    ∙ ap (λ (ys : List X). flat_map text (take k xs ++ ys)) (sym (drop-cons xs k x h))
+    ∙ ap (flat_map text) (take-append-drop k xs)
 
 module _ {S : Type 0} (reported : S → Option (List ℕ)) (failed : S → ℕ) where
   pub nothing : (s : S) → Printed reported failed [] s s
@@ -66,8 +63,8 @@ module _ {S : Type 0} (reported : S → Option (List ℕ)) (failed : S → ℕ) 
     failures = f ∙ ap (λ (n : ℕ). n + 1) so_far.failures;
   }
 
-  -- of several texts one was not said to its end
-  pub not_said : (texts : List (Bor (List ℕ))) (k : ℕ) (d : Bor (List ℕ)) (said : List ℕ) (before between after : S) → k < length texts → said ≡ (get_or texts k d).now → Printed reported failed (flat_map (λ t. t.now) (take k texts)) before between → PartPrinted reported failed said between after → PartPrinted reported failed (flat_map (λ t. t.now) texts) before after
-  not_said texts k d said before between after h is so_far part =
-      let whole = stopped (flat_map now_of (take k texts) ++ said) (flat_map now_of (drop (suc k) texts)) before after (says_more false (flat_map now_of (take k texts)) said before between after so_far part) in
-      subst (λ (bytes : List ℕ). PartPrinted reported failed bytes before after) (split texts k d said h is) whole
+  -- of several things that are said, one was not said to its end
+  pub not_said : {X : Type 0} (text : X → List ℕ) (xs : List X) (k : ℕ) (x : X) (said : List ℕ) (before between after : S) → k < length xs → said ≡ text (get_or xs k x) → Printed reported failed (flat_map text (take k xs)) before between → PartPrinted reported failed said between after → PartPrinted reported failed (flat_map text xs) before after
+  not_said text xs k x said before between after h is so_far part =
+      let whole = stopped (flat_map text (take k xs) ++ said) (flat_map text (drop (suc k) xs)) before after (says_more false (flat_map text (take k xs)) said before between after so_far part) in
+      subst (λ (bytes : List ℕ). PartPrinted reported failed bytes before after) (split text xs k x said h is) whole

@@ -57,14 +57,14 @@ number_of_run NoMemory = 90
 number_of_run Write = 91
 number_of_run Ended = 92
 
--- one line on the second stream, or nothing
-abbrev pub words : Report → List ℕ
-words (Ran (Done k)) = if is_normal k then [] else codes "fault " ++ decimal k ++ codes ": " ++ end_word k ++ codes "\n"
-words (Ran Trap) = codes "trap\n"
-words (Ran StillRunning) = []
-words (Unread name) = codes "cannot read " ++ name.now ++ codes ".wasm\n"
-words (Refused name f) = name.now ++ codes ": refusal " ++ decimal (number_of f) ++ codes "\n"
-words (Broken f) = codes "refusal " ++ decimal (number_of_run f) ++ codes "\n"
+-- one line on the second stream, or nothing, with what the directory says in front of a file and behind it
+abbrev pub words : (front reason : List ℕ) → Report → List ℕ
+words front reason (Ran (Done k)) = if is_normal k then [] else codes "fault " ++ decimal k ++ codes ": " ++ end_word k ++ codes "\n"
+words front reason (Ran Trap) = codes "trap\n"
+words front reason (Ran StillRunning) = []
+words front reason (Unread name) = front ++ codes "cannot read " ++ name.now ++ codes ".wasm" ++ reason ++ codes "\n"
+words front reason (Refused name f) = name.now ++ codes ": refusal " ++ decimal (number_of f) ++ codes "\n"
+words front reason (Broken f) = codes "refusal " ++ decimal (number_of_run f) ++ codes "\n"
 
 -- ---- the streams
 
@@ -159,9 +159,9 @@ Comes reported failed gives steps report before after =
     ⊎ (IsMissing gives link_name report × Printed reported failed [] before after)
 
 -- the status and the words are those of a report that comes
-pub record Executes {S E : Type 0} (reported : S → Option (List ℕ)) (failed : S → ℕ) (reported_words : E → Option (List ℕ)) (failed_words : E → ℕ) (gives : Files) (steps : ℕ) (answer : ℕ) (before after : S) (words_before words_after : E) : Type 0 where
+pub record Executes {S E : Type 0} (reported : S → Option (List ℕ)) (failed : S → ℕ) (reported_words : E → Option (List ℕ)) (failed_words : E → ℕ) (gives : Files) (front reason : List ℕ) (steps : ℕ) (answer : ℕ) (before after : S) (words_before words_after : E) : Type 0 where
   pub report : Report
   pub comes : Comes reported failed gives steps report before after
   pub answers : answer ≡ status report
   pub all_said : Bool
-  pub says : Says reported_words failed_words all_said (words report) words_before words_after
+  pub says : Says reported_words failed_words all_said (words front reason report) words_before words_after

@@ -56,9 +56,10 @@ fn run_named<'n, D: InDir, S: Sink>(
 /// its exports `tab.M` (M a name other than link), in their order, each of them decoded and validated before the next;
 /// links them and executes them for so many reductions. The program prints on `out`.
 ///
-/// The answer is the status: 0 where the program ended by itself or by HALT; 1 where it ended otherwise; 3 where a file, a
-/// module, memory or `out` failed; 4 where it goes on. What 1 and 3 mean is reported in a line on `err`. Each stream is left
-/// alone after its first failure; one of `err` changes no status.
+/// The answer is the status: 0 if the program ended by itself or by HALT; 1 if it ended otherwise; 3 if a file, a module,
+/// memory or `out` failed; 4 if it goes on. What 1 and 3 mean is reported in a line on `err`. If a file cannot be read, the
+/// directory says what stands in front of that line, and why. Each stream is left alone after its first failure; one of
+/// `err` changes no status.
 pub fn execute<D: InDir, S: Sink, E: Sink>(
     alloc: Global,
     dir: &mut D,
@@ -68,18 +69,19 @@ pub fn execute<D: InDir, S: Sink, E: Sink>(
 ) -> u8
     requires out { S.failed out.old + 1 < 2 ^ 64 }
     requires err { E.failed err.old + 1 < 2 ^ 64 }
-    ensures { Executes S.reported S.failed E.reported E.failed (D.gives dir.old) steps result out.old out.new
-        err.old err.new }
+    ensures { Executes S.reported S.failed E.reported E.failed (D.gives dir.old)
+        (D.in_front dir.new) (D.behind dir.new) steps result out.old out.new err.old err.new }
 {
     let link = match module_of(alloc, dir, "link") {
         Ok(link) => link,
-        Err(report) => return write_report(err, report),
+        Err(report) => return write_report(err, dir, report),
     };
     let Ok(names) = module_names(alloc, link.exports()) else {
-        return write_report(err, Report::Refused("link", WFault::NoMemory));
+        return write_report(err, dir, Report::Refused("link", WFault::NoMemory));
     };
     let Ok(first) = alone(alloc, link) else {
-        return write_report(err, Report::Refused("link", WFault::NoMemory));
+        return write_report(err, dir, Report::Refused("link", WFault::NoMemory));
     };
-    write_report(err, run_named(alloc, dir, first, &names, steps, out))
+    let report = run_named(alloc, dir, first, &names, steps, out);
+    write_report(err, dir, report)
 }

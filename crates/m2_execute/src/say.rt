@@ -4,6 +4,7 @@ ghost use Rattle.std.specs.Prelude.{◌≡◌, ◌<◌, ◌^◌, ◌+◌, ◌++�
 ghost use Rattle.std.specs.List.{flat_map};
 ghost use Rattle.m2_execute.specs.Reported.{status, end_word, number_of, number_of_run, words, is_normal, Says};
 
+use crate::dir::InDir;
 use crate::report::Report;
 use itoa::Buffer;
 use wasm_engine::{End, RunFault, Sink};
@@ -22,8 +23,8 @@ fn say<E: Sink>(err: &mut E, bytes: &[u8]) -> bool
     true
 }
 
-/// Hands several texts to a stream, up to its first failure.
-fn say_all<E: Sink>(err: &mut E, texts: &[&str]) -> bool
+/// Hands several texts to a stream, up to its first failure. False if it failed.
+pub fn say_all<E: Sink>(err: &mut E, texts: &[&str]) -> bool
     requires { E.failed err.old + 1 < 2 ^ 64 }
     ensures { Says E.reported E.failed result (flat_map (λ t. t.now) texts.now) err.old err.new }
 {
@@ -93,10 +94,12 @@ fn number_of_run(fault: RunFault) -> u8
     }
 }
 
-/// Writes a report in one line, or says nothing where the run ended by itself or goes on. False where the stream failed.
-fn say_report<E: Sink>(err: &mut E, report: Report<'_>) -> bool
+/// Writes a report on this directory in one line, or says nothing if the run ended by itself or goes on. False if the
+/// stream failed.
+fn say_report<D: InDir, E: Sink>(err: &mut E, dir: &D, report: Report<'_>) -> bool
     requires { E.failed err.old + 1 < 2 ^ 64 }
-    ensures { Says E.reported E.failed result (words report.entry) err.old err.new }
+    ensures { Says E.reported E.failed result
+        (words (D.in_front dir.now) (D.behind dir.now) report.entry) err.old err.new }
 {
     let mut digits = Buffer::new();
     match report {
@@ -110,7 +113,17 @@ fn say_report<E: Sink>(err: &mut E, report: Report<'_>) -> bool
         }
         Report::Ran(End::Trap) => say(err, b"trap\n"),
         Report::Ran(End::StillRunning) => true,
-        Report::Unread(name) => say_all(err, &["cannot read ", name, ".wasm\n"]),
+        Report::Unread(name) => say_all(
+            err,
+            &[
+                dir.front(),
+                "cannot read ",
+                name,
+                ".wasm",
+                dir.reason(),
+                "\n",
+            ],
+        ),
         Report::Refused(name, fault) => {
             let shown = digits.format(number_of(fault));
             say_all(err, &[name, ": refusal ", shown, "\n"])
@@ -122,12 +135,13 @@ fn say_report<E: Sink>(err: &mut E, report: Report<'_>) -> bool
     }
 }
 
-/// Writes a report on a stream, and answers its status.
-pub fn write_report<E: Sink>(err: &mut E, report: Report<'_>) -> u8
+/// Writes a report on this directory on a stream, and answers its status.
+pub fn write_report<D: InDir, E: Sink>(err: &mut E, dir: &D, report: Report<'_>) -> u8
     requires { E.failed err.old + 1 < 2 ^ 64 }
     ensures status { result ≡ status report.entry }
-    ensures says { (all : Bool) × Says E.reported E.failed all (words report.entry) err.old err.new }
+    ensures says { (all : Bool) × Says E.reported E.failed all
+        (words (D.in_front dir.now) (D.behind dir.now) report.entry) err.old err.new }
 {
-    say_report(err, report);
+    say_report(err, dir, report);
     status(report)
 }

@@ -5,6 +5,7 @@ ghost use Rattle.m2_grammar.specs.declared.refusal.Stop.TheVariants.{NoMemory};
 
 use m2_tree::Pos;
 use std::alloc::{AllocError, AllocFailed};
+use thiserror::Error;
 
 /// Which rule a list of tokens breaks.
 #[derive(Clone, Copy, Debug, PartialEq, Eq)]
@@ -52,10 +53,12 @@ pub struct ParseRefusal {
 }
 
 /// Why a list of tokens has no tree.
-#[derive(Clone, Copy, Debug, PartialEq, Eq)]
+#[derive(Clone, Copy, Debug, PartialEq, Eq, Error)]
 pub enum ParseError {
     /// The least refused place of the list.
+    #[error("{}:{}: refusal {}", .0.pos.line, .0.pos.col, .0.number)]
     Refused(ParseRefusal),
     /// Memory ran out.
+    #[error("refusal 90")]
     NoMemory,
 }

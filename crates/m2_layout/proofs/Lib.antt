@@ -7,3 +7,4 @@ pub mod Variants
 pub mod Bodies
 pub mod Sized
 pub mod Fitted
+pub mod Placed

@@ -42,7 +42,7 @@ fields_sum (Array n t) h = absurd h
 fields_sum Nothing h = refl
 fields_sum (Field t others) h = ap (λ (n : ℕ). size t + n) (fields_sum others h)
 
-offset_nil : (t : Ty) → offset t [] ≡ 0
+pub offset_nil : (t : Ty) → offset t [] ≡ 0
 unfolding offset
 offset_nil (Cell c) = refl
 offset_nil (Hidden n) = refl

@@ -47,7 +47,7 @@ size_capped found n at = same_sized found n at (nat_lt most (capped n)) ∙ ap (
 row_size : (ts : List Ty) → total (map size ts) ≡ size (row ts)
 row_size ts = ap total (sym (fields_row ts)) ∙ fields_sum (row ts) (row_is ts)
 
-frame_size : (types : Types) (r : Routine) → (frame_row types r).size ≡ capped (size (frame types r))
+pub frame_size : (types : Types) (r : Routine) → (frame_row types r).size ≡ capped (size (frame types r))
 unfolding size
 frame_size types r = ap (λ (n : ℕ). capped (16 + n)) (row_size (variable_trees types r))
 

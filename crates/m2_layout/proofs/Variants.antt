@@ -15,7 +15,7 @@ use Rattle.m2_typed.specs.declared.computed.Component.{Component, Component-F, o
 use Rattle.m2_typed.specs.declared.computed.Component.TheVariants as kv
 use Rattle.m2_typed.specs.declared.computed.Link.{Link, Link-F, out-Link, map-Link, fold_out-Link}
 use Rattle.m2_typed.specs.declared.computed.Link.TheVariants as lv
-use Rattle.m2_typed.specs.declared.computed.Place.{Place, Place-F, out-Place, map-Place, fold_out-Place}
+use Rattle.m2_typed.specs.declared.computed.Place.{Place, fold_out-Place}
 use Rattle.m2_typed.specs.declared.computed.Call.{Call, Call-F, out-Call, map-Call, fold_out-Call}
 use Rattle.m2_typed.specs.declared.computed.Call.TheVariants as cv
 use Rattle.m2_typed.specs.declared.computed.Argument.{Argument, Argument-F, out-Argument, map-Argument, fold_out-Argument}

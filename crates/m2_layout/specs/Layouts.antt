@@ -1,10 +1,12 @@
 -- Where all variables of a module stand, and where its storage does not fit.
-use Rattle.std.specs.Prelude.{◌≡◌, ℕ, ◌+◌, ◌≤◌, ◌==◌, nat_lt, Bool, ◌&&◌, ◌||◌, ◌∷◌, [], ◌++◌, map, Option, Some, None, Result, Ok, Err, if◌then◌else◌, List}
+use Rattle.std.specs.Prelude.{◌≡◌, ℕ, ◌+◌, ◌≤◌, ◌==◌, nat_lt, slice_get, Bool, ◌&&◌, ◌||◌, ◌∷◌, [], ◌++◌, map, Option, Some, None, Result, Ok, Err, if◌then◌else◌, List}
 use Rattle.std.specs.List.{fold}
 use Rattle.m2_tree.specs.declared.pos.Pos.{Pos}
 use Rattle.m2_typed.specs.declared.known_types.Types.{Types}
 use Rattle.m2_typed.specs.declared.typed_module.Routine.{Routine}
 use Rattle.m2_typed.specs.declared.typed_module.Imported.{Imported}
+use Rattle.m2_typed.specs.declared.typed_module.Which.{Which}
+use Rattle.m2_typed.specs.declared.typed_module.Which.TheVariants as which
 use Rattle.m2_typed.specs.declared.typed_module.TypedModule.{TypedModule}
 use Rattle.m2_layout.specs.declared.row.Row.{Row}
 use Rattle.m2_layout.specs.declared.layout.Frames.{Frames}
@@ -72,6 +74,13 @@ pub record AllFits (m : TypedModule) : Type 0 where
 abbrev pub IsAnswer : TypedModule → Result Layout Pos → Type 0
 IsAnswer m (Ok x) = (too_large m ≡ None) × AllFits m × IsLayout m x
 IsAnswer m (Err at) = too_large m ≡ Some at
+
+-- ---- one procedure
+
+-- the procedure of this number in its list
+abbrev pub routine_of : TypedModule → Which → Option Routine
+routine_of m (which.Module n) = slice_get m.procedures n
+routine_of m (which.Local n) = slice_get m.locals n
 
 -- ---- how frames are found
 

@@ -222,7 +222,7 @@ fn with_frames(
     Ok(together(layout, procedures, locals))
 }
 
-fn checked_of(alloc: Global, module_body: &TypedModule) -> Result<Checked, AllocError>
+pub fn checked_of(alloc: Global, module_body: &TypedModule) -> Result<Checked, AllocError>
     ensures { IfOk result (λ x. IsChecked module_body.now x) }
 {
     let extents = extents_of(alloc, &module_body.types)?;
@@ -231,7 +231,7 @@ fn checked_of(alloc: Global, module_body: &TypedModule) -> Result<Checked, Alloc
 }
 
 #[tactic(auto, using(crate::proofs::Sized::all_fits))]
-fn answer(module_body: &TypedModule, checked: Checked) -> Result<Layout, Pos>
+pub fn answer(module_body: &TypedModule, checked: Checked) -> Result<Layout, Pos>
     requires { IsChecked module_body.now checked }
     ensures { IsAnswer module_body.now result }
 {
@@ -240,17 +240,4 @@ fn answer(module_body: &TypedModule, checked: Checked) -> Result<Layout, Pos>
         None => Ok(layout),
         Some(at) => Err(at),
     }
-}
-
-/// Where the variables of a module stand. It answers the layout where all storage fits, and else the least place where it
-/// does not, which is refusal 60: the variables and strings of a module, or a frame, have more than 16777216 bytes, at the
-/// name of the module or of the procedure. The only error is that memory ran out.
-pub fn layout_of(
-    alloc: Global,
-    module_body: &TypedModule,
-) -> Result<Result<Layout, Pos>, AllocError>
-    ensures { IfOk result (λ x. IsAnswer module_body.now x) }
-{
-    let checked = checked_of(alloc, module_body)?;
-    Ok(answer(module_body, checked))
 }

@@ -16,12 +16,13 @@ mod frame;
 mod kind;
 mod layout;
 mod making;
+mod places;
 mod row;
 
 pub use extent::Extent;
 pub use extents::{Extents, element_of, field_of, scalar_in, size_of};
 pub use frame::{frame_row, variables_row};
 pub use kind::{Kind, Width, bytes_of, width_of};
-pub use layout::{Layout, layout_of};
+pub use layout::Layout;
 pub use making::extents_of;
 pub use row::{Row, start_of};

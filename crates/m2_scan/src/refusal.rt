@@ -5,6 +5,7 @@ ghost use Rattle.m2_scan.specs.declared.refusal.ScanError.TheVariants.{NoMemory}
 
 use m2_tree::Pos;
 use std::alloc::{AllocError, AllocFailed};
+use thiserror::Error;
 
 /// A rule of the language that a text can break before there are tokens.
 #[derive(Clone, Copy, Debug, PartialEq, Eq)]
@@ -52,11 +53,13 @@ pub struct ScanRefusal {
 }
 
 /// Why a text has no tokens.
-#[derive(Debug, Drop)]
+#[derive(Debug, Drop, Error)]
 pub enum ScanError {
     /// The least refused place of the text.
+    #[error("{}:{}: refusal {}", .0.pos.line, .0.pos.col, .0.fault.number())]
     Refused(ScanRefusal),
     /// Memory ran out.
+    #[error("refusal 90")]
     NoMemory,
 }
 

@@ -1,59 +1,107 @@
 -- Calls that are made one after another.
-use Rattle.std.proofs.Common.{◌≡◌, ℕ, ◌<◌, suc, List, [], ◌∷◌, ◌++◌, length, take, drop, map, get_or, Option, Some, None, Result, Ok, Err, IfErr, refl, sym, ap, subst, IsErrAnd, ◌∙◌, append_assoc}
-use Rattle.std.specs.Bool.{⊤}
-use Rattle.std.proofs.lemmas.List.{take-append-drop}
+use Rattle.std.proofs.Common.{◌≡◌, ℕ, ◌+◌, ◌<◌, suc, Bool, true, false, List, [], ◌∷◌, ◌++◌, length, take, drop, map, get_or, Option, Some, None, refl, sym, ap, subst, ◌∙◌, append_assoc, arith, if◌then◌else◌}
+use Rattle.std.proofs.lemmas.List.{map_more, map-append, take-append-drop, append-nil}
+use Rattle.std.proofs.lemmas.Bool.{true≢false}
 use Rattle.std.proofs.Math.Seq.{drop-cons}
-use Rattle.wasm_tree.specs.Linking.{link_name}
-use Rattle.m2_write.specs.Calls.{Call, Remove, Write, Named, with_calls, done, written, failed, before_link, StopsIn, IsBroken, AtModule, AtLink}
+use Rattle.m2_write.specs.Calls.{Call, Remove, Write, File, with_calls, link_file, written, before_link, all_calls, StopsIn, IsBroken, AtRemoval, AtModule, AtLink}
+use Rattle.m2_write.specs.Saves.{AreMade, Fails, Stops, WritesAll, WritesLink, SavesFiles}
 
--- what holds of the error that a call reported holds of the one that is handed on
-pub same_error : {T E : Type 0} (r : Result T E) (error : E) (P : E → Type 0) → IsErrAnd r (λ (y : E). y ≡ error) → P error → IfErr r P
-same_error (Ok _) error P e p = _
-same_error (Err y) error P e p = subst P (sym e) p
-
-pub with_calls-append : {E : Type 0} (noted : Option (List (Call E))) (a b : List (Call E)) → with_calls (with_calls noted a) b ≡ with_calls noted (a ++ b)
+with_calls-append : (noted : Option (List Call)) (a b : List Call) → with_calls (with_calls noted a) b ≡ with_calls noted (a ++ b)
 with_calls-append None a b = refl
-with_calls-append {E = E} (Some calls) a b = ap (λ (x : List (Call E)). Some x) (append_assoc calls a b)
+with_calls-append (Some calls) a b = ap (λ (x : List Call). Some x) (append_assoc calls a b)
 
--- one call more is noted
-pub one_more : {E : Type 0} (before now after : Option (List (Call E))) (calls : List (Call E)) (call : Call E) → now ≡ with_calls before calls → after ≡ with_calls now (call ∷ []) → after ≡ with_calls before (calls ++ call ∷ [])
-one_more {E = E} before now after calls call e f = f ∙ ap (λ (o : Option (List (Call E))). with_calls o (call ∷ [])) e ∙ with_calls-append before calls (call ∷ [])
+with_calls-nil : (noted : Option (List Call)) → noted ≡ with_calls noted []
+with_calls-nil None = refl
+with_calls-nil (Some calls) = ap (λ (x : List Call). Some x) (sym (append-nil calls))
 
--- the modules before this one are written, and it fails
-pub stops : {E : Type 0} (modules : List Named) (error : E) (k : ℕ) (m : Named) (call : Call E) → k < length modules → m ≡ get_or modules k m → call ≡ failed error m → StopsIn modules error (map written (take k modules) ++ call ∷ [])
-stops {E = E} modules error k m call h is of = (
-  take k modules,
-  m,
-  drop (suc k) modules,
-  sym (take-append-drop k modules) ∙ ap (λ (ys : List Named). take k modules ++ ys) (drop-cons modules k m h)
-      ∙ ap (λ (x : Named). take k modules ++ x ∷ drop (suc k) modules) (sym is),
-  ap (λ (x : Call E). map written (take k modules) ++ x ∷ []) of,
-)
+-- other calls are noted behind the first ones
+behind : (before now after : Option (List Call)) (calls more : List Call) → now ≡ with_calls before calls → after ≡ with_calls now more → after ≡ with_calls before (calls ++ more)
+behind before now after calls more e f = f ∙ ap (λ (o : Option (List Call)). with_calls o more) e ∙ with_calls-append before calls more
 
--- a module failed
-pub broken_at_module : {E : Type 0} (noted : Option (List (Call E))) (link : List ℕ) (modules : List Named) (error : E) (middle after : Option (List (Call E))) → middle ≡ with_calls noted (Remove link_name done ∷ [])
-    → (calls : List (Call E)) × (after ≡ with_calls middle calls) × StopsIn modules error calls
-    → (calls : List (Call E)) × (after ≡ with_calls noted calls) × IsBroken link modules error calls
-broken_at_module {E = E} noted link modules error middle after e h = (
-  Remove link_name done ∷ h.0,
-  h.1 ∙ ap (λ (o : Option (List (Call E))). with_calls o h.0) e ∙ with_calls-append noted (Remove link_name done ∷ []) h.0,
-  AtModule h.0 h.2,
-)
+grows : (before between after : ℕ) → between ≡ before → after ≡ between + 1 → before < after
+grows before between after e f = omega (arith, e, f)
 
--- all modules were written, and link failed
-pub broken_at_link : {E : Type 0} (noted : Option (List (Call E))) (link : List ℕ) (modules : List Named) (error : E) (first middle after : Option (List (Call E))) → first ≡ with_calls noted (Remove link_name done ∷ []) → middle ≡ with_calls first (map written modules)
-    → (again : Result ⊤ E) × (after ≡ with_calls middle (Write link_name link (Err error) ∷ Remove link_name again ∷ []))
-    → (calls : List (Call E)) × (after ≡ with_calls noted calls) × IsBroken link modules error calls
-broken_at_link {E = E} noted link modules error first middle after e f h =
-    let last = Write link_name link (Err error) ∷ Remove link_name h.0 ∷ [] in (
-      before_link modules ++ last,
-      h.1 ∙ ap (λ (o : Option (List (Call E))). with_calls o last) (f ∙ ap (λ (o : Option (List (Call E))). with_calls o (map written modules)) e ∙ with_calls-append noted (Remove link_name done ∷ []) (map written modules))
-          ∙ with_calls-append noted (before_link modules) last,
-      AtLink h.0,
-    )
+grows_from : (before between after : ℕ) → between ≡ before → between < after → before < after
+grows_from before between after e f = omega (arith, e, f)
 
--- link failed, and was removed once more
-pub link_failed : {E : Type 0} (noted middle after : Option (List (Call E))) (link : List ℕ) (r again : Result ⊤ E) → middle ≡ with_calls noted (Write link_name link r ∷ []) → after ≡ with_calls middle (Remove link_name again ∷ [])
-    → IfErr r (λ (error : E). (again : Result ⊤ E) × (after ≡ with_calls noted (Write link_name link (Err error) ∷ Remove link_name again ∷ [])))
-link_failed noted middle after link (Ok _) again e f = _
-link_failed noted middle after link (Err error) again e f = (again, one_more noted middle after (Write link_name link (Err error) ∷ []) (Remove link_name again) e f)
+module _ {X : Type 0} (file_in : X → File) (xs : List X) (k : ℕ) (x : X) (h : k < length xs) (is : x ≡ get_or xs k x) where
+  -- the files up to this one
+  one_more_file : map written (map file_in (take (k + 1) xs)) ≡ map written (map file_in (take k xs)) ++ written (file_in x) ∷ []
+  one_more_file =
+      ap (map written) (map_more file_in xs k x h)
+      ∙ map-append written (map file_in (take k xs)) (file_in (get_or xs k x) ∷ [])
+      ∙ ap (λ (y : X). map written (map file_in (take k xs)) ++ written (file_in y) ∷ []) (sym is)
+
+  between_files : map file_in xs ≡ map file_in (take k xs) ++ file_in x ∷ map file_in (drop (suc k) xs)
+  between_files =
+      ap (map file_in) (sym (take-append-drop k xs))
+      ∙ map-append file_in (take k xs) (drop k xs)
+      ∙ ap (λ (ys : List X). map file_in (take k xs) ++ map file_in ys) (drop-cons xs k x h)
+      ∙ ap (λ (y : X). map file_in (take k xs) ++ file_in y ∷ map file_in (drop (suc k) xs)) (sym is)
+
+  module _ {D : Type 0} (calls : D → Option (List Call)) (failed : D → ℕ) (before between after : D) (so_far : AreMade calls failed (map written (map file_in (take k xs))) before between) where
+    pub goes_on : failed after ≡ failed between → calls after ≡ with_calls (calls between) (written (file_in x) ∷ [])
+        → AreMade calls failed (map written (map file_in (take (k + 1) xs))) before after
+    goes_on f e = record {
+      noted = subst (λ (made : List Call). calls after ≡ with_calls (calls before) made) (sym one_more_file)
+          (behind (calls before) (calls between) (calls after) (map written (map file_in (take k xs))) (written (file_in x) ∷ []) so_far.noted e);
+      same = f ∙ so_far.same;
+    }
+
+    pub stops : (name : List ℕ) → name ≡ (file_in x).0 → failed after ≡ failed between + 1 → calls after ≡ with_calls (calls between) (Write name (file_in x).1 false ∷ [])
+        → Stops calls failed (map file_in xs) before after
+    stops name is_name f e = record {
+      made = map written (map file_in (take k xs)) ++ Write name (file_in x).1 false ∷ [];
+      noted = behind (calls before) (calls between) (calls after) (map written (map file_in (take k xs))) (Write name (file_in x).1 false ∷ []) so_far.noted e;
+      stops = (map file_in (take k xs), file_in x, map file_in (drop (suc k) xs), between_files, ap (λ (n : List ℕ). map written (map file_in (take k xs)) ++ Write n (file_in x).1 false ∷ []) is_name);
+      grown = grows (failed before) (failed between) (failed after) so_far.same f;
+    }
+
+module _ {D : Type 0} (calls : D → Option (List Call)) (failed : D → ℕ) where
+  pub nothing_made : (d : D) → AreMade calls failed [] d d
+  nothing_made d = record { noted = with_calls-nil (calls d); same = refl }
+
+  -- link failed, and was removed once more
+  pub link_failed : (link : List ℕ) (before between after : D) (is_written again : Bool) → is_written ≡ false → failed between ≡ failed before + 1 → calls between ≡ with_calls (calls before) (Write link_file link false ∷ [])
+      → failed after ≡ (if again then failed between else failed between + 1) → calls after ≡ with_calls (calls between) (Remove link_file again ∷ [])
+      → WritesLink calls failed link is_written before after
+  link_failed link before between after true again w f e g i = absurd (true≢false w)
+  link_failed link before between after false true w f e g i = (
+    true,
+    behind (calls before) (calls between) (calls after) (Write link_file link false ∷ []) (Remove link_file true ∷ []) e i,
+    omega (arith, f, g),
+  )
+  link_failed link before between after false false w f e g i = (
+    false,
+    behind (calls before) (calls between) (calls after) (Write link_file link false ∷ []) (Remove link_file false ∷ []) e i,
+    omega (arith, f, g),
+  )
+
+  module _ (link : List ℕ) (files : List File) where
+    -- the first removal failed
+    pub not_removed : (before after : D) → failed after ≡ failed before + 1 → calls after ≡ with_calls (calls before) (Remove link_file false ∷ []) → Fails calls failed link files before after
+    not_removed before after f e = record { made = Remove link_file false ∷ []; noted = e; broken = AtRemoval; grown = omega (arith, f) }
+
+    module _ (before removed : D) (f : failed removed ≡ failed before) (e : calls removed ≡ with_calls (calls before) (Remove link_file true ∷ [])) where
+      -- a file was not written
+      pub not_written : (after : D) → Stops calls failed files removed after → Fails calls failed link files before after
+      not_written after h = record {
+        made = Remove link_file true ∷ h.made;
+        noted = behind (calls before) (calls removed) (calls after) (Remove link_file true ∷ []) h.made e h.noted;
+        broken = AtModule h.made h.stops;
+        grown = grows_from (failed before) (failed removed) (failed after) f h.grown;
+      }
+
+      -- all files were written, and link came behind them
+      pub link_behind : (stand after : D) (is_written : Bool) → AreMade calls failed (map written files) removed stand → WritesLink calls failed link is_written stand after
+          → SavesFiles calls failed link files is_written before after
+      link_behind stand after true h i = record {
+        noted = behind (calls before) (calls stand) (calls after) (before_link files) (Write link_file link true ∷ []) (behind (calls before) (calls removed) (calls stand) (Remove link_file true ∷ []) (map written files) e h.noted) i.noted;
+        same = i.same ∙ h.same ∙ f;
+      }
+      link_behind stand after false h i = record {
+        made = before_link files ++ Write link_file link false ∷ Remove link_file i.0 ∷ [];
+        noted = behind (calls before) (calls stand) (calls after) (before_link files) (Write link_file link false ∷ Remove link_file i.0 ∷ []) (behind (calls before) (calls removed) (calls stand) (Remove link_file true ∷ []) (map written files) e h.noted) i.1;
+        broken = AtLink i.0;
+        grown = grows_from (failed before) (failed stand) (failed after) (h.same ∙ f) i.2;
+      }

@@ -1,51 +1,56 @@
--- The calls that a directory is given while modules are written into it, with their answers.
-use Rattle.std.specs.Prelude.{ℕ, List, [], ◌∷◌, ◌++◌, ◌≡◌, map, Option, Some, None, Result, Ok, Err, ⊤, String}
+-- The calls that a directory is given while modules are saved into it, with their answers.
+use Rattle.std.specs.Prelude.{◌≡◌, ℕ, Bool, true, false, List, [], ◌∷◌, ◌++◌, map, Option, Some, None, codes, String}
 use Rattle.std.specs.String.{string_bytes}
 use Rattle.std.specs.Global.{Global, Vec}
 use Rattle.wasm_tree.specs.Linking.{link_name}
 
-pub data Call (E : Type 0) : Type 0 where
-  -- the module of this name is removed
-  Remove : (name : List ℕ) → (answer : Result ⊤ E) → Call E
-  -- these bytes are written as the module of this name
-  Write : (name bytes : List ℕ) → (answer : Result ⊤ E) → Call E
+pub data Call : Type 0 where
+  -- the file of this name is removed
+  Remove : (name : List ℕ) → (is_done : Bool) → Call
+  -- these bytes are written as the file of this name
+  Write : (name bytes : List ℕ) → (is_done : Bool) → Call
 
 -- the calls with others behind them, where they are noted
-abbrev pub with_calls : {E : Type 0} → Option (List (Call E)) → List (Call E) → Option (List (Call E))
+abbrev pub with_calls : Option (List Call) → List Call → Option (List Call)
 with_calls None more = None
 with_calls (Some calls) more = Some (calls ++ more)
 
-abbrev pub Named : Type 0
-Named = String Global × Vec ℕ
+-- the file of the module of this name
+abbrev pub file_of : List ℕ → List ℕ
+file_of name = name ++ codes ".wasm"
 
-abbrev pub done : {E : Type 0} → Result ⊤ E
-done = Ok _
+abbrev pub link_file : List ℕ
+link_file = file_of link_name
 
-abbrev pub written : {E : Type 0} → Named → Call E
-written m = Write (string_bytes m.0) m.1.items done
+-- a file's name, and its bytes
+abbrev pub File : Type 0
+File = List ℕ × List ℕ
 
-abbrev pub failed : {E : Type 0} → E → Named → Call E
-failed error m = Write (string_bytes m.0) m.1.items (Err error)
+-- the file of a module that was built
+abbrev pub module_file : String Global × Vec ℕ → File
+module_file m = (file_of (string_bytes m.0), m.1.items)
 
--- an old link is removed, and the modules are written in their order
-abbrev pub before_link : {E : Type 0} → List Named → List (Call E)
-before_link modules = Remove link_name done ∷ map written modules
+abbrev pub written : File → Call
+written f = Write f.0 f.1 true
+
+-- an old link is removed, and the files of the modules are written in their order
+abbrev pub before_link : List File → List Call
+before_link files = Remove link_file true ∷ map written files
 
 -- and link is written last
-abbrev pub all_calls : {E : Type 0} → (link : List ℕ) → (modules : List Named) → List (Call E)
-all_calls link modules = before_link modules ++ Write link_name link done ∷ []
+abbrev pub all_calls : (link : List ℕ) → List File → List Call
+all_calls link files = before_link files ++ Write link_file link true ∷ []
 
--- the calls that write modules up to one that fails with this error
-abbrev pub StopsIn : {E : Type 0} → (modules : List Named) → E → List (Call E) → Type 0
-StopsIn modules error calls =
-    (before : List Named) × (m : Named) × (after : List Named)
-    × (modules ≡ before ++ m ∷ after) × (calls ≡ map written before ++ failed error m ∷ [])
+-- the calls that write files up to one that fails
+abbrev pub StopsIn : List File → List Call → Type 0
+StopsIn files calls =
+    (before : List File) × (f : File) × (after : List File)
+    × (files ≡ before ++ f ∷ after) × (calls ≡ map written before ++ Write f.0 f.1 false ∷ [])
 
--- The calls where one failed with this error. Link is removed once more where it was its write.
-pub data IsBroken {E : Type 0} (link : List ℕ) (modules : List Named) (error : E) : List (Call E) → Type 0 where
-  AtRemoval : IsBroken link modules error (Remove link_name (Err error) ∷ [])
-  AtModule : (calls : List (Call E)) → StopsIn modules error calls
-      → IsBroken link modules error (Remove link_name done ∷ calls)
-  AtLink : (again : Result ⊤ E)
-      → IsBroken link modules error
-      (before_link modules ++ Write link_name link (Err error) ∷ Remove link_name again ∷ [])
+-- The calls if one failed, up to that one. Link is removed once more if it was its write.
+pub data IsBroken (link : List ℕ) (files : List File) : List Call → Type 0 where
+  AtRemoval : IsBroken link files (Remove link_file false ∷ [])
+  AtModule : (calls : List Call) → StopsIn files calls
+      → IsBroken link files (Remove link_file true ∷ calls)
+  AtLink : (again : Bool) → IsBroken link files
+      (before_link files ++ Write link_file link false ∷ Remove link_file again ∷ [])

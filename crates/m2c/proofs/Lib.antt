@@ -13,3 +13,4 @@ pub mod Same
 pub mod Ranks
 pub mod Alike
 pub mod Sums
+mod Readable

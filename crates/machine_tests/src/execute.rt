@@ -94,6 +94,14 @@ impl InDir for Folder<'_> {
         self.asked.push_str(" ").ok()?;
         Vec::from_slice(alloc, self.file(name)?).ok()
     }
+
+    fn front(&self) -> &str {
+        ""
+    }
+
+    fn reason(&self) -> &str {
+        ""
+    }
 }
 
 /// The files of link and of M.

@@ -27,6 +27,14 @@ impl InDir for Folder<'_> {
         }
         None
     }
+
+    fn front(&self) -> &str {
+        ""
+    }
+
+    fn reason(&self) -> &str {
+        ""
+    }
 }
 
 /// A stream that keeps what it takes, and refuses each byte for which it has no room.

@@ -13,7 +13,7 @@ ghost use Rattle.plain_store.specs.Blanks.{known_blanks, row_blank, variables_of
 ghost use Rattle.plain_run.specs.Whole.{IsBodyAround, reported, data_of, bodies_in};
 
 use crate::runs::steps;
-use m2_layout::layout_of;
+use m2_layout::Layout;
 use m2_tree::Items;
 use m2_typed::TypedModule;
 use plain_store::blanks::{Blank, Kept, known, plus, row, variables_blank};
@@ -71,7 +71,7 @@ fn prepared<'a>(
 fn texts_size(alloc: Global, m: &TypedModule) -> Result<usize, RunFault>
     ensures { IfOk result (λ n. n ≡ characters (module_texts m.now)) }
 {
-    match layout_of(alloc, m)? {
+    match Layout::of(alloc, m)? {
         Err(_) => Err(RunFault::TooLarge),
         Ok(layout) => Ok(layout.texts as usize),
     }

@@ -1,0 +1,115 @@
+//! What the program `m2c` does behind its command line.
+
+ghost use Rattle.std.specs.Prelude.{◌≡◌, ◌<◌, ◌^◌, ◌+◌, map};
+ghost use Rattle.std.specs.String.{string_bytes};
+ghost use Rattle.m2c.specs.Compiles.{AreFine, Checks, ComesOf, Comes, Compiles};
+
+use crate::ending::Ending;
+use crate::files::{BuildFault, MAX_PAGES, Options, Outcome, build};
+use crate::say::{print_refusals, write_ending};
+use crate::sources::read_files;
+use m2_board::MAX_WORKERS;
+use m2_execute::{InDir, Sink};
+use m2_read::SourceFile;
+use m2_worker::Gate;
+use m2_write::{OutDir, save};
+use std::alloc::Global;
+use std::thread::Threads;
+
+/// Lets every worker in.
+#[derive(Drop)]
+struct Open;
+
+impl Gate for Open {
+    fn enter(&self, _job: usize) -> bool {
+        true
+    }
+}
+
+/// Whether these options can be had. Else the fault of the number of workers, or else that of pages.
+fn check_options(options: Options) -> Result<(), BuildFault>
+    ensures { Checks options result }
+{
+    if options.workers < 1 || options.workers > MAX_WORKERS {
+        return Err(BuildFault::Workers);
+    }
+    if options.pages < 1 || options.pages > MAX_PAGES {
+        return Err(BuildFault::Pages);
+    }
+    Ok(())
+}
+
+/// Builds files, and prints the refusals or saves the modules.
+fn end_of_build<R: Threads + Sync, D: OutDir, S: Sink>(
+    rt: &R,
+    alloc: Global,
+    sources: &[SourceFile],
+    options: Options,
+    dir: &mut D,
+    out: &mut S,
+) -> Ending<'static>
+    requires fine { AreFine options }
+    requires dir { D.failed dir.old + 2 < 2 ^ 64 }
+    requires out { S.failed out.old + 1 < 2 ^ 64 }
+    ensures { ComesOf D.calls D.failed S.reported S.failed sources.now options.pages result
+        dir.old dir.new out.old out.new }
+{
+    match build(rt, alloc, sources, options, &Open) {
+        Ok(Outcome::Refused(refusals)) => Ending::Refused(print_refusals(out, &refusals)),
+        Ok(Outcome::Built { link, modules }) => Ending::Saved(save(alloc, &link, &modules, dir)),
+        Err(fault) => Ending::Unbuilt(fault),
+    }
+}
+
+/// Checks options, reads files, builds them, and prints the refusals or saves the modules.
+fn ending_of<'n, R: Threads + Sync, I: InDir, D: OutDir, S: Sink>(
+    rt: &R,
+    alloc: Global,
+    names: &'n [String],
+    options: Options,
+    files: &mut I,
+    dir: &mut D,
+    out: &mut S,
+) -> Ending<'n>
+    requires dir { D.failed dir.old + 2 < 2 ^ 64 }
+    requires out { S.failed out.old + 1 < 2 ^ 64 }
+    ensures { Comes D.calls D.failed S.reported S.failed I.gives (map string_bytes names.now) options
+        result files.old files.new dir.old dir.new out.old out.new }
+{
+    if let Err(fault) = check_options(options) {
+        return Ending::Unbuilt(fault);
+    }
+    match read_files(alloc, files, names) {
+        Ok(sources) => end_of_build(rt, alloc, &sources, options, dir, out),
+        Err(ending) => ending,
+    }
+}
+
+/// Does what `m2c` does behind its command line: checks the options, reads the files of these names in this order, builds
+/// them with a gate that lets every worker in, and prints the refusals on `out`, one a line, or saves the modules into
+/// `dir`, which is not touched before.
+///
+/// The answer is the status: 0 if the modules are saved; 1 if the program is refused; 2 if the options cannot be had (70,
+/// 73), and then no file is read; 3 if a file, memory, `dir` or `out` failed, or a module has no encoding. What 2 and 3 mean
+/// is said in a line on `err`, behind what `files` says of itself. Each stream is left alone after its first failure; one of
+/// `err` changes no status.
+pub fn compile<R: Threads + Sync, I: InDir, D: OutDir, S: Sink, E: Sink>(
+    rt: &R,
+    alloc: Global,
+    names: &[String],
+    options: Options,
+    files: &mut I,
+    dir: &mut D,
+    out: &mut S,
+    err: &mut E,
+) -> u8
+    requires dir { D.failed dir.old + 2 < 2 ^ 64 }
+    requires out { S.failed out.old + 1 < 2 ^ 64 }
+    requires err { E.failed err.old + 1 < 2 ^ 64 }
+    ensures { Compiles D.calls D.failed S.reported S.failed I.gives I.in_front I.behind E.reported
+        E.failed (map string_bytes names.now) options result files.old files.new dir.old dir.new
+        out.old out.new err.old err.new }
+{
+    let ending = ending_of(rt, alloc, names, options, files, dir, out);
+    write_ending(err, files, options, ending)
+}

@@ -1,0 +1,152 @@
+//! Tests of `save`.
+
+use crate::memory::Notes;
+use m2c::{Gate, Options, Outcome, SaveFault, SourceFile, build, execute, save};
+use memory_streams::{Folder, Screen};
+use std::alloc::{AllocError, Global};
+use std::process::Abort;
+use std::test::Fail;
+use std::thread::Threads;
+
+/// P imports A, and the implementations of A and B import each other. B starts first, then A, and P last.
+pub const CYCLE: [(&str, &str); 5] = [
+    (
+        "P.mod",
+        "MODULE P; FROM Console IMPORT Put; IMPORT A; BEGIN Put('P') END P.",
+    ),
+    (
+        "A.mod",
+        "IMPLEMENTATION MODULE A; FROM Console IMPORT Put; IMPORT B; BEGIN Put('A') END A.",
+    ),
+    (
+        "B.mod",
+        "IMPLEMENTATION MODULE B; IMPORT A; FROM Console IMPORT Put; BEGIN Put('B') END B.",
+    ),
+    ("A.def", "DEFINITION MODULE A; END A."),
+    ("B.def", "DEFINITION MODULE B; END B."),
+];
+
+/// More reductions than the program makes.
+const STEPS: u64 = 1_000_000;
+
+/// Lets every worker in.
+#[derive(Drop)]
+struct Open;
+
+impl Gate for Open {
+    fn enter(&self, _job: usize) -> bool {
+        true
+    }
+}
+
+fn files_of(alloc: Global, texts: &[(&str, &str)]) -> Result<Vec<SourceFile>, AllocError> {
+    let mut files = Vec::new(alloc);
+    for text in texts {
+        files.push(SourceFile {
+            name: String::from_str(alloc, text.0)?,
+            bytes: Vec::from_slice(alloc, text.1.as_bytes())?,
+        })?;
+    }
+    Ok(files)
+}
+
+/// What is built of the three modules.
+fn built<R: Threads + Sync + Abort + AllocGlobal>(rt: &R) -> (Vec<u8>, Vec<(String, Vec<u8>)>) {
+    let files = files_of(rt.alloc(), &CYCLE).expect(rt, "memory");
+    let options = Options {
+        workers: 4,
+        pages: 1,
+    };
+    match build(rt, rt.alloc(), &files, options, &Open).expect(rt, "an outcome") {
+        Outcome::Built { link, modules } => (link, modules),
+        Outcome::Refused(_) => {
+            assert!(rt; false, "the files are refused");
+            (Vec::new(rt.alloc()), Vec::new(rt.alloc()))
+        }
+    }
+}
+
+/// The calls if the write of this number fails. The second removal of link may fail too.
+fn expect_calls<R: Threads + Sync + Abort + AllocGlobal>(rt: &R, failing: usize, calls: &str) {
+    let alloc = rt.alloc();
+    let (link, modules) = built(rt);
+    let mut dir = Notes::new(alloc, failing);
+    dir.put("link.wasm", b"old").expect(rt, "memory");
+    let answer = save(alloc, &link, &modules, &mut dir);
+    assert!(rt;
+        answer == Err(SaveFault::Device),
+        "write {failing}: another answer"
+    );
+    assert!(rt; SaveFault::Device.number() == 93);
+    assert!(rt;
+        dir.failures == 1,
+        "write {failing}: another number of failures"
+    );
+    assert!(rt;
+        dir.bytes_of("link.wasm").is_none(),
+        "write {failing}: link.wasm is there"
+    );
+    let made = dir.calls.as_str();
+    assert!(rt; made == calls, "write {failing}: {made}");
+}
+
+#[test]
+fn stops_at_a_write_that_fails(rt: HostRuntime) {
+    expect_calls(&rt, 1, "remove link.wasm;write B.wasm;");
+    expect_calls(&rt, 2, "remove link.wasm;write B.wasm;write A.wasm;");
+    expect_calls(
+        &rt,
+        3,
+        "remove link.wasm;write B.wasm;write A.wasm;write P.wasm;",
+    );
+    expect_calls(
+        &rt,
+        4,
+        "remove link.wasm;write B.wasm;write A.wasm;write P.wasm;write link.wasm;remove link.wasm;",
+    );
+}
+
+#[test]
+fn saves_what_can_be_executed(rt: HostRuntime) {
+    let alloc = rt.alloc();
+    let (link, modules) = built(&rt);
+    let mut dir = Notes::new(alloc, 0);
+    dir.put("link.wasm", b"old").expect(&rt, "memory");
+    save(alloc, &link, &modules, &mut dir).expect(&rt, "a folder");
+    let made = dir.calls.as_str();
+    assert!(&rt;
+        made == "remove link.wasm;write B.wasm;write A.wasm;write P.wasm;write link.wasm;",
+        "{made}"
+    );
+    assert!(&rt; dir.bytes_of("link.wasm") == Some(link.as_slice()));
+    assert!(&rt; dir.files.len() == 4);
+    let mut folder = Folder {
+        link: &link,
+        modules: &modules,
+    };
+    let mut out = Screen::new(alloc);
+    let mut err = Screen::new(alloc);
+    let status = execute(alloc, &mut folder, STEPS, &mut out, &mut err);
+    assert!(&rt; status == 0 && out.bytes.as_slice() == b"BAP".as_slice());
+}
+
+#[test]
+fn an_old_link_that_cannot_be_removed_ends_it(rt: HostRuntime) {
+    let alloc = rt.alloc();
+    let (link, modules) = built(&rt);
+    let mut dir = Notes::new(alloc, 0);
+    dir.remove_nothing();
+    let answer = save(alloc, &link, &modules, &mut dir);
+    assert!(&rt; answer == Err(SaveFault::Device));
+    assert!(&rt; dir.calls.as_str() == "remove link.wasm;");
+    assert!(&rt; dir.files.len() == 0);
+}
+
+#[test]
+fn link_alone_is_saved(rt: HostRuntime) {
+    let alloc = rt.alloc();
+    let mut dir = Notes::new(alloc, 0);
+    save(alloc, b"link", &[], &mut dir).expect(&rt, "a folder");
+    assert!(&rt; dir.calls.as_str() == "remove link.wasm;write link.wasm;");
+    assert!(&rt; dir.bytes_of("link.wasm") == Some(b"link".as_slice()));
+}
