@@ -26,6 +26,10 @@ split {X = X} text xs k x said h is =
     ∙ ap (flat_map text) (take-append-drop k xs)
 
 module _ {S : Type 0} (reported : S → Option (List ℕ)) (failed : S → ℕ) where
+  -- the same bytes under another name
+  pub said : (ok : Bool) (bytes wanted : List ℕ) (before after : S) → Says reported failed ok bytes before after → wanted ≡ bytes → Says reported failed ok wanted before after
+  said ok bytes wanted before after h e = subst (λ (b : List ℕ). Says reported failed ok b before after) (sym e) h
+
   pub nothing : (s : S) → Printed reported failed [] s s
   nothing s = record { taken = sym (no_bytes (reported s)); failures = refl }
 

@@ -18,10 +18,6 @@ use Rattle.m2c.specs.Endings.{line_of}
 use Rattle.m2c.specs.Compiles.{IsRefused, IsSaved}
 
 module _ {S : Type 0} (reported : S → Option (List ℕ)) (failed : S → ℕ) where
-  -- the same bytes under another name
-  pub said : (ok : Bool) (bytes wanted : List ℕ) (before after : S) → Says reported failed ok bytes before after → wanted ≡ bytes → Says reported failed ok wanted before after
-  said ok bytes wanted before after h e = subst (λ (b : List ℕ). Says reported failed ok b before after) (sym e) h
-
   -- one more thing is printed
   pub said_more : {X : Type 0} (text : X → List ℕ) (xs : List X) (k : ℕ) (x : X) (before between after : S) → k < length xs → x ≡ get_or xs k x
       → Printed reported failed (flat_map text (take k xs)) before between → Printed reported failed (text x) between after → Printed reported failed (flat_map text (take (k + 1) xs)) before after

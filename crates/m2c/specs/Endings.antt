@@ -55,6 +55,7 @@ abbrev pub words : (front reason : List ℕ) → Options → Ending → List ℕ
 words front reason options (Unbuilt fault) = fault_words front options fault
 words front reason options (Unread name) = unread_words front reason name.now
 words front reason options (Refused true) = []
-words front reason options (Refused false) = front ++ codes "cannot write to standard output\n"
+words front reason options (Refused false) =
+    front ++ codes "cannot write to standard output\n"
 words front reason options (Saved (Ok _)) = []
 words front reason options (Saved (Err fault)) = save_words front fault
