@@ -1,5 +1,5 @@
 -- Files that are there, and the first that is not.
-use Rattle.std.proofs.Common.{◌≡◌, ℕ, ◌<◌, suc, List, [], ◌∷◌, ◌++◌, length, take, drop, map, get_or, Option, Some, None, refl, sym, ap, subst, ◌∙◌}
+use Rattle.std.proofs.Common.{◌≡◌, ℕ, ◌<◌, suc, List, [], ◌∷◌, ◌++◌, length, take, drop, map, get_or, Some, None, sym, subst}
 use Rattle.m2_execute.specs.Directory.{Files, Stays}
 use Rattle.m2_execute.proofs.Missing.{map_one_between}
 use Rattle.m2_read.specs.declared.file.SourceFile.{SourceFile}

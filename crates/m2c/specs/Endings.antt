@@ -1,5 +1,5 @@
 -- The status of a compilation, and what is said of it.
-use Rattle.std.specs.Prelude.{ℕ, Bool, true, false, List, [], ◌++◌, Ok, Err, if◌then◌else◌, codes, decimal}
+use Rattle.std.specs.Prelude.{ℕ, true, false, List, [], ◌++◌, Ok, Err, if◌then◌else◌, codes, decimal}
 use Rattle.std.specs.String.{string_bytes}
 use Rattle.m2_board.specs.Seats.{max_workers}
 use Rattle.m2_scheme.specs.Modules.{max_pages}
