@@ -1,5 +1,5 @@
 -- Runs of linked modules.
-use Rattle.std.proofs.Common.{◌≡◌, ℕ, ◌+◌, ◌↔◌, List, Bool, true, false, Option, Result, Ok, Err, refl, sym, ap, subst, ◌∙◌}
+use Rattle.std.proofs.Common.{◌≡◌, ℕ, ◌+◌, ◌↔◌, List, true, false, Option, Result, Ok, Err, refl, sym, ap, subst, ◌∙◌}
 use Rattle.wasm_tree.specs.declared.module.WModule.{WModule}
 use Rattle.wasm_tree.specs.Machine.{run}
 use Rattle.wasm_tree.specs.Linking.{link}

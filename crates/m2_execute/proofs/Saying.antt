@@ -1,7 +1,6 @@
 -- What is said in pieces.
 use Rattle.std.proofs.Common.{◌≡◌, ℕ, ◌+◌, ◌<◌, Bool, true, false, List, [], ◌∷◌, ◌++◌, length, take, drop, get_or, suc, subst, Option, Some, None, refl, sym, ap, ◌∙◌, append_assoc}
 use Rattle.std.specs.List.{flat_map}
-use Rattle.std.specs.Borrow.{Bor}
 use Rattle.std.proofs.lemmas.List.{append-nil, take-append-drop}
 use Rattle.std.proofs.lemmas.Grind.{flat_map-append}
 use Rattle.std.proofs.Math.Seq.{drop-cons}
@@ -26,6 +25,10 @@ split {X = X} text xs k x said h is =
     ∙ ap (flat_map text) (take-append-drop k xs)
 
 module _ {S : Type 0} (reported : S → Option (List ℕ)) (failed : S → ℕ) where
+  -- the same bytes under another name
+  pub said : (ok : Bool) (bytes wanted : List ℕ) (before after : S) → Says reported failed ok bytes before after → wanted ≡ bytes → Says reported failed ok wanted before after
+  said ok bytes wanted before after h e = subst (λ (b : List ℕ). Says reported failed ok b before after) (sym e) h
+
   pub nothing : (s : S) → Printed reported failed [] s s
   nothing s = record { taken = sym (no_bytes (reported s)); failures = refl }
 

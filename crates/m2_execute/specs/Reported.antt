@@ -57,12 +57,17 @@ number_of_run NoMemory = 90
 number_of_run Write = 91
 number_of_run Ended = 92
 
+-- the line that the file of the module of this name cannot be read
+abbrev pub unread_words : (front reason name : List ℕ) → List ℕ
+unread_words front reason name =
+    front ++ (codes "cannot read " ++ (name ++ (codes ".wasm" ++ (reason ++ codes "\n"))))
+
 -- one line on the second stream, or nothing, with what the directory says in front of a file and behind it
 abbrev pub words : (front reason : List ℕ) → Report → List ℕ
 words front reason (Ran (Done k)) = if is_normal k then [] else codes "fault " ++ decimal k ++ codes ": " ++ end_word k ++ codes "\n"
 words front reason (Ran Trap) = codes "trap\n"
 words front reason (Ran StillRunning) = []
-words front reason (Unread name) = front ++ codes "cannot read " ++ name.now ++ codes ".wasm" ++ reason ++ codes "\n"
+words front reason (Unread name) = unread_words front reason name.now
 words front reason (Refused name f) = name.now ++ codes ": refusal " ++ decimal (number_of f) ++ codes "\n"
 words front reason (Broken f) = codes "refusal " ++ decimal (number_of_run f) ++ codes "\n"
 

@@ -2,7 +2,7 @@
 
 ghost use Rattle.std.specs.Prelude.{◌≡◌, ◌<◌, ◌^◌, ◌+◌, ◌++◌, Bool, codes};
 ghost use Rattle.std.specs.List.{flat_map};
-ghost use Rattle.m2_execute.specs.Reported.{status, end_word, number_of, number_of_run, words, is_normal, Says};
+ghost use Rattle.m2_execute.specs.Reported.{status, end_word, number_of, number_of_run, unread_words, words, is_normal, Says};
 
 use crate::dir::InDir;
 use crate::report::Report;
@@ -94,6 +94,25 @@ fn number_of_run(fault: RunFault) -> u8
     }
 }
 
+/// Says in a line that the file of the module of this name cannot be read. False if the stream failed.
+fn say_unread<D: InDir, E: Sink>(err: &mut E, dir: &D, name: &str) -> bool
+    requires { E.failed err.old + 1 < 2 ^ 64 }
+    ensures { Says E.reported E.failed result
+        (unread_words (D.in_front dir.now) (D.behind dir.now) name.now) err.old err.new }
+{
+    say_all(
+        err,
+        &[
+            dir.front(),
+            "cannot read ",
+            name,
+            ".wasm",
+            dir.reason(),
+            "\n",
+        ],
+    )
+}
+
 /// Writes a report on this directory in one line, or says nothing if the run ended by itself or goes on. False if the
 /// stream failed.
 fn say_report<D: InDir, E: Sink>(err: &mut E, dir: &D, report: Report<'_>) -> bool
@@ -113,17 +132,7 @@ fn say_report<D: InDir, E: Sink>(err: &mut E, dir: &D, report: Report<'_>) -> bo
         }
         Report::Ran(End::Trap) => say(err, b"trap\n"),
         Report::Ran(End::StillRunning) => true,
-        Report::Unread(name) => say_all(
-            err,
-            &[
-                dir.front(),
-                "cannot read ",
-                name,
-                ".wasm",
-                dir.reason(),
-                "\n",
-            ],
-        ),
+        Report::Unread(name) => say_unread(err, dir, name),
         Report::Refused(name, fault) => {
             let shown = digits.format(number_of(fault));
             say_all(err, &[name, ": refusal ", shown, "\n"])

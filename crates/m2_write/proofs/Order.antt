@@ -3,8 +3,8 @@ use Rattle.std.proofs.Common.{◌≡◌, ℕ, ◌+◌, ◌<◌, suc, Bool, true,
 use Rattle.std.proofs.lemmas.List.{map_more, map-append, take-append-drop, append-nil}
 use Rattle.std.proofs.lemmas.Bool.{true≢false}
 use Rattle.std.proofs.Math.Seq.{drop-cons}
-use Rattle.m2_write.specs.Calls.{Call, Remove, Write, File, with_calls, link_file, written, before_link, all_calls, StopsIn, IsBroken, AtRemoval, AtModule, AtLink}
-use Rattle.m2_write.specs.Saves.{AreMade, Fails, Stops, WritesAll, WritesLink, SavesFiles}
+use Rattle.m2_write.specs.Calls.{Call, Remove, Write, File, with_calls, link_file, written, before_link, AtRemoval, AtModule, AtLink}
+use Rattle.m2_write.specs.Saves.{AreMade, Fails, Stops, WritesLink, SavesFiles}
 
 with_calls-append : (noted : Option (List Call)) (a b : List Call) → with_calls (with_calls noted a) b ≡ with_calls noted (a ++ b)
 with_calls-append None a b = refl

@@ -24,8 +24,10 @@ module _ {D : Type 0} (calls : D → Option (List Call)) (failed : D → ℕ) wh
     pub stops : StopsIn files made
     pub grown : failed before < failed after
 
-  -- All calls are made, or those up to one that fails. If memory is refused, the directory is not touched.
-  abbrev pub Saves : (link : List ℕ) → List File → Result ⊤ SaveFault → (before after : D) → Type 0
+  -- All calls are made, or those up to one that fails. If memory is refused, the directory is not
+  -- touched.
+  abbrev pub Saves : (link : List ℕ) → List File → Result ⊤ SaveFault → (before after : D)
+      → Type 0
   Saves link files (Ok _) before after = AreMade (all_calls link files) before after
   Saves link files (Err Device) before after = Fails link files before after
   Saves link files (Err NoMemory) before after = after ≡ before
@@ -39,7 +41,8 @@ module _ {D : Type 0} (calls : D → Option (List Call)) (failed : D → ℕ) wh
   WritesLink link true before after = AreMade (Write link_file link true ∷ []) before after
   WritesLink link false before after =
       (again : Bool)
-      × (calls after ≡ with_calls (calls before) (Write link_file link false ∷ Remove link_file again ∷ []))
+      × (calls after
+      ≡ with_calls (calls before) (Write link_file link false ∷ Remove link_file again ∷ []))
       × (failed before < failed after)
 
   abbrev pub SavesFiles : (link : List ℕ) → List File → Bool → (before after : D) → Type 0

@@ -16,7 +16,8 @@ pub trait OutDir {
         requires { failed self.old + 1 < 2 ^ 64 }
         ensures failures { failed self.new
             ≡ (if result then failed self.old else failed self.old + 1) }
-        ensures calls { calls self.new ≡ with_calls (calls self.old) (Remove name.now result ∷ []) };
+        ensures calls { calls self.new
+            ≡ with_calls (calls self.old) (Remove name.now result ∷ []) };
 
     /// Writes these bytes as the file of this name. False if that failed: then there is one failure more, and what is
     /// there may be a part of them.

@@ -79,7 +79,8 @@ fn write_link<D: OutDir>(dir: &mut D, link: &[u8]) -> bool
 /// Removes an old link, writes the files in their order, and then link, up to the first that fails.
 fn save_files<D: OutDir>(dir: &mut D, link: &[u8], files: &[(String, &[u8])]) -> bool
     requires { D.failed dir.old + 2 < 2 ^ 64 }
-    ensures { SavesFiles D.calls D.failed link.now (files_borrowed files.now) result dir.old dir.new }
+    ensures { SavesFiles D.calls D.failed link.now (files_borrowed files.now) result dir.old
+        dir.new }
 {
     if !dir.remove(LINK) {
         return false;
@@ -104,7 +105,8 @@ pub fn save<D: OutDir>(
 ) -> Result<(), SaveFault>
     requires { D.failed dir.old + 2 < 2 ^ 64 }
     // Which calls are made, in which order, with which bytes and answers.
-    ensures calls { Saves D.calls D.failed link.now (map module_file modules.now) result dir.old dir.new }
+    ensures calls { Saves D.calls D.failed link.now (map module_file modules.now) result dir.old
+        dir.new }
     // 93 exactly if the directory failed.
     ensures device { IsErrOf result SaveFault.Device ↔ (D.failed dir.old < D.failed dir.new) }
 {

@@ -14,3 +14,4 @@ pub mod Ranks
 pub mod Alike
 pub mod Sums
 mod Readable
+mod Building

@@ -1,5 +1,5 @@
 -- Files that are there, and the first that is not.
-use Rattle.std.proofs.Common.{◌≡◌, ℕ, ◌<◌, suc, List, [], ◌∷◌, ◌++◌, length, take, drop, map, get_or, Option, Some, None, refl, sym, ap, subst, ◌∙◌}
+use Rattle.std.proofs.Common.{◌≡◌, ℕ, ◌<◌, suc, List, [], ◌∷◌, ◌++◌, length, take, drop, map, get_or, Some, None, sym, subst}
 use Rattle.m2_execute.specs.Directory.{Files, Stays}
 use Rattle.m2_execute.proofs.Missing.{map_one_between}
 use Rattle.m2_read.specs.declared.file.SourceFile.{SourceFile}
@@ -22,8 +22,8 @@ lacks_before now later stays name (Saved answer) h = h
 abbrev pub GivenSoFar : (now later : Files) (names : List (List ℕ)) (files : List SourceFile) → Type 0
 GivenSoFar now later names files = Stays now later × AreGiven now names files
 
-pub none_so_far : (now : Files) → GivenSoFar now now [] []
-none_so_far now = ((λ name bytes h. h), Empty)
+pub none_so_far : (now : Files) (files : List SourceFile) → files ≡ [] → GivenSoFar now now [] files
+none_so_far now files e = ((λ name bytes h. h), subst (λ (fs : List SourceFile). AreGiven now [] fs) (sym e) Empty)
 
 pub one_behind : (now later after : Files) (names more : List (List ℕ)) (name : List ℕ) (files new : List SourceFile) → GivenSoFar now later names files → Stays later after → more ≡ names ++ name ∷ []
     → (file : SourceFile) × (new ≡ files ++ file ∷ []) × IsGiven later name file → GivenSoFar now after more new

@@ -75,16 +75,19 @@ pub record FirstLack (gives : Files) (names : List (List ℕ)) (ending : Ending)
 
 -- ---- what comes of files
 
-module _ {D S : Type 0} (calls : D → Option (List Call)) (failures : D → ℕ) (reported : S → Option (List ℕ)) (failed : S → ℕ) where
+module _ {D S : Type 0} (calls : D → Option (List Call)) (failures : D → ℕ)
+    (reported : S → Option (List ℕ)) (failed : S → ℕ) where
   -- the refusals are printed, or those up to a failure
-  pub record IsRefused (files : List SourceFile) (pages : ℕ) (all : Bool) (dir dir_after : D) (out out_after : S) : Type 0 where
+  pub record IsRefused (files : List SourceFile) (pages : ℕ) (all : Bool) (dir dir_after : D)
+      (out out_after : S) : Type 0 where
     pub refusals : Vec Refusal
     pub built : IsBuilt files pages (outcome.Refused refusals)
     pub prints : Says reported failed all (flat_map line_of refusals.items) out out_after
     pub same : dir_after ≡ dir
 
   -- the modules are saved, or those up to a failure
-  pub record IsSaved (files : List SourceFile) (pages : ℕ) (answer : Result ⊤ SaveFault) (dir dir_after : D) (out out_after : S) : Type 0 where
+  pub record IsSaved (files : List SourceFile) (pages : ℕ) (answer : Result ⊤ SaveFault)
+      (dir dir_after : D) (out out_after : S) : Type 0 where
     pub link : Vec ℕ
     pub modules : Vec (String Global × Vec ℕ)
     pub built : IsBuilt files pages (outcome.Built link modules)
@@ -92,18 +95,24 @@ module _ {D S : Type 0} (calls : D → Option (List Call)) (failures : D → ℕ
     pub same : out_after ≡ out
 
   -- what comes of files that were read
-  abbrev pub ComesOf : List SourceFile → (pages : ℕ) → Ending → (dir dir_after : D) (out out_after : S) → Type 0
-  ComesOf files pages (Unbuilt NoMemory) dir dir_after out out_after = (dir_after ≡ dir) × (out_after ≡ out)
-  ComesOf files pages (Unbuilt NoEncoding) dir dir_after out out_after = (dir_after ≡ dir) × (out_after ≡ out)
+  abbrev pub ComesOf : List SourceFile → (pages : ℕ) → Ending → (dir dir_after : D)
+      (out out_after : S) → Type 0
+  ComesOf files pages (Unbuilt NoMemory) dir dir_after out out_after =
+      (dir_after ≡ dir) × (out_after ≡ out)
+  ComesOf files pages (Unbuilt NoEncoding) dir dir_after out out_after =
+      (dir_after ≡ dir) × (out_after ≡ out)
   ComesOf files pages (Unbuilt Workers) dir dir_after out out_after = ⊥
   ComesOf files pages (Unbuilt Pages) dir dir_after out out_after = ⊥
   ComesOf files pages (Unread name) dir dir_after out out_after = ⊥
-  ComesOf files pages (Refused all) dir dir_after out out_after = IsRefused files pages all dir dir_after out out_after
-  ComesOf files pages (Saved answer) dir dir_after out out_after = IsSaved files pages answer dir dir_after out out_after
+  ComesOf files pages (Refused all) dir dir_after out out_after =
+      IsRefused files pages all dir dir_after out out_after
+  ComesOf files pages (Saved answer) dir dir_after out out_after =
+      IsSaved files pages answer dir dir_after out out_after
 
   module _ {I : Type 0} (gives : I → Files) where
     -- the options are wrong, and nothing is done
-    pub record AreWrong (options : Options) (ending : Ending) (files files_after : I) (dir dir_after : D) (out out_after : S) : Type 0 where
+    pub record AreWrong (options : Options) (ending : Ending) (files files_after : I)
+        (dir dir_after : D) (out out_after : S) : Type 0 where
       pub fault : BuildFault
       pub is_fault : ending ≡ Unbuilt fault
       pub wrong : IsWrong options fault
@@ -112,29 +121,36 @@ module _ {D S : Type 0} (calls : D → Option (List Call)) (failures : D → ℕ
       pub same_out : out_after ≡ out
 
     -- not all files are there, and nothing is written
-    pub record IsLacking (names : List (List ℕ)) (options : Options) (ending : Ending) (files : I) (dir dir_after : D) (out out_after : S) : Type 0 where
+    pub record IsLacking (names : List (List ℕ)) (options : Options) (ending : Ending) (files : I)
+        (dir dir_after : D) (out out_after : S) : Type 0 where
       pub fine : AreFine options
       pub lack : FirstLack (gives files) names ending
       pub same_dir : dir_after ≡ dir
       pub same_out : out_after ≡ out
 
     -- all files are there, and the ending is that of their build
-    pub record IsOfBuild (names : List (List ℕ)) (options : Options) (ending : Ending) (files : I) (dir dir_after : D) (out out_after : S) : Type 0 where
+    pub record IsOfBuild (names : List (List ℕ)) (options : Options) (ending : Ending) (files : I)
+        (dir dir_after : D) (out out_after : S) : Type 0 where
       pub fine : AreFine options
       pub sources : List SourceFile
       pub given : AreGiven (gives files) names sources
       pub comes : ComesOf sources options.pages ending dir dir_after out out_after
 
-    abbrev pub Comes : (names : List (List ℕ)) → Options → Ending → (files files_after : I) (dir dir_after : D) (out out_after : S) → Type 0
+    abbrev pub Comes : (names : List (List ℕ)) → Options → Ending → (files files_after : I)
+        (dir dir_after : D) (out out_after : S) → Type 0
     Comes names options ending files files_after dir dir_after out out_after =
         AreWrong options ending files files_after dir dir_after out out_after
         ⊎ (IsLacking names options ending files dir dir_after out out_after
         ⊎ IsOfBuild names options ending files dir dir_after out out_after)
 
     -- The status and the words are those of an ending that comes.
-    pub record Compiles {E : Type 0} (front reason : I → List ℕ) (reported_words : E → Option (List ℕ)) (failed_words : E → ℕ) (names : List (List ℕ)) (options : Options) (answer : ℕ) (files files_after : I) (dir dir_after : D) (out out_after : S) (err err_after : E) : Type 0 where
+    pub record Compiles {E : Type 0} (front reason : I → List ℕ)
+        (reported_words : E → Option (List ℕ)) (failed_words : E → ℕ) (names : List (List ℕ))
+        (options : Options) (answer : ℕ) (files files_after : I) (dir dir_after : D)
+        (out out_after : S) (err err_after : E) : Type 0 where
       pub ending : Ending
       pub comes : Comes names options ending files files_after dir dir_after out out_after
       pub answers : answer ≡ status ending
       pub all_said : Bool
-      pub says : Says reported_words failed_words all_said (words (front files_after) (reason files_after) options ending) err err_after
+      pub says : Says reported_words failed_words all_said
+          (words (front files_after) (reason files_after) options ending) err err_after

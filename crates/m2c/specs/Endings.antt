@@ -1,9 +1,10 @@
 -- The status of a compilation, and what is said of it.
-use Rattle.std.specs.Prelude.{ℕ, Bool, true, false, List, [], ◌++◌, Ok, Err, if◌then◌else◌, codes, decimal}
+use Rattle.std.specs.Prelude.{ℕ, true, false, List, [], ◌++◌, Ok, Err, if◌then◌else◌, codes, decimal}
 use Rattle.std.specs.String.{string_bytes}
 use Rattle.m2_board.specs.Seats.{max_workers}
 use Rattle.m2_scheme.specs.Modules.{max_pages}
 use Rattle.m2_tree.specs.declared.refusal.Refusal.{Refusal}
+use Rattle.m2_write.specs.declared.fault.SaveFault.{SaveFault}
 use Rattle.m2_write.specs.declared.fault.SaveFault.TheVariants as save
 use Rattle.m2c.specs.declared.ending.Ending.{Ending}
 use Rattle.m2c.specs.declared.ending.Ending.TheVariants.{Unbuilt, Unread, Refused, Saved}
@@ -30,8 +31,8 @@ line_of r =
 -- an option takes a number up to this one
 abbrev pub range_words : (front option : List ℕ) (most given : ℕ) → List ℕ
 range_words front option most given =
-    front ++ option ++ codes " takes a number from 1 to " ++ decimal most
-    ++ codes ", and not '" ++ decimal given ++ codes "'\n"
+    front ++ (option ++ (codes " takes a number from 1 to " ++ (decimal most
+    ++ (codes ", and not '" ++ (decimal given ++ codes "'\n")))))
 
 abbrev pub fault_words : (front : List ℕ) → Options → BuildFault → List ℕ
 fault_words front options build.Workers =
@@ -41,12 +42,20 @@ fault_words front options build.Pages =
 fault_words front options build.NoMemory = front ++ codes "refusal 90\n"
 fault_words front options build.NoEncoding = front ++ codes "a module is too large to encode\n"
 
+abbrev pub unread_words : (front reason name : List ℕ) → List ℕ
+unread_words front reason name =
+    front ++ (codes "cannot read " ++ (name ++ (reason ++ codes "\n")))
+
+abbrev pub save_words : (front : List ℕ) → SaveFault → List ℕ
+save_words front save.NoMemory = front ++ codes "refusal 90\n"
+save_words front save.Device = front ++ codes "cannot write into the directory\n"
+
 -- one line on the second stream, or nothing, with what the files' directory says in front and behind
 abbrev pub words : (front reason : List ℕ) → Options → Ending → List ℕ
 words front reason options (Unbuilt fault) = fault_words front options fault
-words front reason options (Unread name) = front ++ codes "cannot read " ++ name.now ++ reason ++ codes "\n"
+words front reason options (Unread name) = unread_words front reason name.now
 words front reason options (Refused true) = []
-words front reason options (Refused false) = front ++ codes "cannot write to standard output\n"
+words front reason options (Refused false) =
+    front ++ codes "cannot write to standard output\n"
 words front reason options (Saved (Ok _)) = []
-words front reason options (Saved (Err save.NoMemory)) = front ++ codes "refusal 90\n"
-words front reason options (Saved (Err save.Device)) = front ++ codes "cannot write into the directory\n"
+words front reason options (Saved (Err fault)) = save_words front fault

@@ -1,7 +1,9 @@
 //! What the program `m2c` does behind its command line.
 
-ghost use Rattle.std.specs.Prelude.{◌≡◌, ◌<◌, ◌^◌, ◌+◌, map};
+ghost use Rattle.std.specs.Prelude.{◌≡◌, ◌<◌, ◌^◌, ◌+◌, map, List, ℕ};
 ghost use Rattle.std.specs.String.{string_bytes};
+ghost use Rattle.m2_read.specs.declared.file.SourceFile.{SourceFile};
+ghost use Rattle.m2c.specs.Build.{IsBuilt};
 ghost use Rattle.m2c.specs.Compiles.{AreFine, Checks, ComesOf, Comes, Compiles};
 
 use crate::ending::Ending;
@@ -39,6 +41,25 @@ fn check_options(options: Options) -> Result<(), BuildFault>
     Ok(())
 }
 
+/// Prints the refusals of a build, or saves its modules.
+fn end_of_outcome<D: OutDir, S: Sink>(
+    alloc: Global,
+    outcome: Outcome,
+    dir: &mut D,
+    out: &mut S,
+) -> Ending<'static>
+    requires dir { D.failed dir.old + 2 < 2 ^ 64 }
+    requires out { S.failed out.old + 1 < 2 ^ 64 }
+    ensures { (sources : List SourceFile) (pages : ℕ) → IsBuilt sources pages outcome
+        → ComesOf D.calls D.failed S.reported S.failed sources pages result dir.old dir.new
+        out.old out.new }
+{
+    match outcome {
+        Outcome::Refused(refusals) => Ending::Refused(print_refusals(out, &refusals)),
+        Outcome::Built { link, modules } => Ending::Saved(save(alloc, &link, &modules, dir)),
+    }
+}
+
 /// Builds files, and prints the refusals or saves the modules.
 fn end_of_build<R: Threads + Sync, D: OutDir, S: Sink>(
     rt: &R,
@@ -55,8 +76,7 @@ fn end_of_build<R: Threads + Sync, D: OutDir, S: Sink>(
         dir.old dir.new out.old out.new }
 {
     match build(rt, alloc, sources, options, &Open) {
-        Ok(Outcome::Refused(refusals)) => Ending::Refused(print_refusals(out, &refusals)),
-        Ok(Outcome::Built { link, modules }) => Ending::Saved(save(alloc, &link, &modules, dir)),
+        Ok(outcome) => end_of_outcome(alloc, outcome, dir, out),
         Err(fault) => Ending::Unbuilt(fault),
     }
 }

@@ -3,7 +3,7 @@
 ghost use Rattle.std.specs.Prelude.{◌≡◌, ◌<◌, ◌^◌, ◌+◌, Bool};
 ghost use Rattle.std.specs.List.{flat_map};
 ghost use Rattle.m2_execute.specs.Reported.{Says};
-ghost use Rattle.m2c.specs.Endings.{status, words, range_words, fault_words, line_of};
+ghost use Rattle.m2c.specs.Endings.{status, words, range_words, fault_words, unread_words, save_words, line_of};
 
 use crate::ending::Ending;
 use crate::files::{BuildFault, MAX_PAGES, Options};
@@ -131,6 +131,29 @@ fn say_fault<E: Sink>(err: &mut E, front: &str, options: Options, fault: BuildFa
     }
 }
 
+/// Says in a line that the file of this name cannot be read. False if the stream failed.
+fn say_unread<I: InDir, E: Sink>(err: &mut E, files: &I, name: &str) -> bool
+    requires { E.failed err.old + 1 < 2 ^ 64 }
+    ensures { Says E.reported E.failed result
+        (unread_words (I.in_front files.now) (I.behind files.now) name.now) err.old err.new }
+{
+    say_all(
+        err,
+        &[files.front(), "cannot read ", name, files.reason(), "\n"],
+    )
+}
+
+/// Says in a line why modules were not saved. False if the stream failed.
+fn say_save_fault<E: Sink>(err: &mut E, front: &str, fault: SaveFault) -> bool
+    requires { E.failed err.old + 1 < 2 ^ 64 }
+    ensures { Says E.reported E.failed result (save_words front.now fault) err.old err.new }
+{
+    match fault {
+        SaveFault::NoMemory => say_all(err, &[front, "refusal 90\n"]),
+        SaveFault::Device => say_all(err, &[front, "cannot write into the directory\n"]),
+    }
+}
+
 /// Says an ending in a line, or says nothing if the program was saved or its refusals were printed. False if the stream
 /// failed.
 fn say_ending<I: InDir, E: Sink>(
@@ -143,16 +166,15 @@ fn say_ending<I: InDir, E: Sink>(
     ensures { Says E.reported E.failed result
         (words (I.in_front files.now) (I.behind files.now) options ending.entry) err.old err.new }
 {
-    let front = files.front();
     match ending {
-        Ending::Unbuilt(fault) => say_fault(err, front, options, fault),
-        Ending::Unread(name) => say_all(err, &[front, "cannot read ", name, files.reason(), "\n"]),
-        Ending::Refused(false) => say_all(err, &[front, "cannot write to standard output\n"]),
-        Ending::Saved(Err(SaveFault::NoMemory)) => say_all(err, &[front, "refusal 90\n"]),
-        Ending::Saved(Err(SaveFault::Device)) => {
-            say_all(err, &[front, "cannot write into the directory\n"])
+        Ending::Unbuilt(fault) => say_fault(err, files.front(), options, fault),
+        Ending::Unread(name) => say_unread(err, files, name),
+        Ending::Refused(true) => true,
+        Ending::Refused(false) => {
+            say_all(err, &[files.front(), "cannot write to standard output\n"])
         }
-        Ending::Refused(true) | Ending::Saved(Ok(())) => true,
+        Ending::Saved(Ok(())) => true,
+        Ending::Saved(Err(fault)) => say_save_fault(err, files.front(), fault),
     }
 }
 

@@ -225,7 +225,7 @@ fn a_failure_of_the_words_changes_no_status(rt: HostRuntime) {
 }
 
 #[test]
-fn options_are_judged_before_files_are_read(rt: HostRuntime) {
+fn options_are_checked_before_files_are_read(rt: HostRuntime) {
     let rows = [
         (
             0,

@@ -29,10 +29,10 @@ returns-in_default-alone g c = record {
 
 pub returns : goal.returns
 returns g c = record {
-  report = c.run_named.result;
+  report = c.run_named-report.result;
   comes =
-      comes_behind (g.D.InDir.gives c.args.dir.now) (g.D.InDir.gives c.module_of.new.dir) c.module_of.ensures.stays g.S.Sink.reported g.S.Sink.failed c.in-Ok.link c.in-Ok.ensures.ok c.args.steps c.run_named.result c.args.out.now c.run_named.new.out
-      c.in-Ok-alone.first.items (map string_bytes c.deref.result.now) c.in-Ok-alone.ensures (ap (map string_bytes) c.deref.ensures.value ∙ c.in-Ok-module_names.ensures ∙ ap module_names c.exports.ensures) c.run_named.ensures;
+      comes_behind (g.D.InDir.gives c.args.dir.now) (g.D.InDir.gives c.module_of.new.dir) c.module_of.ensures.stays g.S.Sink.reported g.S.Sink.failed c.in-Ok.link c.in-Ok.ensures.ok c.args.steps c.run_named-report.result c.args.out.now c.run_named-report.new.out
+      c.in-Ok-alone.first.items (map string_bytes c.deref.result.now) c.in-Ok-alone.ensures (ap (map string_bytes) c.deref.ensures.value ∙ c.in-Ok-module_names.ensures ∙ ap module_names c.exports.ensures) c.run_named-report.ensures;
   answers = c.write_report-2.ensures.status;
   all_said = c.write_report-2.ensures.says.0;
   says = c.write_report-2.ensures.says.1;

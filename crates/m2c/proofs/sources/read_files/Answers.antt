@@ -5,7 +5,7 @@ use Rattle.m2c.proofs.Readable.{none_so_far, one_behind, stops_at}
 use Rattle.m2c.proofs.sources.read_files.Goals as goal
 
 pub loop-name-init : goal.loop-name-init
-loop-name-init g c = none_so_far (g.I.InDir.gives c.args.dir.now)
+loop-name-init g c = none_so_far (g.I.InDir.gives c.args.dir.now) c.new-files.result.items c.new-files.ensures.items
 
 pub loop-name-preserved : goal.loop-name-preserved
 loop-name-preserved g c =
