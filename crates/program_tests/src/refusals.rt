@@ -1,7 +1,7 @@
 //! Rows of files, each with all that is to be reported of them.
 
 use crate::count::Count;
-use crate::program::Always;
+use crate::program::{Always, PAGES};
 use anyhow::{Context, Result};
 use m2c::{Options, Outcome, SourceFile, build};
 use std::alloc::Global;
@@ -9,12 +9,14 @@ use std::fs;
 use std::rt::Files;
 use std::thread::Threads;
 
-/// A row as far as it is read: its files, the text of the last one, and what is to be reported of them, a line for each.
+/// A row as far as it is read: its files, the text of the last one, what is to be reported of them, a line for each, and
+/// how many pages the memory has.
 struct Row {
     files: Vec<SourceFile>,
     name: String,
     text: String,
     expected: String,
+    pages: u32,
 }
 
 // Written by hand, so that a drop is one call in proofs.
@@ -25,6 +27,7 @@ impl Drop for Row {
             name,
             text,
             expected,
+            pages: _,
         } = self;
         drop(files);
         drop(name);
@@ -39,6 +42,7 @@ fn empty_row(alloc: Global) -> Row {
         name: String::new(alloc),
         text: String::new(alloc),
         expected: String::new(alloc),
+        pages: PAGES,
     }
 }
 
@@ -63,6 +67,8 @@ fn with_line(alloc: Global, row: &mut Row, line: &str) -> Result<()> {
     } else if let Some(refusal) = line.strip_prefix("%! ") {
         row.expected.push_str(refusal)?;
         row.expected.push_str("\n")?;
+    } else if let Some(pages) = line.strip_prefix("%m ") {
+        row.pages = pages.parse()?;
     } else {
         if !row.text.is_empty() {
             row.text.push_str("\n")?;
@@ -72,14 +78,14 @@ fn with_line(alloc: Global, row: &mut Row, line: &str) -> Result<()> {
     Ok(())
 }
 
-/// What is reported of the files, a line for each.
-fn reported<R: Threads + Sync>(rt: &R, alloc: Global, files: &[SourceFile]) -> Result<String> {
+/// What so many workers report of the files, a line for each refusal.
+fn reported<R: Threads + Sync>(rt: &R, alloc: Global, row: &Row, workers: usize) -> Result<String> {
     let options = Options {
-        workers: 2,
-        pages: 16,
+        workers,
+        pages: row.pages,
     };
     let mut text = String::new(alloc);
-    if let Outcome::Refused(refusals) = build(rt, alloc, files, options, &Always)? {
+    if let Outcome::Refused(refusals) = build(rt, alloc, &row.files, options, &Always(true))? {
         for refusal in refusals.as_slice() {
             let line = format!(in alloc; "{refusal}")?;
             text.push_str(line.as_str())?;
@@ -95,12 +101,14 @@ fn counted<R: Threads + Sync + Eprint>(
     count: Count,
     row: &Row,
 ) -> Result<Count> {
-    let answer = reported(rt, alloc, &row.files)?;
-    let is_right = answer.as_str() == row.expected.as_str();
-    if !is_right {
-        eprintln!(rt; "expected {}, reported {answer}", row.expected)?;
+    for workers in [1, 8] {
+        let answer = reported(rt, alloc, row, workers)?;
+        if answer.as_str() != row.expected.as_str() {
+            eprintln!(rt; "expected {}, reported {answer}", row.expected)?;
+            return Ok(count.with(false));
+        }
     }
-    Ok(count.with(is_right))
+    Ok(count.with(true))
 }
 
 /// Takes a line, or builds the files at the end of a row.
