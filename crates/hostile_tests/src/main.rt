@@ -13,10 +13,10 @@ mod paper;
 use crate::answers::ask;
 use anyhow::{Context, Result, bail};
 use m2c::SourceFile;
-use std::fs;
 use std::process::ExitCode;
 use std::rt::{Env, Files};
 use std::thread::Threads;
+use std::{env, fs};
 
 /// How many workers build each program.
 const WORKERS: [usize; 2] = [1, 2];
@@ -50,10 +50,7 @@ fn ask_program<R: Files + Print + AllocGlobal + Threads + Sync>(
 }
 
 fn ask_all<R: Files + Env + Print + AllocGlobal + Threads + Sync>(rt: &R) -> Result<bool> {
-    let mut words = Vec::new(rt.alloc());
-    for word in std::env::args(rt)? {
-        words.push(word)?;
-    }
+    let words: Vec<String> = env::args(rt)?.collect(rt.alloc())?;
     if words.is_empty() {
         bail!("a program has a name");
     }

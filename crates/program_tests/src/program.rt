@@ -23,7 +23,7 @@ impl Gate for Always {
     }
 }
 
-/// Who else builds each program: so many workers, and whether the gate lets them in.
+/// Who else builds a program: so many workers, and whether the gate lets them in.
 const OTHERS: [(usize, bool); 4] = [(2, true), (8, true), (64, true), (4, false)];
 
 /// How many pages the memory has if nothing is said of it.
@@ -52,6 +52,8 @@ pub struct Program {
     pub goes_on: u64,
     /// How many pages its memory has.
     pub pages: u32,
+    /// Whether it is built by others too.
+    pub has_others: bool,
 }
 
 // Written by hand, so that a drop is one call in proofs.
@@ -66,6 +68,7 @@ impl Drop for Program {
             end: _,
             goes_on: _,
             pages: _,
+            has_others: _,
         } = self;
         drop(name);
         drop(files);
@@ -86,6 +89,7 @@ pub fn no_program(alloc: Global) -> Program {
         end: 0,
         goes_on: 0,
         pages: PAGES,
+        has_others: false,
     }
 }
 
@@ -273,12 +277,15 @@ fn bytes_by<R: Threads + Sync>(
     }
 }
 
-/// Whether other workers, or none, build other bytes than one worker does.
+/// Whether other workers, or none, build other bytes than one worker does, if others are to build the program.
 pub fn is_built_otherwise<R: Threads + Sync>(
     rt: &R,
     alloc: Global,
     program: &Program,
 ) -> Result<bool> {
+    if !program.has_others {
+        return Ok(false);
+    }
     let first = bytes_by(rt, alloc, program, 1, true)?;
     for (workers, is_open) in OTHERS {
         let other = bytes_by(rt, alloc, program, workers, is_open)?;

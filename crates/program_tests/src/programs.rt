@@ -95,6 +95,7 @@ fn with_sign(alloc: Global, reading: &mut Reading, sign: &str, rest: &str) -> Re
         "%e" => reading.program.end = rest.parse()?,
         "%r" => reading.program.goes_on = rest.parse()?,
         "%m" => reading.program.pages = rest.parse()?,
+        "%a" => reading.program.has_others = true,
         _ => bail!("an unknown sign"),
     }
     Ok(())
