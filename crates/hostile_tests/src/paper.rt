@@ -7,6 +7,7 @@ use std::str;
 const KEPT: usize = 32;
 
 /// A stream that counts the bytes that it takes, keeps the first of them, and refuses each for which it has no room.
+#[derive(Drop)]
 pub struct Paper {
     kept: [u8; KEPT],
     /// How many bytes it took.

@@ -100,9 +100,10 @@ fn counted<R: Threads + Sync + Eprint>(
     alloc: Global,
     count: Count,
     row: &Row,
+    workers: &[usize],
 ) -> Result<Count> {
-    for workers in [1, 8] {
-        let answer = reported(rt, alloc, row, workers)?;
+    for workers in workers {
+        let answer = reported(rt, alloc, row, *workers)?;
         if answer.as_str() != row.expected.as_str() {
             eprintln!(rt; "expected {}, reported {answer}", row.expected)?;
             return Ok(count.with(false));
@@ -118,21 +119,23 @@ fn with_next<R: Threads + Sync + Eprint>(
     row: &mut Row,
     count: Count,
     line: &str,
+    workers: &[usize],
 ) -> Result<Count> {
     if line != "%%" {
         with_line(alloc, row, line)?;
         return Ok(count);
     }
     with_file(alloc, row)?;
-    let count = counted(rt, alloc, count, row)?;
+    let count = counted(rt, alloc, count, row, workers)?;
     *row = empty_row(alloc);
     Ok(count)
 }
 
-/// Builds the files of each row of a file, and compares what is reported of them.
+/// Builds the files of each row of a file by so many workers, one number after another, and compares what is reported of them.
 pub fn check_all<R: Threads + Sync + Files + Eprint + AllocGlobal>(
     rt: &R,
     name: &str,
+    workers: &[usize],
 ) -> Result<Count> {
     let alloc = rt.alloc();
     let bytes = fs::read(rt, name).context("cannot read the rows")?;
@@ -140,7 +143,7 @@ pub fn check_all<R: Threads + Sync + Files + Eprint + AllocGlobal>(
     let mut count = Count::none();
     let mut row = empty_row(alloc);
     for line in all.as_str().lines() {
-        count = with_next(rt, alloc, &mut row, count, line)?;
+        count = with_next(rt, alloc, &mut row, count, line, workers)?;
     }
     Ok(count)
 }
