@@ -1,6 +1,7 @@
 //! Holds the executor against examples that others made: directories of modules with what comes of them (`data/machine`)
 //! and single files with the refusal of each (`data/faults`). Also cuts a program's two files (`data/hello`) at each byte, and
-//! changes each byte of them, of which nothing is expected but a status.
+//! changes each byte of them, of which nothing is expected but a status: to every second other value, and to each with a word
+//! on the command line.
 #![tactic(auto)]
 
 mod changed;
@@ -11,6 +12,7 @@ mod machine;
 mod memory;
 
 use anyhow::Result;
+use std::env;
 
 fn main(rt: HostRuntime) -> Result<()> {
     let directories = machine::check_all(&rt)?;
@@ -19,7 +21,8 @@ fn main(rt: HostRuntime) -> Result<()> {
     println!(rt; "{files} files as expected")?;
     let beginnings = cut::check_all(&rt)?;
     println!(rt; "{beginnings} beginnings as expected")?;
-    let changes = changed::check_all(&rt)?;
+    let is_whole = env::args(&rt)?.count() > 1;
+    let changes = changed::check_all(&rt, is_whole)?;
     println!(rt; "{changes} changed programs have a status")?;
     Ok(())
 }
