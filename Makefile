@@ -1,6 +1,6 @@
 # The toolchain's command `rt` proves, builds and tests; see README.md.
 
-.PHONY: build plain example programs compare browser test test-tools book explanations install dist
+.PHONY: build plain example programs compare hostile browser test test-tools book explanations install dist
 
 PREFIX ?= /usr/local
 
@@ -24,6 +24,11 @@ programs: build
 # Compares what programs do by their definition with what is stated of them, and with what their modules do.
 compare: build plain
 	tools/compare_programs
+
+# Refuses each request for memory in turn, in the calls of the libraries and in the two programs.
+hostile: build
+	tools/build_program hostile_tests hostile
+	tools/hostile
 
 # Tries the hosts of hosts/ on programs that are compiled: the one on node, and the page in a headless Chromium.
 browser:

@@ -2,6 +2,7 @@ use crate::gates::{Always, Counting, Meeting};
 use crate::rows::files_of;
 use crate::{many, rows};
 use m2c::{BuildFault, Gate, Options, Outcome, SourceFile, build};
+use std::alloc::{AllocError, Global};
 use std::process::Abort;
 use std::test::Fail;
 use std::thread::Threads;
@@ -27,6 +28,9 @@ const BODY: [u8; 36] = [
 ];
 
 const FIRST: &str = "MODULE M; FROM Console IMPORT Put; BEGIN Put(\"A\") END M.";
+
+/// The most bytes that a text may have.
+const LONGEST: usize = 1_048_576;
 
 const EMPTY: &str = "MODULE N; BEGIN END N.";
 
@@ -82,11 +86,13 @@ fn expect<R: Threads + Sync + Abort + AllocGlobal>(rt: &R, texts: &[(&str, &str)
     expect_with(rt, texts, options(8), expected);
 }
 
-/// What is built of the first program has these bytes.
-fn expect_first<R: Threads + Sync + Abort + AllocGlobal>(rt: &R, gate: &Always) {
-    let alloc = rt.alloc();
-    let files = files_of(alloc, &[("m.mod", FIRST)]).expect(rt, "memory");
-    match build(rt, alloc, &files, options(4), gate).expect(rt, "an answer") {
+/// What is built of these files has the bytes of the first program.
+fn expect_first_of<R: Threads + Sync + Abort + AllocGlobal>(
+    rt: &R,
+    files: &[SourceFile],
+    gate: &Always,
+) {
+    match build(rt, rt.alloc(), files, options(4), gate).expect(rt, "an answer") {
         Outcome::Refused(_) => assert!(rt; false, "the first program is refused"),
         Outcome::Built { link, modules } => {
             assert!(rt; link.as_slice() == LINK.as_slice());
@@ -94,6 +100,32 @@ fn expect_first<R: Threads + Sync + Abort + AllocGlobal>(rt: &R, gate: &Always) 
             assert!(rt; modules[0].0.as_str() == "M");
             assert!(rt; modules[0].1.as_slice().ends_with(&BODY));
         }
+    }
+}
+
+/// What is built of the first program has its bytes.
+fn expect_first<R: Threads + Sync + Abort + AllocGlobal>(rt: &R, gate: &Always) {
+    let files = files_of(rt.alloc(), &[("m.mod", FIRST)]).expect(rt, "memory");
+    expect_first_of(rt, &files, gate);
+}
+
+/// The first program and spaces behind it, so many bytes in all.
+fn with_spaces(alloc: Global, length: usize) -> Result<Vec<SourceFile>, AllocError> {
+    let mut text = String::from_str(alloc, FIRST)?;
+    for _ in FIRST.len()..length {
+        text.push(' ')?;
+    }
+    files_of(alloc, &[("m.mod", text.as_str())])
+}
+
+#[test]
+fn a_text_has_up_to_a_mebibyte(rt: HostRuntime) {
+    let most = with_spaces(rt.alloc(), LONGEST).expect(&rt, "memory");
+    expect_first_of(&rt, &most, &Always(true));
+    let more = with_spaces(rt.alloc(), LONGEST + 1).expect(&rt, "memory");
+    for workers in [1, 8] {
+        let text = reported(&rt, &more, options(workers), &Always(true)).expect(&rt, "an answer");
+        assert!(rt; text.as_str() == "m.mod:1:1: refusal 1;", "{text}");
     }
 }
 

@@ -24,6 +24,11 @@ fn word_of(elaborated: Result<(), WFault>) -> &'static str {
     }
 }
 
+/// Whether the bytes are a valid module: `ok`, or the number of the refusal.
+pub fn answer_to(alloc: Global, bytes: &[u8]) -> &'static str {
+    word_of(elaborated(alloc, bytes))
+}
+
 /// A line names a file and says `ok`, or the refusal; what follows explains it.
 fn check(rt: &HostRuntime, line: &str) -> Result<()> {
     let alloc = rt.alloc();
@@ -32,7 +37,7 @@ fn check(rt: &HostRuntime, line: &str) -> Result<()> {
     let expected = words.next().unwrap_or("");
     let path = format!(in alloc; "faults/{name}")?;
     let bytes = fs::read(rt, path.as_str())?;
-    let came = word_of(elaborated(alloc, &bytes));
+    let came = answer_to(alloc, &bytes);
     if came != expected {
         bail!("{came}");
     }

@@ -518,6 +518,17 @@ const WITH_TABLE: &[u8] =
 const FILLS_TABLE: &[u8] =
     b"\x00asm\x01\x00\x00\x00\x01\x08\x02\x60\x00\x00\x60\x01\x7E\x00\x02\x17\x02\x04link\x01t\x01\x70\x00\x01\x04host\x03put\x00\x01\x03\x02\x01\x00\x09\x07\x01\x00\x41\x00\x0B\x01\x01\x0A\x09\x01\x07\x00\x42\xD8\x00\x10\x00\x0B";
 
+/// A module that exports `run` and a constant global `g`.
+const WITH_GLOBAL: &[u8] =
+    b"\x00asm\x01\x00\x00\x00\x01\x04\x01\x60\x00\x00\x03\x02\x01\x00\x06\x06\x01\x7F\x00A\x00\x0B\x07\x0B\x02\x03run\x00\x00\x01g\x03\x00\x0A\x04\x01\x02\x00\x0B";
+
+/// A module that imports link's `g` as a function without parameters and results.
+const CALLS_GLOBAL: &[u8] =
+    b"\x00asm\x01\x00\x00\x00\x01\x04\x01\x60\x00\x00\x02\x0A\x01\x04link\x01g\x00\x00";
+
+/// A module that imports link's `run` as a constant global.
+const READS_FUNCTION: &[u8] = b"\x00asm\x01\x00\x00\x00\x02\x0D\x01\x04link\x03run\x03\x7F\x00";
+
 #[test]
 fn several_modules(rt: HostRuntime) {
     let alloc = rt.alloc();
@@ -537,5 +548,7 @@ fn modules_that_cannot_be_linked(rt: HostRuntime) {
     refuse(&rt, alloc, &[], WFault::Unlinked);
     refuse(&rt, alloc, &[empty], WFault::Unlinked);
     refuse(&rt, alloc, &[AROUND, FILLS_TABLE], WFault::Unlinked);
+    refuse(&rt, alloc, &[WITH_GLOBAL, CALLS_GLOBAL], WFault::Unlinked);
+    refuse(&rt, alloc, &[WITH_GLOBAL, READS_FUNCTION], WFault::Unlinked);
     refuse(&rt, alloc, &[past], WFault::SegmentOutside);
 }

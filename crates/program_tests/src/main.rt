@@ -17,11 +17,18 @@ mod refusals;
 
 use anyhow::Result;
 
+/// The files of refused programs, and the numbers of workers that build each.
+const REFUSALS: [(&str, &[usize]); 3] = [
+    ("refusals.txt", &[2]),
+    ("corners.txt", &[2]),
+    ("rows-refusals.txt", &[1, 8]),
+];
+
 fn main(rt: HostRuntime) -> Result<()> {
     let definitions = definitions::check_all(&rt)?.all_right()?;
     println!(rt; "{definitions} definitions as expected")?;
-    for name in ["refusals.txt", "corners.txt", "rows-refusals.txt"] {
-        let refusals = refusals::check_all(&rt, name)?.all_right()?;
+    for (name, workers) in REFUSALS {
+        let refusals = refusals::check_all(&rt, name, workers)?.all_right()?;
         println!(rt; "{refusals} rows of {name} as expected")?;
     }
     for name in ["programs.txt", "rows-programs.txt"] {

@@ -13,14 +13,21 @@ const STEPS: u64 = 1_000_000_000;
 /// The status of modules that still run.
 const RUNNING: u8 = 4;
 
-/// Lets each worker in.
-pub struct Always;
+/// Says the same of each job.
+#[derive(Drop)]
+pub struct Always(pub bool);
 
 impl Gate for Always {
     fn enter(&self, _job: usize) -> bool {
-        true
+        self.0
     }
 }
+
+/// Who else builds a program: so many workers, and whether the gate lets them in.
+const OTHERS: [(usize, bool); 4] = [(2, true), (8, true), (64, true), (4, false)];
+
+/// How many pages the memory has if nothing is said of it.
+pub const PAGES: u32 = 16;
 
 /// The bytes of a module under the name of its file.
 #[derive(Drop)]
@@ -43,6 +50,10 @@ pub struct Program {
     pub end: u8,
     /// The reductions after which it still runs; 0 for a program that ends.
     pub goes_on: u64,
+    /// How many pages its memory has.
+    pub pages: u32,
+    /// Whether it is built by others too.
+    pub has_others: bool,
 }
 
 // Written by hand, so that a drop is one call in proofs.
@@ -56,6 +67,8 @@ impl Drop for Program {
             printed,
             end: _,
             goes_on: _,
+            pages: _,
+            has_others: _,
         } = self;
         drop(name);
         drop(files);
@@ -75,6 +88,8 @@ pub fn no_program(alloc: Global) -> Program {
         printed: Vec::new(alloc),
         end: 0,
         goes_on: 0,
+        pages: PAGES,
+        has_others: false,
     }
 }
 
@@ -220,8 +235,11 @@ pub fn decided<R: Threads + Sync + Eprint>(
     program: &Program,
     workers: usize,
 ) -> Result<Option<&'static str>> {
-    let options = Options { workers, pages: 16 };
-    match build(rt, alloc, &program.files, options, &Always)? {
+    let options = Options {
+        workers,
+        pages: program.pages,
+    };
+    match build(rt, alloc, &program.files, options, &Always(true))? {
         Outcome::Refused(refusals) => {
             for refusal in &refusals {
                 eprintln!(rt; "{refusal}")?;
@@ -230,4 +248,50 @@ pub fn decided<R: Threads + Sync + Eprint>(
         }
         Outcome::Built { link, modules } => Ok(decided_built(alloc, program, &link, &modules)),
     }
+}
+
+/// The bytes of link, and behind them those of each module.
+fn joined(alloc: Global, link: &[u8], modules: &[(String, Vec<u8>)]) -> Result<Vec<u8>> {
+    let mut all = Vec::from_slice(alloc, link)?;
+    for module in modules {
+        all.extend_from_slice(&module.1)?;
+    }
+    Ok(all)
+}
+
+/// What so many workers build, whom the gate lets in or not: all bytes, or none if the program is refused.
+fn bytes_by<R: Threads + Sync>(
+    rt: &R,
+    alloc: Global,
+    program: &Program,
+    workers: usize,
+    is_open: bool,
+) -> Result<Vec<u8>> {
+    let options = Options {
+        workers,
+        pages: program.pages,
+    };
+    match build(rt, alloc, &program.files, options, &Always(is_open))? {
+        Outcome::Refused(_) => Ok(Vec::new(alloc)),
+        Outcome::Built { link, modules } => joined(alloc, &link, &modules),
+    }
+}
+
+/// Whether other workers, or none, build other bytes than one worker does, if others are to build the program.
+pub fn is_built_otherwise<R: Threads + Sync>(
+    rt: &R,
+    alloc: Global,
+    program: &Program,
+) -> Result<bool> {
+    if !program.has_others {
+        return Ok(false);
+    }
+    let first = bytes_by(rt, alloc, program, 1, true)?;
+    for (workers, is_open) in OTHERS {
+        let other = bytes_by(rt, alloc, program, workers, is_open)?;
+        if other.as_slice() != first.as_slice() {
+            return Ok(true);
+        }
+    }
+    Ok(false)
 }

@@ -1,7 +1,7 @@
 //! The programs of `data/programs.txt` and `data/rows-programs.txt`.
 
 use crate::count::Count;
-use crate::program::{Expected, Program, decided, no_program};
+use crate::program::{Expected, Program, decided, is_built_otherwise, no_program};
 use anyhow::{Context, Result, bail};
 use m2c::SourceFile;
 use std::alloc::Global;
@@ -94,6 +94,8 @@ fn with_sign(alloc: Global, reading: &mut Reading, sign: &str, rest: &str) -> Re
         "%p" => reading.program.printed = bytes_of(alloc, rest)?,
         "%e" => reading.program.end = rest.parse()?,
         "%r" => reading.program.goes_on = rest.parse()?,
+        "%m" => reading.program.pages = rest.parse()?,
+        "%a" => reading.program.has_others = true,
         _ => bail!("an unknown sign"),
     }
     Ok(())
@@ -121,6 +123,10 @@ fn counted<R: Threads + Sync + Eprint>(
             eprintln!(rt; "{}: {wrong}", program.name)?;
             return Ok(count.with(false));
         }
+    }
+    if is_built_otherwise(rt, alloc, program)? {
+        eprintln!(rt; "{}: others build other modules", program.name)?;
+        return Ok(count.with(false));
     }
     Ok(count.with(true))
 }

@@ -1,7 +1,7 @@
 //! Rows of files, each with all that is to be reported of them.
 
 use crate::count::Count;
-use crate::program::Always;
+use crate::program::{Always, PAGES};
 use anyhow::{Context, Result};
 use m2c::{Options, Outcome, SourceFile, build};
 use std::alloc::Global;
@@ -9,12 +9,14 @@ use std::fs;
 use std::rt::Files;
 use std::thread::Threads;
 
-/// A row as far as it is read: its files, the text of the last one, and what is to be reported of them, a line for each.
+/// A row as far as it is read: its files, the text of the last one, what is to be reported of them, a line for each, and
+/// how many pages the memory has.
 struct Row {
     files: Vec<SourceFile>,
     name: String,
     text: String,
     expected: String,
+    pages: u32,
 }
 
 // Written by hand, so that a drop is one call in proofs.
@@ -25,6 +27,7 @@ impl Drop for Row {
             name,
             text,
             expected,
+            pages: _,
         } = self;
         drop(files);
         drop(name);
@@ -39,6 +42,7 @@ fn empty_row(alloc: Global) -> Row {
         name: String::new(alloc),
         text: String::new(alloc),
         expected: String::new(alloc),
+        pages: PAGES,
     }
 }
 
@@ -63,6 +67,8 @@ fn with_line(alloc: Global, row: &mut Row, line: &str) -> Result<()> {
     } else if let Some(refusal) = line.strip_prefix("%! ") {
         row.expected.push_str(refusal)?;
         row.expected.push_str("\n")?;
+    } else if let Some(pages) = line.strip_prefix("%m ") {
+        row.pages = pages.parse()?;
     } else {
         if !row.text.is_empty() {
             row.text.push_str("\n")?;
@@ -72,14 +78,14 @@ fn with_line(alloc: Global, row: &mut Row, line: &str) -> Result<()> {
     Ok(())
 }
 
-/// What is reported of the files, a line for each.
-fn reported<R: Threads + Sync>(rt: &R, alloc: Global, files: &[SourceFile]) -> Result<String> {
+/// What so many workers report of the files, a line for each refusal.
+fn reported<R: Threads + Sync>(rt: &R, alloc: Global, row: &Row, workers: usize) -> Result<String> {
     let options = Options {
-        workers: 2,
-        pages: 16,
+        workers,
+        pages: row.pages,
     };
     let mut text = String::new(alloc);
-    if let Outcome::Refused(refusals) = build(rt, alloc, files, options, &Always)? {
+    if let Outcome::Refused(refusals) = build(rt, alloc, &row.files, options, &Always(true))? {
         for refusal in refusals.as_slice() {
             let line = format!(in alloc; "{refusal}")?;
             text.push_str(line.as_str())?;
@@ -94,13 +100,16 @@ fn counted<R: Threads + Sync + Eprint>(
     alloc: Global,
     count: Count,
     row: &Row,
+    workers: &[usize],
 ) -> Result<Count> {
-    let answer = reported(rt, alloc, &row.files)?;
-    let is_right = answer.as_str() == row.expected.as_str();
-    if !is_right {
-        eprintln!(rt; "expected {}, reported {answer}", row.expected)?;
+    for workers in workers {
+        let answer = reported(rt, alloc, row, *workers)?;
+        if answer.as_str() != row.expected.as_str() {
+            eprintln!(rt; "expected {}, reported {answer}", row.expected)?;
+            return Ok(count.with(false));
+        }
     }
-    Ok(count.with(is_right))
+    Ok(count.with(true))
 }
 
 /// Takes a line, or builds the files at the end of a row.
@@ -110,21 +119,23 @@ fn with_next<R: Threads + Sync + Eprint>(
     row: &mut Row,
     count: Count,
     line: &str,
+    workers: &[usize],
 ) -> Result<Count> {
     if line != "%%" {
         with_line(alloc, row, line)?;
         return Ok(count);
     }
     with_file(alloc, row)?;
-    let count = counted(rt, alloc, count, row)?;
+    let count = counted(rt, alloc, count, row, workers)?;
     *row = empty_row(alloc);
     Ok(count)
 }
 
-/// Builds the files of each row of a file, and compares what is reported of them.
+/// Builds the files of each row of a file by so many workers, one number after another, and compares what is reported of them.
 pub fn check_all<R: Threads + Sync + Files + Eprint + AllocGlobal>(
     rt: &R,
     name: &str,
+    workers: &[usize],
 ) -> Result<Count> {
     let alloc = rt.alloc();
     let bytes = fs::read(rt, name).context("cannot read the rows")?;
@@ -132,7 +143,7 @@ pub fn check_all<R: Threads + Sync + Files + Eprint + AllocGlobal>(
     let mut count = Count::none();
     let mut row = empty_row(alloc);
     for line in all.as_str().lines() {
-        count = with_next(rt, alloc, &mut row, count, line)?;
+        count = with_next(rt, alloc, &mut row, count, line, workers)?;
     }
     Ok(count)
 }

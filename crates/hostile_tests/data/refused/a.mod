@@ -1,0 +1,1 @@
+MODULE P; BEGIN x := 1 END P.

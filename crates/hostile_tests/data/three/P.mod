@@ -1,0 +1,1 @@
+MODULE P; FROM Console IMPORT Put; IMPORT A; BEGIN Put("P") END P.
