@@ -28,12 +28,10 @@ programs: build
 compare: build plain
 	tools/compare_programs
 
-# Refuses each request for memory in turn, in the calls of the libraries and in the two programs. Then changes each byte of a
-# program's files to each other value.
+# Refuses each request for memory in turn, in the calls of the libraries and in the two programs.
 hostile: build
-	tools/build_program hostile_tests hostile example_tests example_tests
+	tools/build_program hostile_tests hostile
 	tools/hostile
-	cd crates/example_tests/data && ../../../build/example_tests all
 
 # Tries the hosts of hosts/ on programs that are compiled: the one on node, and the page in a headless Chromium.
 browser:
