@@ -1,3 +1,6 @@
 pub mod Sums
 pub mod Variants
 pub mod Weights
+pub mod Typed
+pub mod Results
+pub mod Operators

@@ -100,7 +100,7 @@ arguments_map (x ∷ es) = ap (λ n. 1 + size_expr x + n) (arguments_map es)
 
 pub use_size : (d : Designator) (args : Option (List Expr)) → size_expr (e.Use d args) ≡ 1 + size_designator d + size_arguments args
 use_size d None = at (e.Use d None) (layer.Use d None) (outs-Use d None)
-use_size d (Some es) = at (e.Use d (Some es)) (layer.Use d (Some es)) (outs-Use d (Some es)) ∙ ap (λ n. 1 + size_designator d + n) (arguments_map es)
+use_size d (Some es) = at (e.Use d (Some es)) (layer.Use d (Some es)) (outs-Use d (Some es)) ∙ ap (λ n. 1 + size_designator d + (1 + n)) (arguments_map es)
 
 -- an operator with its second operand
 abbrev pub size_operand : {O : Type 0} → O × Expr → ℕ

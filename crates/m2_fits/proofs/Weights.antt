@@ -65,7 +65,7 @@ tree_size arm_rule x = size_arm x
 tree_size item_rule x = size_item x
 tree_size desig_rule x = 2 + size_designator x
 tree_size selectors_rule xs = sum_of size_selector xs
-tree_size args_rule xs = sum_of size_argument xs
+tree_size args_rule xs = 1 + sum_of size_argument xs
 tree_size expr_rule x = size_expr x
 tree_size sum_rule x = size_expr x
 tree_size term_rule x = size_expr x
@@ -203,7 +203,7 @@ selectors_sized (x ∷ xs) =
 args_below : (es : List Expr) → sum_of size_argument es ≤ sum_of (λ (x : Expr). 4 + size_expr x) es
 args_below es = sum_below size_argument (λ (x : Expr). 4 + size_expr x) (λ x. omega arith) es
 
-first_argument : (e c d : ℕ) → c ≤ d → 1 + e + c ≤ 4 + (e + d + 4)
+first_argument : (e c d : ℕ) → c ≤ d → 1 + (1 + e + c) ≤ 4 + (e + d + 4)
 first_argument e c d h = omega (arith, h)
 
 args_sized : (o : Option (Expr × List Expr)) → Sized args_rule o

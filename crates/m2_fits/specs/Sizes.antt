@@ -51,13 +51,13 @@ all_if_there (Some ns) = total ns
 
 -- ---- expressions
 
--- each argument counts one more than its expression
+-- each argument counts one more than its expression, and one more if there is a list
 abbrev pub arguments : List ℕ → ℕ
 arguments ns = sum_of (λ n. 1 + n) ns
 
 abbrev pub arguments_if : Option (List ℕ) → ℕ
 arguments_if None = 0
-arguments_if (Some ns) = arguments ns
+arguments_if (Some ns) = 1 + arguments ns
 
 -- an operator with its second operand
 abbrev pub operand : {O : Type 0} → O × ℕ → ℕ
@@ -108,7 +108,7 @@ size_argument e = 1 + size_expr e
 
 abbrev pub size_arguments : Option (List Expr) → ℕ
 size_arguments None = 0
-size_arguments (Some es) = sum_of size_argument es
+size_arguments (Some es) = 1 + sum_of size_argument es
 
 -- ---- statements
 
