@@ -4,3 +4,4 @@ pub mod Weights
 pub mod Typed
 pub mod Results
 pub mod Operators
+pub mod Calls
