@@ -5,3 +5,4 @@ pub mod Typed
 pub mod Results
 pub mod Operators
 pub mod Calls
+pub mod Meanings

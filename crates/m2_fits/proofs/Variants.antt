@@ -48,27 +48,27 @@ use Rattle.m2_fits.proofs.Sums.{total_map}
 
 -- ---- expressions
 
-abbrev sizes_expr : Expr-F Expr Selector Designator Item → Expr-F ℕ ℕ ℕ ℕ
+abbrev pub sizes_expr : Expr-F Expr Selector Designator Item → Expr-F ℕ ℕ ℕ ℕ
 sizes_expr x = map-Expr Expr Selector Designator Item ℕ ℕ ℕ ℕ size_expr size_selector size_designator size_item x
 
-abbrev sizes_selector : Selector-F Expr Selector Designator Item → Selector-F ℕ ℕ ℕ ℕ
+abbrev pub sizes_selector : Selector-F Expr Selector Designator Item → Selector-F ℕ ℕ ℕ ℕ
 sizes_selector x = map-Selector Expr Selector Designator Item ℕ ℕ ℕ ℕ size_expr size_selector size_designator size_item x
 
-abbrev sizes_designator : Designator-F Expr Selector Designator Item → Designator-F ℕ ℕ ℕ ℕ
+abbrev pub sizes_designator : Designator-F Expr Selector Designator Item → Designator-F ℕ ℕ ℕ ℕ
 sizes_designator x = map-Designator Expr Selector Designator Item ℕ ℕ ℕ ℕ size_expr size_selector size_designator size_item x
 
 abbrev sizes_item : Item-F Expr Selector Designator Item → Item-F ℕ ℕ ℕ ℕ
 sizes_item x = map-Item Expr Selector Designator Item ℕ ℕ ℕ ℕ size_expr size_selector size_designator size_item x
 
-at : (x : Expr) (y : Expr-F Expr Selector Designator Item) → out-Expr x ≡ y → size_expr x ≡ expr_layer (sizes_expr y)
+pub at : (x : Expr) (y : Expr-F Expr Selector Designator Item) → out-Expr x ≡ y → size_expr x ≡ expr_layer (sizes_expr y)
 unfolding size_expr size_selector size_designator size_item
 at x y q = fold_out-Expr ℕ ℕ ℕ ℕ expr_layer selector_layer designator_layer item_layer x ∙ ap (λ (z : Expr-F Expr Selector Designator Item). expr_layer (sizes_expr z)) q
 
-at_selector : (x : Selector) (y : Selector-F Expr Selector Designator Item) → out-Selector x ≡ y → size_selector x ≡ selector_layer (sizes_selector y)
+pub at_selector : (x : Selector) (y : Selector-F Expr Selector Designator Item) → out-Selector x ≡ y → size_selector x ≡ selector_layer (sizes_selector y)
 unfolding size_expr size_selector size_designator size_item
 at_selector x y q = fold_out-Selector ℕ ℕ ℕ ℕ expr_layer selector_layer designator_layer item_layer x ∙ ap (λ (z : Selector-F Expr Selector Designator Item). selector_layer (sizes_selector z)) q
 
-at_designator : (x : Designator) (y : Designator-F Expr Selector Designator Item) → out-Designator x ≡ y → size_designator x ≡ designator_layer (sizes_designator y)
+pub at_designator : (x : Designator) (y : Designator-F Expr Selector Designator Item) → out-Designator x ≡ y → size_designator x ≡ designator_layer (sizes_designator y)
 unfolding size_expr size_selector size_designator size_item
 at_designator x y q = fold_out-Designator ℕ ℕ ℕ ℕ expr_layer selector_layer designator_layer item_layer x ∙ ap (λ (z : Designator-F Expr Selector Designator Item). designator_layer (sizes_designator z)) q
 
