@@ -6,3 +6,8 @@ pub mod Results
 pub mod Operators
 pub mod Calls
 pub mod Meanings
+pub mod Effects
+pub mod Steps
+pub mod Statements
+pub mod Blocks
+pub mod Texts

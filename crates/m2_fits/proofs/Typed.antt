@@ -34,31 +34,31 @@ use Rattle.m2_fits.proofs.Sums.{total_map}
 
 -- ---- expressions, designators, calls and arguments
 
-abbrev sizes_argument : Argument-F Argument Call Component Link TypedExpr Place → Argument-F ℕ ℕ ℕ ℕ ℕ ℕ
+abbrev pub sizes_argument : Argument-F Argument Call Component Link TypedExpr Place → Argument-F ℕ ℕ ℕ ℕ ℕ ℕ
 sizes_argument x = map-Argument Argument Call Component Link TypedExpr Place ℕ ℕ ℕ ℕ ℕ ℕ size_passed size_call size_component size_link size_typed size_place x
 
-at_argument : (e : Argument) (x : Argument-F Argument Call Component Link TypedExpr Place) → out-Argument e ≡ x → size_passed e ≡ argument_layer (sizes_argument x)
+pub at_argument : (e : Argument) (x : Argument-F Argument Call Component Link TypedExpr Place) → out-Argument e ≡ x → size_passed e ≡ argument_layer (sizes_argument x)
 unfolding size_passed size_call size_component size_link size_typed size_place
 at_argument e x h = fold_out-Argument ℕ ℕ ℕ ℕ ℕ ℕ argument_layer call_layer component_layer link_layer expr_layer place_layer e ∙ ap (λ (y : Argument-F Argument Call Component Link TypedExpr Place). argument_layer (sizes_argument y)) h
 
-abbrev sizes_call : Call-F Argument Call Component Link TypedExpr Place → Call-F ℕ ℕ ℕ ℕ ℕ ℕ
+abbrev pub sizes_call : Call-F Argument Call Component Link TypedExpr Place → Call-F ℕ ℕ ℕ ℕ ℕ ℕ
 sizes_call x = map-Call Argument Call Component Link TypedExpr Place ℕ ℕ ℕ ℕ ℕ ℕ size_passed size_call size_component size_link size_typed size_place x
 
-at_call : (e : Call) (x : Call-F Argument Call Component Link TypedExpr Place) → out-Call e ≡ x → size_call e ≡ call_layer (sizes_call x)
+pub at_call : (e : Call) (x : Call-F Argument Call Component Link TypedExpr Place) → out-Call e ≡ x → size_call e ≡ call_layer (sizes_call x)
 unfolding size_passed size_call size_component size_link size_typed size_place
 at_call e x h = fold_out-Call ℕ ℕ ℕ ℕ ℕ ℕ argument_layer call_layer component_layer link_layer expr_layer place_layer e ∙ ap (λ (y : Call-F Argument Call Component Link TypedExpr Place). call_layer (sizes_call y)) h
 
-abbrev sizes_component : Component-F Argument Call Component Link TypedExpr Place → Component-F ℕ ℕ ℕ ℕ ℕ ℕ
+abbrev pub sizes_component : Component-F Argument Call Component Link TypedExpr Place → Component-F ℕ ℕ ℕ ℕ ℕ ℕ
 sizes_component x = map-Component Argument Call Component Link TypedExpr Place ℕ ℕ ℕ ℕ ℕ ℕ size_passed size_call size_component size_link size_typed size_place x
 
-at_component : (e : Component) (x : Component-F Argument Call Component Link TypedExpr Place) → out-Component e ≡ x → size_component e ≡ component_layer (sizes_component x)
+pub at_component : (e : Component) (x : Component-F Argument Call Component Link TypedExpr Place) → out-Component e ≡ x → size_component e ≡ component_layer (sizes_component x)
 unfolding size_passed size_call size_component size_link size_typed size_place
 at_component e x h = fold_out-Component ℕ ℕ ℕ ℕ ℕ ℕ argument_layer call_layer component_layer link_layer expr_layer place_layer e ∙ ap (λ (y : Component-F Argument Call Component Link TypedExpr Place). component_layer (sizes_component y)) h
 
-abbrev sizes_link : Link-F Argument Call Component Link TypedExpr Place → Link-F ℕ ℕ ℕ ℕ ℕ ℕ
+abbrev pub sizes_link : Link-F Argument Call Component Link TypedExpr Place → Link-F ℕ ℕ ℕ ℕ ℕ ℕ
 sizes_link x = map-Link Argument Call Component Link TypedExpr Place ℕ ℕ ℕ ℕ ℕ ℕ size_passed size_call size_component size_link size_typed size_place x
 
-at_link : (e : Link) (x : Link-F Argument Call Component Link TypedExpr Place) → out-Link e ≡ x → size_link e ≡ link_layer (sizes_link x)
+pub at_link : (e : Link) (x : Link-F Argument Call Component Link TypedExpr Place) → out-Link e ≡ x → size_link e ≡ link_layer (sizes_link x)
 unfolding size_passed size_call size_component size_link size_typed size_place
 at_link e x h = fold_out-Link ℕ ℕ ℕ ℕ ℕ ℕ argument_layer call_layer component_layer link_layer expr_layer place_layer e ∙ ap (λ (y : Link-F Argument Call Component Link TypedExpr Place). link_layer (sizes_link y)) h
 
@@ -69,10 +69,10 @@ pub at_expr : (e : TypedExpr) (x : TypedExpr-F Argument Call Component Link Type
 unfolding size_passed size_call size_component size_link size_typed size_place
 at_expr e x h = fold_out-TypedExpr ℕ ℕ ℕ ℕ ℕ ℕ argument_layer call_layer component_layer link_layer expr_layer place_layer e ∙ ap (λ (y : TypedExpr-F Argument Call Component Link TypedExpr Place). expr_layer (sizes_expr y)) h
 
-abbrev sizes_place : Place-F Argument Call Component Link TypedExpr Place → Place-F ℕ ℕ ℕ ℕ ℕ ℕ
+abbrev pub sizes_place : Place-F Argument Call Component Link TypedExpr Place → Place-F ℕ ℕ ℕ ℕ ℕ ℕ
 sizes_place x = map-Place Argument Call Component Link TypedExpr Place ℕ ℕ ℕ ℕ ℕ ℕ size_passed size_call size_component size_link size_typed size_place x
 
-at_place : (e : Place) (x : Place-F Argument Call Component Link TypedExpr Place) → out-Place e ≡ x → size_place e ≡ place_layer (sizes_place x)
+pub at_place : (e : Place) (x : Place-F Argument Call Component Link TypedExpr Place) → out-Place e ≡ x → size_place e ≡ place_layer (sizes_place x)
 unfolding size_passed size_call size_component size_link size_typed size_place
 at_place e x h = fold_out-Place ℕ ℕ ℕ ℕ ℕ ℕ argument_layer call_layer component_layer link_layer expr_layer place_layer e ∙ ap (λ (y : Place-F Argument Call Component Link TypedExpr Place). place_layer (sizes_place y)) h
 
@@ -180,17 +180,17 @@ expr_call t c = at_expr (expr.Call t c) (layer.Call t c) (expr.outs-Call t c)
 
 -- ---- statements
 
-abbrev sizes_step : TypedStmt-F TypedStmt TypedArm → TypedStmt-F ℕ ℕ
+abbrev pub sizes_step : TypedStmt-F TypedStmt TypedArm → TypedStmt-F ℕ ℕ
 sizes_step x = map-TypedStmt TypedStmt TypedArm ℕ ℕ size_step size_arm x
 
-at_step : (e : TypedStmt) (x : TypedStmt-F TypedStmt TypedArm) → out-TypedStmt e ≡ x → size_step e ≡ step_layer (sizes_step x)
+pub at_step : (e : TypedStmt) (x : TypedStmt-F TypedStmt TypedArm) → out-TypedStmt e ≡ x → size_step e ≡ step_layer (sizes_step x)
 unfolding size_step size_arm
 at_step e x h = fold_out-TypedStmt ℕ ℕ step_layer arm_layer e ∙ ap (λ (y : TypedStmt-F TypedStmt TypedArm). step_layer (sizes_step y)) h
 
-abbrev sizes_arm : TypedArm-F TypedStmt TypedArm → TypedArm-F ℕ ℕ
+abbrev pub sizes_arm : TypedArm-F TypedStmt TypedArm → TypedArm-F ℕ ℕ
 sizes_arm x = map-TypedArm TypedStmt TypedArm ℕ ℕ size_step size_arm x
 
-at_arm : (e : TypedArm) (x : TypedArm-F TypedStmt TypedArm) → out-TypedArm e ≡ x → size_arm e ≡ arm_layer (sizes_arm x)
+pub at_arm : (e : TypedArm) (x : TypedArm-F TypedStmt TypedArm) → out-TypedArm e ≡ x → size_arm e ≡ arm_layer (sizes_arm x)
 unfolding size_step size_arm
 at_arm e x h = fold_out-TypedArm ℕ ℕ step_layer arm_layer e ∙ ap (λ (y : TypedArm-F TypedStmt TypedArm). arm_layer (sizes_arm y)) h
 
@@ -252,8 +252,8 @@ step_return = at_step stmt.Return slayer.Return stmt.outs-Return
 pub step_give : (t : TypeNo) (e : TypedExpr) → size_step (stmt.Give t e) ≡ 1 + size_typed e
 step_give t e = at_step (stmt.Give t e) (slayer.Give t e) (stmt.outs-Give t e)
 
-pub step_for : (d : Place) (t : TypeNo) (start limit : TypedExpr) (by : ℤ) (body : List TypedStmt) → size_step (stmt.For d t start limit by body) ≡ 1 + 4 * size_place d + size_typed start + size_typed limit + size_body body
-step_for d t start limit by body = at_step (stmt.For d t start limit by body) (slayer.For d t start limit by body) (stmt.outs-For d t start limit by body) ∙ ap (λ n. 1 + 4 * size_place d + size_typed start + size_typed limit + n) (total_map size_step body)
+pub step_for : (d : Place) (t : TypeNo) (start limit : TypedExpr) (by : ℤ) (body : List TypedStmt) → size_step (stmt.For d t start limit by body) ≡ 1 + 5 * size_place d + size_typed start + size_typed limit + size_body body
+step_for d t start limit by body = at_step (stmt.For d t start limit by body) (slayer.For d t start limit by body) (stmt.outs-For d t start limit by body) ∙ ap (λ n. 1 + 5 * size_place d + size_typed start + size_typed limit + n) (total_map size_step body)
 
 pub step_with : (d : Place) (body : List TypedStmt) → size_step (stmt.With d body) ≡ 1 + size_place d + size_body body
 step_with d body = at_step (stmt.With d body) (slayer.With d body) (stmt.outs-With d body) ∙ ap (λ n. 1 + size_place d + n) (total_map size_step body)

@@ -94,7 +94,7 @@ not_size p x = at (e.Not p x) (layer.Not p x) (outs-Not p x)
 pub bracketed_size : (p : Pos) (x : Expr) → size_expr (e.Bracketed p x) ≡ size_expr x
 bracketed_size p x = at (e.Bracketed p x) (layer.Bracketed p x) (outs-Bracketed p x)
 
-arguments_map : (es : List Expr) → sum_of (λ n. 1 + n) (map size_expr es) ≡ sum_of size_argument es
+pub arguments_map : (es : List Expr) → sum_of (λ n. 1 + n) (map size_expr es) ≡ sum_of size_argument es
 arguments_map [] = refl
 arguments_map (x ∷ es) = ap (λ n. 1 + size_expr x + n) (arguments_map es)
 
@@ -136,24 +136,24 @@ item_size low (Some x) = at_item (roll-Item (record { low = low; high = Some x }
 
 -- ---- statements
 
-abbrev sizes_stmt : Stmt-F Rest Stmt Arm → Stmt-F ℕ ℕ ℕ
+abbrev pub sizes_stmt : Stmt-F Rest Stmt Arm → Stmt-F ℕ ℕ ℕ
 sizes_stmt x = map-Stmt Rest Stmt Arm ℕ ℕ ℕ size_rest size_stmt size_arm x
 
-abbrev sizes_rest : Rest-F Rest Stmt Arm → Rest-F ℕ ℕ ℕ
+abbrev pub sizes_rest : Rest-F Rest Stmt Arm → Rest-F ℕ ℕ ℕ
 sizes_rest x = map-Rest Rest Stmt Arm ℕ ℕ ℕ size_rest size_stmt size_arm x
 
-abbrev sizes_arm : Arm-F Rest Stmt Arm → Arm-F ℕ ℕ ℕ
+abbrev pub sizes_arm : Arm-F Rest Stmt Arm → Arm-F ℕ ℕ ℕ
 sizes_arm x = map-Arm Rest Stmt Arm ℕ ℕ ℕ size_rest size_stmt size_arm x
 
-at_stmt : (x : Stmt) (y : Stmt-F Rest Stmt Arm) → out-Stmt x ≡ y → size_stmt x ≡ stmt_layer (sizes_stmt y)
+pub at_stmt : (x : Stmt) (y : Stmt-F Rest Stmt Arm) → out-Stmt x ≡ y → size_stmt x ≡ stmt_layer (sizes_stmt y)
 unfolding size_stmt size_rest size_arm
 at_stmt x y q = fold_out-Stmt ℕ ℕ ℕ rest_layer stmt_layer arm_layer x ∙ ap (λ (z : Stmt-F Rest Stmt Arm). stmt_layer (sizes_stmt z)) q
 
-at_rest : (x : Rest) (y : Rest-F Rest Stmt Arm) → out-Rest x ≡ y → size_rest x ≡ rest_layer (sizes_rest y)
+pub at_rest : (x : Rest) (y : Rest-F Rest Stmt Arm) → out-Rest x ≡ y → size_rest x ≡ rest_layer (sizes_rest y)
 unfolding size_stmt size_rest size_arm
 at_rest x y q = fold_out-Rest ℕ ℕ ℕ rest_layer stmt_layer arm_layer x ∙ ap (λ (z : Rest-F Rest Stmt Arm). rest_layer (sizes_rest z)) q
 
-at_arm : (x : Arm) (y : Arm-F Rest Stmt Arm) → out-Arm x ≡ y → size_arm x ≡ arm_layer (sizes_arm y)
+pub at_arm : (x : Arm) (y : Arm-F Rest Stmt Arm) → out-Arm x ≡ y → size_arm x ≡ arm_layer (sizes_arm y)
 unfolding size_stmt size_rest size_arm
 at_arm x y q = fold_out-Arm ℕ ℕ ℕ rest_layer stmt_layer arm_layer x ∙ ap (λ (z : Arm-F Rest Stmt Arm). arm_layer (sizes_arm z)) q
 
@@ -244,17 +244,17 @@ field_size names t = at_field (roll-Field (record { names = names; of = t })) (r
 
 -- ---- declarations
 
-abbrev sizes_decl : Decl-F Decl Block → Decl-F ℕ ℕ
+abbrev pub sizes_decl : Decl-F Decl Block → Decl-F ℕ ℕ
 sizes_decl x = map-Decl Decl Block ℕ ℕ size_decl size_block x
 
-abbrev sizes_block : Block-F Decl Block → Block-F ℕ ℕ
+abbrev pub sizes_block : Block-F Decl Block → Block-F ℕ ℕ
 sizes_block x = map-Block Decl Block ℕ ℕ size_decl size_block x
 
-at_decl : (d : Decl) (x : Decl-F Decl Block) → out-Decl d ≡ x → size_decl d ≡ decl_layer (sizes_decl x)
+pub at_decl : (d : Decl) (x : Decl-F Decl Block) → out-Decl d ≡ x → size_decl d ≡ decl_layer (sizes_decl x)
 unfolding size_decl size_block
 at_decl d x q = fold_out-Decl ℕ ℕ decl_layer block_layer d ∙ ap (λ (y : Decl-F Decl Block). decl_layer (sizes_decl y)) q
 
-at_block : (b : Block) (x : Block-F Decl Block) → out-Block b ≡ x → size_block b ≡ block_layer (sizes_block x)
+pub at_block : (b : Block) (x : Block-F Decl Block) → out-Block b ≡ x → size_block b ≡ block_layer (sizes_block x)
 unfolding size_decl size_block
 at_block b x q = fold_out-Block ℕ ℕ decl_layer block_layer b ∙ ap (λ (y : Block-F Decl Block). block_layer (sizes_block y)) q
 

@@ -81,7 +81,7 @@ size_call = fold-Call ℕ ℕ ℕ ℕ ℕ ℕ argument_layer call_layer componen
 unfoldable pub size_passed : Argument → ℕ
 size_passed = fold-Argument ℕ ℕ ℕ ℕ ℕ ℕ argument_layer call_layer component_layer link_layer expr_layer place_layer
 
--- ---- statements: the code of a CASE may have a table, and that of a FOR has the place of its variable four times
+-- ---- statements: the code of a CASE may have a table, and that of a FOR has the place of its variable five times
 
 abbrev pub step_layer : TypedStmt-F ℕ ℕ → ℕ
 step_layer (step.Assign d t e) = 1 + size_place d + size_typed e
@@ -101,7 +101,7 @@ step_layer step.Exit = 1
 step_layer step.Return = 1
 step_layer (step.Give t e) = 1 + size_typed e
 step_layer (step.For d t start limit by body) =
-    1 + 4 * size_place d + size_typed start + size_typed limit + total body
+    1 + 5 * size_place d + size_typed start + size_typed limit + total body
 step_layer (step.With d body) = 1 + size_place d + total body
 
 abbrev pub arm_layer : TypedArm-F ℕ ℕ → ℕ
@@ -115,3 +115,12 @@ size_arm = fold-TypedArm ℕ ℕ step_layer arm_layer
 
 abbrev pub size_body : List TypedStmt → ℕ
 size_body xs = sum_of size_step xs
+
+-- ---- modules
+
+abbrev pub size_routine : Routine → ℕ
+size_routine r = size_body r.body
+
+-- the bodies of all procedures, and that of the module
+abbrev pub size_bodies : TypedModule → ℕ
+size_bodies m = sum_of size_routine m.procedures + sum_of size_routine m.locals + size_body m.body
