@@ -11,3 +11,4 @@ pub mod Steps
 pub mod Statements
 pub mod Blocks
 pub mod Texts
+pub mod Counts
