@@ -87,7 +87,7 @@ text_grows n bytes p = record {
   addresses = λ s c. (p c.texts).addresses s (record c { texts = c.texts + bytes });
 }
 
-abbrev AllGrow : List ℕ → List Coded → Type 0
+abbrev pub AllGrow : List ℕ → List Coded → Type 0
 AllGrow [] [] = Unit {0}
 AllGrow (n ∷ ns) (x ∷ xs) = Grows n x × AllGrow ns xs
 AllGrow [] (x ∷ xs) = ⊥

@@ -175,19 +175,19 @@ module _ (g : Gathers) (s : Scope g.Reported) where
   amount_most n at (value.Whole t d) p = reported_most g at 43
   amount_most n at value.Untaken p = reported_most g at 43
 
-  change_sum : (a d e n : ℕ) → a ≡ 1 + d + e → 1 + d + e ≤ n → a ≤ n
+  change_sum : (a d e n : ℕ) → a ≡ 2 + d + e → 1 + d + e ≤ n → a ≤ 1 + n
   change_sum a d e n q l = omega (arith, q, l)
 
-  change_by_most : (n k : ℕ) (o : Change) {v : Result (TypeNo × Place) g.Reported} {e : Result TypedExpr g.Reported} → AtMost size_variable n v → Expr_ k e → Stmt_ (n + k) (change_by g o v e)
+  change_by_most : (n k : ℕ) (o : Change) {v : Result (TypeNo × Place) g.Reported} {e : Result TypedExpr g.Reported} → AtMost size_variable n v → Expr_ k e → Stmt_ (1 + (n + k)) (change_by g o v e)
   change_by_most n k o p q = then_most (both_most g p q) (λ v l. fine (step.Change o v.0.1 v.0.0 v.1) (change_sum _ _ _ (n + k) (step_change o v.0.1 v.0.0 v.1) l))
 
   changed_in_most : (n : ℕ) (v : Meant g.Reported) → FM g s n v → AtMost size_variable n (changed_in g s v)
   changed_in_most n v p = then_most (sort_most g v.fixed.at 44 p) (λ d k. changed_most n v.fixed.at d k)
 
-  one_sum : (k n : ℕ) → n + 1 ≤ 1 + (k + (1 + n + 0))
+  one_sum : (k n : ℕ) → 1 + (n + 1) ≤ 1 + (k + (1 + n + 0))
   one_sum k n = omega arith
 
-  two_sum : (k n m a : ℕ) → n + m ≤ 1 + (k + (1 + n + (1 + m + a)))
+  two_sum : (k n m a : ℕ) → 1 + (n + m) ≤ 1 + (k + (1 + n + (1 + m + a)))
   two_sum k n m a = omega arith
 
   changed_by_most : (k : ℕ) (ns : List ℕ) (at : Pos) (o : Change) (args : List (Meant g.Reported)) → AllM g s ns args → Stmt_ (1 + (k + arguments ns)) (changed_by g s at o args)
@@ -236,7 +236,7 @@ module _ (g : Gathers) (s : Scope g.Reported) where
   element_most n at (value.Whole t d) p = reported_most g at 43
   element_most n at value.Untaken p = reported_most g at 43
 
-  membership_most : (n k : ℕ) (o : Membership) {d : Result Place g.Reported} {e : Result TypedExpr g.Reported} → AtMost size_set n d → Expr_ k e → Stmt_ (n + k) (membership_of g o d e)
+  membership_most : (n k : ℕ) (o : Membership) {d : Result Place g.Reported} {e : Result TypedExpr g.Reported} → AtMost size_set n d → Expr_ k e → Stmt_ (1 + (n + k)) (membership_of g o d e)
   membership_most n k o p q = then_most (both_most g p q) (λ v l. fine (step.Membership o v.0 v.1) (change_sum _ _ _ (n + k) (step_membership o v.0 v.1) l))
 
   set_in_most : (n : ℕ) (v : Meant g.Reported) → FM g s n v → AtMost size_set n (set_in g s v)

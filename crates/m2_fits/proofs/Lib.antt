@@ -12,3 +12,4 @@ pub mod Statements
 pub mod Blocks
 pub mod Texts
 pub mod Counts
+pub mod StepCounts

@@ -213,10 +213,10 @@ step_call c = at_step (stmt.Call c) (slayer.Call c) (stmt.outs-Call c)
 pub step_put : (e : TypedExpr) → size_step (stmt.Put e) ≡ 1 + size_typed e
 step_put e = at_step (stmt.Put e) (slayer.Put e) (stmt.outs-Put e)
 
-pub step_change : (o : Change) (d : Place) (t : TypeNo) (e : TypedExpr) → size_step (stmt.Change o d t e) ≡ 1 + size_place d + size_typed e
+pub step_change : (o : Change) (d : Place) (t : TypeNo) (e : TypedExpr) → size_step (stmt.Change o d t e) ≡ 2 + size_place d + size_typed e
 step_change o d t e = at_step (stmt.Change o d t e) (slayer.Change o d t e) (stmt.outs-Change o d t e)
 
-pub step_membership : (o : Membership) (d : Place) (e : TypedExpr) → size_step (stmt.Membership o d e) ≡ 1 + size_place d + size_typed e
+pub step_membership : (o : Membership) (d : Place) (e : TypedExpr) → size_step (stmt.Membership o d e) ≡ 2 + size_place d + size_typed e
 step_membership o d e = at_step (stmt.Membership o d e) (slayer.Membership o d e) (stmt.outs-Membership o d e)
 
 pub step_halt : size_step stmt.Halt ≡ 1

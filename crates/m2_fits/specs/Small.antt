@@ -14,6 +14,10 @@ use Rattle.m2_exprs.specs.Meanings.{meant, head}
 use Rattle.m2_steps.specs.declared.around.Around.{Around}
 use Rattle.m2_stmts.specs.Statements.{statements}
 use Rattle.m2_check.specs.Checks.{checked}
+use Rattle.m2_typed.specs.declared.statement.TypedStmt.{TypedStmt}
+use Rattle.m2_scheme.specs.Coded.{Setting, Counts}
+use Rattle.m2_scheme.specs.Exprs.{Numbered}
+use Rattle.m2_scheme.specs.Steps.{body_code}
 use Rattle.m2_fits.specs.Sizes.{size_expr, size_designator, size_stmts, size_module}
 use Rattle.m2_fits.specs.TypedSizes.{size_body, size_bodies}
 use Rattle.m2_fits.specs.Counted.{AtMost, size_designated as size_meant}
@@ -44,3 +48,9 @@ StatementsAreSmall g = (s : Scope g.Reported) (a : Around g.Reported) (xs : List
 abbrev pub ModulesAreSmall : Gathers → Type 0
 ModulesAreSmall g = (number : ℕ) (m : Module) (own : Option Table) (tables : List Table)
     → AtMost size_bodies (size_module m) (checked g number m own tables)
+
+-- The code of statements takes no more locals, for addresses and for numbers, than they count.
+abbrev pub LocalsAreFew : Type 0
+LocalsAreFew = (numbered : Numbered) (xs : List TypedStmt) (s : Setting) (c : Counts)
+    → let after = (body_code numbered xs s c).1 in
+    (after.numbers ≤ c.numbers + size_body xs) × (after.addresses ≤ c.addresses + size_body xs)

@@ -81,7 +81,7 @@ size_call = fold-Call ℕ ℕ ℕ ℕ ℕ ℕ argument_layer call_layer componen
 unfoldable pub size_passed : Argument → ℕ
 size_passed = fold-Argument ℕ ℕ ℕ ℕ ℕ ℕ argument_layer call_layer component_layer link_layer expr_layer place_layer
 
--- ---- statements: the code of a CASE may have a table, and that of a FOR has the place of its variable five times
+-- ---- statements: a change takes two locals, the code of a CASE may have a table, and that of a FOR has the place of its variable five times
 
 abbrev pub step_layer : TypedStmt-F ℕ ℕ → ℕ
 step_layer (step.Assign d t e) = 1 + size_place d + size_typed e
@@ -89,8 +89,8 @@ step_layer (step.Copy to from t) = 1 + size_place to + size_place from
 step_layer (step.CopyText d t text) = 1 + size_place d
 step_layer (step.Call c) = size_call c
 step_layer (step.Put e) = 1 + size_typed e
-step_layer (step.Change o d t e) = 1 + size_place d + size_typed e
-step_layer (step.Membership o d e) = 1 + size_place d + size_typed e
+step_layer (step.Change o d t e) = 2 + size_place d + size_typed e
+step_layer (step.Membership o d e) = 2 + size_place d + size_typed e
 step_layer step.Halt = 1
 step_layer (step.If e body others) = 1 + size_typed e + total body + all_if_there others
 step_layer (step.Case e arms others) = 6 + size_typed e + total arms + all_if_there others

@@ -8,10 +8,11 @@
 //!   definition of `m2_computed` and `m2_calls`, and `proofs/Meanings` those of `m2_exprs`, with the induction over expressions.
 //! - `proofs/Effects` and `proofs/Steps` have a lemma for each definition of assignments, calls and `m2_steps`, and
 //!   `proofs/Statements` the induction over statements.
+//! - `proofs/Counts` and `proofs/StepCounts` count the locals that the code of expressions and statements takes.
 //! - `proofs/Blocks` has the bodies of procedures, with the induction over blocks, and whole modules.
 #![tactic(auto)]
 
-ghost use Rattle.m2_fits.specs.Small.{TreesAreSmall, TextsAreSmall, ExpressionsAreSmall, DesignatorsAreSmall, StatementsAreSmall, ModulesAreSmall};
+ghost use Rattle.m2_fits.specs.Small.{TreesAreSmall, TextsAreSmall, ExpressionsAreSmall, DesignatorsAreSmall, StatementsAreSmall, ModulesAreSmall, LocalsAreFew};
 ghost use Rattle.m2_scopes.specs.Elaborated.{least, every};
 
 /// Trees are no larger than their texts.
@@ -36,4 +37,9 @@ pub fn module_size_laws()
     ensures least { ModulesAreSmall least }
     // and where all of them are.
     ensures every { ModulesAreSmall every }
+{}
+
+/// The code of statements takes no more locals than they count.
+pub fn local_laws()
+    ensures { LocalsAreFew }
 {}
