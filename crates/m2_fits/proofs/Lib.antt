@@ -13,3 +13,4 @@ pub mod Blocks
 pub mod Texts
 pub mod Counts
 pub mod StepCounts
+pub mod Bounded

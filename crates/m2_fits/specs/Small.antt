@@ -6,7 +6,7 @@ use Rattle.m2_tree.specs.declared.expr.Designator.{Designator}
 use Rattle.m2_tree.specs.declared.stmt.Stmt.{Stmt}
 use Rattle.m2_tree.specs.declared.decl.Module.{Module}
 use Rattle.m2_typed.specs.declared.table.Table.{Table}
-use Rattle.m2_scan.specs.Division.{HasTokens}
+use Rattle.m2_scan.specs.Division.{HasTokens, max_text}
 use Rattle.m2_grammar.specs.Refusal.{IsModule}
 use Rattle.m2_scopes.specs.Elaborated.{Gathers}
 use Rattle.m2_scopes.specs.declared.scope.Scope.{Scope}
@@ -48,6 +48,14 @@ StatementsAreSmall g = (s : Scope g.Reported) (a : Around g.Reported) (xs : List
 abbrev pub ModulesAreSmall : Gathers → Type 0
 ModulesAreSmall g = (number : ℕ) (m : Module) (own : Option Table) (tables : List Table)
     → AtMost size_bodies (size_module m) (checked g number m own tables)
+
+-- A text that is not too long has bodies of at most so many.
+abbrev pub most : ℕ
+most = 4 * (1 + max_text)
+
+abbrev pub BodiesAreSmall : Gathers → Type 0
+BodiesAreSmall g = (text : List ℕ) (ts : List Token) (m : Module) → length text ≤ max_text → HasTokens text ts → IsModule ts m
+    → (number : ℕ) (own : Option Table) (tables : List Table) → AtMost size_bodies most (checked g number m own tables)
 
 -- The code of statements takes no more locals, for addresses and for numbers, than they count.
 abbrev pub LocalsAreFew : Type 0

@@ -12,7 +12,7 @@
 //! - `proofs/Blocks` has the bodies of procedures, with the induction over blocks, and whole modules.
 #![tactic(auto)]
 
-ghost use Rattle.m2_fits.specs.Small.{TreesAreSmall, TextsAreSmall, ExpressionsAreSmall, DesignatorsAreSmall, StatementsAreSmall, ModulesAreSmall, LocalsAreFew};
+ghost use Rattle.m2_fits.specs.Small.{TreesAreSmall, TextsAreSmall, ExpressionsAreSmall, DesignatorsAreSmall, StatementsAreSmall, ModulesAreSmall, BodiesAreSmall, LocalsAreFew};
 ghost use Rattle.m2_scopes.specs.Elaborated.{least, every};
 
 /// Trees are no larger than their texts.
@@ -37,6 +37,9 @@ pub fn module_size_laws()
     ensures least { ModulesAreSmall least }
     // and where all of them are.
     ensures every { ModulesAreSmall every }
+    // Each text that is not too long has bodies of a bounded size.
+    ensures least_texts { BodiesAreSmall least }
+    ensures every_texts { BodiesAreSmall every }
 {}
 
 /// The code of statements takes no more locals than they count.
