@@ -1,5 +1,5 @@
 -- The bodies of all procedures count no more than the declarations that they stand in, by induction over blocks.
-use Rattle.std.proofs.Common.{map, ◌≡◌, ℕ, zero, suc, ◌+◌, ◌≤◌, Bool, true, false, List, [], ◌∷◌, ◌++◌, length, Option, Some, None, Result, Ok, Err, refl, sym, ap, subst, ◌∙◌, arith}
+use Rattle.std.proofs.Common.{map, ◌≡◌, ℕ, zero, suc, ◌+◌, ◌≤◌, Bool, true, false, List, [], ◌∷◌, ◌++◌, length, Option, Some, None, Result, refl, sym, ap, subst, ◌∙◌, arith}
 use Rattle.std.specs.Prelude.{cond, slice_set, ◌==◌}
 use Rattle.std.specs.List.{fold}
 use Rattle.m2_tree.specs.declared.name.Ident.{Ident}
@@ -7,7 +7,7 @@ use Rattle.m2_tree.specs.declared.stmt.Stmt.{Stmt}
 use Rattle.m2_tree.specs.declared.decl.Heading.{Heading}
 use Rattle.m2_tree.specs.declared.decl.Decl.{Decl, Decl-F, out-Decl, roll-Decl, out-roll-Decl, map-Decl, fold_out-Decl, ind-Decl}
 use Rattle.m2_tree.specs.declared.decl.Decl.TheOpen as layer
-use Rattle.m2_tree.specs.declared.decl.Block.{Block, Block-F, out-Block, roll-Block, out-roll-Block, map-Block, fold_out-Block, ind-Block}
+use Rattle.m2_tree.specs.declared.decl.Block.{Block, Block-F, out-Block, roll-Block, out-roll-Block, map-Block, fold_out-Block}
 use Rattle.m2_tree.specs.declared.decl.Module.{Module}
 use Rattle.m2_tree.specs.declared.decl.Contents.{Contents}
 use Rattle.m2_tree.specs.declared.decl.Contents.TheVariants as contents
@@ -15,21 +15,20 @@ use Rattle.m2_typed.specs.declared.types.TypeNo.{TypeNo}
 use Rattle.m2_typed.specs.declared.statement.TypedStmt.{TypedStmt}
 use Rattle.m2_typed.specs.declared.table.Table.{Table}
 use Rattle.m2_typed.specs.declared.typed_module.Routine.{Routine}
-use Rattle.m2_typed.specs.declared.typed_module.TypedModule.{TypedModule}
 use Rattle.m2_typed.specs.declared.typed_module.Which.{Which}
 use Rattle.m2_typed.specs.declared.typed_module.Which.TheVariants as which
 use Rattle.m2_scopes.specs.declared.scope.Scope.{Scope}
 use Rattle.m2_scopes.specs.Elaborated.{Gathers}
 use Rattle.m2_typed.specs.Types.{integer}
-use Rattle.m2_blocks.specs.Declarations.{all_declared, declared_module}
+use Rattle.m2_blocks.specs.Declarations.{all_declared}
 use Rattle.m2_blocks.specs.Nesting.{procedure_ends}
 use Rattle.m2_modules.specs.declared.routine.Bodies.{Bodies}
 use Rattle.m2_modules.specs.declared.routine.Numbered.{Numbered}
-use Rattle.m2_modules.specs.Routines.{unfilled, no_bodies, begun_at, filled, routine, typed_module}
+use Rattle.m2_modules.specs.Routines.{unfilled, begun_at, filled, routine, typed_module}
 use Rattle.m2_bodies.specs.declared.procedure.Walk.{Walk}
 use Rattle.m2_bodies.specs.Elaborating.{Elaborates, statements_of}
-use Rattle.m2_bodies.specs.Inside.{which_of, begun_procedure, with_routine, ended_procedure}
-use Rattle.m2_bodies.specs.Bodies.{Steps, Checked, Checks, ChecksBlock, marked_by, declared_by, checked_by, begun_from, with_body, with_bodies, procedure_checked, steps_layer, block_layer, steps, checks_block, checks_decl, bodies_checked}
+use Rattle.m2_bodies.specs.Inside.{which_of, begun_procedure, with_routine}
+use Rattle.m2_bodies.specs.Bodies.{Steps, Checks, ChecksBlock, marked_by, declared_by, checked_by, begun_from, with_body, with_bodies, procedure_checked, steps_layer, block_layer, steps, checks_block, checks_decl, bodies_checked}
 use Rattle.m2_bodies.specs.Checked.{begun_module, walked, of_walk, of_implementation, of_contents, checked}
 use Rattle.m2_fits.specs.Sizes.{sum_of, total, size_decl, size_block, size_stmts, size_stmts_if, size_heading, size_contents, size_module}
 use Rattle.m2_fits.specs.Sizes as sizes

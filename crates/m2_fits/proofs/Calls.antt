@@ -1,5 +1,5 @@
 -- Values, arguments, calls and standard functions count no more than what they are made of.
-use Rattle.std.proofs.Common.{◌≡◌, ℕ, suc, ◌+◌, ◌≤◌, Bool, true, false, List, [], ◌∷◌, ◌++◌, Option, Some, None, Result, refl, arith}
+use Rattle.std.proofs.Common.{◌≡◌, ℕ, ◌+◌, ◌≤◌, Bool, true, false, List, Result, arith}
 use Rattle.std.specs.Prelude.{not, cond}
 use Rattle.m2_tree.specs.declared.pos.Pos.{Pos}
 use Rattle.m2_typed.specs.declared.computed.Argument.{Argument}
@@ -36,9 +36,8 @@ use Rattle.m2_calls.specs.declared.standard.Unary.TheVariants as unary
 use Rattle.m2_fits.specs.Sizes.{sum_of}
 use Rattle.m2_fits.specs.TypedSizes.{size_typed, size_place, size_call, size_passed}
 use Rattle.m2_fits.specs.Counted.{AtMost, fine, size_value, size_designated}
-use Rattle.m2_fits.proofs.Sums.{le_trans, le_of}
 use Rattle.m2_fits.proofs.Typed.{argument_value, argument_place, argument_array, argument_open, argument_text, call_module, call_nested, call_variable, expr_load, expr_val, expr_abs, expr_cap, expr_chr, expr_odd, expr_ord, expr_high}
-use Rattle.m2_fits.proofs.Results.{then_most, at_more, reported_most, where_most, both_most, any_most}
+use Rattle.m2_fits.proofs.Results.{then_most, reported_most, where_most, both_most, any_most}
 use Rattle.m2_fits.proofs.Operators.{of_value_most, suited_most}
 
 -- ---- callees

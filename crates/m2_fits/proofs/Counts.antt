@@ -1,28 +1,26 @@
 -- The code of a typed tree takes no more locals than the tree counts.
-use Rattle.std.proofs.Common.{map, ◌≡◌, ℕ, suc, ◌+◌, ◌*◌, ◌≤◌, ℤ, pos, Bool, true, false, List, [], ◌∷◌, length, Option, Some, None, refl, sym, ap, subst, ◌∙◌, arith}
+use Rattle.std.proofs.Common.{map, ◌≡◌, ℕ, suc, ◌+◌, ◌≤◌, pos, Bool, true, false, List, [], ◌∷◌, sym, ap, subst, ◌∙◌, arith}
 use Rattle.std.specs.Prelude.{if◌then◌else◌}
 use Rattle.wasm_tree.specs.declared.instr.Instr.{Instr}
 use Rattle.wasm_tree.specs.declared.instr.Instr.TheVariants.{LocalGet, LocalSet, I64Const}
 use Rattle.wasm_tree.specs.declared.instr.Operation.TheVariants.{And, ShrU, Sub}
 use Rattle.m2_typed.specs.declared.computed.Argument.{Argument, Argument-F, out-Argument, roll-Argument, out-roll-Argument, map-Argument, fold_out-Argument, fold-Argument}
 use Rattle.m2_typed.specs.declared.computed.Argument.TheOpen as layer
-use Rattle.m2_typed.specs.declared.computed.Call.{Call, Call-F, out-Call, roll-Call, out-roll-Call, map-Call, fold_out-Call, fold-Call}
+use Rattle.m2_typed.specs.declared.computed.Call.{Call, Call-F, out-Call, roll-Call, out-roll-Call, map-Call, fold_out-Call}
 use Rattle.m2_typed.specs.declared.computed.Component.{Component, Component-F, out-Component, roll-Component, out-roll-Component, map-Component, fold_out-Component, fold-Component}
 use Rattle.m2_typed.specs.declared.computed.Inclusion.{Inclusion}
 use Rattle.m2_typed.specs.declared.computed.Inclusion.TheVariants as inclusion
 use Rattle.m2_typed.specs.declared.computed.Link.{Link, Link-F, out-Link, roll-Link, out-roll-Link, map-Link, fold_out-Link, fold-Link}
-use Rattle.m2_typed.specs.declared.computed.Place.{Place, Place-F, out-Place, roll-Place, out-roll-Place, map-Place, fold_out-Place, fold-Place}
+use Rattle.m2_typed.specs.declared.computed.Place.{Place, Place-F, out-Place, roll-Place, out-roll-Place, map-Place, fold_out-Place}
 use Rattle.m2_typed.specs.declared.computed.Root.{Root}
 use Rattle.m2_typed.specs.declared.computed.Root.TheVariants as root
 use Rattle.m2_typed.specs.declared.computed.TypedExpr.{TypedExpr, TypedExpr-F, out-TypedExpr, roll-TypedExpr, out-roll-TypedExpr, map-TypedExpr, fold_out-TypedExpr, ind-TypedExpr}
 use Rattle.m2_typed.specs.declared.computed.Place.{ind-Place}
 use Rattle.m2_typed.specs.declared.computed.Call.{ind-Call}
-use Rattle.m2_typed.specs.declared.known_types.Types.{Types}
-use Rattle.m2_typed.specs.declared.types.TypeNo.{TypeNo}
 use Rattle.m2_typed.specs.Types.{are_same, integer}
 use Rattle.m2_scheme.specs.Coded.{Coded, Setting, Counts, plain, ◌⨾◌, all_coded, within, with_address, with_number, with_text, with_setting, number_local, address_local, top_local, operation, wrapped, checked}
 use Rattle.m2_scheme.specs.Cells.{loaded, in_type}
-use Rattle.m2_scheme.specs.Exprs.{Part, Linked, Numbered, complement, empty_code, chosen_number, absolute_code, capital_code, link_code, module_call, nested_call, indirect, behind, include_code, and_code, or_code, in_code, abs_code, chain_code, root_layer, argument_layer, call_layer, component_layer, link_layer, expr_layer, place_layer, expr_part, place_code, call_code}
+use Rattle.m2_scheme.specs.Exprs.{Part, Linked, Numbered, complement, empty_code, chosen_number, absolute_code, capital_code, link_code, module_call, nested_call, indirect, include_code, in_code, chain_code, root_layer, argument_layer, call_layer, component_layer, link_layer, expr_layer, place_layer, expr_part, place_code, call_code}
 use Rattle.m2_fits.specs.Sizes.{total}
 use Rattle.m2_fits.specs.TypedSizes.{size_typed, size_place, size_component, size_link, size_call, size_passed}
 use Rattle.m2_fits.specs.TypedSizes as sizes

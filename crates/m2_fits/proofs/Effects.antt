@@ -1,7 +1,5 @@
 -- Assignments, and calls as statements, count no more than what they are made of.
-use Rattle.std.proofs.Common.{◌≡◌, ℕ, suc, ◌+◌, ◌≤◌, pos, Bool, true, false, List, [], ◌∷◌, length, Option, Some, None, Result, Ok, Err, refl, arith}
-use Rattle.std.specs.Prelude.{not}
-use Rattle.std.proofs.lemmas.Bool.{eqb-true}
+use Rattle.std.proofs.Common.{◌≡◌, ℕ, ◌+◌, ◌≤◌, pos, List, [], ◌∷◌, length, Option, Some, None, Result, arith}
 use Rattle.m2_tree.specs.declared.pos.Pos.{Pos}
 use Rattle.m2_typed.specs.declared.computed.Place.{Place}
 use Rattle.m2_typed.specs.declared.computed.TypedExpr.{TypedExpr}
@@ -10,8 +8,6 @@ use Rattle.m2_typed.specs.declared.meaning.Standard.{Standard}
 use Rattle.m2_typed.specs.declared.meaning.Standard.TheVariants.{Abs, Cap, Chr, High, Max, Min, Odd, Ord, Val, Inc, Dec, Incl, Excl, Halt, Put}
 use Rattle.m2_typed.specs.declared.meaning.Value.{Value}
 use Rattle.m2_typed.specs.declared.meaning.Value.TheVariants as constant
-use Rattle.m2_typed.specs.declared.shape.Formal.{Formal}
-use Rattle.m2_typed.specs.declared.shape.Signature.{Signature}
 use Rattle.m2_typed.specs.declared.statement.Change.{Change}
 use Rattle.m2_typed.specs.declared.statement.Change.TheVariants.{Increase, Decrease}
 use Rattle.m2_typed.specs.declared.statement.Membership.{Membership}
@@ -20,7 +16,7 @@ use Rattle.m2_typed.specs.declared.statement.TypedStmt.{TypedStmt}
 use Rattle.m2_typed.specs.declared.statement.TypedStmt.TheVariants as step
 use Rattle.m2_typed.specs.declared.types.TypeNo.{TypeNo}
 use Rattle.m2_typed.specs.Types.{cardinal, char}
-use Rattle.m2_scopes.specs.Elaborated.{Gathers, reported_where, ahead}
+use Rattle.m2_scopes.specs.Elaborated.{Gathers}
 use Rattle.m2_scopes.specs.declared.scope.Scope.{Scope}
 use Rattle.m2_values.specs.declared.operand.Ordinal.{Ordinal}
 use Rattle.m2_values.specs.Standards.{whole_number}
@@ -34,14 +30,14 @@ use Rattle.m2_computed.specs.declared.computed.Designated.{Designated}
 use Rattle.m2_computed.specs.declared.computed.Designated.TheVariants as designated
 use Rattle.m2_computed.specs.declared.places.Accepted.{Accepted}
 use Rattle.m2_computed.specs.declared.places.Accepted.TheVariants as accepted
-use Rattle.m2_calls.specs.Callees.{proper_with, proper_of, call_by}
+use Rattle.m2_calls.specs.Callees.{proper_of, call_by}
 use Rattle.m2_calls.specs.Effects.{target_of, target_at, stored, assigned_to, assigned, changed_as, changed, untyped, known_amount, amount, change_by, set_as, set_variable, element_known, element, membership_of}
 use Rattle.m2_calls.specs.declared.callee.Callee.{Callee}
 use Rattle.m2_calls.specs.declared.callee.Called.{Called}
 use Rattle.m2_calls.specs.declared.callee.Called.TheVariants as called
 use Rattle.m2_calls.specs.declared.effect.Target.{Target}
 use Rattle.m2_calls.specs.declared.effect.Target.TheVariants as target
-use Rattle.m2_exprs.specs.Meanings.{Meant, formals_of, value_of, looked_at, actuals}
+use Rattle.m2_exprs.specs.Meanings.{Meant, formals_of, value_of, looked_at}
 use Rattle.m2_exprs.specs.Effects.{call_done, routine_done, changed_in, changed_by, set_in, member_by, halted, put_by, standard_done, done_as, done_by}
 use Rattle.m2_typed.specs.declared.computed.Argument.{Argument}
 use Rattle.m2_fits.specs.Sizes.{arguments}

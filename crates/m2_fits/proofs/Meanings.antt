@@ -1,9 +1,7 @@
 -- What expressions and designators mean counts no more than they do: a lemma for each construct, and then the induction.
-use Rattle.std.proofs.Common.{map, ◌≡◌, ℕ, suc, ◌+◌, ◌≤◌, Bool, true, false, List, [], ◌∷◌, ◌++◌, length, Option, Some, None, Result, Ok, Err, refl, sym, ap, subst, ◌∙◌, arith}
-use Rattle.std.specs.Prelude.{not, cond}
+use Rattle.std.proofs.Common.{map, ◌≡◌, ℕ, ◌+◌, ◌≤◌, Bool, true, false, List, [], ◌∷◌, ◌++◌, length, Option, Some, None, Result, Ok, sym, ap, subst, ◌∙◌, arith}
+use Rattle.std.specs.Prelude.{cond}
 use Rattle.std.specs.List.{fold}
-use Rattle.std.proofs.lemmas.Bool.{eqb-true}
-use Rattle.std.proofs.lemmas.List.{append-nil}
 use Rattle.m2_tree.specs.declared.pos.Pos.{Pos}
 use Rattle.m2_tree.specs.declared.name.Ident.{Ident}
 use Rattle.m2_tree.specs.declared.expr.MulOp.{MulOp}
@@ -27,11 +25,10 @@ use Rattle.m2_typed.specs.declared.meaning.Meaning.{Meaning}
 use Rattle.m2_typed.specs.declared.meaning.Meaning.TheVariants as meaning
 use Rattle.m2_typed.specs.declared.meaning.Standard.{Standard}
 use Rattle.m2_typed.specs.declared.shape.Formal.{Formal}
-use Rattle.m2_typed.specs.declared.shape.Signature.{Signature}
 use Rattle.m2_typed.specs.declared.types.TypeNo.{TypeNo}
 use Rattle.m2_typed.specs.Chains.{rooted}
 use Rattle.m2_scopes.specs.declared.meaningless.Meaningless.{Meaningless}
-use Rattle.m2_scopes.specs.Elaborated.{Gathers, reported_where, ahead, of_sort, of_heading, ◌▷◌}
+use Rattle.m2_scopes.specs.Elaborated.{Gathers, of_sort, of_heading}
 use Rattle.m2_scopes.specs.declared.scope.Scope.{Scope}
 use Rattle.m2_constants.specs.Parts.{Part, Adds, sign_place}
 use Rattle.m2_values.specs.Operators.{mul_op, add_op}
@@ -43,7 +40,7 @@ use Rattle.m2_computed.specs.declared.computed.Computed.TheVariants as value
 use Rattle.m2_computed.specs.declared.computed.Designated.{Designated}
 use Rattle.m2_computed.specs.declared.computed.Designated.TheVariants as designated
 use Rattle.m2_calls.specs.Actuals.{next_formal, with_argument}
-use Rattle.m2_calls.specs.Callees.{function_with, function_of, call_by}
+use Rattle.m2_calls.specs.Callees.{function_of, call_by}
 use Rattle.m2_calls.specs.Functions.{form_of}
 use Rattle.m2_calls.specs.declared.callee.Callee.{Callee}
 use Rattle.m2_calls.specs.declared.callee.Called.{Called}
@@ -51,13 +48,13 @@ use Rattle.m2_calls.specs.declared.callee.Called.TheVariants as called
 use Rattle.m2_calls.specs.declared.standard.Form.{Form}
 use Rattle.m2_calls.specs.declared.standard.Form.TheVariants as form
 use Rattle.m2_calls.specs.declared.standard.Unary.{Unary}
-use Rattle.m2_exprs.specs.Meanings.{Meant, Picks, of_computed, signed_first, named, field_of, formals_of, passed_for, argument_by, call_given, as_constant, value_of, looked_at, with_actual, actuals, routine_called, unary, bound, conversion, high, by_form, called_as, called_by, factor, term, relation, expr_layer, selector_layer, designator_layer, item_layer, meant, picks, head, item}
+use Rattle.m2_exprs.specs.Meanings.{Meant, Picks, of_computed, signed_first, named, field_of, formals_of, argument_by, call_given, as_constant, value_of, looked_at, with_actual, actuals, routine_called, unary, bound, conversion, high, by_form, called_as, called_by, factor, term, relation, expr_layer, selector_layer, designator_layer, item_layer, meant, picks, head, item}
 use Rattle.m2_fits.specs.Sizes.{sum_of, total, arguments, operand, size_expr, size_selector, size_designator}
 use Rattle.m2_fits.specs.Sizes as sizes
-use Rattle.m2_fits.specs.TypedSizes.{size_typed, size_passed}
-use Rattle.m2_fits.specs.Counted.{AtMost, fine, size_value} 
+use Rattle.m2_fits.specs.TypedSizes.{size_passed}
+use Rattle.m2_fits.specs.Counted.{AtMost, fine, size_value}
 use Rattle.m2_fits.specs.Counted.{size_designated as size_meant}
-use Rattle.m2_fits.proofs.Sums.{le_of, sum_append}
+use Rattle.m2_fits.proofs.Sums.{sum_append}
 use Rattle.m2_fits.proofs.Variants.{sizes_expr, sizes_selector, sizes_designator}
 use Rattle.m2_fits.proofs.Variants as variants
 use Rattle.m2_fits.proofs.Typed.{component_field, expr_call}

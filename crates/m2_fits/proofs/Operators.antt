@@ -1,5 +1,5 @@
 -- Operators, components and what places take count no more than what they are made of.
-use Rattle.std.proofs.Common.{◌≡◌, ℕ, ◌+◌, ◌≤◌, pos, Bool, List, [], ◌∷◌, ◌++◌, Option, Some, None, Result, refl, sym, ap, subst, ◌∙◌, arith}
+use Rattle.std.proofs.Common.{◌≡◌, ℕ, ◌+◌, ◌≤◌, pos, Bool, List, [], ◌∷◌, ◌++◌, Option, Some, None, Result, refl, ap, ◌∙◌, arith}
 use Rattle.std.specs.Prelude.{not, ◌&&◌}
 use Rattle.m2_tree.specs.declared.pos.Pos.{Pos}
 use Rattle.m2_tree.specs.declared.name.Ident.{Ident}
@@ -59,8 +59,8 @@ use Rattle.m2_fits.specs.Sizes.{sum_of}
 use Rattle.m2_fits.specs.TypedSizes.{size_typed, size_place, size_component, size_link}
 use Rattle.m2_fits.specs.Counted.{AtMost, fine, size_value, size_designated}
 use Rattle.m2_fits.proofs.Sums.{total_map, le_trans, le_of, sum_append}
-use Rattle.m2_fits.proofs.Typed.{at_expr, sizes_expr, component_field, component_element, component_openelement, place_sum, link_arithmetic, link_and, link_or, link_combine, expr_constant, expr_load, expr_procedure, expr_plus, expr_negate, expr_chain, expr_compare, expr_not, expr_include, expr_in}
-use Rattle.m2_fits.proofs.Results.{then_most, at_more, at_mapped, reported_most, where_most, both_most, any_most}
+use Rattle.m2_fits.proofs.Typed.{at_expr, component_field, component_element, component_openelement, place_sum, link_arithmetic, link_and, link_or, link_combine, expr_constant, expr_procedure, expr_plus, expr_negate, expr_chain, expr_compare, expr_not, expr_include, expr_in}
+use Rattle.m2_fits.proofs.Results.{then_most, reported_most, where_most, both_most, any_most}
 
 -- ---- chains and components
 

@@ -1,5 +1,5 @@
 -- What statements mean counts no more than they do, by induction.
-use Rattle.std.proofs.Common.{map, ◌≡◌, ℕ, suc, ◌+◌, ◌≤◌, ℤ, Bool, true, false, List, [], ◌∷◌, ◌++◌, length, Option, Some, None, Result, Ok, Err, refl, sym, ap, subst, ◌∙◌, length-append, arith}
+use Rattle.std.proofs.Common.{map, ◌≡◌, ℕ, ◌+◌, ◌≤◌, ℤ, List, [], ◌∷◌, ◌++◌, length, Option, Some, None, Result, Ok, Err, sym, ap, subst, ◌∙◌, length-append, arith}
 use Rattle.std.specs.Prelude.{map}
 use Rattle.std.specs.List.{fold}
 use Rattle.std.proofs.lemmas.List.{length-append}
@@ -20,7 +20,6 @@ use Rattle.m2_scopes.specs.declared.scope.Scope.{Scope}
 use Rattle.m2_exprs.specs.Meanings.{meant, head}
 use Rattle.m2_steps.specs.declared.around.Around.{Around}
 use Rattle.m2_steps.specs.Lists.{with_next, chosen, chosen_else, base_in, cased, armed, repeated_while, repeated_until, looped, within}
-use Rattle.m2_steps.specs.Labels.{labels_in}
 use Rattle.m2_steps.specs.Simple.{meant_if, in_loop, selected, opened}
 use Rattle.m2_stmts.specs.Statements.{Elaborates, ElaboratesRest, ElaboratesArm, Arms, args_meant, with_stmt, all_of, all_if, with_arm, arms_of, stmt_layer, rest_layer, arm_layer, stmt, rest, arm, with_written, statements}
 use Rattle.m2_exprs.specs.Effects.{done_by}
@@ -33,15 +32,15 @@ use Rattle.m2_fits.specs.Sizes.{sum_of, total, arguments, size_expr, size_design
 use Rattle.m2_fits.specs.Sizes as sizes
 use Rattle.m2_fits.specs.TypedSizes.{size_typed, size_place, size_step, size_body}
 use Rattle.m2_fits.specs.TypedSizes as typed
-use Rattle.m2_fits.specs.Counted.{AtMost, fine, broken}
-use Rattle.m2_fits.proofs.Sums.{sum_append, total_map}
+use Rattle.m2_fits.specs.Counted.{AtMost, fine}
+use Rattle.m2_fits.proofs.Sums.{sum_append}
 use Rattle.m2_fits.proofs.Variants.{sizes_stmt, sizes_rest, sizes_arm, arguments_map}
 use Rattle.m2_fits.proofs.Variants as variants
 use Rattle.m2_fits.proofs.Typed.{size_body_if, step_if, step_case, step_while, step_repeat, step_loop, step_with, arm_sum}
 use Rattle.m2_fits.proofs.Results.{then_most, at_more, both_most, any_most, ahead_most}
-use Rattle.m2_fits.proofs.Meanings.{FM, AllM, meant_most, head_most}
+use Rattle.m2_fits.proofs.Meanings.{AllM, meant_most, head_most}
 use Rattle.m2_fits.proofs.Effects.{assignment_most, done_most}
-use Rattle.m2_fits.proofs.Steps.{size_record, size_selector, KnownIf, record_most, condition_most, exited_most, returned_most, selected_most, course_most, for_most}
+use Rattle.m2_fits.proofs.Steps.{size_selector, KnownIf, record_most, condition_most, exited_most, returned_most, selected_most, course_most, for_most}
 
 module _ (g : Gathers) where
   abbrev Elaborates_ : ℕ → Elaborates g.Reported → Type 0

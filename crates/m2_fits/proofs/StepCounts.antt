@@ -1,5 +1,5 @@
 -- The code of statements takes no more locals than they count.
-use Rattle.std.proofs.Common.{map, ◌≡◌, ℕ, suc, ◌+◌, ◌*◌, ◌≤◌, ℤ, pos, Bool, true, false, List, [], ◌∷◌, length, Option, Some, None, refl, sym, ap, subst, ◌∙◌, arith}
+use Rattle.std.proofs.Common.{map, ◌≡◌, ℕ, suc, ◌+◌, ◌*◌, ◌≤◌, ℤ, pos, Bool, true, false, List, [], ◌∷◌, length, Some, None, sym, ap, subst, ◌∙◌, arith}
 use Rattle.std.specs.Prelude.{if◌then◌else◌, ◌-◌, ◌++◌}
 use Rattle.wasm_tree.specs.declared.instr.Instr.{Instr}
 use Rattle.wasm_tree.specs.declared.instr.Instr.TheVariants.{LocalGet, LocalSet, LocalTee, If, Br, BrIf, Call as Invoke}
@@ -12,14 +12,13 @@ use Rattle.m2_typed.specs.declared.statement.TypedStmt.TheOpen as layer
 use Rattle.m2_typed.specs.declared.types.TypeNo.{TypeNo}
 use Rattle.m2_layout.specs.Shapes.{tree}
 use Rattle.m2_layout.specs.Sizes.{size}
-use Rattle.m2_scheme.specs.Coded.{Coded, Setting, Counts, plain, ◌⨾◌, all_coded, within, with_address, with_number, with_text, with_setting, number, operation, relation, wrapped, is_zero, put, fault, checked}
+use Rattle.m2_scheme.specs.Coded.{Coded, all_coded, number, operation, relation, wrapped, is_zero, put, fault, checked}
 use Rattle.m2_scheme.specs.Cells.{loaded, stored, in_type}
 use Rattle.m2_scheme.specs.Exprs.{Numbered, Part, expr_part}
-use Rattle.m2_scheme.specs.Steps.{Arm, block, loop, block_loop, leaving, under, if_else, if_only, if_code, else_code, tests_code, arm_code, chain_code, all_labels, least_of, span_of, is_dense, dispatch, boxed, jump_arms, table_code, case_code, passes, for_begin, for_turn, for_code, kept, changed, change_code, with_member, member_code, text_copied, copy_text_code, taken, step_layer, arm_layer, step_code, body_code}
-use Rattle.m2_fits.specs.Sizes.{total, sum_of}
+use Rattle.m2_scheme.specs.Steps.{Arm, block, loop, block_loop, leaving, under, if_else, tests_code, arm_code, chain_code, all_labels, least_of, span_of, is_dense, dispatch, boxed, jump_arms, table_code, case_code, passes, for_turn, for_code, changed, change_code, with_member, member_code, text_copied, copy_text_code, step_layer, arm_layer, step_code, body_code}
+use Rattle.m2_fits.specs.Sizes.{total}
 use Rattle.m2_fits.specs.TypedSizes.{size_typed, size_place, size_call, size_step, size_arm, size_body}
 use Rattle.m2_fits.specs.TypedSizes as sizes
-use Rattle.m2_fits.proofs.Sums.{total_map}
 use Rattle.m2_fits.proofs.Typed as typed
 use Rattle.m2_fits.proofs.Counts.{Grows, AllGrow, plain_grows, both_grow, grows_more, within_grows, setting_grows, number_grows, address_grows, text_grows, all_grow, then_plain, then_setting, plain_then, expr_counts, place_counts, call_counts}
 

@@ -1,27 +1,20 @@
 -- Statements without others inside, and what stands before and around others, count no more than what they are made of.
-use Rattle.std.proofs.Common.{◌≡◌, ℕ, suc, ◌+◌, ◌*◌, ◌≤◌, ℤ, Bool, true, false, List, [], ◌∷◌, length, Option, Some, None, Result, Ok, Err, refl, arith}
-use Rattle.std.specs.Prelude.{not, slice_get}
-use Rattle.std.specs.Option.{option_map}
+use Rattle.std.proofs.Common.{◌≡◌, ℕ, ◌+◌, ◌*◌, ◌≤◌, ℤ, Bool, true, false, List, Option, Some, None, Result, Ok, arith}
+use Rattle.std.specs.Prelude.{not}
 use Rattle.m2_tree.specs.declared.pos.Pos.{Pos}
 use Rattle.m2_tree.specs.declared.name.Ident.{Ident}
 use Rattle.m2_typed.specs.declared.computed.Place.{Place}
 use Rattle.m2_typed.specs.declared.computed.Root.TheVariants as root
 use Rattle.m2_typed.specs.declared.computed.TypedExpr.{TypedExpr}
 use Rattle.m2_typed.specs.declared.computed.TypedExpr.TheVariants as expr
-use Rattle.m2_typed.specs.declared.known_types.Types.{Types}
 use Rattle.m2_typed.specs.declared.meaning.Meaning.{Meaning}
 use Rattle.m2_typed.specs.declared.meaning.Meaning.TheVariants as meaning
-use Rattle.m2_typed.specs.declared.meaning.OpenedField.{OpenedField}
 use Rattle.m2_typed.specs.declared.statement.TypedStmt.{TypedStmt}
 use Rattle.m2_typed.specs.declared.statement.TypedStmt.TheVariants as step
 use Rattle.m2_typed.specs.declared.types.TypeNo.{TypeNo}
 use Rattle.m2_typed.specs.Chains.{rooted}
-use Rattle.m2_typed.specs.Names.{place_of}
 use Rattle.m2_typed.specs.Types.{boolean}
-use Rattle.m2_scopes.specs.declared.meaningless.Meaningless.{Meaningless}
 use Rattle.m2_scopes.specs.Elaborated.{Gathers, reported_where}
-use Rattle.m2_scopes.specs.Scopes.{or_outside, fields_at, field_of, field_numbered, field_in, opened as opened_fields, means_or, means_as, known}
-use Rattle.m2_scopes.specs.declared.scope.OpenedRecord.{OpenedRecord}
 use Rattle.m2_scopes.specs.declared.scope.Scope.{Scope}
 use Rattle.m2_computed.specs.Classes.{class_at}
 use Rattle.m2_computed.specs.Sides.{side_of}
@@ -37,7 +30,7 @@ use Rattle.m2_computed.specs.declared.side.Amount.TheVariants.{Known, Run}
 use Rattle.m2_computed.specs.declared.side.Side.{Side}
 use Rattle.m2_computed.specs.declared.side.Side.TheVariants as side
 use Rattle.m2_exprs.specs.Meanings.{Meant}
-use Rattle.m2_steps.specs.Simple.{exited, given_back, returned, condition, selector_amount, selector_of, selected, record_by, record_of, opened}
+use Rattle.m2_steps.specs.Simple.{exited, given_back, returned, condition, selector_amount, selector_of, selected, record_by, record_of}
 use Rattle.m2_steps.specs.Control.{controlled_as, controlled, control_by, control_of, start_at, limit_number, limit_by, limit_at, type_of, base_of, course_of, step_of, repeated_for}
 use Rattle.m2_steps.specs.declared.around.Around.{Around}
 use Rattle.m2_steps.specs.declared.control.Control.{Control}
@@ -47,7 +40,7 @@ use Rattle.m2_fits.specs.TypedSizes.{size_typed, size_place, size_step, size_bod
 use Rattle.m2_fits.specs.Counted.{AtMost, fine, size_value, size_designated}
 use Rattle.m2_fits.proofs.Sums.{le_trans, le_of}
 use Rattle.m2_fits.proofs.Typed.{expr_constant, step_exit, step_return, step_give, step_for}
-use Rattle.m2_fits.proofs.Results.{then_most, at_more, reported_most, where_most, both_most, any_most, sort_most, reported_beside_most}
+use Rattle.m2_fits.proofs.Results.{then_most, reported_most, where_most, both_most, any_most, sort_most, reported_beside_most}
 use Rattle.m2_fits.proofs.Operators.{size_amount, size_side, side_most, suited_most, rooted_size}
 use Rattle.m2_fits.proofs.Meanings.{FM, value_most}
 

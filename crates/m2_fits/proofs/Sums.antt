@@ -1,7 +1,6 @@
 -- Sums over lists.
-use Rattle.std.proofs.Common.{◌≡◌, ℕ, suc, ◌+◌, ◌*◌, ◌≤◌, List, [], ◌∷◌, ◌++◌, length, Option, Some, None, refl, sym, ap, ◌∙◌, arith}
+use Rattle.std.proofs.Common.{◌≡◌, ℕ, suc, ◌+◌, ◌≤◌, List, [], ◌∷◌, ◌++◌, length, refl, ap, arith}
 use Rattle.std.specs.Prelude.{map}
-use Rattle.m2_grammar.specs.Trees.{present}
 use Rattle.m2_fits.specs.Sizes.{sum_of, total}
 
 pub le_sum : (a b c d : ℕ) → a ≤ b → c ≤ d → a + c ≤ b + d

@@ -1,6 +1,5 @@
 -- A text has no more tokens than bytes, but for its end.
-use Rattle.std.proofs.Common.{◌≡◌, ℕ, suc, ◌+◌, ◌*◌, ◌≤◌, List, [], ◌∷◌, ◌++◌, length, Option, Some, None, refl, sym, ap, subst, ◌∙◌, length-append, arith}
-use Rattle.m2_tree.specs.declared.token.Lexeme.{Lexeme}
+use Rattle.std.proofs.Common.{◌≡◌, ℕ, suc, ◌+◌, ◌*◌, ◌≤◌, List, [], ◌∷◌, ◌++◌, length, Some, None, sym, ap, subst, ◌∙◌, length-append, arith}
 use Rattle.m2_tree.specs.declared.token.Lexeme.TheVariants as lexeme
 use Rattle.m2_tree.specs.declared.token.Symbol.{Symbol}
 use Rattle.m2_tree.specs.declared.token.Token.{Token}
@@ -8,8 +7,7 @@ use Rattle.m2_scan.specs.declared.class.Class.{Class}
 use Rattle.m2_scan.specs.Bytes.{Text}
 use Rattle.m2_scan.specs.Symbols.{sign_of}
 use Rattle.m2_scan.specs.Forms.{IsRun, IsQuoted, IsForm, space, name, number, quoted, sign, comment, opened, Member}
-use Rattle.m2_scan.specs.Division.{place, Divides, tokens_at, tokens_behind, HasTokens}
-use Rattle.m2_fits.proofs.Sums.{le_trans}
+use Rattle.m2_scan.specs.Division.{place, Divides, tokens_behind, HasTokens}
 
 one_byte : (n : ℕ) → 1 ≤ suc n
 one_byte n = omega arith

@@ -1,5 +1,5 @@
 -- The sizes of typed trees, by their variants.
-use Rattle.std.proofs.Common.{◌≡◌, ℕ, ◌+◌, ◌*◌, ℤ, List, [], ◌∷◌, length, Option, Some, None, refl, ap, ◌∙◌}
+use Rattle.std.proofs.Common.{◌≡◌, ℕ, ◌+◌, ◌*◌, ℤ, List, length, Option, Some, None, refl, ap, ◌∙◌}
 use Rattle.std.specs.Prelude.{map}
 use Rattle.m2_typed.specs.declared.computed.Argument.{Argument, Argument-F, out-Argument, map-Argument, fold_out-Argument}
 use Rattle.m2_typed.specs.declared.computed.Call.{Call, Call-F, out-Call, map-Call, fold_out-Call}
@@ -21,7 +21,6 @@ use Rattle.m2_typed.specs.declared.computed.SetOperator.{SetOperator}
 use Rattle.m2_typed.specs.declared.computed.Slot.{Slot}
 use Rattle.m2_typed.specs.declared.meaning.Procedure.{Procedure}
 use Rattle.m2_typed.specs.declared.statement.Change.{Change}
-use Rattle.m2_typed.specs.declared.statement.Label.{Label}
 use Rattle.m2_typed.specs.declared.statement.Membership.{Membership}
 use Rattle.m2_typed.specs.declared.statement.TypedArm.{TypedArm, TypedArm-F, out-TypedArm, map-TypedArm, fold_out-TypedArm}
 use Rattle.m2_typed.specs.declared.statement.TypedStmt.{TypedStmt, TypedStmt-F, out-TypedStmt, map-TypedStmt, fold_out-TypedStmt}

@@ -1,16 +1,11 @@
 -- A tree is no larger than the text of it: four for each token.
-use Rattle.std.proofs.Common.{◌≡◌, ◌⊎◌, inl, inr, ℕ, suc, ◌+◌, ◌*◌, ◌≤◌, Bool, true, false, List, [], ◌∷◌, ◌++◌, length, Option, Some, None, refl, sym, ap, ◌∙◌, length-append, arith}
-use Rattle.std.specs.Prelude.{map, option_map}
-use Rattle.m2_tree.specs.declared.name.Ident.{Ident}
+use Rattle.std.proofs.Common.{◌≡◌, ◌⊎◌, inl, inr, ℕ, suc, ◌+◌, ◌*◌, ◌≤◌, Bool, true, false, List, [], ◌∷◌, length, Option, Some, None, refl, ap, length-append, arith}
+use Rattle.std.specs.Prelude.{map}
 use Rattle.m2_tree.specs.declared.pos.Pos.{Pos}
 use Rattle.m2_tree.specs.declared.token.Lexeme.{Lexeme}
 use Rattle.m2_tree.specs.declared.token.Lexeme.TheVariants as lexeme
 use Rattle.m2_tree.specs.declared.token.Token.{Token}
 use Rattle.m2_tree.specs.declared.expr.Qualified.{Qualified}
-use Rattle.m2_tree.specs.declared.expr.Sign.{Sign}
-use Rattle.m2_tree.specs.declared.expr.AddOp.{AddOp}
-use Rattle.m2_tree.specs.declared.expr.MulOp.{MulOp}
-use Rattle.m2_tree.specs.declared.expr.Operator.{Operator}
 use Rattle.m2_tree.specs.declared.expr.Expr.{Expr}
 use Rattle.m2_tree.specs.declared.expr.Item.{Item}
 use Rattle.m2_tree.specs.declared.expr.Selector.{Selector}
@@ -28,11 +23,11 @@ use Rattle.m2_tree.specs.declared.decl.Field.{Field}
 use Rattle.m2_tree.specs.declared.token.Symbol.TheVariants.{Implementation, Begin}
 use Rattle.m2_tree.specs.declared.decl.Module.{Module}
 use Rattle.m2_grammar.specs.Rule.{Rule, Ast, module_rule, import_rule, idents_rule, def_rule, block_rule, decl_rule, constant_rule, type_decl_rule, variables_rule, formals_rule, section_rule, formal_rule, qual_rule, simple_rule, type_rule, dims_rule, parameter_rule, field_rule, stmts_rule, stmt_rule, rest_rule, arm_rule, item_rule, desig_rule, selectors_rule, args_rule, expr_rule, sum_rule, term_rule, factor_rule, set_rule}
-use Rattle.m2_grammar.specs.Grammar.{Ty, token, ast, both, either, maybe, list, El, Gr, tok, rule, ◌·◌, ◌∣◌, lead, trail, opt, many, nest, named, ◌▸◌}
+use Rattle.m2_grammar.specs.Grammar.{Ty, ast, El, Gr, tok, rule, ◌·◌, ◌∣◌, lead, trail, opt, many, nest, named, ◌▸◌}
 use Rattle.m2_grammar.specs.Ebnf.{grammar, symbol, field, fields, selector, expr, stmt, stmts, arm, arms, else_part, step}
-use Rattle.m2_grammar.specs.Trees.{ident_of, literal_said, with_first, present, joined, if_any, is_there, sign_of, added, multiplied, selected, related, sum_of as sum_tree_of, product_of, begun_by, factor_of, named_simple, simple_of, element_of, formals_of, type_of, structured_of, stmt_of, other_of, rest_of, def_of, decl_of, held_by, module_of, tree}
+use Rattle.m2_grammar.specs.Trees.{ident_of, literal_said, with_first, present, joined, is_there, sign_of, added, multiplied, selected, held_by, tree}
 use Rattle.m2_grammar.specs.Spelling.{Spells, one, made, pair, left, right, before, behind, absent, there_is, none, more, nested, closed}
-use Rattle.m2_fits.specs.Sizes.{sum_of, size_expr, size_selector, size_designator, size_item, size_if, size_argument, size_arguments, size_stmt, size_rest, size_arm, size_stmts, size_stmts_if, size_simple, size_type, size_field, size_section, size_heading, size_constant, size_type_decl, size_variables, size_def, size_decl, size_block, size_import, size_contents, size_module}
+use Rattle.m2_fits.specs.Sizes.{sum_of, size_expr, size_selector, size_designator, size_item, size_if, size_argument, size_arguments, size_stmt, size_rest, size_arm, size_stmts, size_stmts_if, size_simple, size_type, size_field, size_section, size_constant, size_type_decl, size_variables, size_def, size_decl, size_block, size_import, size_contents, size_module}
 use Rattle.m2_fits.proofs.Sums.{le_sum, le_trans, le_by, sum_below, sum_append, length_below}
 use Rattle.m2_fits.proofs.Variants.{number_size, char_size, text_size, set_size, not_size, bracketed_size, use_size, size_operand, term_size, sum_size, relation_size, field_selector_size, index_size, designator_size, item_size, assign_size, call_size, if_size, case_size, while_size, repeat_size, loop_size, exit_size, return_size, for_size, with_size, elsif_size, else_size, size_label, arm_size, simple_type_size, array_size, record_size, procedure_size, field_size, constants_size, types_size, variables_size, body_size, block_size}
 

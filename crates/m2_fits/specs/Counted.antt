@@ -1,5 +1,5 @@
 -- How large what the checker makes of expressions is.
-use Rattle.std.specs.Prelude.{◌≤◌, ℕ, ◌+◌, Option, Some, None, Result, Ok, Err}
+use Rattle.std.specs.Prelude.{◌≤◌, ℕ, ◌+◌, Result, Ok, Err}
 use Rattle.m2_computed.specs.declared.computed.Computed.{Computed}
 use Rattle.m2_computed.specs.declared.computed.Computed.TheVariants as value
 use Rattle.m2_computed.specs.declared.computed.Designated.{Designated}

@@ -1,6 +1,6 @@
 -- How large typed trees are: how many nodes they have, and some nodes count for more than one. The code of a tree takes no
 -- more than a fixed number of bytes for each.
-use Rattle.std.specs.Prelude.{ℕ, suc, ◌+◌, ◌*◌, List, [], ◌∷◌, length, Option, Some, None}
+use Rattle.std.specs.Prelude.{ℕ, ◌+◌, ◌*◌, List, length}
 use Rattle.m2_typed.specs.declared.computed.Argument.{Argument, Argument-F, fold-Argument}
 use Rattle.m2_typed.specs.declared.computed.Argument.TheOpen as layer
 use Rattle.m2_typed.specs.declared.computed.Call.{Call, Call-F, fold-Call}
