@@ -1,4 +1,5 @@
--- How large trees are. Each part counts its nodes, and some nodes more than once: no part counts more than four for each of
+-- How large trees are. Each part counts its nodes, and some nodes more than once: no part counts
+-- more than four for each of
 -- its tokens, and what the checker makes of it counts no more than the part.
 use Rattle.std.specs.Prelude.{ℕ, ◌+◌, List, [], ◌∷◌, length, Option, Some, None}
 use Rattle.m2_tree.specs.declared.expr.Expr.{Expr, Expr-F, fold-Expr}

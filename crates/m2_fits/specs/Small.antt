@@ -31,9 +31,11 @@ abbrev pub TextsAreSmall : Type 0
 TextsAreSmall = (text : List ℕ) (ts : List Token) (m : Module) → HasTokens text ts → IsModule ts m
     → size_module m ≤ 4 * (1 + length text)
 
--- What an expression or a designator means counts no more than it does, where broken rules are gathered so.
+-- What an expression or a designator means counts no more than it does, where broken rules are
+-- gathered so.
 abbrev pub ExpressionsAreSmall : Gathers → Type 0
-ExpressionsAreSmall g = (s : Scope g.Reported) (e : Expr) → AtMost size_meant (size_expr e) ((meant g e).means s)
+ExpressionsAreSmall g = (s : Scope g.Reported) (e : Expr)
+    → AtMost size_meant (size_expr e) ((meant g e).means s)
 
 abbrev pub DesignatorsAreSmall : Gathers → Type 0
 DesignatorsAreSmall g = (s : Scope g.Reported) (d : Designator)
@@ -54,8 +56,10 @@ abbrev pub most : ℕ
 most = 4 * (1 + max_text)
 
 abbrev pub BodiesAreSmall : Gathers → Type 0
-BodiesAreSmall g = (text : List ℕ) (ts : List Token) (m : Module) → length text ≤ max_text → HasTokens text ts → IsModule ts m
-    → (number : ℕ) (own : Option Table) (tables : List Table) → AtMost size_bodies most (checked g number m own tables)
+BodiesAreSmall g = (text : List ℕ) (ts : List Token) (m : Module) → length text ≤ max_text
+    → HasTokens text ts → IsModule ts m
+    → (number : ℕ) (own : Option Table) (tables : List Table)
+    → AtMost size_bodies most (checked g number m own tables)
 
 -- The code of statements takes no more locals, for addresses and for numbers, than they count.
 abbrev pub LocalsAreFew : Type 0

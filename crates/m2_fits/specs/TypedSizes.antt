@@ -1,4 +1,5 @@
--- How large typed trees are: how many nodes they have, and some nodes count for more than one. The code of a tree takes no
+-- How large typed trees are: how many nodes they have, and some nodes count for more than one. The
+-- code of a tree takes no
 -- more than a fixed number of bytes for each.
 use Rattle.std.specs.Prelude.{ℕ, ◌+◌, ◌*◌, List, length}
 use Rattle.m2_typed.specs.declared.computed.Argument.{Argument, Argument-F, fold-Argument}
@@ -64,24 +65,37 @@ expr_layer (layer.High slot) = 1
 expr_layer (layer.Call t c) = 1 + c
 
 unfoldable pub size_typed : TypedExpr → ℕ
-size_typed = fold-TypedExpr ℕ ℕ ℕ ℕ ℕ ℕ argument_layer call_layer component_layer link_layer expr_layer place_layer
+size_typed =
+    fold-TypedExpr ℕ ℕ ℕ ℕ ℕ ℕ argument_layer call_layer component_layer link_layer
+    expr_layer place_layer
 
 unfoldable pub size_place : Place → ℕ
-size_place = fold-Place ℕ ℕ ℕ ℕ ℕ ℕ argument_layer call_layer component_layer link_layer expr_layer place_layer
+size_place =
+    fold-Place ℕ ℕ ℕ ℕ ℕ ℕ argument_layer call_layer component_layer link_layer
+    expr_layer place_layer
 
 unfoldable pub size_component : Component → ℕ
-size_component = fold-Component ℕ ℕ ℕ ℕ ℕ ℕ argument_layer call_layer component_layer link_layer expr_layer place_layer
+size_component =
+    fold-Component ℕ ℕ ℕ ℕ ℕ ℕ argument_layer call_layer component_layer link_layer
+    expr_layer place_layer
 
 unfoldable pub size_link : Link → ℕ
-size_link = fold-Link ℕ ℕ ℕ ℕ ℕ ℕ argument_layer call_layer component_layer link_layer expr_layer place_layer
+size_link =
+    fold-Link ℕ ℕ ℕ ℕ ℕ ℕ argument_layer call_layer component_layer link_layer
+    expr_layer place_layer
 
 unfoldable pub size_call : Call → ℕ
-size_call = fold-Call ℕ ℕ ℕ ℕ ℕ ℕ argument_layer call_layer component_layer link_layer expr_layer place_layer
+size_call =
+    fold-Call ℕ ℕ ℕ ℕ ℕ ℕ argument_layer call_layer component_layer link_layer
+    expr_layer place_layer
 
 unfoldable pub size_passed : Argument → ℕ
-size_passed = fold-Argument ℕ ℕ ℕ ℕ ℕ ℕ argument_layer call_layer component_layer link_layer expr_layer place_layer
+size_passed =
+    fold-Argument ℕ ℕ ℕ ℕ ℕ ℕ argument_layer call_layer component_layer link_layer
+    expr_layer place_layer
 
--- ---- statements: a change takes two locals, the code of a CASE may have a table, and that of a FOR has the place of its variable five times
+-- ---- statements: a change takes two locals, the code of a CASE may have a table, and that of a
+-- FOR has the place of its variable five times
 
 abbrev pub step_layer : TypedStmt-F ℕ ℕ → ℕ
 step_layer (step.Assign d t e) = 1 + size_place d + size_typed e

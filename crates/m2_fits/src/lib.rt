@@ -9,7 +9,8 @@
 //! - `proofs/Effects` and `proofs/Steps` have a lemma for each definition of assignments, calls and `m2_steps`, and
 //!   `proofs/Statements` the induction over statements.
 //! - `proofs/Counts` and `proofs/StepCounts` count the locals that the code of expressions and statements takes.
-//! - `proofs/Blocks` has the bodies of procedures, with the induction over blocks, and whole modules.
+//! - `proofs/Blocks` has the bodies of procedures, with the induction over blocks, and whole modules, and `proofs/Bounded` the
+//!   bound of all texts.
 #![tactic(auto)]
 
 ghost use Rattle.m2_fits.specs.Small.{TreesAreSmall, TextsAreSmall, ExpressionsAreSmall, DesignatorsAreSmall, StatementsAreSmall, ModulesAreSmall, BodiesAreSmall, LocalsAreFew};
