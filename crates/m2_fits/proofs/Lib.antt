@@ -14,3 +14,4 @@ pub mod Texts
 pub mod Counts
 pub mod StepCounts
 pub mod Bounded
+pub mod TableCalls
