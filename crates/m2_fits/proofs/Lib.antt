@@ -15,3 +15,4 @@ pub mod Counts
 pub mod StepCounts
 pub mod Bounded
 pub mod TableCalls
+pub mod TableSteps

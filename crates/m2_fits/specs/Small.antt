@@ -18,8 +18,10 @@ use Rattle.m2_typed.specs.declared.statement.TypedStmt.{TypedStmt}
 use Rattle.m2_scheme.specs.Coded.{Setting, Counts}
 use Rattle.m2_scheme.specs.Exprs.{Numbered}
 use Rattle.m2_scheme.specs.Steps.{body_code}
+use Rattle.m2_scheme.specs.Signatures.{of_step}
+use Rattle.m2_typed.specs.declared.typed_module.TypedModule.{TypedModule}
 use Rattle.m2_fits.specs.Sizes.{size_expr, size_designator, size_stmts, size_module}
-use Rattle.m2_fits.specs.TypedSizes.{size_body, size_bodies}
+use Rattle.m2_fits.specs.TypedSizes.{size_step, size_body, size_bodies}
 use Rattle.m2_fits.specs.Counted.{AtMost, size_designated as size_meant}
 
 -- The tree of tokens counts at most four for each of them.
@@ -66,3 +68,7 @@ abbrev pub LocalsAreFew : Type 0
 LocalsAreFew = (numbered : Numbered) (xs : List TypedStmt) (s : Setting) (c : Counts)
     → let after = (body_code numbered xs s c).1 in
     (after.numbers ≤ c.numbers + size_body xs) × (after.addresses ≤ c.addresses + size_body xs)
+
+-- A statement calls through the table no more often than it counts.
+abbrev pub TableCallsAreFew : Type 0
+TableCallsAreFew = (m : TypedModule) (x : TypedStmt) → length (of_step m x) ≤ size_step x

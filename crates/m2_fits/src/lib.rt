@@ -8,12 +8,13 @@
 //!   definition of `m2_computed` and `m2_calls`, and `proofs/Meanings` those of `m2_exprs`, with the induction over expressions.
 //! - `proofs/Effects` and `proofs/Steps` have a lemma for each definition of assignments, calls and `m2_steps`, and
 //!   `proofs/Statements` the induction over statements.
-//! - `proofs/Counts` and `proofs/StepCounts` count the locals that the code of expressions and statements takes.
+//! - `proofs/Counts` and `proofs/StepCounts` count the locals that the code of expressions and statements takes,
+//!   and `proofs/TableCalls` and `proofs/TableSteps` the calls through the table.
 //! - `proofs/Blocks` has the bodies of procedures, with the induction over blocks, and whole modules, and `proofs/Bounded` the
 //!   bound of all texts.
 #![tactic(auto)]
 
-ghost use Rattle.m2_fits.specs.Small.{TreesAreSmall, TextsAreSmall, ExpressionsAreSmall, DesignatorsAreSmall, StatementsAreSmall, ModulesAreSmall, BodiesAreSmall, LocalsAreFew};
+ghost use Rattle.m2_fits.specs.Small.{TreesAreSmall, TextsAreSmall, ExpressionsAreSmall, DesignatorsAreSmall, StatementsAreSmall, ModulesAreSmall, BodiesAreSmall, LocalsAreFew, TableCallsAreFew};
 ghost use Rattle.m2_scopes.specs.Elaborated.{least, every};
 
 /// Trees are no larger than their texts.
@@ -46,4 +47,9 @@ pub fn module_size_laws()
 /// The code of statements takes no more locals than they count.
 pub fn local_laws()
     ensures { LocalsAreFew }
+{}
+
+/// Statements call through the table no more often than they count.
+pub fn table_call_laws()
+    ensures { TableCallsAreFew }
 {}
