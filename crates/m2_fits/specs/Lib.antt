@@ -1,0 +1,4 @@
+pub mod Sizes
+pub mod TypedSizes
+pub mod Small
+pub mod Counted
