@@ -17,6 +17,9 @@ use std::{env, io, str};
 /// The status of a command line that asks for nothing that can be done.
 pub const COMMAND_LINE: u8 = 2;
 
+/// The status if a file, memory or a stream failed.
+pub const FAILED: u8 = 3;
+
 /// The most bytes of a word that is searched for what is no text.
 const LONGEST_WORD: usize = 4096;
 

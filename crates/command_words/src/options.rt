@@ -5,13 +5,23 @@ ghost use Rattle.std.specs.List.{list_all};
 ghost use Rattle.std.specs.Option.{IfSome};
 ghost use Rattle.std.specs.Prelude.{◌≡◌, ◌≤◌, map, IfOk, string_bytes};
 
-use crate::{COMMAND_LINE, Words, number};
+use crate::{COMMAND_LINE, FAILED, Words, number};
 use anyhow::Result;
-use clap::{ArgMatches, Command};
+use clap::error::ErrorKind;
+use clap::{ArgMatches, Command, Error};
 use std::alloc::{AllocError, Global};
 
+/// The status for words of which nothing can be read: 0 for help and the version, 3 if memory ran out, and 2 for a mistake.
+fn status_of(error: &Error) -> u8 {
+    match error.kind() {
+        ErrorKind::DisplayHelp | ErrorKind::DisplayVersion => 0,
+        ErrorKind::OutOfMemory => FAILED,
+        _ => COMMAND_LINE,
+    }
+}
+
 /// What words ask for by this command, the first the program's name. Help and the version go to standard output, and what
-/// is wrong with the words to standard error. An error where memory ran out or that could not be written.
+/// is wrong with the words, or that memory ran out, to standard error. An error if that could not be written.
 pub fn matches_of<'a, R: Print + Eprint>(
     rt: &R,
     command: Command<'a>,
@@ -21,8 +31,7 @@ pub fn matches_of<'a, R: Print + Eprint>(
         Ok(matches) => Ok(Words::Read(matches)),
         Err(error) => {
             error.print(rt)?;
-            let status = if error.use_stderr() { COMMAND_LINE } else { 0 };
-            Ok(Words::Reported(status))
+            Ok(Words::Reported(status_of(&error)))
         }
     }
 }
