@@ -2,7 +2,20 @@
 use Rattle.std.proofs.Math.Logic.{∥∥₁_map, ∥∥₁_elim}
 use Rattle.std.proofs.Common.{◌≡◌, ℕ, ◌+◌, List, [], ◌∷◌, ◌++◌, append_assoc, map, length, Bool, true, false, Some, refl, sym, ap, ap₂, ◌∙◌, subst, arith, zero, suc}
 use Rattle.std.specs.Prelude.{slice_index_or, Result, Ok, Err, IfOk}
-use Rattle.std.proofs.lemmas.List.{append-nil}
+use Rattle.std.proofs.lemmas.List.{append-nil, map-set}
+use Rattle.std.proofs.lemmas.Option.{none-some, same_Some}
+use Rattle.std.proofs.Common.{⊎_elim, Option, None, ◌*◌, ◌<◌, ◌≤◌, ◌^◌}
+use Rattle.std.specs.Prelude.{slice_get, slice_set}
+use Rattle.std.specs.Option.{option_and_then, option_map}
+use Rattle.wasm_tree.specs.declared.store.Callee.{Callee}
+use Rattle.wasm_tree.specs.declared.store.Callee.TheVariants.{Own, Put, Stop}
+use Rattle.wasm_tree.specs.declared.store.Instance.{Instance}
+use Rattle.wasm_effect.specs.Bytes.{cleared_bytes}
+use Rattle.wasm_effect.proofs.Ways.{split_last-push}
+use Rattle.wasm_sound.proofs.Calls.{then_some}
+use Rattle.wasm_known.proofs.Fill.{fill_returns}
+use Rattle.wasm_machine.specs.There.{IsThere}
+use Rattle.wasm_machine.proofs.Ready.{there_by}
 use Rattle.wasm_tree.specs.declared.kinds.ValueType.{ValueType}
 use Rattle.wasm_tree.specs.declared.kinds.ValueType.TheVariants as types
 use Rattle.wasm_tree.specs.declared.instr.Instr.{Instr}
@@ -14,16 +27,17 @@ use Rattle.wasm_tree.specs.declared.store.Store.{Store}
 use Rattle.wasm_tree.specs.declared.store.Memory.{Memory}
 use Rattle.wasm_machine.specs.declared.frame.Machine.{Machine}
 use Rattle.wasm_machine.specs.declared.frame.Reduced.{Reduced}
-use Rattle.wasm_machine.specs.Going.{progress}
+use Rattle.wasm_machine.specs.Going.{progress, memory_from}
+use Rattle.wasm_machine.specs.declared.frame.Pages.{Pages}
 use Rattle.wasm_tree.specs.Linking.{type_of}
 use Rattle.wasm_tree.specs.declared.code.Op.{Op}
 use Rattle.wasm_tree.specs.declared.code.Op.TheVariants as op
 use Rattle.wasm_tree.specs.Code.{tree}
 use Rattle.wasm_tree.proofs.Flat.{tree_front}
-use Rattle.wasm_tree.specs.Machine.{Activation, Config, Going, Progress, Typed, top_i64, reduce, run}
-use Rattle.wasm_sound.specs.Ready.{IsI64, AreI64}
-use Rattle.wasm_effect.proofs.Steps.{top_64}
-use Rattle.wasm_known.specs.Codes.{check_typed, div_typed, mod_typed}
+use Rattle.wasm_tree.specs.Machine.{Activation, Config, Going, Progress, Typed, top_i32, top_i64, callee_at, instance_of, memory_of, reduce, run}
+use Rattle.wasm_sound.specs.Ready.{IsI64, AreI32, AreI64}
+use Rattle.wasm_effect.proofs.Steps.{top_32, top_64}
+use Rattle.wasm_known.specs.Codes.{check_typed, div_typed, fill_typed, mod_typed}
 use Rattle.wasm_known.specs.Known.{with, bounded, Leads}
 use Rattle.wasm_known.specs.declared.table.KnownFunction.{KnownFunction}
 use Rattle.wasm_known.specs.declared.table.KnownFunction.TheVariants as kind
@@ -35,10 +49,10 @@ use Rattle.wasm_known.proofs.Computed.{computed}
 use Rattle.wasm_known.proofs.Check.{check_returns, bounds_return}
 use Rattle.wasm_known.proofs.Divide.{div_returns, mod_returns}
 use Rattle.wasm_machine.specs.Well.{IsWell}
-use Rattle.wasm_engine.specs.Quick.{Holds, Goes, IsBetween, HasFour, Checked, IsQuotient, IsRemainder, Replaced}
+use Rattle.wasm_engine.specs.Quick.{Holds, Goes, IsBetween, HasFour, Checked, IsQuotient, IsRemainder, Replaced, Changed, memory_place}
 use Rattle.wasm_engine.proofs.WellKept.{ran}
 use Rattle.wasm_engine.proofs.Runs.{run-plus, run-zero, followed}
-use Rattle.wasm_engine.proofs.Taken.{top_is, popped}
+use Rattle.wasm_engine.proofs.Taken.{IsLast, last_or_none, top_is, popped}
 
 -- ---- runs
 
@@ -287,3 +301,113 @@ module _ (modules : List WModule) (st : Store) (ms : List Memory) (gs : List Val
 
   pub right_filled : (table : List (List KnownFunction)) → IsRight modules st table → IsRight modules filled table
   right_filled table h m g = means_filled m g (slice_index_or (slice_index_or table m []) g kind.Other) (h m g)
+
+-- ---- fill
+
+no_64 : (t : List Value) (m : ℕ) → top_i32 (t ++ I64 m ∷ []) ≡ None
+no_64 t m = rw (split_last-push t (I64 m)) refl
+
+-- what was on top
+pub narrow_top : (s t : List Value) (n : ℕ) → top_i32 s ≡ Some (t, n) → s ≡ t ++ I32 n ∷ []
+narrow_top s t n e = ⊎_elim (λ (z : s ≡ []). absurd (none-some wanted (sym (ap top_i32 z) ∙ e))) (λ (h : IsLast s). of h.0 h.1 h.2) (last_or_none s)
+  where
+    wanted : List Value × ℕ
+    wanted = (t, n)
+
+    of : (below : List Value) (v : Value) → s ≡ below ++ v ∷ [] → s ≡ t ++ I32 n ∷ []
+    of below (I64 m) z = absurd (none-some wanted (sym (ap top_i32 z ∙ no_64 below m) ∙ e))
+    of below (I32 m) z =
+        let found : List Value × ℕ = (below, m) in
+        let same : found ≡ wanted = same_Some found wanted (sym (ap top_i32 z ∙ top_32 below m) ∙ e) in
+        z ∙ ap (λ (p : List Value × ℕ). p.0 ++ I32 p.1 ∷ []) same
+
+i32_at : (v : Value) → type_of v ≡ types.I32 → (n : ℕ) × (v ≡ I32 n)
+i32_at (I64 n) e = absurd (cc e)
+i32_at (I32 n) e = (n, refl)
+
+same_narrow : (a b : Value) (x y : ℕ) → a ≡ I32 x → b ≡ I32 y → a ∷ b ∷ [] ≡ I32 x ∷ I32 y ∷ []
+same_narrow a b x y e f = rw (e, f) refl
+
+abbrev narrow_types : List ValueType
+narrow_types = types.I32 ∷ types.I32 ∷ []
+
+narrow_of : (args : List Value) → map type_of args ≡ narrow_types → (x y : ℕ) × (args ≡ I32 x ∷ I32 y ∷ [])
+narrow_of [] e = let l : 0 ≡ 2 = ap length e in absurd (omega (arith, l))
+narrow_of (a ∷ []) e = let l : 1 ≡ 2 = ap length e in absurd (omega (arith, l))
+narrow_of (a ∷ b ∷ []) e =
+    let x = i32_at a (ap (λ (ts : List ValueType). slice_index_or ts 0 types.I64) e) in
+    let y = i32_at b (ap (λ (ts : List ValueType). slice_index_or ts 1 types.I64) e) in
+    (x.0, y.0, same_narrow a b x.0 y.0 x.1 y.1)
+narrow_of (a ∷ b ∷ x ∷ xs) e = let l : suc (suc (suc (length (map type_of xs)))) ≡ 2 = ap length e in absurd (omega (arith, l))
+
+memory_found : (st : Store) (own place : ℕ) (memory : Memory) → memory_place st own ≡ Some place → slice_get st.memories place ≡ Some memory → memory_of st own ≡ Some (place, memory)
+memory_found st own place memory e f =
+    let i = then_some (λ (j : Instance). slice_get j.memories 0) (instance_of st own) place e in
+    ap (λ (o : Option Instance). option_and_then (λ (j : Instance). option_and_then (λ (a : ℕ). option_map (λ (m : Memory). (a, m)) (slice_get st.memories a)) (slice_get j.memories 0)) o) i.1
+    ∙ (ap (λ (o : Option ℕ). option_and_then (λ (a : ℕ). option_map (λ (m : Memory). (a, m)) (slice_get st.memories a)) o) i.2
+    ∙ ap (λ (o : Option Memory). option_map (λ (m : Memory). (place, m)) o) f)
+
+module _ (modules : List WModule) (st : Store) (now : Activation) (callers : List Activation) where
+  fill_there : (g own : ℕ) (rest : List Instr) → now.rest ≡ instr.Call g ∷ rest → Stands modules st now.instance g own fill_typed → IsWell modules (Going st now callers) → AreI32 now.stack
+  fill_there g own rest e h w =
+      let a = arguments modules st now callers w.sound g own h.function rest (fill_typed h.type) e h.callee h.typed in
+      let f = narrow_of a.1 a.3 in
+      (a.0, f.0, f.1, a.2 ∙ ap (λ (l : List Value). a.0 ++ l) f.2)
+
+  pub fill_callee : (g : ℕ) → ∥ Means modules st now.instance g kind.Fill ∥₁ → IsThere (callee_at st now.instance g)
+  fill_callee g m = there_by (callee_at st now.instance g) (λ (h : Means modules st now.instance g kind.Fill). (Own h.0 h.1.function, h.1.callee)) m
+
+  pub has_fill : (g : ℕ) (rest : List Instr) → now.rest ≡ instr.Call g ∷ rest → ∥ Means modules st now.instance g kind.Fill ∥₁ → ∥ IsWell modules (Going st now callers) ∥₁ → ∥ AreI32 now.stack ∥₁
+  has_fill g rest e m w = ∥∥₁_elim m squashed (λ h. ∥∥₁_map w (λ a. fill_there g h.0 rest e h.1 a))
+
+  same_module : (g own f a b : ℕ) → callee_at st now.instance g ≡ Some (Own own f) → callee_at st now.instance g ≡ Some (Own a b) → own ≡ a
+  same_module g own f a b e h = ap number (same_Some (Own own f) (Own a b) (sym e ∙ h))
+    where
+      number : Callee → ℕ
+      number (Own x y) = x
+      number Put = 0
+      number Stop = 0
+
+  pub did_fill : (g own f : ℕ) (rest : List Instr) (t u : List Value) (to k n : ℕ) (ms : List Memory) (done : Bool) → n ≡ k → now.rest ≡ instr.Call g ∷ rest → ∥ Means modules st now.instance g kind.Fill ∥₁ → callee_at st now.instance g ≡ Some (Own own f)
+      → top_i32 now.stack ≡ Some (t, k) → top_i32 t ≡ Some (u, to) → done ≡ true → Changed done st own (to + k) (cleared_bytes k to) st.memories ms
+      → Goes modules (n * 16 + 7) (Going st now callers) (Going (record st { memories = ms }) (with now rest u) callers)
+  did_fill g own f rest t u to k n ms false size e m at top under is h = absurd (cc is)
+  did_fill g own f rest t u to k n ms true size e m at top under is h =
+      let stack : now.stack ≡ u ++ I32 to ∷ I32 k ∷ [] = narrow_top now.stack t k top ∙ (ap (λ (l : List Value). l ++ I32 k ∷ []) (narrow_top t u to under) ∙ append_assoc u (I32 to ∷ []) (I32 k ∷ [])) in
+      to_progress _ _ (λ a.
+      let mine : a.0 ≡ own = same_module g a.0 a.1.function own f a.1.callee at in
+      let leads = fill_returns modules st now callers g a.0 a.1.function a.1.type h.0 h.1 a.1.callee a.1.typed (ap (memory_of st) mine ∙ memory_found st own h.0 h.1 h.2 h.3) to k u rest h.4 h.5 in
+      ap (λ (l : List Memory). (Going (record st { memories = l }) (with now rest u) callers, [])) h.6
+      ∙ (sym leads.path ∙ ap (λ (x : Activation). run modules (k * 16 + 7) (Going st x callers)) (ap₂ (λ (c : List Instr) (s : List Value). with now c s) (sym e) (sym stack))
+      ∙ ap (λ (j : ℕ). run modules (j * 16 + 7) (Going st now callers)) (sym size))) m
+
+  pub narrow_back : (t u last : List Value) (to k : ℕ) → top_i32 now.stack ≡ Some (t, k) → top_i32 t ≡ Some (u, to) → last ≡ u ++ I32 to ∷ [] ++ I32 k ∷ [] → last ≡ now.stack
+  narrow_back t u last to k top under e = e ∙ (ap (λ (l : List Value). l ++ I32 k ∷ []) (sym (narrow_top t u to under)) ∙ sym (narrow_top now.stack t k top))
+
+  -- all is as it was, also the memories
+  pub did_no_fill : (new : List Value) (ms : List Memory) → new ≡ now.stack → ms ≡ st.memories → Goes modules 0 (Going st now callers) (Going (record st { memories = ms }) (record now { stack = new }) callers)
+  did_no_fill new ms e f = ap₂ (λ (s : List Value) (l : List Memory). (Going (record st { memories = l }) (record now { stack = s }) callers, [])) e f ∙ none_made modules (Going st now callers)
+
+  pub memory_left : (st : Store) (own reach : ℕ) (change : List ℕ → List ℕ) (done : Bool) (old new : List Memory) → done ≡ false → Changed done st own reach change old new → new ≡ old
+  memory_left st own reach change false old new is h = h
+  memory_left st own reach change true old new is h = absurd (cc is)
+
+there_at : (old : List Pages) (a : ℕ) (m : Pages) → a < length old → m ≡ slice_index_or old a m → slice_get (map memory_from old) a ≡ Some (memory_from m)
+there_at [] a m h e = absurd (omega arith)
+there_at (x ∷ xs) zero m h e = ap (λ (p : Pages). Some (memory_from p)) (sym e)
+there_at (x ∷ xs) (suc a) m h e = there_at xs a m (omega arith) e
+
+-- a memory of which the bytes were changed
+pub changed_by : (st : Store) (own place reach : ℕ) (change : List ℕ → List ℕ) (old : List Pages) (seen first new : Pages) (size : ℕ) → memory_place st own ≡ Some place → place < length old → seen ≡ slice_index_or old place seen → first ≡ slice_index_or old place first
+    → size ≡ length seen.bytes.items → reach ≤ size → size < 2 ^ 32 → memory_from new ≡ record (memory_from first) { bytes = change first.bytes.items }
+    → Changed true st own reach change (map memory_from old) (map memory_from (slice_set old place new))
+changed_by st own place reach change old seen first new size at within is_seen is_first long reaches small changed =
+    let there = there_at old place first within is_first in
+    let same : memory_from seen ≡ memory_from first = same_Some (memory_from seen) (memory_from first) (sym (there_at old place seen within is_seen) ∙ there) in
+    let length_same : length seen.bytes.items ≡ length first.bytes.items = ap (λ (m : Memory). length m.bytes) same in
+    (place, memory_from first, at, there, omega (arith, long, length_same), omega (arith, long, length_same), map-set memory_from old place new ∙ ap (slice_set (map memory_from old) place) changed)
+
+-- what is said of the store that has no memories yet
+pub changed_filled : (done : Bool) (st : Store) (ms : List Memory) (gs : List Value) (own reach : ℕ) (change : List ℕ → List ℕ) (old new : List Memory) → Changed done st own reach change old new → Changed done (record st { memories = ms; globals = gs }) own reach change old new
+changed_filled false st ms gs own reach change old new h = h
+changed_filled true st ms gs own reach change old new h = h

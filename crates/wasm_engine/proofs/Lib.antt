@@ -4,3 +4,4 @@ pub mod WellKept
 pub mod Taken
 pub mod AtOnce
 pub mod Held
+pub mod Clearing

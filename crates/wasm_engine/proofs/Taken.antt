@@ -18,7 +18,7 @@ wide (n ∷ ns) = I64 n ∷ wide ns
 abbrev pub IsLast : List Value → Type 0
 IsLast s = (below : List Value) × (v : Value) × (s ≡ below ++ v ∷ [])
 
-last_or_none : (s : List Value) → (s ≡ []) ⊎ IsLast s
+pub last_or_none : (s : List Value) → (s ≡ []) ⊎ IsLast s
 last_or_none [] = inl refl
 last_or_none (x ∷ xs) =
     ⊎_elim (λ (e : xs ≡ []). inr ([], x, ap (λ (l : List Value). x ∷ l) e)) (λ (h : IsLast xs). inr (x ∷ h.0, h.1, ap (λ (l : List Value). x ∷ l) h.2)) (last_or_none xs)

@@ -1,12 +1,16 @@
 -- Several reductions at once.
-use Rattle.std.specs.Prelude.{◌≡◌, false, true, ℕ, Bool, List, [], ◌∷◌, ◌++◌, Some}
+use Rattle.std.specs.Prelude.{◌≡◌, ◌≤◌, ◌<◌, ◌^◌, false, true, ℕ, Bool, List, [], ◌∷◌, ◌++◌, length, slice_get, slice_set, Option, Some}
+use Rattle.std.specs.Option.{option_and_then}
 use Rattle.std.specs.Int.{w64}
 use Rattle.wasm_tree.specs.declared.module.WModule.{WModule}
 use Rattle.wasm_tree.specs.declared.instr.Operation.TheVariants.{DivS, RemS}
 use Rattle.wasm_tree.specs.declared.store.Value.{Value}
 use Rattle.wasm_tree.specs.declared.store.Value.TheVariants.{I64}
 use Rattle.wasm_tree.specs.Numbers.{is_less, operated}
-use Rattle.wasm_tree.specs.Machine.{Config, run}
+use Rattle.wasm_tree.specs.declared.store.Instance.{Instance}
+use Rattle.wasm_tree.specs.declared.store.Memory.{Memory}
+use Rattle.wasm_tree.specs.declared.store.Store.{Store}
+use Rattle.wasm_tree.specs.Machine.{Config, instance_of, run}
 use Rattle.wasm_known.specs.declared.table.KnownFunction.{KnownFunction}
 use Rattle.wasm_known.specs.Known.{quotient_down, remainder_up}
 use Rattle.wasm_known.specs.Table.{StaysRight}
@@ -52,3 +56,14 @@ IsRemainder x y n = IsBetween y least_divisor greatest_divisor × (r : ℕ) × (
 abbrev pub Replaced : (Is : (x y n : ℕ) → Type 0) → Bool → (old new : List Value) → Type 0
 Replaced Is false old new = new ≡ old
 Replaced Is true old new = (below : List Value) × (x y n : ℕ) × (old ≡ below ++ I64 x ∷ I64 y ∷ []) × Is x y n × (new ≡ below ++ I64 n ∷ [])
+
+-- where the memory of a module stands
+abbrev pub memory_place : Store → (m : ℕ) → Option ℕ
+memory_place st m = option_and_then (λ (i : Instance). slice_get i.memories 0) (instance_of st m)
+
+-- the bytes of a module's memory, which reaches so far and is no memory of 2^32 bytes, were changed, or all is as before
+abbrev pub Changed : Bool → Store → (own reach : ℕ) → (List ℕ → List ℕ) → (old new : List Memory) → Type 0
+Changed false st own reach change old new = new ≡ old
+Changed true st own reach change old new =
+    (place : ℕ) × (memory : Memory) × (memory_place st own ≡ Some place) × (slice_get old place ≡ Some memory) × (reach ≤ length memory.bytes) × (length memory.bytes < 2 ^ 32)
+    × (new ≡ slice_set old place (record memory { bytes = change memory.bytes }))

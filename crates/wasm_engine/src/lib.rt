@@ -1,6 +1,7 @@
 //! Linking and execution of WebAssembly modules (Core 1.0, section 4), with a host that prints bytes and stops runs.
 #![tactic(auto)]
 
+mod bytes;
 mod engine;
 mod quick;
 mod sink;

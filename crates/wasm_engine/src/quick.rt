@@ -1,6 +1,7 @@
 //! Several reductions at once: calls of functions that are known by their code.
 
-ghost use Rattle.std.specs.Prelude.{◌≡◌, ◌≤◌, ◌<◌, ◌∷◌, IfOk, IfSome, IsTrue};
+ghost use Rattle.std.specs.Prelude.{◌≡◌, ◌≤◌, ◌<◌, [], ◌∷◌, ◌++◌, IfOk, OnOk, IfSome, IsTrue};
+ghost use Rattle.wasm_tree.specs.declared.store.Value.TheVariants.{I32};
 ghost use Rattle.wasm_tree.specs.Code.{tree};
 ghost use Rattle.wasm_tree.specs.Machine.{run};
 ghost use Rattle.wasm_tree.specs.declared.instr.Instr.TheVariants.{Call, I64Const};
@@ -12,12 +13,13 @@ ghost use Rattle.wasm_machine.specs.Well.{IsWell};
 ghost use Rattle.wasm_machine.specs.Going.{store_of, going, progress};
 ghost use Rattle.wasm_engine.specs.Quick.{Checked, Goes, HasFour, Holds, IsBetween, IsQuotient, IsRemainder, Replaced};
 
+use crate::bytes::cleared;
 use sqlite_items::Items;
 use std::alloc::{AllocError, Global};
 use wasm_known::{KnownFunction, known_at};
-use wasm_machine::{Machine, Reduced, reduce};
+use wasm_machine::{Machine, Reduced, callee_at, reduce};
 use wasm_operands::{Operands, compares_64, operated, truth};
-use wasm_tree::{Op, Operation, Relation, first_of};
+use wasm_tree::{Callee, Op, Operation, Relation, first_of};
 use wasm_valid::ValidModule;
 
 /// How many reductions a call of check makes if the number is between its bounds.
@@ -31,6 +33,10 @@ const DIVIDE: u64 = 31;
 
 /// The same of mod.
 const MODULO: u64 = 32;
+
+/// How many reductions a call of fill makes for each byte, and besides.
+const FILL_BYTE: u64 = 16;
+const FILL: u64 = 7;
 
 const LEAST_DIVISOR: u64 = 1;
 const GREATEST_DIVISOR: u64 = 4_294_967_295;
@@ -306,6 +312,49 @@ fn modulo_at_once<'a>(
     Ok(0)
 }
 
+/// Puts two numbers of 32 bits back on top.
+fn give_back(stack: &mut Operands, first: u32, second: u32) -> Result<(), AllocError>
+    ensures { OnOk result
+        (stack.new.known.values ≡ stack.old.known.values ++ I32 first ∷ [] ++ I32 second ∷ []) }
+{
+    stack.push_i32(first)?;
+    stack.push_i32(second)?;
+    Ok(())
+}
+
+/// Executes the call of fill that is next, if the bytes are in memory.
+fn fill_at_once<'a>(
+    modules: &'a [ValidModule],
+    machine: &mut Machine<'a>,
+    index: u32,
+    rest: &'a [Op],
+    most: u64,
+) -> Result<u64, AllocError>
+    requires next { tree machine.old.now.rest.now ≡ Call index ∷ tree rest.now }
+    requires known { ∥ Means modules.now (store_of machine.old) machine.old.now.instance index kind.Fill ∥₁ }
+    requires sound { ∥ IsWell modules.now (going machine.old) ∥₁ }
+    ensures within { IfOk result (λ n. n ≤ most) }
+    ensures goes { IfOk result (λ n. Goes modules.now n (going machine.old) (going machine.new)) }
+{
+    let Callee::Own { module, .. } = callee_at(&machine.store, machine.now.instance, index) else {
+        return Ok(0);
+    };
+    let count = machine.now.stack.pop_i32();
+    let to = machine.now.stack.pop_i32();
+    let reductions = u64::from(count) * FILL_BYTE + FILL;
+    if most < reductions {
+        give_back(&mut machine.now.stack, to, count)?;
+        return Ok(0);
+    }
+    let done = cleared(&machine.store, &mut machine.memories, module, to, count);
+    if done {
+        machine.now.rest = rest;
+        return Ok(reductions);
+    }
+    give_back(&mut machine.now.stack, to, count)?;
+    Ok(0)
+}
+
 /// Executes the call that is next, if it is of a known function and ends without a trap.
 fn call_at_once<'a>(
     modules: &'a [ValidModule],
@@ -324,7 +373,8 @@ fn call_at_once<'a>(
         KnownFunction::Check => check_at_once(modules, machine, index, rest, most),
         KnownFunction::Divide => divide_at_once(modules, machine, index, rest, most),
         KnownFunction::Modulo => modulo_at_once(modules, machine, index, rest, most),
-        KnownFunction::Fill | KnownFunction::Copy | KnownFunction::Other => Ok(0),
+        KnownFunction::Fill => fill_at_once(modules, machine, index, rest, most),
+        KnownFunction::Copy | KnownFunction::Other => Ok(0),
     }
 }
 

@@ -7,8 +7,8 @@ use Rattle.wasm_engine.proofs.quick.call_at_once.Goals as goal
 pub returns-in_default-clause-goes : goal.returns-in_default-clause-goes
 returns-in_default-clause-goes c = none_made c.args.modules.now (going c.args.machine.now)
 
-pub returns-in-Fill-clause-goes : goal.returns-in-Fill-clause-goes
-returns-in-Fill-clause-goes c = none_made c.args.modules.now (going c.args.machine.now)
+pub returns-in-Copy-clause-goes : goal.returns-in-Copy-clause-goes
+returns-in-Copy-clause-goes c = none_made c.args.modules.now (going c.args.machine.now)
 
 pub check_at_once-requires-clause-known : goal.check_at_once-requires-clause-known
 check_at_once-requires-clause-known c =
@@ -30,3 +30,10 @@ modulo_at_once-requires-clause-known c =
 
 pub modulo_at_once-requires-clause-sound : goal.modulo_at_once-requires-clause-sound
 modulo_at_once-requires-clause-sound c = well_of c.args.modules.now c.args.table.now (going c.args.machine.now) c.requires
+
+pub fill_at_once-requires-clause-known : goal.fill_at_once-requires-clause-known
+fill_at_once-requires-clause-known c =
+    means_known c.args.modules.now c.args.table.now (store_of c.args.machine.now) (activation c.args.machine.now.now) (callers_of c.args.machine.now) c.in-Some.index kind.Fill c.known_at.result c.requires c.known_at.ensures c.in-Fill.is
+
+pub fill_at_once-requires-clause-sound : goal.fill_at_once-requires-clause-sound
+fill_at_once-requires-clause-sound c = well_of c.args.modules.now c.args.table.now (going c.args.machine.now) c.requires
