@@ -41,7 +41,7 @@ use Rattle.wasm_known.specs.Codes.{check_typed, div_typed, fill_typed, mod_typed
 use Rattle.wasm_known.specs.Known.{with, bounded, Leads}
 use Rattle.wasm_known.specs.declared.table.KnownFunction.{KnownFunction}
 use Rattle.wasm_known.specs.declared.table.KnownFunction.TheVariants as kind
-use Rattle.wasm_known.specs.Table.{Stands, Means, IsRight, StaysRight, known_in}
+use Rattle.wasm_known.specs.Table.{Stands, Means, IsRight, known_in}
 use Rattle.wasm_known.proofs.Arguments.{arguments}
 use Rattle.wasm_known.proofs.Sets.{to_progress}
 use Rattle.wasm_known.proofs.Right.{right_after}

@@ -4,7 +4,7 @@ use Rattle.std.proofs.Common.{◌≡◌, ℕ, List, Option, Bool, sym, subst, ar
 use Rattle.std.specs.Prelude.{false, Result, Ok, Err, IfOk, is_err}
 use Rattle.std.proofs.lemmas.Grind.{merely}
 use Rattle.wasm_tree.specs.declared.module.WModule.{WModule}
-use Rattle.wasm_tree.specs.Machine.{Config, run}
+use Rattle.wasm_tree.specs.Machine.{run}
 use Rattle.wasm_known.specs.declared.table.KnownFunction.{KnownFunction}
 use Rattle.wasm_engine.specs.Safe.{StaysSafe}
 use Rattle.wasm_engine.specs.Quick.{Holds}

@@ -1,12 +1,12 @@
 -- Operands that were taken one by one.
 use Rattle.std.proofs.Math.Logic.{∥∥₁_map}
-use Rattle.std.proofs.Common.{◌≡◌, ◌⊎◌, inl, inr, ⊎_elim, ℕ, List, [], ◌∷◌, ◌++◌, Option, None, Some, refl, sym, ap, ◌∙◌, append_assoc}
+use Rattle.std.proofs.Common.{◌≡◌, ◌⊎◌, inl, inr, ⊎_elim, ℕ, List, [], ◌∷◌, ◌++◌, None, Some, refl, sym, ap, ◌∙◌, append_assoc}
 use Rattle.std.proofs.lemmas.Option.{none-some, same_Some}
 use Rattle.wasm_tree.specs.declared.store.Value.{Value}
 use Rattle.wasm_tree.specs.declared.store.Value.TheVariants.{I32, I64}
-use Rattle.wasm_tree.specs.Machine.{top_i64, top_i32}
+use Rattle.wasm_tree.specs.Machine.{top_i64}
 use Rattle.wasm_sound.specs.Ready.{IsI64}
-use Rattle.wasm_effect.proofs.Steps.{top_64, top_32}
+use Rattle.wasm_effect.proofs.Steps.{top_64}
 use Rattle.wasm_effect.proofs.Ways.{split_last-push}
 use Rattle.wasm_engine.specs.Quick.{HasFour}
 

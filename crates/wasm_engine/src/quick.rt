@@ -36,9 +36,11 @@ const MODULO: u64 = 32;
 
 /// How many reductions a call of fill makes for each byte, and besides.
 const FILL_BYTE: u64 = 16;
+
 const FILL: u64 = 7;
 
 const LEAST_DIVISOR: u64 = 1;
+
 const GREATEST_DIVISOR: u64 = 4_294_967_295;
 
 /// What code begins with, as far as several reductions may be made at once.

@@ -1,5 +1,5 @@
 -- What names stand for stays: no reduction changes which functions there are, nor what the modules' indices stand for.
-use Rattle.std.proofs.Common.{◌≡◌, ℕ, zero, suc, Bool, true, false, List, [], ◌∷◌, ◌++◌, Option, Some, None, refl, sym, ap, ap₂, subst, ◌∙◌}
+use Rattle.std.proofs.Common.{◌≡◌, ℕ, zero, suc, Bool, true, false, List, [], ◌∷◌, ◌++◌, Option, Some, None, refl, ap₂, ◌∙◌}
 use Rattle.std.specs.Prelude.{if◌then◌else◌, nat_le, nat_lt, ◌&&◌, ◌==◌, ◌+◌, ◌%◌, slice_get, slice_set, slice_index_or, length, take, ◌-◌}
 use Rattle.std.specs.Option.{option_and_then}
 use Rattle.wasm_tree.specs.declared.instr.Instr.{Instr, out-Instr}
@@ -11,9 +11,8 @@ use Rattle.wasm_tree.specs.Numbers.{load_size, loaded, stored}
 use Rattle.wasm_tree.specs.declared.store.Callee.{Callee}
 use Rattle.wasm_tree.specs.declared.store.Callee.TheVariants.{Put, Stop, Own}
 use Rattle.wasm_tree.specs.declared.store.Instance.{Instance}
-use Rattle.wasm_tree.specs.declared.store.Memory.{Memory}
 use Rattle.wasm_tree.specs.declared.store.Store.{Store}
-use Rattle.wasm_tree.specs.Machine.{Label, Activation, Config, Going, Over, Trapped, Progress, Typed, trapped, or_trap, split_last, split_end, callee_at, agree, callee_type, called, called_as, stopped, own_function, entered, returned, found, kept, branched, branched_if, with_local, loads, stores, pasted, top_i32, top_i64, topmost, callee_in, type_at, global_at, memory_of, with_memory_bytes, calculated, results_of, side, pushed, bytes_at, inside, begun_layer, ended, next, reduce, run}
+use Rattle.wasm_tree.specs.Machine.{Label, Activation, Config, Going, Over, Trapped, Progress, trapped, or_trap, split_last, split_end, callee_at, agree, callee_type, called, called_as, stopped, own_function, entered, returned, found, kept, branched, branched_if, with_local, loads, stores, pasted, top_i32, top_i64, topmost, callee_in, type_at, global_at, memory_of, with_memory_bytes, calculated, results_of, side, pushed, bytes_at, inside, begun_layer, ended, next, reduce, run}
 
 -- the store has the same functions and instances
 pub record SameNames (st new : Store) : Type 0 where

@@ -1,13 +1,13 @@
 -- Tables that are right: row by row, and as long as a run goes on.
-use Rattle.std.proofs.Common.{◌≡◌, ℕ, zero, suc, List, [], ◌∷◌, ◌++◌, length, sym, ◌∙◌, subst}
+use Rattle.std.proofs.Common.{◌≡◌, ℕ, zero, suc, List, [], ◌∷◌, ◌++◌, length, ◌∙◌, subst}
 use Rattle.std.specs.Prelude.{slice_index_or}
 use Rattle.wasm_tree.specs.declared.module.WModule.{WModule}
 use Rattle.wasm_tree.specs.declared.store.Store.{Store}
-use Rattle.wasm_tree.specs.Machine.{Config, Going, Over, Trapped, Typed, callee_at, run}
+use Rattle.wasm_tree.specs.Machine.{Config, Going, Over, Trapped, Typed, run}
 use Rattle.wasm_known.specs.declared.table.KnownFunction.{KnownFunction}
 use Rattle.wasm_known.specs.declared.table.KnownFunction.TheVariants as known
 use Rattle.wasm_known.specs.Table.{Stands, Means, RowIsRight, IsRight, StaysRight}
-use Rattle.wasm_known.proofs.Names.{SameNames, Keeps, IsAtEnd, KeepsAs, run_keeps, callee_kept}
+use Rattle.wasm_known.proofs.Names.{SameNames, KeepsAs, run_keeps, callee_kept}
 
 -- what holds at each place holds once an element was put behind the others
 pub one_more : {A : Type 0} (P : ℕ → A → Type 0) (xs : List A) (x d : A) → ((k : ℕ) → P k (slice_index_or xs k d)) → P (length xs) x → (k : ℕ) → P k (slice_index_or (xs ++ x ∷ []) k d)

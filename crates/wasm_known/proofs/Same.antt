@@ -1,5 +1,5 @@
 -- Operations that compare as the same are the same.
-use Rattle.std.proofs.Common.{◌≡◌, ℕ, Bool, true, false, nat_eq, List, [], ◌∷◌, Option, None, Some, ◌&&◌, refl, ap, ap₂, ◌∙◌}
+use Rattle.std.proofs.Common.{◌≡◌, ℕ, Bool, true, false, List, [], ◌∷◌, None, ◌&&◌, refl, ap, ap₂, ◌∙◌}
 use Rattle.std.proofs.lemmas.Bool.{eqb-true}
 use Rattle.std.specs.Cmp.Lexicographic.{pointwise}
 use Rattle.wasm_tree.specs.declared.code.Op.{Op}
@@ -14,7 +14,6 @@ use Rattle.wasm_tree.specs.declared.kinds.ValueType.TheVariants as types
 use Rattle.wasm_tree.specs.declared.instr.Instr.{Instr}
 use Rattle.wasm_tree.specs.declared.module.Locals.{Locals}
 use Rattle.wasm_tree.specs.Machine.{Typed, are_same}
-use Rattle.wasm_known.specs.Codes.{check_code, check_typed, fill_code, fill_typed, copy_code, copy_typed, div_code, div_typed, mod_code, mod_typed, one_wide}
 use Rattle.wasm_tree.specs.contracts.code.OpPartialEq.TheImpl.{eq-value}
 
 abbrev pub eqs : Op → Op → Bool

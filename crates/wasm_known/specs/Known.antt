@@ -1,10 +1,9 @@
 -- What a call of a known function comes to, with the number of reductions.
-use Rattle.std.specs.Prelude.{◌≡◌, false, ℕ, ◌+◌, ◌-◌, ◌*◌, ◌≤◌, ◌<◌, ◌^◌, ◌%◌, List, [], ◌∷◌, ◌++◌, length, slice_get, Some}
+use Rattle.std.specs.Prelude.{◌≡◌, false, ℕ, ◌+◌, ◌-◌, ◌*◌, ◌≤◌, ◌<◌, ◌^◌, ◌%◌, List, [], ◌∷◌, ◌++◌, length, Some}
 use Rattle.std.specs.Int.{w64}
 use Rattle.wasm_tree.specs.declared.instr.Instr.{Instr}
 use Rattle.wasm_tree.specs.declared.instr.Instr.TheVariants as instr
-use Rattle.wasm_tree.specs.declared.instr.Numeric.TheVariants as numeric
-use Rattle.wasm_tree.specs.declared.instr.Operation.TheVariants.{Add, DivS, RemS}
+use Rattle.wasm_tree.specs.declared.instr.Operation.TheVariants.{DivS, RemS}
 use Rattle.wasm_tree.specs.declared.module.WModule.{WModule}
 use Rattle.wasm_tree.specs.declared.store.Value.{Value}
 use Rattle.wasm_tree.specs.declared.store.Value.TheVariants.{I32, I64}

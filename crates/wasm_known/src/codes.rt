@@ -9,7 +9,9 @@ use wasm_link::{TypedFunction, has_types};
 use wasm_tree::{Load, Locals, Numeric, Op, Operation, Relation, StoreWidth, ValueType};
 
 const NARROW: ValueType = ValueType::I32;
+
 const WIDE: ValueType = ValueType::I64;
+
 const GREATEST: u32 = 4_294_967_295;
 
 #[tactic(auto, unfolding(wasm_tree::specs::Code::tree, wasm_tree::specs::Code::tree_within))]

@@ -87,12 +87,7 @@ fn has_check(modules: &[ValidModule], store: &Store, number: usize) -> bool
 }
 
 /// What the function of an index is.
-fn known(
-    modules: &[ValidModule],
-    store: &Store,
-    instance: usize,
-    index: usize,
-) -> KnownFunction
+fn known(modules: &[ValidModule], store: &Store, instance: usize, index: usize) -> KnownFunction
     ensures { Means modules.now store.now instance index result }
 {
     let Some((own, function)) = own_found(modules, store, instance, index) else {

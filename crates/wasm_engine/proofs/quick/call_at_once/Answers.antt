@@ -1,4 +1,3 @@
-use Rattle.std.proofs.Common.{sym, ◌∙◌}
 use Rattle.wasm_machine.specs.Going.{activation, store_of, callers_of, going}
 use Rattle.wasm_known.specs.declared.table.KnownFunction.TheVariants as kind
 use Rattle.wasm_engine.proofs.AtOnce.{none_made, means_known, well_of}

@@ -1,4 +1,3 @@
-use Rattle.std.proofs.Common.{sym, ◌∙◌}
 use Rattle.wasm_engine.proofs.Taken.{fourth, third, second, first, top_is, taken, taken_four, restored}
 use Rattle.wasm_engine.proofs.quick.checked.Goals as goal
 
