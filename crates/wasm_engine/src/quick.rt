@@ -46,7 +46,7 @@ const GREATEST_DIVISOR: u64 = 4_294_967_295;
 /// What code begins with, as far as several reductions may be made at once.
 #[derive(Clone, Copy)]
 enum Front {
-    Constants,
+    Constant,
     Call,
     Other,
 }
@@ -63,7 +63,7 @@ struct Bounds {
 #[inline(always)]
 fn begins_with(code: &[Op]) -> Front {
     match code {
-        [Op::I64Const(_), Op::I64Const(_), ..] => Front::Constants,
+        [Op::I64Const(_), ..] => Front::Constant,
         [Op::Call(_), ..] => Front::Call,
         _ => Front::Other,
     }
@@ -393,7 +393,7 @@ fn at_once<'a>(
     ensures goes { IfOk result (λ n. Goes modules.now n (going machine.old) (going machine.new)) }
 {
     match begins_with(machine.now.rest) {
-        Front::Constants => Ok(bounds_at_once(modules, table, machine, most)),
+        Front::Constant => Ok(bounds_at_once(modules, table, machine, most)),
         Front::Call => call_at_once(modules, table, machine, most),
         Front::Other => Ok(0),
     }
