@@ -3,10 +3,10 @@ use Rattle.std.proofs.Common.{◌≡◌, ℕ, ◌+◌, ◌-◌, ◌≤◌, List,
 use Rattle.wasm_tree.specs.Machine.{Progress, run}
 use Rattle.wasm_engine.specs.Reported.{with_bytes}
 use Rattle.wasm_engine.specs.declared.engine.Instances.{Instances}
-use Rattle.wasm_engine.specs.declared.frame.Machine.{Machine}
+use Rattle.wasm_machine.specs.declared.frame.Machine.{Machine}
 use Rattle.wasm_engine.specs.declared.engine.End.{End}
 use Rattle.wasm_engine.specs.declared.engine.End.TheVariants.{Done, Trap, StillRunning}
-use Rattle.wasm_engine.specs.Going.{going}
+use Rattle.wasm_machine.specs.Going.{going}
 use Rattle.wasm_engine.specs.Ends.{config_at}
 use Rattle.wasm_engine.specs.Instances.{config_of, modules_of, has_failed, Made, Runs, IsEnd}
 use Rattle.wasm_engine.proofs.Runs.{IsOver, run_over, followed, run-plus, run-zero, with_bytes-append, with_bytes-nil}
@@ -29,6 +29,7 @@ pub record SoFar {S : Type 0} (reported : S → Option (List ℕ)) (failed : S �
   pub failures : failed after ≡ failed before
   pub modules : modules_of now ≡ modules_of old
   pub broken : has_failed now ≡ has_failed old
+  pub table : now.table ≡ old.table
 
 module _ {S : Type 0} (reported : S → Option (List ℕ)) (failed : S → ℕ) (old : Instances) (before : S) where
   pub at_first : SoFar reported failed 0 old old before before
@@ -38,11 +39,12 @@ module _ {S : Type 0} (reported : S → Option (List ℕ)) (failed : S → ℕ) 
     failures = refl;
     modules = refl;
     broken = refl;
+    table = refl;
   }
 
-  pub some_more : (k n : ℕ) (now next : Instances) (after later : S) → SoFar reported failed k old now before after → Made reported failed n now next after later → modules_of next ≡ modules_of now → has_failed next ≡ has_failed now
+  pub some_more : (k n : ℕ) (now next : Instances) (after later : S) → SoFar reported failed k old now before after → Made reported failed n now next after later → modules_of next ≡ modules_of now → has_failed next ≡ has_failed now → next.table ≡ now.table
       → SoFar reported failed (k + n) old next before later
-  some_more k n now next after later so_far made same kept =
+  some_more k n now next after later so_far made same kept known =
       let first = run (modules_of old) k (config_of old) in
       let more : run (modules_of now) n (config_of now) ≡ run (modules_of old) n first.0 = rw (so_far.modules, so_far.config) refl in
       let whole : run (modules_of old) (k + n) (config_of old) ≡ followed (modules_of old) n first = run-plus (modules_of old) k n (config_of old) in
@@ -56,6 +58,7 @@ module _ {S : Type 0} (reported : S → Option (List ℕ)) (failed : S → ℕ) 
         failures = made.failures ∙ so_far.failures;
         modules = same ∙ so_far.modules;
         broken = kept ∙ so_far.broken;
+        table = known ∙ so_far.table;
       }
 
   -- the run was over before all reductions were made

@@ -1,9 +1,7 @@
 pub mod Runs
 pub mod GoesOn
-pub mod Last
-pub mod Pages
 pub mod WellKept
-pub mod Found
-pub mod Ready
-pub mod Groups
-pub mod Opened
+pub mod Taken
+pub mod AtOnce
+pub mod Held
+pub mod Clearing

@@ -2,8 +2,8 @@
 use Rattle.std.specs.Prelude.{◌≡◌, ℕ, ◌≤◌, ◌+◌, ◌⊎◌, Option, Some, None, Bool, List}
 use Rattle.wasm_tree.specs.declared.module.WModule.{WModule}
 use Rattle.wasm_tree.specs.Machine.{Config, Going, Over, Trapped, run}
-use Rattle.wasm_engine.specs.Going.{going, progress}
-use Rattle.wasm_engine.specs.declared.frame.Reduced.{Reduced}
+use Rattle.wasm_machine.specs.Going.{going, progress}
+use Rattle.wasm_machine.specs.declared.frame.Reduced.{Reduced}
 use Rattle.wasm_engine.specs.Ends.{config_at}
 use Rattle.wasm_engine.specs.Reported.{with_bytes}
 use Rattle.wasm_engine.specs.declared.engine.RunFault.{RunFault}

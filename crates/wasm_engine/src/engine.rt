@@ -6,20 +6,20 @@ ghost use Rattle.wasm_tree.specs.Machine.{Config, Typed, own_function, callee_at
 ghost use Rattle.wasm_tree.specs.Linking.{link, start, started};
 ghost use Rattle.wasm_tree.specs.declared.store.Callee.{Callee};
 ghost use Rattle.wasm_tree.specs.Validity.{IsValid};
-ghost use Rattle.wasm_engine.specs.Going.{activation, going, progress, memory_from};
+ghost use Rattle.wasm_machine.specs.Going.{activation, going, progress, memory_from};
 ghost use Rattle.wasm_engine.specs.Ends.{config_at};
-ghost use Rattle.wasm_engine.specs.Well.{IsWell};
+ghost use Rattle.wasm_engine.specs.Quick.{Holds};
 ghost use Rattle.wasm_engine.specs.Safe.{StaysSafe};
 ghost use Rattle.wasm_engine.specs.Reported.{with_bytes};
 
-use crate::call::entered;
-use crate::frame::{Machine, Pages, Reduced};
-use crate::machine::reduce;
+use crate::quick::several;
 use crate::sink::Sink;
 use sqlite_items::{Items, at};
 use std::alloc::{AllocError, Global};
 use thiserror::Error;
+use wasm_known::{KnownFunction, known_functions};
 use wasm_link::{linked_all, own_function, run_of};
+use wasm_machine::{Machine, Pages, Reduced, entered};
 use wasm_operands::Operands;
 use wasm_tree::{Callee, Memory, Store, WFault};
 use wasm_valid::ValidModule;
@@ -65,11 +65,13 @@ impl From<AllocError> for RunFault {
 pub struct Instances<'a> {
     alloc: Global,
     modules: &'a [ValidModule],
+    // Which functions are known by their code, found when the modules are linked.
+    table: Items<Items<KnownFunction>>,
     machine: Machine<'a>,
     end: End,
     is_broken: bool,
-    // What an instruction needs is there, as long as the run was not broken off.
-    ghost sound: { ∥ (is_broken ≡ false → IsWell modules.now (config_at end (going machine))) ∥₁ },
+    // What an instruction needs is there, and the table is right, as long as the run was not broken off.
+    ghost sound: { ∥ (is_broken ≡ false → Holds modules.now table (config_at end (going machine))) ∥₁ },
 }
 
 /// The memories, as the run has them.
@@ -174,9 +176,11 @@ impl<'a> Instances<'a> {
         ensures fresh { IfOk result (λ i. (modules_of i ≡ modules.now) × (has_failed i ≡ false)) }
     {
         let machine = linked(alloc, modules)?;
+        let table = known_functions(alloc, modules, &machine.store)?;
         Ok(Instances {
             alloc,
             modules,
+            table,
             machine,
             end: End::StillRunning,
             is_broken: false,
@@ -223,12 +227,12 @@ impl<'a> Instances<'a> {
     fn go_on<S: Sink>(&mut self, steps: u64, out: &mut S) -> Result<End, RunFault>
         requires room { S.failed out.old + 1 < 2 ^ 64 }
         requires broken { has_failed self.old ≡ true }
-        requires sound { ∥ IsWell (modules_of self.old) (config_of self.old) ∥₁ }
+        requires sound { ∥ Holds (modules_of self.old) self.old.table (config_of self.old) ∥₁ }
         ensures ok { IfOk result (λ e. Runs S.reported S.failed steps e self.old self.new out.old out.new) }
         ensures err { IfErr result (λ e.
             RunsPart S.reported steps self.old out.old out.new × Breaks S.failed e out.old out.new) }
         ensures keeps { (modules_of self.new ≡ modules_of self.old)
-            × (has_failed self.new ≡ has_failed self.old) }
+            × (has_failed self.new ≡ has_failed self.old) × (self.new.table ≡ self.old.table) }
     {
         let mut left = steps;
         while left > 0 && self.end == End::StillRunning {
@@ -243,14 +247,20 @@ impl<'a> Instances<'a> {
         requires going { self.old.end ≡ End.StillRunning }
         requires most { 0 < most }
         requires broken { has_failed self.old ≡ true }
-        requires sound { ∥ IsWell (modules_of self.old) (config_of self.old) ∥₁ }
+        requires sound { ∥ Holds (modules_of self.old) self.old.table (config_of self.old) ∥₁ }
         ensures ok { IfOk result (λ n.
             (0 < n) × (n ≤ most) × Made S.reported S.failed n self.old self.new out.old out.new) }
         ensures err { IfErr result (λ e. Stops S.reported S.failed e out.old out.new) }
         ensures keeps { (modules_of self.new ≡ modules_of self.old)
-            × (has_failed self.new ≡ has_failed self.old) }
+            × (has_failed self.new ≡ has_failed self.old) × (self.new.table ≡ self.old.table) }
     {
-        let (made, reduced) = go(self.alloc, self.modules, &mut self.machine, most)?;
+        let (made, reduced) = go(
+            self.alloc,
+            self.modules,
+            self.table.as_slice(),
+            &mut self.machine,
+            most,
+        )?;
         self.settle(reduced, out)?;
         Ok(made)
     }
@@ -264,7 +274,7 @@ impl<'a> Instances<'a> {
             (λ _. Settles S.reported S.failed reduced self.old self.new out.old out.new)
             (λ e. Stops S.reported S.failed e out.old out.new) }
         ensures keeps { (modules_of self.new ≡ modules_of self.old)
-            × (has_failed self.new ≡ has_failed self.old) }
+            × (has_failed self.new ≡ has_failed self.old) × (self.new.table ≡ self.old.table) }
     {
         match reduced {
             Reduced::On => Ok(()),
@@ -291,18 +301,19 @@ impl<'a> Instances<'a> {
 fn go<'a>(
     alloc: Global,
     modules: &'a [ValidModule],
+    table: &[Items<KnownFunction>],
     machine: &mut Machine<'a>,
     most: u64,
 ) -> Result<(u64, Reduced), AllocError>
     requires most { 0 < most }
-    requires sound { ∥ IsWell modules.now (going machine.old) ∥₁ }
+    requires sound { ∥ Holds modules.now table.now (going machine.old) ∥₁ }
     ensures within { IfOk result (λ p. (0 < p.0) × (p.0 ≤ most)) }
     ensures made { IfOk result (λ p. progress p.1 machine.new ≡ run modules.now p.0 (going machine.old)) }
 {
     let mut made = 0;
     while made < most {
-        let reduced = reduce(alloc, modules, machine)?;
-        made += 1;
+        let (count, reduced) = several(alloc, modules, table, machine, most - made)?;
+        made += count;
         if reduced != Reduced::On {
             return Ok((made, reduced));
         }

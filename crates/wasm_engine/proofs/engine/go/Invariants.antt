@@ -1,6 +1,6 @@
 use Rattle.std.proofs.Common.{◌≡◌, ◌-◌, ◌≤◌, []}
 use Rattle.wasm_tree.specs.Machine.{run}
-use Rattle.wasm_engine.specs.Going.{going}
+use Rattle.wasm_machine.specs.Going.{going}
 use Rattle.wasm_engine.proofs.engine.go.Given as goal
 
 abbrev pub invariant-loop-made : goal.invariant-loop-made

@@ -1,5 +1,5 @@
 use Rattle.std.proofs.Common.{◌≡◌, map, take}
-use Rattle.wasm_engine.specs.Going.{memory_from}
+use Rattle.wasm_machine.specs.Going.{memory_from}
 use Rattle.wasm_engine.proofs.engine.pages_of.Given as goal
 
 abbrev pub invariant-loop-memory : goal.invariant-loop-memory

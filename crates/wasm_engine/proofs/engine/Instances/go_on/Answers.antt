@@ -1,7 +1,7 @@
 use Rattle.std.proofs.Common.{◌≡◌, ◌≢◌, ◌+◌, ◌-◌, subst, arith, rules}
 use Rattle.wasm_engine.specs.declared.engine.End.TheVariants.{StillRunning}
 use Rattle.wasm_engine.specs.Instances.{config_of, modules_of}
-use Rattle.wasm_engine.proofs.WellKept.{well_run}
+use Rattle.wasm_engine.proofs.AtOnce.{holds_after}
 use Rattle.wasm_engine.proofs.GoesOn.{SoFar, at_first, some_more, over_early, all_made}
 use Rattle.wasm_engine.proofs.engine.Instances.go_on.Goals.{then-loop-left-test+else-eq, else-loop-left-test}
 use Rattle.wasm_engine.proofs.engine.Instances.go_on.Goals as goal
@@ -19,7 +19,7 @@ loop-left-preserved g c =
       omega (arith, c.loop-left.invariant.0),
       subst (λ k. SoFar g.S.Sink.reported g.S.Sink.failed k c.args.self.now c.some.new.self c.args.out.now c.some.new.out) sum
           (some_more g.S.Sink.reported g.S.Sink.failed c.args.self.now c.args.out.now (c.args.steps - c.loop-left.left) n c.loop-left.self c.some.new.self c.loop-left.out c.some.new.out c.loop-left.invariant.1
-          made.2 c.in_ok-left.ensures.keeps.0 c.in_ok-left.ensures.keeps.1),
+          made.2 c.in_ok-left.ensures.keeps.0 c.in_ok-left.ensures.keeps.1 c.in_ok-left.ensures.keeps.2),
     )
 
 pub returns-clause-ok : goal.returns-clause-ok
@@ -35,4 +35,4 @@ returns-clause-ok g c = elim c.loop-left-test.branch [
 pub some-requires-clause-sound : goal.some-requires-clause-sound
 some-requires-clause-sound g c =
     let so_far = c.loop-left.invariant.1 in
-    rw so_far.modules (well_run (modules_of c.args.self.now) (c.args.steps - c.loop-left.left) (config_of c.args.self.now) (config_of c.loop-left.self) c.requires.sound so_far.config)
+    rw (so_far.modules, so_far.table) (holds_after (modules_of c.args.self.now) c.args.self.now.table (c.args.steps - c.loop-left.left) (config_of c.args.self.now) (config_of c.loop-left.self) c.requires.sound so_far.config)

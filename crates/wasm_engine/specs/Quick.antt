@@ -1,0 +1,69 @@
+-- Several reductions at once.
+use Rattle.std.specs.Prelude.{◌≡◌, ◌≤◌, ◌<◌, ◌^◌, false, true, ℕ, Bool, List, [], ◌∷◌, ◌++◌, length, slice_get, slice_set, Option, Some}
+use Rattle.std.specs.Option.{option_and_then}
+use Rattle.std.specs.Int.{w64}
+use Rattle.wasm_tree.specs.declared.module.WModule.{WModule}
+use Rattle.wasm_tree.specs.declared.instr.Operation.TheVariants.{DivS, RemS}
+use Rattle.wasm_tree.specs.declared.store.Value.{Value}
+use Rattle.wasm_tree.specs.declared.store.Value.TheVariants.{I64}
+use Rattle.wasm_tree.specs.Numbers.{is_less, operated}
+use Rattle.wasm_tree.specs.declared.store.Instance.{Instance}
+use Rattle.wasm_tree.specs.declared.store.Memory.{Memory}
+use Rattle.wasm_tree.specs.declared.store.Store.{Store}
+use Rattle.wasm_tree.specs.Machine.{Config, instance_of, run}
+use Rattle.wasm_known.specs.declared.table.KnownFunction.{KnownFunction}
+use Rattle.wasm_known.specs.Known.{quotient_down, remainder_up}
+use Rattle.wasm_known.specs.Table.{StaysRight}
+use Rattle.wasm_machine.specs.Well.{IsWell}
+
+-- what the engine keeps: where the run is is well typed, and the table of known functions is right there
+pub record Holds (modules : List WModule) (table : List (List KnownFunction)) (c : Config) : Type 0 where
+  pub well : IsWell modules c
+  pub right : StaysRight modules table c
+
+-- so many reductions lead there, and print nothing
+abbrev pub Goes : List WModule → (n : ℕ) → (old new : Config) → Type 0
+Goes modules n old new = (new, []) ≡ run modules n old
+
+-- the number is between its bounds
+abbrev pub IsBetween : (number lo hi : ℕ) → Type 0
+IsBetween number lo hi = (is_less w64 number lo ≡ false) × (is_less w64 hi number ≡ false)
+
+-- the operands of check are on top
+abbrev pub HasFour : List Value → Type 0
+HasFour stack = (below : List Value) × (v lo hi k : ℕ) × (stack ≡ below ++ I64 v ∷ I64 lo ∷ I64 hi ∷ I64 k ∷ [])
+
+-- the number was between its bounds and is left alone on top, or all operands are as before
+abbrev pub Checked : Bool → (old new : List Value) → Type 0
+Checked false old new = new ≡ old
+Checked true old new =
+    (below : List Value) × (v lo hi k : ℕ) × (old ≡ below ++ I64 v ∷ I64 lo ∷ I64 hi ∷ I64 k ∷ []) × IsBetween v lo hi × (new ≡ below ++ I64 v ∷ [])
+
+abbrev pub least_divisor : ℕ
+least_divisor = 1
+
+abbrev pub greatest_divisor : ℕ
+greatest_divisor = 4294967295
+
+-- the quotient rounded down, and the remainder from 0 up, where the divisor is between its bounds and division is defined
+abbrev pub IsQuotient : (x y n : ℕ) → Type 0
+IsQuotient x y n = IsBetween y least_divisor greatest_divisor × (q r : ℕ) × (operated DivS x y ≡ Some q) × (operated RemS x y ≡ Some r) × (n ≡ quotient_down q r)
+
+abbrev pub IsRemainder : (x y n : ℕ) → Type 0
+IsRemainder x y n = IsBetween y least_divisor greatest_divisor × (r : ℕ) × (operated RemS x y ≡ Some r) × (n ≡ remainder_up r y)
+
+-- a number was made of the two on top and is left in their place, or they are as before
+abbrev pub Replaced : (Is : (x y n : ℕ) → Type 0) → Bool → (old new : List Value) → Type 0
+Replaced Is false old new = new ≡ old
+Replaced Is true old new = (below : List Value) × (x y n : ℕ) × (old ≡ below ++ I64 x ∷ I64 y ∷ []) × Is x y n × (new ≡ below ++ I64 n ∷ [])
+
+-- where the memory of a module stands
+abbrev pub memory_place : Store → (m : ℕ) → Option ℕ
+memory_place st m = option_and_then (λ (i : Instance). slice_get i.memories 0) (instance_of st m)
+
+-- the bytes of a module's memory, which reaches so far and is no memory of 2^32 bytes, were changed, or all is as before
+abbrev pub Changed : Bool → Store → (own reach : ℕ) → (List ℕ → List ℕ) → (old new : List Memory) → Type 0
+Changed false st own reach change old new = new ≡ old
+Changed true st own reach change old new =
+    (place : ℕ) × (memory : Memory) × (memory_place st own ≡ Some place) × (slice_get old place ≡ Some memory) × (reach ≤ length memory.bytes) × (length memory.bytes < 2 ^ 32)
+    × (new ≡ slice_set old place (record memory { bytes = change memory.bytes }))

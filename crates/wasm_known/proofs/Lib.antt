@@ -1,0 +1,13 @@
+pub mod Computed
+pub mod Calls
+pub mod Check
+pub mod Calculated
+pub mod Memories
+pub mod Fill
+pub mod Copy
+pub mod Divide
+pub mod Arguments
+pub mod Sets
+pub mod Names
+pub mod Same
+pub mod Right

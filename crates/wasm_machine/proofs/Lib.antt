@@ -1,0 +1,7 @@
+pub mod Last
+pub mod Placing
+pub mod Found
+pub mod Ready
+pub mod Groups
+pub mod Opened
+pub mod Fronts

@@ -1,0 +1,4 @@
+pub mod Run
+pub mod Going
+pub mod Well
+pub mod There

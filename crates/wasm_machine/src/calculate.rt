@@ -1,0 +1,185 @@
+//! Instructions that take numbers off the operand stack and push one (Core 1.0, section 4.4.1).
+
+ghost use Rattle.std.specs.Prelude.{◌≡◌, ◌<◌, ◌-◌, Some, None, List, take, length};
+ghost use Rattle.wasm_tree.specs.Machine.{calculated, begun, top_i32, top_i64};
+ghost use Rattle.wasm_tree.specs.declared.module.WModule.{WModule};
+ghost use Rattle.wasm_tree.specs.declared.instr.Instr.TheVariants as instr;
+ghost use Rattle.wasm_sound.specs.Ready.{IsI32, IsI64, AreI32, AreI64, AreNumbers};
+ghost use Rattle.wasm_machine.specs.Run.{if_kept};
+ghost use Rattle.wasm_machine.specs.There.{replaced};
+ghost use Rattle.wasm_machine.specs.Going.{activation, store_of, callers_of, progress};
+
+use crate::frame::{Machine, Reduced};
+use wasm_operands::{Operands, compares_32, compares_64, extended, operated, truth};
+use wasm_tree::{Numeric, Operation, Relation};
+
+/// Two numbers of 32 bits, of which the topmost one is taken off.
+#[inline(always)]
+fn two_32(stack: &mut Operands) -> (u32, u32)
+    requires { ∥ AreI32 stack.old.known.values ∥₁ }
+    ensures top { top_i32 stack.old.known.values ≡ Some (stack.new.known.values, result.1) }
+    ensures next { top_i32 stack.new.known.values
+        ≡ Some (take (length stack.new.known.values - 1) stack.new.known.values, result.0) }
+    ensures some { 0 < length stack.new.known.values }
+{
+    let m = stack.pop_i32();
+    (stack.top_i32(), m)
+}
+
+/// Two numbers of 64 bits, of which the topmost one is taken off.
+#[inline(always)]
+fn two_64(stack: &mut Operands) -> (u64, u64)
+    requires { ∥ AreI64 stack.old.known.values ∥₁ }
+    ensures top { top_i64 stack.old.known.values ≡ Some (stack.new.known.values, result.1) }
+    ensures next { top_i64 stack.new.known.values
+        ≡ Some (take (length stack.new.known.values - 1) stack.new.known.values, result.0) }
+    ensures some { 0 < length stack.new.known.values }
+{
+    let m = stack.pop_i64();
+    (stack.top_i64(), m)
+}
+
+#[tactic(auto, using(wasm_operands::proofs::Cells::some_32))]
+#[inline(always)]
+fn equals_zero_32(stack: &mut Operands) -> bool
+    requires { ∥ IsI32 stack.old.known.values ∥₁ }
+    ensures { if_kept stack.new.known.values result
+        ≡ replaced (calculated Numeric.I32Eqz stack.old.known.values) }
+{
+    let n = stack.top_i32();
+    stack.set_i32(truth(n == 0));
+    true
+}
+
+#[tactic(auto, using(wasm_operands::proofs::Cells::some_64))]
+#[inline(always)]
+fn equals_zero_64(stack: &mut Operands) -> bool
+    requires { ∥ IsI64 stack.old.known.values ∥₁ }
+    ensures { if_kept stack.new.known.values result
+        ≡ replaced (calculated Numeric.I64Eqz stack.old.known.values) }
+{
+    let n = stack.top_i64();
+    stack.set_i32(truth(n == 0));
+    true
+}
+
+#[inline(always)]
+fn relation_32(stack: &mut Operands, relation: Relation) -> bool
+    requires { ∥ AreI32 stack.old.known.values ∥₁ }
+    ensures { if_kept stack.new.known.values result
+        ≡ replaced (calculated (Numeric.I32Relation relation) stack.old.known.values) }
+{
+    let (n, m) = two_32(stack);
+    stack.set_i32(truth(compares_32(relation, n, m)));
+    true
+}
+
+#[inline(always)]
+fn relation_64(stack: &mut Operands, relation: Relation) -> bool
+    requires { ∥ AreI64 stack.old.known.values ∥₁ }
+    ensures { if_kept stack.new.known.values result
+        ≡ replaced (calculated (Numeric.I64Relation relation) stack.old.known.values) }
+{
+    let (n, m) = two_64(stack);
+    stack.set_i32(truth(compares_64(relation, n, m)));
+    true
+}
+
+#[inline(always)]
+fn sum_32(stack: &mut Operands) -> bool
+    requires { ∥ AreI32 stack.old.known.values ∥₁ }
+    ensures { if_kept stack.new.known.values result
+        ≡ replaced (calculated Numeric.I32Add stack.old.known.values) }
+{
+    let (n, m) = two_32(stack);
+    stack.set_i32(n.wrapping_add(m));
+    true
+}
+
+#[inline(always)]
+fn operation_64(stack: &mut Operands, operation: Operation) -> bool
+    requires { ∥ AreI64 stack.old.known.values ∥₁ }
+    ensures { if_kept stack.new.known.values result
+        ≡ replaced (calculated (Numeric.I64Operation operation) stack.old.known.values) }
+{
+    let (n, m) = two_64(stack);
+    match operated(operation, n, m) {
+        None => false,
+        Some(number) => {
+            stack.set_i64(number);
+            true
+        }
+    }
+}
+
+#[tactic(auto, using(wasm_operands::proofs::Cells::some_64))]
+#[inline(always)]
+fn wrapped(stack: &mut Operands) -> bool
+    requires { ∥ IsI64 stack.old.known.values ∥₁ }
+    ensures { if_kept stack.new.known.values result
+        ≡ replaced (calculated Numeric.I32WrapI64 stack.old.known.values) }
+{
+    let n = stack.top_i64();
+    stack.set_i32((n % 4_294_967_296) as u32);
+    true
+}
+
+#[tactic(auto, using(wasm_operands::proofs::Cells::some_32))]
+#[inline(always)]
+fn extended_by_sign(stack: &mut Operands) -> bool
+    requires { ∥ IsI32 stack.old.known.values ∥₁ }
+    ensures { if_kept stack.new.known.values result
+        ≡ replaced (calculated Numeric.I64ExtendI32S stack.old.known.values) }
+{
+    let n = stack.top_i32();
+    stack.set_i64(extended(n));
+    true
+}
+
+#[tactic(auto, using(wasm_operands::proofs::Cells::some_32))]
+#[inline(always)]
+fn extended_by_zeros(stack: &mut Operands) -> bool
+    requires { ∥ IsI32 stack.old.known.values ∥₁ }
+    ensures { if_kept stack.new.known.values result
+        ≡ replaced (calculated Numeric.I64ExtendI32U stack.old.known.values) }
+{
+    let n = stack.top_i32();
+    stack.set_i64(u64::from(n));
+    true
+}
+
+/// Puts what this instruction makes of the topmost operands in their place. False where that is not defined.
+#[inline(always)]
+fn calculated(stack: &mut Operands, numeric: Numeric) -> bool
+    requires { ∥ AreNumbers numeric stack.old.known.values ∥₁ }
+    ensures { if_kept stack.new.known.values result ≡ replaced (calculated numeric stack.old.known.values) }
+{
+    match numeric {
+        Numeric::I32Eqz => equals_zero_32(stack),
+        Numeric::I32Relation(relation) => relation_32(stack, relation),
+        Numeric::I64Eqz => equals_zero_64(stack),
+        Numeric::I64Relation(relation) => relation_64(stack, relation),
+        Numeric::I32Add => sum_32(stack),
+        Numeric::I64Operation(operation) => operation_64(stack, operation),
+        Numeric::I32WrapI64 => wrapped(stack),
+        Numeric::I64ExtendI32S => extended_by_sign(stack),
+        Numeric::I64ExtendI32U => extended_by_zeros(stack),
+    }
+}
+
+/// Puts what this instruction makes of the topmost operands in their place.
+#[tactic(auto, using(crate::proofs::Opened::out_numeric))]
+#[inline(always)]
+pub fn calculate(machine: &mut Machine<'_>, numeric: Numeric) -> Reduced
+    requires { ∥ AreNumbers numeric machine.old.now.stack.known.values ∥₁ }
+    ensures { (modules : List WModule)
+        → progress result machine.new
+        ≡ begun modules (store_of machine.old) (activation machine.old.now)
+        (callers_of machine.old) (instr.Numeric numeric) }
+{
+    if calculated(&mut machine.now.stack, numeric) {
+        Reduced::On
+    } else {
+        Reduced::Trapped
+    }
+}
