@@ -54,6 +54,7 @@ def write_files(folder, texts):
 
 
 def size_of(files):
+    """The bytes of all these files."""
     return sum(map(os.path.getsize, files))
 
 

@@ -10,6 +10,7 @@ SHAPES = {
 
 
 def corpus(room, modules, pairs):
+    """Builds a program of so many modules."""
     print(f"{modules} modules of tools/make_corpus, with {pairs} pairs of procedures each:")
     report_builds(make_corpus(f"{room}/corpus", modules, pairs), room, (1, 2, 4))
 
@@ -32,6 +33,7 @@ def links_of(count):
 
 
 def chain(room, count):
+    """Builds a chain of so many definitions."""
     print(f"a chain of {count} definitions:")
     report_builds(write_files(f"{room}/chain", links_of(count)), room, (1, 8))
 
@@ -43,6 +45,7 @@ def neighbours(names, number, most):
 
 
 def import_of(names):
+    """The import of these modules, or nothing."""
     return f"IMPORT {', '.join(names)};\n" if names else ""
 
 
@@ -58,6 +61,7 @@ def importers(names, chosen, most):
 
 
 def imports(room, count, most):
+    """Builds so many files of up to so many imports, in each shape."""
     names = [f"M{number:06}" for number in range((count - 1) // 2)]
     for shape, chosen in SHAPES.items():
         print(f"imports, {shape}:")

@@ -15,6 +15,7 @@ Ran = collections.namedtuple("Ran", "status seconds clock memory said")
 
 
 def unlimit_stack():
+    """Gives the process as much native stack as the system allows."""
     most = resource.getrlimit(resource.RLIMIT_STACK)[1]
     resource.setrlimit(resource.RLIMIT_STACK, (most, most))
 

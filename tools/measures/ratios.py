@@ -16,6 +16,7 @@ def seconds_of(words):
 
 
 def ratio(one, other):
+    """A ratio in words, or `none` if one of both is not there."""
     return f"{one / other:.2f}" if one and other else "none"
 
 

@@ -19,16 +19,19 @@ def imported_files():
 
 
 def read_files(size, *row):
+    """The files of a text that has to be read."""
     return {"m.mod": text_of(size, *row)}
 
 
 def definition_files(size, head, piece, tail):
+    """The files of a definition: with its implementation, and a program that imports it."""
     text = text_of(size, f"DEFINITION MODULE M; {head}", piece, f"{tail} END M.")
     beside = {"M.mod": "IMPLEMENTATION MODULE M; END M.", "P.mod": "MODULE P; IMPORT M; END P."}
     return {**imported_files(), "M.def": text, **beside}
 
 
 def body_files(size, head, piece, tail):
+    """The files of a program module."""
     return {**imported_files(), "M.mod": text_of(size, f"MODULE M; {head}", piece, f"{tail} END M.")}
 
 
@@ -43,6 +46,7 @@ def texts_of(size):
 
 
 def repeats(room, size):
+    """Builds a text of this size for each construct, and reports them, and the slowest again."""
     print("seconds of processor time, bytes of memory a byte of text, what comes of it, the kind and the construct")
     lines = []
     for name, texts in texts_of(size):

@@ -6,7 +6,9 @@ from .builds import is_built, make_corpus, size_of, write_files
 from .processes import FAILED, M2RUN, middle
 from .programs import PROGRAMS
 
+# the status of a program that still runs after so many reductions
 STILL_RUNS = 4
+# the modules of the large program, and their pairs of procedures
 LARGE = (16, 600)
 MILLION = 1_000_000
 
@@ -21,6 +23,7 @@ def run_on(name, out, steps):
 
 
 def run_program(room, name, steps):
+    """Builds a program without an end, and reports how fast it runs."""
     declared, body = PROGRAMS[name]
     text = f"MODULE M; FROM Console IMPORT Put; {declared} BEGIN LOOP {body} END END M.\n"
     out = f"{room}/out"
@@ -42,6 +45,7 @@ def run_large(room):
 
 
 def run(room, millions):
+    """Runs each program for so many million reductions, and a large one for one."""
     print("by processor time, and by the clock:")
     for name in PROGRAMS:
         # each byte that is printed is one call of the system

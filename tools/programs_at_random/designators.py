@@ -25,13 +25,16 @@ class Designators(Scope):
         raise NotImplementedError
 
     def integer_literal(self):
+        """Small most often."""
         usual = self.chance(0.9)
         return str(self.pick((0, 1, 2, 3, 7, 10, 25, 100) if usual else (2147483647, self.random.randint(0, 70000))))
 
     def cardinal_literal(self):
+        """Small most often."""
         return str(self.pick((0, 1, 2, 5, 8, 16, 255, 1000) if self.chance(0.9) else LARGE_CARDINALS))
 
     def literal(self, kind):
+        """A constant of the type, without an operation."""
         if kind == "INTEGER":
             return self.integer_literal()
         if kind == "CARDINAL":

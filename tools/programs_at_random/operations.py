@@ -11,6 +11,7 @@ class Operations(Expressions):
         return f"{left} {self.pick(operators)} {self.operand(base, depth)}"
 
     def division(self, base, depth):
+        """DIV or MOD."""
         left = self.operand(base, depth)
         return f"{left} {self.pick(('DIV', 'MOD'))} {self.divisor(base, depth)}"
 
@@ -22,6 +23,7 @@ class Operations(Expressions):
         return f"{self.pick(functions)}({self.value('INTEGER', depth)}, {self.value('CARDINAL', depth)})"
 
     def integer_of(self, depth):
+        """An operation of the type INTEGER."""
         how = self.random.randrange(11)
         if how < 4:
             return self.operation("INTEGER", "+-+-*", depth)
@@ -39,6 +41,7 @@ class Operations(Expressions):
         return f"{left} - {self.operand('INTEGER', depth)} + {self.literal('INTEGER')}"
 
     def cardinal_of(self, depth):
+        """An operation of the type CARDINAL."""
         how = self.random.randrange(10)
         if how < 3:
             return self.operation("CARDINAL", "+*+" if self.calm else "+-*", depth)
@@ -54,6 +57,7 @@ class Operations(Expressions):
         return f"ABS({self.operand('CARDINAL', depth)})"
 
     def boolean_of(self, depth):
+        """An operation of the type BOOLEAN."""
         how = self.random.randrange(9)
         if how < 4:
             kind = self.pick(("INTEGER", "CARDINAL", "CHAR", "Colour", "BOOLEAN"))
@@ -69,14 +73,17 @@ class Operations(Expressions):
         return self.pick((inverted, odd, f"~ {self.operand('BOOLEAN', depth)}"))
 
     def char_of(self, depth):
+        """A function with a result of the type CHAR."""
         of_number = f"CHR({self.operand('CARDINAL', depth)} MOD 128)"
         capital = f"CAP({self.value('CHAR', depth)})"
         of_value = f"VAL(CHAR, {self.operand('CARDINAL', depth)} MOD 200)"
         return self.pick((of_number, capital, of_value, "MAX(Letter)"))
 
     def bitset_of(self, depth):
+        """An operation of the type BITSET."""
         return self.operation("BITSET", "+-*/", depth)
 
     def colour_of(self, depth):
+        """A function with a result of the type Colour, which is rarely out of range."""
         number = self.operand("CARDINAL", depth)
         return f"VAL(Colour, {number} MOD {5 if self.calm or self.chance(0.95) else 6})"

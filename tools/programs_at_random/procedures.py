@@ -30,6 +30,7 @@ class Procedures(Statements):
         return [*names, control, (self.fresh_name("w"), "CARDINAL"), (self.fresh_name("w"), "CARDINAL")]
 
     def formal(self, kind, is_var=False):
+        """A formal: its new name, its type, and whether it is a VAR formal."""
         return self.fresh_name("a"), kind, is_var
 
     def heading(self):
@@ -64,6 +65,7 @@ class Procedures(Statements):
         self.procedures = [*self.procedures, Procedure(name, formals, result, self.level)]
 
     def procedures_within(self, nested):
+        """The procedures in a procedure of this level."""
         for _ in range(self.pick((0, 0, 1, 2)) if nested < 2 else 0):
             self.depth += 1
             self.procedure(nested + 1)

@@ -8,7 +8,8 @@ PUT_IMPORT = "FROM Console IMPORT Put;"
 LIBRARY_HEAD = "MODULE Lib;"
 
 
-def joined(*lines):
+def text_of(*lines):
+    """The text of a file."""
     return "\n".join(lines) + "\n"
 
 
@@ -32,6 +33,7 @@ class Program(Procedures):
         self.variables = kept
 
     def several_procedures(self, least, most):
+        """Procedures: a random number of them, within these bounds."""
         for _ in range(self.random.randint(least, most)):
             self.procedure()
 
@@ -54,7 +56,7 @@ class Program(Procedures):
         self.lines[at + 1 : at + 1] = [f"  {it}: {kind};" for it, kind in own]
         self.body(own, self.random.randint(6, 14))
         self.put("END Main.")
-        return {**library, "Main.mod": joined(*self.lines)}
+        return {**library, "Main.mod": text_of(*self.lines)}
 
     def library(self):
         """The files of a module with the types, some variables and some procedures, and the import of them all."""
@@ -63,7 +65,7 @@ class Program(Procedures):
         self.lines = []
         self.several_procedures(1, 3)
         self.body([], self.random.randint(2, 5))
-        implementation = joined(f"IMPLEMENTATION {LIBRARY_HEAD}", PUT_IMPORT, HELPERS, *self.lines, "END Lib.")
+        implementation = text_of(f"IMPLEMENTATION {LIBRARY_HEAD}", PUT_IMPORT, HELPERS, *self.lines, "END Lib.")
         return {"Lib.def": self.definition(names), "Lib.mod": implementation}, self.import_of(names)
 
     def definition(self, names):
@@ -71,9 +73,10 @@ class Program(Procedures):
         headings = [line for line in HELPERS.split("\n") if line.startswith("PROCEDURE")]
         headings += [heading_text(it.name, it.formals, it.result) for it in self.procedures]
         variables = [f"  {it}: {kind};" for it, kind in names]
-        return joined(f"DEFINITION {LIBRARY_HEAD}", TYPES + COUNTERS, "VAR", *variables, *headings, "END Lib.")
+        return text_of(f"DEFINITION {LIBRARY_HEAD}", TYPES + COUNTERS, "VAR", *variables, *headings, "END Lib.")
 
     def import_of(self, names):
+        """The import of all names of Lib."""
         own = [*(it for it, _ in names), *(it.name for it in self.procedures)]
         # an imported variable is no control variable, and procedures of Lib are known
         return f"FROM Lib IMPORT {', '.join([TYPE_NAMES, 'none', HELPER_NAMES, *own])};"

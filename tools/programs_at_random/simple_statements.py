@@ -51,6 +51,7 @@ class SimpleStatements(Operations):
             self.put(f"{self.pick(('INC', 'DEC', 'INC')) if risky else 'INC'}({to}{by});")
 
     def size_of_step(self):
+        """The second argument of INC or DEC."""
         return self.random.randint(0, 3) if self.calm or self.chance(0.6) else self.value("CARDINAL", 1)
 
     def change_set(self):
@@ -71,6 +72,7 @@ class SimpleStatements(Operations):
             self.put(f"{to} := {source};")
 
     def procedure_call(self):
+        """A call of a proper procedure."""
         found = [it for it in self.procedures if not it.result]
         if found and (call := self.call_of(self.pick(found))):
             self.put(f"{call};")

@@ -16,6 +16,7 @@ class Statements(SimpleStatements):
         self.depth -= 1
 
     def statement(self, depth):
+        """A statement of any kind."""
         simple = (
             *(self.assign, self.assign, self.assign, self.show, self.show, self.step, self.copy_whole),
             *(self.procedure_call, self.change_set, self.procedure_variable, self.leave),
@@ -27,6 +28,7 @@ class Statements(SimpleStatements):
         (self.pick(nested)(depth - 1) if depth > 0 and self.chance(0.35) else self.pick(simple)())
 
     def branch(self, depth):
+        """IF."""
         self.put(f"IF {self.value('BOOLEAN', 2)} THEN")
         self.block(self.random.randint(1, 3), depth)
         for _ in range(self.pick((0, 0, 1, 2))):
@@ -48,6 +50,7 @@ class Statements(SimpleStatements):
         return sorted(self.random.sample(range(0, self.pick((8, 12, 40, 3000))), 7))
 
     def selector(self, kind):
+        """An expression of a type, which CASE selects by."""
         if kind in ("Colour", "CHAR"):
             return self.value(kind, 2)
         return f"({self.value(BASE.get(kind, kind), 2)}) MOD {self.pick((4, 8, 12))}"
@@ -66,6 +69,7 @@ class Statements(SimpleStatements):
         return arms
 
     def case(self, depth):
+        """CASE."""
         kind = self.pick(("CARDINAL", "CHAR", "Colour", "INTEGER", "Small"))
         values = self.labels_of(kind)
         selector = self.selector(kind)
@@ -92,6 +96,7 @@ class Statements(SimpleStatements):
         self.busy.discard(name)
 
     def loop_for(self, depth):
+        """FOR, if there is a control variable that is not in use."""
         counters = [it for it in self.variables if it.type in COUNTED and it.name.startswith("k")]
         counters = [it.name for it in counters if it.name not in self.busy]
         if not counters:
@@ -122,6 +127,7 @@ class Statements(SimpleStatements):
         self.turn(name, f"INC({name}); Tick;", self.random.randint(1, 3), depth)
 
     def loop_while(self, depth):
+        """WHILE."""
         if name := self.counter():
             self.put(f"{name} := 0;")
             self.put(f"WHILE ({name} < {self.random.randint(1, 5)}) & {self.operand('BOOLEAN', 2)} DO")
@@ -129,6 +135,7 @@ class Statements(SimpleStatements):
             self.put("END;")
 
     def loop_repeat(self, depth):
+        """REPEAT."""
         if name := self.counter():
             self.put(f"{name} := 0;")
             self.put("REPEAT")
@@ -136,6 +143,7 @@ class Statements(SimpleStatements):
             self.put(f"UNTIL ({name} >= {self.random.randint(1, 4)}) OR {self.operand('BOOLEAN', 2)};")
 
     def loop(self, depth):
+        """LOOP."""
         if name := self.counter():
             self.put(f"{name} := 0;")
             self.put("LOOP")
@@ -150,6 +158,7 @@ class Statements(SimpleStatements):
     # ---- WITH
 
     def with_record(self, depth):
+        """WITH."""
         found = [(it.name, "") for it in self.variables if it.type == "Item"]
         found += [(it.name, "[{Wide:0:3}]") for it in self.variables if it.type == "Items"]
         if not found:
