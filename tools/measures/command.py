@@ -37,7 +37,7 @@ def main(words, usage):
         return 2
     for program in (M2C, M2RUN):
         if not os.path.exists(program):
-            print(f"benchmark: {os.path.relpath(program, TOP)} is not there: make build makes it")
+            print(f"benchmark: {os.path.relpath(program, TOP)} is not there: make build makes it", file=sys.stderr)
             return 1
     with tempfile.TemporaryDirectory(prefix="benchmark-") as room:
         start = measure([M2C, "--version"])

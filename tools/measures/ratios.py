@@ -6,7 +6,8 @@ from .builds import is_built, write_files
 from .processes import M2RUN, TOP, middle
 from .programs import WORKS
 
-FOR_EVER = 10**15
+# the most reductions that m2run takes
+FOR_EVER = 10**12
 
 
 def seconds_of(words):
