@@ -1,5 +1,7 @@
 //! A stream that asks for no memory.
 
+ghost use Rattle.std.specs.Prelude.{◌≡◌};
+
 use m2_execute::Sink;
 use std::str;
 
