@@ -1,6 +1,8 @@
 //! A folder in memory, into which modules are saved and from which they are read.
 
-ghost use Rattle.std.specs.Prelude.{None};
+ghost use Rattle.std.specs.Option.{IfSome};
+ghost use Rattle.std.specs.Prelude.{◌≡◌, ◌<◌, None};
+ghost use Rattle.std.specs.Vec.{vec_len};
 
 use m2c::{InDir, OutDir};
 use std::alloc::{AllocError, Global};
@@ -25,7 +27,9 @@ impl Folder {
         }
     }
 
-    fn place_of(&self, name: &str) -> Option<usize> {
+    fn place_of(&self, name: &str) -> Option<usize>
+        ensures { IfSome result (λ at. at < vec_len self.now.files) }
+    {
         self.files.iter().position(|file| file.0.as_str() == name)
     }
 
