@@ -1,12 +1,12 @@
 -- Program and implementation modules, checked with the statements of their bodies.
 use Rattle.std.specs.Prelude.{ℕ, false, List, Option, Result}
 use Rattle.m2_tree.specs.declared.decl.Module.{Module}
-use Rattle.m2_typed.specs.declared.table.Table.{Table}
-use Rattle.m2_typed.specs.declared.typed_module.TypedModule.{TypedModule}
-use Rattle.m2_scopes.specs.Elaborated.{Gathers}
-use Rattle.m2_bodies.specs.Elaborating.{Elaborates}
-use Rattle.m2_bodies.specs.Checked as bodies
-use Rattle.m2_stmts.specs.Statements.{statements}
+use Rattle.typed_tree.specs.declared.table.Table.{Table}
+use Rattle.typed_tree.specs.declared.typed_module.TypedModule.{TypedModule}
+use Rattle.check_scope.specs.Elaborated.{Gathers}
+use Rattle.m2_check.specs.Elaborating.{Elaborates}
+use Rattle.m2_check.specs.Checked as bodies
+use Rattle.check_stmt.specs.Statements.{statements}
 
 -- no LOOP stands around the statements of a body
 abbrev pub elaborated : (g : Gathers) → Elaborates g.Reported

@@ -2,16 +2,16 @@
 
 ghost use Rattle.std.specs.Prelude.{◌≡◌, IfOk};
 ghost use Rattle.std.specs.Option.{option_copied};
-ghost use Rattle.m2_scopes.specs.Elaborated.{least};
+ghost use Rattle.check_scope.specs.Elaborated.{least};
 ghost use Rattle.m2_check.specs.Checks.{elaborated, checked};
 
-use m2_bodies::{Statements, check_with};
-use m2_scopes::{Elaborated, Fault, Scope};
-use m2_steps::Around;
-use m2_stmts::statements;
+use crate::{Statements, check_with};
+use check_scope::{Elaborated, Fault, Scope};
+use check_stmt::statements;
+use check_stmt_parts::Around;
 use m2_tree::{Items, Module, Stmt};
-use m2_typed::{Shared, Table, TypeNo, TypedModule, TypedStmt};
 use std::alloc::{AllocError, Global};
+use typed_tree::{Shared, Table, TypeNo, TypedModule, TypedStmt};
 
 /// Elaborates the statements of a body.
 struct Checker;

@@ -1,7 +1,7 @@
 -- What is kept of a layout is not cut.
 use Rattle.std.proofs.Common.{◌≡◌, ℕ, ◌+◌, ◌≤◌, List, map, sym, ap, ◌∙◌, arith}
 use Rattle.wasm_binary.specs.Binary.{module_encoding}
-use Rattle.m2_typed.specs.declared.typed_module.TypedModule.{TypedModule}
+use Rattle.typed_tree.specs.declared.typed_module.TypedModule.{TypedModule}
 use Rattle.m2_layout.specs.declared.row.Row.{Row}
 use Rattle.m2_layout.specs.declared.layout.Layout.{Layout}
 use Rattle.m2_layout.specs.Capped.{capped}
@@ -13,7 +13,7 @@ use Rattle.m2_layout.specs.Texts.{characters, module_texts}
 use Rattle.m2_layout.specs.Extents.{total}
 use Rattle.m2_layout.specs.Layouts.{IsLayout, AllFits}
 use Rattle.m2_layout.proofs.Rows.{fields_row, fields_sum, row_is}
-use Rattle.m2_scheme.specs.Modules.{slots, typed_module}
+use Rattle.def_scheme.specs.Modules.{slots, typed_module}
 use Rattle.m2_emit.specs.declared.emitted.ModuleBytes.{ModuleBytes}
 use Rattle.m2_emit.specs.Emitted.{emitted}
 

@@ -8,8 +8,8 @@ use Rattle.wasm_tree.specs.declared.instr.Instr.TheVariants as instr
 use Rattle.wasm_tree.specs.declared.kinds.ValueType.TheVariants.{I64}
 use Rattle.wasm_tree.specs.Code.{tree}
 use Rattle.wasm_tree.proofs.Flat.{tree_front, tree_none}
-use Rattle.m2_scheme.specs.Signatures.{so_many}
-use Rattle.m2_scheme.specs.Modules.{Part, calls_from, data_of}
+use Rattle.def_scheme.specs.Signatures.{so_many}
+use Rattle.def_scheme.specs.Modules.{Part, calls_from, data_of}
 
 -- an instruction that holds no others
 alone : (o : Op) (i : Instr) → tree (o ∷ []) ≡ i ∷ tree [] → tree (o ∷ []) ≡ i ∷ []

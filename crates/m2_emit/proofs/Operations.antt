@@ -7,7 +7,7 @@ use Rattle.wasm_tree.specs.declared.instr.Operation.TheVariants.{Add, Sub, Mul, 
 use Rattle.wasm_tree.specs.declared.instr.Load.TheVariants as load
 use Rattle.wasm_tree.specs.declared.instr.StoreWidth.TheVariants as width
 use Rattle.wasm_tree.specs.Code.{tree_within, tree}
-use Rattle.m2_scheme.specs.Helpers.{copy_code, fill_code, check_code, divisor_checked, div_rest, mod_rest}
+use Rattle.def_scheme.specs.Helpers.{copy_code, fill_code, check_code, divisor_checked, div_rest, mod_rest}
 
 pub copy_is : tree (op.Block None 21 ∷ op.Loop None 20 ∷ op.LocalGet 2 ∷ op.Numeric numeric.I32Eqz ∷ op.BrIf 1 ∷ op.LocalGet 0 ∷ op.LocalGet 1 ∷ op.Load load.I64From8U ∷ op.Store width.One ∷ op.LocalGet 0 ∷ op.I32Const 1 ∷ op.Numeric numeric.I32Add ∷ op.LocalSet 0 ∷ op.LocalGet 1 ∷ op.I32Const 1 ∷ op.Numeric numeric.I32Add ∷ op.LocalSet 1 ∷ op.LocalGet 2 ∷ op.I32Const 4294967295 ∷ op.Numeric numeric.I32Add ∷ op.LocalSet 2 ∷ op.Br 0 ∷ []) ≡ copy_code
 unfolding tree tree_within

@@ -3,11 +3,11 @@ use Rattle.std.proofs.Common.{◌≡◌, ℕ, ◌+◌, ◌<◌, List, [], ◌∷
 use Rattle.std.specs.Prelude.{Some, slice_get}
 use Rattle.std.proofs.lemmas.Option.{slice_get_read}
 use Rattle.wasm_tree.specs.declared.module.Function.{Function}
-use Rattle.m2_typed.specs.declared.typed_module.Routine.{Routine}
-use Rattle.m2_typed.specs.declared.typed_module.Which.{Which}
-use Rattle.m2_typed.specs.declared.typed_module.TypedModule.{TypedModule}
-use Rattle.m2_scheme.specs.Functions.{functions_from, routine_function}
-use Rattle.m2_scheme.specs.Modules.{numbered}
+use Rattle.typed_tree.specs.declared.typed_module.Routine.{Routine}
+use Rattle.typed_tree.specs.declared.typed_module.Which.{Which}
+use Rattle.typed_tree.specs.declared.typed_module.TypedModule.{TypedModule}
+use Rattle.def_scheme.specs.Functions.{functions_from, routine_function}
+use Rattle.def_scheme.specs.Modules.{numbered}
 
 -- the procedure at a place, of a list that was read
 pub found_at : (rs qs : List Routine) (n : ℕ) (r : Routine) → qs ≡ rs → n < length qs → r ≡ get_or qs n r → slice_get rs n ≡ Some r

@@ -1,14 +1,14 @@
 -- What is emitted for a module.
 use Rattle.std.specs.Prelude.{List, [], ◌∷◌, ◌++◌, map, codes}
 use Rattle.wasm_binary.specs.Binary.{module_encoding}
-use Rattle.m2_typed.specs.declared.typed_module.TypedModule.{TypedModule}
+use Rattle.typed_tree.specs.declared.typed_module.TypedModule.{TypedModule}
 use Rattle.m2_layout.specs.Sizes.{size}
 use Rattle.m2_layout.specs.Frames.{module_row}
 use Rattle.m2_layout.specs.Texts.{characters, module_texts}
 use Rattle.wasm_tree.specs.declared.module.Export.{Export}
 use Rattle.wasm_tree.specs.declared.module.ExportKind.TheVariants as exported
-use Rattle.m2_scheme.specs.Scheme.{exported_as}
-use Rattle.m2_scheme.specs.Modules.{Part, slots, typed_module, exports_from}
+use Rattle.def_scheme.specs.Scheme.{exported_as}
+use Rattle.def_scheme.specs.Modules.{Part, slots, typed_module, exports_from}
 use Rattle.m2_emit.specs.declared.emitted.ModuleBytes.{ModuleBytes}
 
 -- its bytes, and what link needs of it

@@ -3,7 +3,7 @@ use Rattle.std.specs.Prelude.{ℕ, List, [], ◌∷◌, codes}
 use Rattle.wasm_tree.specs.declared.module.Import.{Import}
 use Rattle.wasm_tree.specs.declared.module.ImportKind.{ImportKind}
 use Rattle.wasm_tree.specs.declared.module.ImportKind.TheVariants as imported
-use Rattle.m2_scheme.specs.Scheme.{at_least_one, base_name, from_link, tab_name, text_name}
+use Rattle.def_scheme.specs.Scheme.{at_least_one, base_name, from_link, tab_name, text_name}
 
 -- what link exports under this name
 abbrev pub linked_as : List ℕ → ImportKind → Import

@@ -1,18 +1,18 @@
 //! The functions of a module.
 
 ghost use Rattle.std.specs.Prelude.{◌≡◌, ◌++◌, Some, slice_get, IfOk, OnOk};
-ghost use Rattle.m2_typed.specs.declared.typed_module.Which.TheVariants as which;
-ghost use Rattle.m2_scheme.specs.Functions.{functions_from, routine_function, module_function};
-ghost use Rattle.m2_scheme.specs.Modules.{functions, numbered};
-ghost use Rattle.m2_texts.specs.Offsets.{AreTexts};
+ghost use Rattle.typed_tree.specs.declared.typed_module.Which.TheVariants as which;
+ghost use Rattle.def_scheme.specs.Functions.{functions_from, routine_function, module_function};
+ghost use Rattle.def_scheme.specs.Modules.{functions, numbered};
+ghost use Rattle.emit_tables.specs.Offsets.{AreTexts};
 
 use crate::helpers::helpers;
-use m2_draft::Home;
-use m2_routine_code::{module_function, routine_function};
-use m2_texts::ModuleTexts;
-use m2_typed::{Routine, Which};
+use emit_buffer::Home;
+use emit_proc::{module_function, routine_function};
+use emit_tables::ModuleTexts;
 use sqlite_items::Items;
 use std::alloc::Global;
+use typed_tree::{Routine, Which};
 use wasm_tree::{EncodeError, Function};
 
 /// The function of a procedure of the module.

@@ -1,8 +1,8 @@
 //! The functions that each module has before its own.
 
 ghost use Rattle.std.specs.Prelude.{◌≡◌, ◌∷◌, [], IfOk};
-ghost use Rattle.m2_scheme.specs.Helpers.{copy_code, fill_code, check_code, divisor_checked, div_rest, mod_rest};
-ghost use Rattle.m2_scheme.specs.Modules.{helper, helpers, mod_function};
+ghost use Rattle.def_scheme.specs.Helpers.{copy_code, fill_code, check_code, divisor_checked, div_rest, mod_rest};
+ghost use Rattle.def_scheme.specs.Modules.{helper, helpers, mod_function};
 
 use crate::code::code_of;
 use sqlite_items::Items;

@@ -1,14 +1,14 @@
 //! What a module imports.
 
 ghost use Rattle.std.specs.Prelude.{◌≡◌, ◌++◌, ◌∷◌, [], IfOk, OnOk, map};
-ghost use Rattle.m2_scheme.specs.Scheme.{base_name, from_host, from_link, host_imports, imported_globals, own_imports, tab_name};
-ghost use Rattle.m2_scheme.specs.Modules.{imports};
+ghost use Rattle.def_scheme.specs.Scheme.{base_name, from_host, from_link, host_imports, imported_globals, own_imports, tab_name};
+ghost use Rattle.def_scheme.specs.Modules.{imports};
 ghost use Rattle.m2_emit.specs.OwnImports.{linked_as, own_globals, stores};
 
 use crate::parts::{AT_LEAST_ONE, joined};
-use m2_typed::{Imported, TypedModule};
 use sqlite_items::Items;
 use std::alloc::{AllocError, Global};
+use typed_tree::{Imported, TypedModule};
 use wasm_tree::{Import, ImportKind, MemoryType, TableType, ValueType};
 
 fn from_link(alloc: Global, name: Items<u8>) -> Result<Import, AllocError>

@@ -4,8 +4,8 @@ ghost use Rattle.std.specs.Prelude.{◌≡◌, ◌≤◌, ◌+◌, ◌*◌, ◌<
 ghost use Rattle.wasm_tree.specs.declared.code.Op.TheVariants as op;
 ghost use Rattle.wasm_tree.specs.declared.kinds.ValueType.TheVariants as types;
 ghost use Rattle.wasm_tree.specs.declared.module.ExportKind.TheVariants as exported;
-ghost use Rattle.m2_scheme.specs.Scheme.{base_name, constant_global, exported_as, tab_name, text_name, type_from};
-ghost use Rattle.m2_scheme.specs.Modules.{all_slots, calls_from, exports_from, globals_from, helper, link_of, max_pages, stack_begin};
+ghost use Rattle.def_scheme.specs.Scheme.{base_name, constant_global, exported_as, tab_name, text_name, type_from};
+ghost use Rattle.def_scheme.specs.Modules.{all_slots, calls_from, exports_from, globals_from, helper, link_of, max_pages, stack_begin};
 ghost use Rattle.m2_emit.specs.Emitted.{parts, link_exports};
 
 use crate::emitted::ModuleBytes;

@@ -3,20 +3,19 @@
 ghost use Rattle.std.specs.Prelude.{◌≡◌, suc, length, IfOk};
 ghost use Rattle.m2_layout.specs.Layouts.{IsLayout, AllFits};
 ghost use Rattle.m2_layout.specs.Texts.{module_texts};
-ghost use Rattle.m2_scheme.specs.Modules.{all_characters, functions, signatures, slots, typed_module};
-ghost use Rattle.m2_texts.specs.Offsets.{AreTexts};
+ghost use Rattle.def_scheme.specs.Modules.{all_characters, functions, signatures, slots, typed_module};
+ghost use Rattle.emit_tables.specs.Offsets.{AreTexts};
 
 use crate::functions::functions_of;
 use crate::imports::imports_of;
 use crate::segments::{data_of, elements_of};
 use crate::types::types_of;
-use m2_draft::Home;
+use emit_buffer::Home;
+use emit_tables::{ModuleTexts, Signatures, module_texts, signatures_of};
 use m2_layout::Layout;
-use m2_signatures::{Signatures, signatures_of};
-use m2_texts::{ModuleTexts, module_texts};
-use m2_typed::TypedModule;
 use sqlite_items::Items;
 use std::alloc::Global;
+use typed_tree::TypedModule;
 use wasm_tree::{EncodeError, Function, WModule, plus, small};
 
 /// How many slots a module fills.

@@ -1,7 +1,7 @@
 //! Parts of modules.
 
 ghost use Rattle.std.specs.Prelude.{◌≡◌, ◌++◌, ◌∷◌, [], IfOk};
-ghost use Rattle.m2_scheme.specs.Scheme.{type_from, exported_as, constant_global};
+ghost use Rattle.def_scheme.specs.Scheme.{type_from, exported_as, constant_global};
 
 use crate::code::number_code;
 use sqlite_items::Items;

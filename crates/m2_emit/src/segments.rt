@@ -3,8 +3,8 @@
 ghost use Rattle.std.specs.Prelude.{◌≡◌, ◌∷◌, [], IfOk};
 ghost use Rattle.std.specs.List.{range_with_len};
 ghost use Rattle.wasm_tree.specs.declared.instr.Instr.TheVariants.{GlobalGet};
-ghost use Rattle.m2_scheme.specs.Coded.{body_index};
-ghost use Rattle.m2_scheme.specs.Modules.{data_of};
+ghost use Rattle.def_scheme.specs.Coded.{body_index};
+ghost use Rattle.def_scheme.specs.Modules.{data_of};
 
 use crate::code::global_code;
 use crate::parts::one;

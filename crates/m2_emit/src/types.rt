@@ -2,12 +2,12 @@
 
 ghost use Rattle.std.specs.Prelude.{◌≡◌, ◌++◌, ◌∷◌, [], IfOk, OnOk, map};
 ghost use Rattle.wasm_tree.specs.declared.kinds.ValueType.TheVariants.{I32};
-ghost use Rattle.m2_scheme.specs.Scheme.{body_types, type_from};
-ghost use Rattle.m2_scheme.specs.Signatures.{so_many, results_of, type_of};
-ghost use Rattle.m2_signatures.specs.Seen.{seen};
+ghost use Rattle.def_scheme.specs.Scheme.{body_types, type_from};
+ghost use Rattle.def_scheme.specs.Signatures.{so_many, results_of, type_of};
+ghost use Rattle.emit_tables.specs.Seen.{seen};
 
 use crate::parts::type_from;
-use m2_signatures::{Signature, Signatures};
+use emit_tables::{Signature, Signatures};
 use sqlite_items::Items;
 use std::alloc::{AllocError, Global};
 use wasm_tree::{FuncType, ValueType};

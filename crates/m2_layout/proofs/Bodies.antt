@@ -2,18 +2,18 @@
 use Rattle.std.proofs.Common.{◌≡◌, ℕ, ℤ, ◌+◌, List, [], ◌∷◌, ◌++◌, map, length, Some, None, refl, ap, sym, ◌∙◌}
 use Rattle.std.specs.List.{fold, flat_map}
 use Rattle.std.proofs.lemmas.List.{append-nil}
-use Rattle.m2_typed.specs.declared.types.TypeNo.{TypeNo}
-use Rattle.m2_typed.specs.declared.computed.Place.{Place}
-use Rattle.m2_typed.specs.declared.computed.TypedExpr.{TypedExpr}
-use Rattle.m2_typed.specs.declared.computed.Call.{Call}
-use Rattle.m2_typed.specs.declared.statement.Change.{Change}
-use Rattle.m2_typed.specs.declared.statement.Membership.{Membership}
-use Rattle.m2_typed.specs.declared.statement.TypedStmt.{TypedStmt, TypedStmt-F, out-TypedStmt, map-TypedStmt, fold_out-TypedStmt}
-use Rattle.m2_typed.specs.declared.statement.TypedStmt.TheOpen as sl
-use Rattle.m2_typed.specs.declared.statement.TypedStmt.TheVariants as sv
-use Rattle.m2_typed.specs.declared.statement.TypedArm.{TypedArm, TypedArm-F, map-TypedArm, fold_out-TypedArm}
-use Rattle.m2_typed.specs.declared.typed_module.Which.{Which}
-use Rattle.m2_typed.specs.declared.typed_module.TypedModule.{TypedModule}
+use Rattle.typed_tree.specs.declared.types.TypeNo.{TypeNo}
+use Rattle.typed_tree.specs.declared.computed.Place.{Place}
+use Rattle.typed_tree.specs.declared.computed.TypedExpr.{TypedExpr}
+use Rattle.typed_tree.specs.declared.computed.Call.{Call}
+use Rattle.typed_tree.specs.declared.statement.Change.{Change}
+use Rattle.typed_tree.specs.declared.statement.Membership.{Membership}
+use Rattle.typed_tree.specs.declared.statement.TypedStmt.{TypedStmt, TypedStmt-F, out-TypedStmt, map-TypedStmt, fold_out-TypedStmt}
+use Rattle.typed_tree.specs.declared.statement.TypedStmt.TheOpen as sl
+use Rattle.typed_tree.specs.declared.statement.TypedStmt.TheVariants as sv
+use Rattle.typed_tree.specs.declared.statement.TypedArm.{TypedArm, TypedArm-F, map-TypedArm, fold_out-TypedArm}
+use Rattle.typed_tree.specs.declared.typed_module.Which.{Which}
+use Rattle.typed_tree.specs.declared.typed_module.TypedModule.{TypedModule}
 use Rattle.m2_layout.specs.Capped.{capped}
 use Rattle.m2_layout.specs.Texts.{Texts, joined, texts_of, texts_at, texts_called, step_texts, arm_texts, texts_in, texts_armed, body_texts, which_texts, routines_texts, module_texts}
 use Rattle.m2_layout.specs.Counted.{counted, with_stmt, with_arm, with_which}

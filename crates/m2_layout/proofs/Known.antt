@@ -6,15 +6,15 @@ use Rattle.std.specs.Map.{lookup}
 use Rattle.std.specs.Option.{option_map}
 use Rattle.std.proofs.lemmas.List.{length-map, map-append}
 use Rattle.indexmap.specs.IndexMap.{insert_entry}
-use Rattle.m2_typed.specs.declared.types.Home.{Home}
-use Rattle.m2_typed.specs.declared.types.Home.TheVariants.{Predeclared, Module}
-use Rattle.m2_typed.specs.declared.types.TypeNo.{TypeNo}
-use Rattle.m2_typed.specs.declared.shape.Scalar.{Scalar as Range}
-use Rattle.m2_typed.specs.declared.shape.Shape.{Shape}
-use Rattle.m2_typed.specs.declared.shape.Shape.TheVariants as shape
-use Rattle.m2_typed.specs.declared.shape.Made.{Made}
-use Rattle.m2_typed.specs.declared.known_types.Types.{Types}
-use Rattle.m2_typed.specs.Known.{predeclared_scalar, scalar_at}
+use Rattle.typed_tree.specs.declared.types.Home.{Home}
+use Rattle.typed_tree.specs.declared.types.Home.TheVariants.{Predeclared, Module}
+use Rattle.typed_tree.specs.declared.types.TypeNo.{TypeNo}
+use Rattle.typed_tree.specs.declared.shape.Scalar.{Scalar as Range}
+use Rattle.typed_tree.specs.declared.shape.Shape.{Shape}
+use Rattle.typed_tree.specs.declared.shape.Shape.TheVariants as shape
+use Rattle.typed_tree.specs.declared.shape.Made.{Made}
+use Rattle.typed_tree.specs.declared.known_types.Types.{Types}
+use Rattle.typed_tree.specs.Known.{predeclared_scalar, scalar_at}
 use Rattle.m2_layout.specs.declared.making.Making.{Making}
 use Rattle.m2_layout.specs.declared.row.Row.{Row}
 use Rattle.m2_layout.specs.declared.extent.Extent.{Extent}

@@ -2,11 +2,11 @@
 use Rattle.std.proofs.Common.{◌≡◌, ℕ, zero, suc, ◌+◌, ◌≤◌, List, [], ◌∷◌, map, Option, Some, refl, sym, ap, subst, ◌∙◌, arith}
 use Rattle.std.specs.Prelude.{slice_get}
 use Rattle.std.specs.Option.{option_map}
-use Rattle.m2_typed.specs.declared.known_types.Types.{Types}
-use Rattle.m2_typed.specs.declared.typed_module.Routine.{Routine}
-use Rattle.m2_typed.specs.declared.typed_module.TypedModule.{TypedModule}
-use Rattle.m2_typed.specs.declared.typed_module.Which.{Which}
-use Rattle.m2_typed.specs.declared.typed_module.Which.TheVariants as which
+use Rattle.typed_tree.specs.declared.known_types.Types.{Types}
+use Rattle.typed_tree.specs.declared.typed_module.Routine.{Routine}
+use Rattle.typed_tree.specs.declared.typed_module.TypedModule.{TypedModule}
+use Rattle.typed_tree.specs.declared.typed_module.Which.{Which}
+use Rattle.typed_tree.specs.declared.typed_module.Which.TheVariants as which
 use Rattle.m2_layout.specs.declared.row.Row.{Row}
 use Rattle.m2_layout.specs.declared.layout.Layout.{Layout}
 use Rattle.m2_layout.specs.Capped.{capped}

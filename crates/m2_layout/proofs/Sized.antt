@@ -5,9 +5,9 @@ use Rattle.std.specs.List.{fold}
 use Rattle.std.proofs.lemmas.List.{append-nil}
 use Rattle.std.proofs.lemmas.Bool.{lt-ltb, le-ltb, ltb-true, ltb-false}
 use Rattle.m2_tree.specs.declared.pos.Pos.{Pos}
-use Rattle.m2_typed.specs.declared.known_types.Types.{Types}
-use Rattle.m2_typed.specs.declared.typed_module.Routine.{Routine}
-use Rattle.m2_typed.specs.declared.typed_module.TypedModule.{TypedModule}
+use Rattle.typed_tree.specs.declared.known_types.Types.{Types}
+use Rattle.typed_tree.specs.declared.typed_module.Routine.{Routine}
+use Rattle.typed_tree.specs.declared.typed_module.TypedModule.{TypedModule}
 use Rattle.m2_layout.specs.declared.row.Row.{Row}
 use Rattle.m2_layout.specs.declared.layout.Frames.{Frames}
 use Rattle.m2_layout.specs.declared.layout.Layout.{Layout}

@@ -1,26 +1,26 @@
 -- How many characters the texts of each variant of an expression have, from those of its parts.
 use Rattle.std.proofs.Common.{◌≡◌, ℕ, ℤ, ◌+◌, List, [], ◌∷◌, ◌++◌, map, length, ap, sym, ◌∙◌, arith, add_assoc, add-zero}
 use Rattle.std.specs.List.{fold}
-use Rattle.m2_typed.specs.declared.types.TypeNo.{TypeNo}
-use Rattle.m2_typed.specs.declared.meaning.Procedure.{Procedure}
-use Rattle.m2_typed.specs.declared.computed.Slot.{Slot}
-use Rattle.m2_typed.specs.declared.computed.LocalProcedure.{LocalProcedure}
-use Rattle.m2_typed.specs.declared.computed.Arithmetic.{Arithmetic}
-use Rattle.m2_typed.specs.declared.computed.Comparison.{Comparison}
-use Rattle.m2_typed.specs.declared.computed.SetOperator.{SetOperator}
-use Rattle.m2_typed.specs.declared.computed.Inclusion.{Inclusion}
-use Rattle.m2_typed.specs.declared.computed.TypedExpr.{TypedExpr, TypedExpr-F, out-TypedExpr, map-TypedExpr, fold_out-TypedExpr}
-use Rattle.m2_typed.specs.declared.computed.TypedExpr.TheVariants as ev
-use Rattle.m2_typed.specs.declared.computed.Component.{Component, Component-F, out-Component, map-Component, fold_out-Component}
-use Rattle.m2_typed.specs.declared.computed.Component.TheVariants as kv
-use Rattle.m2_typed.specs.declared.computed.Link.{Link, Link-F, out-Link, map-Link, fold_out-Link}
-use Rattle.m2_typed.specs.declared.computed.Link.TheVariants as lv
-use Rattle.m2_typed.specs.declared.computed.Place.{Place, fold_out-Place}
-use Rattle.m2_typed.specs.declared.computed.Call.{Call, Call-F, out-Call, map-Call, fold_out-Call}
-use Rattle.m2_typed.specs.declared.computed.Call.TheVariants as cv
-use Rattle.m2_typed.specs.declared.computed.Argument.{Argument, Argument-F, out-Argument, map-Argument, fold_out-Argument}
-use Rattle.m2_typed.specs.declared.computed.Argument.TheOpen as layer
-use Rattle.m2_typed.specs.declared.computed.Argument.TheVariants as xv
+use Rattle.typed_tree.specs.declared.types.TypeNo.{TypeNo}
+use Rattle.typed_tree.specs.declared.meaning.Procedure.{Procedure}
+use Rattle.typed_tree.specs.declared.computed.Slot.{Slot}
+use Rattle.typed_tree.specs.declared.computed.LocalProcedure.{LocalProcedure}
+use Rattle.typed_tree.specs.declared.computed.Arithmetic.{Arithmetic}
+use Rattle.typed_tree.specs.declared.computed.Comparison.{Comparison}
+use Rattle.typed_tree.specs.declared.computed.SetOperator.{SetOperator}
+use Rattle.typed_tree.specs.declared.computed.Inclusion.{Inclusion}
+use Rattle.typed_tree.specs.declared.computed.TypedExpr.{TypedExpr, TypedExpr-F, out-TypedExpr, map-TypedExpr, fold_out-TypedExpr}
+use Rattle.typed_tree.specs.declared.computed.TypedExpr.TheVariants as ev
+use Rattle.typed_tree.specs.declared.computed.Component.{Component, Component-F, out-Component, map-Component, fold_out-Component}
+use Rattle.typed_tree.specs.declared.computed.Component.TheVariants as kv
+use Rattle.typed_tree.specs.declared.computed.Link.{Link, Link-F, out-Link, map-Link, fold_out-Link}
+use Rattle.typed_tree.specs.declared.computed.Link.TheVariants as lv
+use Rattle.typed_tree.specs.declared.computed.Place.{Place, fold_out-Place}
+use Rattle.typed_tree.specs.declared.computed.Call.{Call, Call-F, out-Call, map-Call, fold_out-Call}
+use Rattle.typed_tree.specs.declared.computed.Call.TheVariants as cv
+use Rattle.typed_tree.specs.declared.computed.Argument.{Argument, Argument-F, out-Argument, map-Argument, fold_out-Argument}
+use Rattle.typed_tree.specs.declared.computed.Argument.TheOpen as layer
+use Rattle.typed_tree.specs.declared.computed.Argument.TheVariants as xv
 use Rattle.m2_layout.specs.Capped.{capped}
 use Rattle.m2_layout.specs.Texts.{Texts, joined, passed, characters, argument_texts, call_texts, component_texts, link_texts, place_texts, expr_texts, texts_of, texts_at, texts_called, texts_passed, texts_behind, texts_linked}
 use Rattle.m2_layout.specs.Counted.{counted, with_argument, with_component, with_link}

@@ -1,12 +1,12 @@
 -- How many characters texts have, counted in 32 bits.
 use Rattle.std.specs.Prelude.{ℕ, ◌+◌}
-use Rattle.m2_typed.specs.declared.computed.Argument.{Argument}
-use Rattle.m2_typed.specs.declared.computed.Component.{Component}
-use Rattle.m2_typed.specs.declared.computed.Link.{Link}
-use Rattle.m2_typed.specs.declared.statement.TypedStmt.{TypedStmt}
-use Rattle.m2_typed.specs.declared.statement.TypedArm.{TypedArm}
-use Rattle.m2_typed.specs.declared.typed_module.Which.{Which}
-use Rattle.m2_typed.specs.declared.typed_module.TypedModule.{TypedModule}
+use Rattle.typed_tree.specs.declared.computed.Argument.{Argument}
+use Rattle.typed_tree.specs.declared.computed.Component.{Component}
+use Rattle.typed_tree.specs.declared.computed.Link.{Link}
+use Rattle.typed_tree.specs.declared.statement.TypedStmt.{TypedStmt}
+use Rattle.typed_tree.specs.declared.statement.TypedArm.{TypedArm}
+use Rattle.typed_tree.specs.declared.typed_module.Which.{Which}
+use Rattle.typed_tree.specs.declared.typed_module.TypedModule.{TypedModule}
 use Rattle.m2_layout.specs.Capped.{capped}
 use Rattle.m2_layout.specs.Texts.{Texts, characters, texts_passed, texts_behind, texts_linked, texts_in, texts_armed, which_texts}
 

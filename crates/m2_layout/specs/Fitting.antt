@@ -1,10 +1,10 @@
 -- Whether each type that a module knows has at most 16777216 bytes, so that its sizes and offsets are not cut.
 use Rattle.std.specs.Prelude.{ℕ, zero, suc, Bool, true, not, ◌&&◌, nat_lt, List, length}
 use Rattle.std.specs.List.{fold}
-use Rattle.m2_typed.specs.declared.types.Home.TheVariants.{Module}
-use Rattle.m2_typed.specs.declared.types.TypeNo.{TypeNo}
-use Rattle.m2_typed.specs.declared.shape.Made.{Made}
-use Rattle.m2_typed.specs.declared.known_types.Types.{Types}
+use Rattle.typed_tree.specs.declared.types.Home.TheVariants.{Module}
+use Rattle.typed_tree.specs.declared.types.TypeNo.{TypeNo}
+use Rattle.typed_tree.specs.declared.shape.Made.{Made}
+use Rattle.typed_tree.specs.declared.known_types.Types.{Types}
 use Rattle.m2_layout.specs.Types.{Ty}
 use Rattle.m2_layout.specs.Sizes.{size}
 use Rattle.m2_layout.specs.Shapes.{tree}

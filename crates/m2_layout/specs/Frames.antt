@@ -1,14 +1,14 @@
 -- What an activation of a procedure keeps, and what a module keeps.
 use Rattle.std.specs.Prelude.{List, [], ◌∷◌, ◌++◌, map, Option, Some, None, if◌then◌else◌}
-use Rattle.m2_typed.specs.declared.types.TypeNo.{TypeNo}
-use Rattle.m2_typed.specs.declared.shape.Formal.{Formal}
-use Rattle.m2_typed.specs.declared.shape.Shape.{Shape}
-use Rattle.m2_typed.specs.declared.shape.Shape.TheVariants as shape
-use Rattle.m2_typed.specs.declared.shape.Made.{Made}
-use Rattle.m2_typed.specs.declared.known_types.Types.{Types}
-use Rattle.m2_typed.specs.declared.typed_module.Routine.{Routine}
-use Rattle.m2_typed.specs.declared.typed_module.TypedModule.{TypedModule}
-use Rattle.m2_typed.specs.Known.{made_at}
+use Rattle.typed_tree.specs.declared.types.TypeNo.{TypeNo}
+use Rattle.typed_tree.specs.declared.shape.Formal.{Formal}
+use Rattle.typed_tree.specs.declared.shape.Shape.{Shape}
+use Rattle.typed_tree.specs.declared.shape.Shape.TheVariants as shape
+use Rattle.typed_tree.specs.declared.shape.Made.{Made}
+use Rattle.typed_tree.specs.declared.known_types.Types.{Types}
+use Rattle.typed_tree.specs.declared.typed_module.Routine.{Routine}
+use Rattle.typed_tree.specs.declared.typed_module.TypedModule.{TypedModule}
+use Rattle.typed_tree.specs.Known.{made_at}
 use Rattle.m2_layout.specs.Types.{Ty, Hidden, row, frame_of}
 use Rattle.m2_layout.specs.Shapes.{tree}
 

@@ -1,10 +1,10 @@
 -- What the code keeps of frames, and of the variables of modules.
 use Rattle.std.specs.Prelude.{List, map}
 use Rattle.std.specs.List.{fold}
-use Rattle.m2_typed.specs.declared.types.TypeNo.{TypeNo}
-use Rattle.m2_typed.specs.declared.shape.Formal.{Formal}
-use Rattle.m2_typed.specs.declared.known_types.Types.{Types}
-use Rattle.m2_typed.specs.declared.typed_module.Routine.{Routine}
+use Rattle.typed_tree.specs.declared.types.TypeNo.{TypeNo}
+use Rattle.typed_tree.specs.declared.shape.Formal.{Formal}
+use Rattle.typed_tree.specs.declared.known_types.Types.{Types}
+use Rattle.typed_tree.specs.declared.typed_module.Routine.{Routine}
 use Rattle.m2_layout.specs.declared.row.Row.{Row}
 use Rattle.m2_layout.specs.Capped.{capped}
 use Rattle.m2_layout.specs.Sizes.{size}

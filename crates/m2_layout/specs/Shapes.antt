@@ -2,17 +2,17 @@
 use Rattle.std.specs.Prelude.{ℕ, ◌+◌, ◌-ℤ◌, nat_eq, unsigned_abs, length, List, [], ◌∷◌, ◌++◌, map, Option, Some, None, slice_get, if◌then◌else◌}
 use Rattle.std.specs.List.{fold}
 use Rattle.std.specs.Map.{lookup}
-use Rattle.m2_typed.specs.declared.types.Home.{Home}
-use Rattle.m2_typed.specs.declared.types.Home.TheVariants.{Predeclared, Module}
-use Rattle.m2_typed.specs.declared.types.TypeNo.{TypeNo}
-use Rattle.m2_typed.specs.declared.shape.Scalar.{Scalar as Range}
-use Rattle.m2_typed.specs.declared.shape.Formal.{Formal}
-use Rattle.m2_typed.specs.declared.shape.Shape.{Shape}
-use Rattle.m2_typed.specs.declared.shape.Shape.TheVariants as shape
-use Rattle.m2_typed.specs.declared.shape.Made.{Made}
-use Rattle.m2_typed.specs.declared.known_types.Types.{Types}
-use Rattle.m2_typed.specs.Types.{are_same, is_integer}
-use Rattle.m2_typed.specs.Known.{predeclared_scalar, scalar_at}
+use Rattle.typed_tree.specs.declared.types.Home.{Home}
+use Rattle.typed_tree.specs.declared.types.Home.TheVariants.{Predeclared, Module}
+use Rattle.typed_tree.specs.declared.types.TypeNo.{TypeNo}
+use Rattle.typed_tree.specs.declared.shape.Scalar.{Scalar as Range}
+use Rattle.typed_tree.specs.declared.shape.Formal.{Formal}
+use Rattle.typed_tree.specs.declared.shape.Shape.{Shape}
+use Rattle.typed_tree.specs.declared.shape.Shape.TheVariants as shape
+use Rattle.typed_tree.specs.declared.shape.Made.{Made}
+use Rattle.typed_tree.specs.declared.known_types.Types.{Types}
+use Rattle.typed_tree.specs.Types.{are_same, is_integer}
+use Rattle.typed_tree.specs.Known.{predeclared_scalar, scalar_at}
 use Rattle.m2_layout.specs.Types.{Passing, ByValue, ByName, AsOpen, Ty, Scalar, Natural, Integer, Between, Callable, Cell, Array, Nothing, Heading, Proper, Function, Takes, row}
 
 -- BITSET: numbers of 32 bits

@@ -2,20 +2,20 @@
 -- order.
 use Rattle.std.specs.Prelude.{ℕ, ◌+◌, ◌==◌, Bool, false, List, [], ◌∷◌, ◌++◌, length, Option, Some, None, slice_get, if◌then◌else◌}
 use Rattle.std.specs.List.{flat_map}
-use Rattle.m2_typed.specs.declared.computed.Argument.{Argument, Argument-F, fold-Argument}
-use Rattle.m2_typed.specs.declared.computed.Argument.TheOpen as layer
-use Rattle.m2_typed.specs.declared.computed.Call.{Call, Call-F, fold-Call}
-use Rattle.m2_typed.specs.declared.computed.Component.{Component, Component-F, fold-Component}
-use Rattle.m2_typed.specs.declared.computed.Link.{Link, Link-F, fold-Link}
-use Rattle.m2_typed.specs.declared.computed.Place.{Place, Place-F, fold-Place}
-use Rattle.m2_typed.specs.declared.computed.TypedExpr.{TypedExpr, TypedExpr-F, fold-TypedExpr}
-use Rattle.m2_typed.specs.declared.statement.TypedStmt.{TypedStmt, TypedStmt-F, fold-TypedStmt}
-use Rattle.m2_typed.specs.declared.statement.TypedStmt.TheOpen as step
-use Rattle.m2_typed.specs.declared.statement.TypedArm.{TypedArm, TypedArm-F, fold-TypedArm}
-use Rattle.m2_typed.specs.declared.typed_module.Routine.{Routine}
-use Rattle.m2_typed.specs.declared.typed_module.Which.{Which}
-use Rattle.m2_typed.specs.declared.typed_module.Which.TheVariants as which
-use Rattle.m2_typed.specs.declared.typed_module.TypedModule.{TypedModule}
+use Rattle.typed_tree.specs.declared.computed.Argument.{Argument, Argument-F, fold-Argument}
+use Rattle.typed_tree.specs.declared.computed.Argument.TheOpen as layer
+use Rattle.typed_tree.specs.declared.computed.Call.{Call, Call-F, fold-Call}
+use Rattle.typed_tree.specs.declared.computed.Component.{Component, Component-F, fold-Component}
+use Rattle.typed_tree.specs.declared.computed.Link.{Link, Link-F, fold-Link}
+use Rattle.typed_tree.specs.declared.computed.Place.{Place, Place-F, fold-Place}
+use Rattle.typed_tree.specs.declared.computed.TypedExpr.{TypedExpr, TypedExpr-F, fold-TypedExpr}
+use Rattle.typed_tree.specs.declared.statement.TypedStmt.{TypedStmt, TypedStmt-F, fold-TypedStmt}
+use Rattle.typed_tree.specs.declared.statement.TypedStmt.TheOpen as step
+use Rattle.typed_tree.specs.declared.statement.TypedArm.{TypedArm, TypedArm-F, fold-TypedArm}
+use Rattle.typed_tree.specs.declared.typed_module.Routine.{Routine}
+use Rattle.typed_tree.specs.declared.typed_module.Which.{Which}
+use Rattle.typed_tree.specs.declared.typed_module.Which.TheVariants as which
+use Rattle.typed_tree.specs.declared.typed_module.TypedModule.{TypedModule}
 
 -- the characters of texts
 abbrev pub Texts : Type 0

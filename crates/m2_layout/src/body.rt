@@ -8,7 +8,7 @@ ghost use Rattle.m2_layout.specs.Counted.{counted, with_stmt, with_arm, with_whi
 
 use crate::capped::{capped, sum};
 use crate::counted::{call_count, expr_count, place_count};
-use m2_typed::{Routine, TypedArm, TypedModule, TypedStmt, Which};
+use typed_tree::{Routine, TypedArm, TypedModule, TypedStmt, Which};
 
 /// The characters of a statement.
 #[cycle(bodies)]

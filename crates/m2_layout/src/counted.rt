@@ -7,7 +7,7 @@ ghost use Rattle.m2_layout.specs.Texts.{passed, texts_of, texts_at, texts_called
 ghost use Rattle.m2_layout.specs.Counted.{counted, with_argument, with_component, with_link};
 
 use crate::capped::{capped, sum};
-use m2_typed::{Argument, Call, Component, Link, Place, TypedExpr};
+use typed_tree::{Argument, Call, Component, Link, Place, TypedExpr};
 
 /// The characters of a passed string: an empty one is one character 0C.
 fn passed_count(text: &[u8]) -> u32

@@ -4,7 +4,7 @@ ghost use Rattle.std.specs.Prelude.{◌≡◌, ◌∷◌, [], ℕ, true, nat_eq,
 ghost use Rattle.std.specs.Option.{option_copied};
 ghost use Rattle.std.specs.Map.{lookup};
 ghost use Rattle.indexmap.specs.IndexMap.{insert_entry};
-ghost use Rattle.m2_typed.specs.Known.{scalar_at};
+ghost use Rattle.typed_tree.specs.Known.{scalar_at};
 ghost use Rattle.m2_layout.specs.declared.extent.Extent.TheVariants.{Cell};
 ghost use Rattle.m2_layout.specs.Capped.{capped};
 ghost use Rattle.m2_layout.specs.Types.{Ty, component};
@@ -17,9 +17,9 @@ use crate::extent::{Extent, element_in, field_in, kind_in, size_in};
 use crate::kind::{Kind, bytes_of, kind_of};
 use indexmap::IndexMap;
 use m2_tree::Items;
-use m2_typed::{Home, Scalar, TypeNo, Types, scalar_of};
 use std::alloc::{AllocError, Global};
 use std::marker::Model;
+use typed_tree::{Home, Scalar, TypeNo, Types, scalar_of};
 
 /// What is kept of the types of modules, by the modules' numbers and then by the numbers of the types. A type is found
 /// by hash and by index.

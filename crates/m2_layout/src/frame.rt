@@ -11,8 +11,8 @@ ghost use Rattle.m2_layout.specs.Rows.{with_formal, with_variable, framed, varia
 
 use crate::extents::{Extents, size_of};
 use crate::row::{Row, begun, with_part};
-use m2_typed::{Formal, Made, Routine, Shape, TypeNo, Types, made_of};
 use std::alloc::{AllocError, Global};
+use typed_tree::{Formal, Made, Routine, Shape, TypeNo, Types, made_of};
 
 /// The bytes that a formal takes in a frame: an open array is kept as its address and HIGH, and a VAR formal as an
 /// address.

@@ -7,7 +7,7 @@ ghost use Rattle.m2_layout.specs.Extents.{kind_of, scalar_of, width_of};
 ghost use Rattle.m2_layout.specs.Capped.{capped};
 
 use crate::capped::{capped, sum};
-use m2_typed::{Scalar, TypeNo, are_same, is_integer};
+use typed_tree::{Scalar, TypeNo, are_same, is_integer};
 
 /// A scalar type.
 #[derive(Clone, Copy, PartialEq, Eq)]

@@ -17,8 +17,8 @@ use crate::frame::{frame_row, variables_row};
 use crate::making::extents_of;
 use crate::row::Row;
 use m2_tree::{Items, Pos};
-use m2_typed::{Imported, Routine, TypedModule, Types};
 use std::alloc::{AllocError, Global};
+use typed_tree::{Imported, Routine, TypedModule, Types};
 
 /// Where the variables of a module stand, and those of its procedures. A size or an offset that does not fit into 32 bits
 /// is the greatest number that does.

@@ -13,8 +13,8 @@ use crate::extents::size_of;
 use crate::layout::{Layout, answer, checked_of};
 use crate::row::{Row, start_of};
 use m2_tree::Pos;
-use m2_typed::{TypeNo, TypedModule, Which};
 use std::alloc::{AllocError, Global};
+use typed_tree::{TypeNo, TypedModule, Which};
 
 /// Where the last part of a row ends.
 fn end_of(row: Option<&Row>) -> Option<u32>

@@ -2,8 +2,8 @@
 
 ghost use Rattle.std.specs.Prelude.{◌≡◌, [], ◌∷◌};
 ghost use Rattle.m2_tree.specs.declared.token.Symbol.TheVariants.{Begin, Const, LeftParen, Procedure, RightParen, Semicolon, «Type», Var};
-ghost use Rattle.m2_grammar.specs.declared.kind.Kind.TheVariants as the;
-ghost use Rattle.m2_grammar.specs.Rule.{
+ghost use Rattle.def_grammar.specs.declared.kind.Kind.TheVariants as the;
+ghost use Rattle.def_grammar.specs.Rule.{
   block_rule,
   constant_rule,
   decl_rule,
@@ -13,8 +13,8 @@ ghost use Rattle.m2_grammar.specs.Rule.{
   type_decl_rule,
   variables_rule,
 };
-ghost use Rattle.m2_grammar.specs.Grammar.{◌·◌, ◌▸◌, ◌◂◌, many, named, nest, opt};
-ghost use Rattle.m2_grammar.specs.Ebnf.{
+ghost use Rattle.def_grammar.specs.Grammar.{◌·◌, ◌▸◌, ◌◂◌, many, named, nest, opt};
+ghost use Rattle.def_grammar.specs.Ebnf.{
   constant,
   decl,
   formals,
@@ -26,23 +26,23 @@ ghost use Rattle.m2_grammar.specs.Ebnf.{
   type_decl,
   variables,
 };
-ghost use Rattle.m2_grammar.specs.Tables.{in_decl};
-ghost use Rattle.m2_grammar.specs.Trees.{formals_of, heading_of, if_any, with_first};
-ghost use Rattle.m2_grammar.specs.Reading.{is_among, read, read_rule, Reads, ReadsAs};
+ghost use Rattle.def_grammar.specs.Tables.{in_decl};
+ghost use Rattle.def_grammar.specs.Trees.{formals_of, heading_of, if_any, with_first};
+ghost use Rattle.def_grammar.specs.Reading.{is_among, read, read_rule, Reads, ReadsAs};
 
-use m2_grammar::{Kind, Stop};
-use m2_phrase::Cursor;
-use m2_stmt::stmts;
+use def_grammar::{Kind, Stop};
 use m2_tree::{
     Block, Boxed, Constant, Decl, Def, Heading, Items, Qualified, Section, Stmt, Symbol, TypeDecl,
     Variables,
 };
+use parse_expr::Cursor;
+use parse_stmt::stmts;
 
 /// The formals of a procedure, and its result.
 type Formals = (Items<Section>, Option<Qualified>);
 
 /// Whether a declaration can begin so.
-#[tactic(auto, using(m2_grammar::proofs::Truth::symbols), unfolding(m2_grammar::specs::Kinds::same_kind))]
+#[tactic(auto, using(def_grammar::proofs::Truth::symbols), unfolding(def_grammar::specs::Kinds::same_kind))]
 pub(crate) fn begins_decl(kind: Kind) -> bool
     ensures { result ≡ is_among kind in_decl }
 {
@@ -56,7 +56,7 @@ pub(crate) fn begins_decl(kind: Kind) -> bool
 }
 
 /// Whether formals of one type can begin so.
-#[tactic(auto, using(m2_grammar::proofs::Truth::symbols), unfolding(m2_grammar::specs::Kinds::same_kind))]
+#[tactic(auto, using(def_grammar::proofs::Truth::symbols), unfolding(def_grammar::specs::Kinds::same_kind))]
 fn begins_section(kind: Kind) -> bool
     ensures { result ≡ is_among kind (the.Symbol Var ∷ the.Name ∷ []) }
 {
@@ -67,7 +67,7 @@ fn begins_section(kind: Kind) -> bool
     }
 }
 
-#[tactic(auto, using(m2_grammar::proofs::Rules::constant_is))]
+#[tactic(auto, using(def_grammar::proofs::Rules::constant_is))]
 fn constant(cursor: &mut Cursor, room: usize) -> Result<Constant, Stop>
     ensures { Reads (read_rule room constant_rule cursor.old) result cursor.new }
 {
@@ -96,7 +96,7 @@ fn constant_part(cursor: &mut Cursor, room: usize) -> Result<Items<Constant>, St
     Ok(found)
 }
 
-#[tactic(auto, using(m2_grammar::proofs::Rules::type_decl_is))]
+#[tactic(auto, using(def_grammar::proofs::Rules::type_decl_is))]
 fn type_decl(cursor: &mut Cursor, room: usize) -> Result<TypeDecl, Stop>
     ensures { Reads (read_rule room type_decl_rule cursor.old) result cursor.new }
 {
@@ -125,7 +125,7 @@ fn type_part(cursor: &mut Cursor, room: usize) -> Result<Items<TypeDecl>, Stop>
     Ok(found)
 }
 
-#[tactic(auto, using(m2_grammar::proofs::Rules::variables_is, m2_grammar::proofs::Flat::idents_flat))]
+#[tactic(auto, using(def_grammar::proofs::Rules::variables_is, def_grammar::proofs::Flat::idents_flat))]
 fn variables(cursor: &mut Cursor, room: usize) -> Result<Variables, Stop>
     ensures { Reads (read_rule room variables_rule cursor.old) result cursor.new }
 {
@@ -154,7 +154,7 @@ fn variable_part(cursor: &mut Cursor, room: usize) -> Result<Items<Variables>, S
     Ok(found)
 }
 
-#[tactic(auto, using(m2_grammar::proofs::Rules::section_is))]
+#[tactic(auto, using(def_grammar::proofs::Rules::section_is))]
 fn section(cursor: &mut Cursor) -> Result<Section, Stop>
     ensures { Reads (read_rule 0 section_rule cursor.old) result cursor.new }
 {
@@ -165,7 +165,7 @@ fn section(cursor: &mut Cursor) -> Result<Section, Stop>
     Ok(Section { is_var, names, of })
 }
 
-#[tactic(auto, using(m2_grammar::proofs::Loops::lists))]
+#[tactic(auto, using(def_grammar::proofs::Loops::lists))]
 fn sections(cursor: &mut Cursor) -> Result<Items<Section>, Stop>
     ensures { ReadsAs with_first (read sections 0 cursor.old) result cursor.new }
 {
@@ -188,7 +188,7 @@ fn any_sections(cursor: &mut Cursor) -> Result<Items<Section>, Stop>
 }
 
 /// The formals of a procedure and its result, if there are brackets.
-#[tactic(auto, using(m2_grammar::proofs::Rules::formals_is))]
+#[tactic(auto, using(def_grammar::proofs::Rules::formals_is))]
 fn formals(cursor: &mut Cursor) -> Result<Formals, Stop>
     ensures { Reads (read_rule 0 formals_rule cursor.old) result cursor.new }
 {
@@ -202,7 +202,7 @@ fn formals(cursor: &mut Cursor) -> Result<Formals, Stop>
 }
 
 /// The heading of a procedure in a definition module.
-#[tactic(auto, using(m2_grammar::proofs::Flat::formals_flat))]
+#[tactic(auto, using(def_grammar::proofs::Flat::formals_flat))]
 fn declared_heading(cursor: &mut Cursor) -> Result<Heading, Stop>
     ensures { ReadsAs (λ p. heading_of p.0 p.1)
         (read (Procedure ▸ ident · formals ◂ Semicolon) 0 cursor.old) result cursor.new }
@@ -219,7 +219,7 @@ fn declared_heading(cursor: &mut Cursor) -> Result<Heading, Stop>
 }
 
 /// A declaration of a definition module.
-#[tactic(auto, using(m2_grammar::proofs::Rules::def_is, m2_grammar::proofs::Flat::formals_flat, m2_grammar::proofs::Truth::kinds))]
+#[tactic(auto, using(def_grammar::proofs::Rules::def_is, def_grammar::proofs::Flat::formals_flat, def_grammar::proofs::Truth::kinds))]
 pub(crate) fn def(cursor: &mut Cursor, room: usize) -> Result<Def, Stop>
     ensures { Reads (read_rule room def_rule cursor.old) result cursor.new }
 {
@@ -256,7 +256,7 @@ fn body(cursor: &mut Cursor, room: usize) -> Result<Option<Items<Stmt>>, Stop>
 
 /// Declarations and a body up to the END, with so many levels of nesting left.
 #[cycle(decl)]
-#[tactic(auto, using(m2_grammar::proofs::Rules::block_is))]
+#[tactic(auto, using(def_grammar::proofs::Rules::block_is))]
 pub(crate) fn block(cursor: &mut Cursor, room: usize) -> Result<Block, Stop>
     ensures { Reads (read_rule room block_rule cursor.old) result cursor.new }
 {
@@ -278,7 +278,7 @@ fn decls(cursor: &mut Cursor, room: usize) -> Result<Items<Decl>, Stop>
 }
 
 #[cycle(decl)]
-#[tactic(auto, using(m2_grammar::proofs::Rules::decl_is, m2_grammar::proofs::Truth::kinds))]
+#[tactic(auto, using(def_grammar::proofs::Rules::decl_is, def_grammar::proofs::Truth::kinds))]
 fn decl(cursor: &mut Cursor, room: usize) -> Result<Decl, Stop>
     ensures { Reads (read_rule room decl_rule cursor.old) result cursor.new }
 {
@@ -304,7 +304,7 @@ fn decl(cursor: &mut Cursor, room: usize) -> Result<Decl, Stop>
 
 /// A procedure with its block. The name behind the END is the one behind the PROCEDURE.
 #[cycle(decl)]
-#[tactic(auto, using(m2_grammar::proofs::Rules::procedure_is))]
+#[tactic(auto, using(def_grammar::proofs::Rules::procedure_is))]
 fn procedure(cursor: &mut Cursor, room: usize) -> Result<Decl, Stop>
     ensures { ReadsAs (λ p. Decl.Procedure (heading_of p.0 p.1.0) p.1.1)
         (read (nest (Procedure ▸ named procedure ◂ Semicolon)) room cursor.old) result
@@ -326,7 +326,7 @@ fn procedure(cursor: &mut Cursor, room: usize) -> Result<Decl, Stop>
 
 /// What stands between the two names of a procedure.
 #[cycle(decl)]
-#[tactic(auto, using(m2_grammar::proofs::Flat::formals_flat))]
+#[tactic(auto, using(def_grammar::proofs::Flat::formals_flat))]
 fn contents(cursor: &mut Cursor, room: usize) -> Result<(Formals, Boxed<Block>), Stop>
     ensures { Reads (read procedure room cursor.old) result cursor.new }
 {

@@ -4,5 +4,5 @@
 mod decl;
 mod module;
 
-pub use m2_grammar::{ParseError, ParseRefusal};
+pub use def_grammar::{ParseError, ParseRefusal};
 pub use module::parse;

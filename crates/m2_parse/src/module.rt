@@ -3,24 +3,24 @@
 ghost use Rattle.std.specs.Prelude.{◌≡◌, [], ◌∷◌, option_map};
 ghost use Rattle.m2_tree.specs.declared.token.Symbol.TheVariants.{Definition, Dot, From, Implementation};
 ghost use Rattle.m2_tree.specs.declared.decl.Contents.TheVariants as held;
-ghost use Rattle.m2_grammar.specs.Rule.{import_rule, module_rule};
-ghost use Rattle.m2_grammar.specs.Grammar.{◌·◌, ◌▸◌, ◌◂◌, many, named, opt};
-ghost use Rattle.m2_grammar.specs.Ebnf.{contents, def, definitions, ident, import, symbol};
-ghost use Rattle.m2_grammar.specs.Tables.{symbols};
-ghost use Rattle.m2_grammar.specs.Trees.{held_by, ident_of, is_there, module_with};
-ghost use Rattle.m2_grammar.specs.Refusal.{max_nesting, Answers, IsTree, Parses};
-ghost use Rattle.m2_grammar.specs.Reading.{is_among, read, read_rule, Reads, ReadsAs};
+ghost use Rattle.def_grammar.specs.Rule.{import_rule, module_rule};
+ghost use Rattle.def_grammar.specs.Grammar.{◌·◌, ◌▸◌, ◌◂◌, many, named, opt};
+ghost use Rattle.def_grammar.specs.Ebnf.{contents, def, definitions, ident, import, symbol};
+ghost use Rattle.def_grammar.specs.Tables.{symbols};
+ghost use Rattle.def_grammar.specs.Trees.{held_by, ident_of, is_there, module_with};
+ghost use Rattle.def_grammar.specs.Refusal.{max_nesting, Answers, IsTree, Parses};
+ghost use Rattle.def_grammar.specs.Reading.{is_among, read, read_rule, Reads, ReadsAs};
 
 use crate::decl::{begins_decl, block, def};
-use m2_grammar::{Fault, Kind, ParseError, Stop};
-use m2_phrase::Cursor;
+use def_grammar::{Fault, Kind, ParseError, Stop};
 use m2_tree::{Block, Contents, Def, Ident, Import, Items, Module, Symbol, Token};
+use parse_expr::Cursor;
 use std::alloc::Global;
 
 /// How deep procedures, statements, types and expressions nest.
 const MAX_NESTING: usize = 200;
 
-#[tactic(auto, using(m2_grammar::proofs::Truth::symbols), unfolding(m2_grammar::specs::Kinds::same_kind))]
+#[tactic(auto, using(def_grammar::proofs::Truth::symbols), unfolding(def_grammar::specs::Kinds::same_kind))]
 fn begins_import(kind: Kind) -> bool
     ensures { result ≡ is_among kind (symbols (From ∷ Symbol.Import ∷ [])) }
 {
@@ -53,7 +53,7 @@ fn source(cursor: &mut Cursor) -> Result<Option<Ident>, Stop>
     Ok(Some(name))
 }
 
-#[tactic(auto, using(m2_grammar::proofs::Rules::import_is, m2_grammar::proofs::Flat::idents_flat))]
+#[tactic(auto, using(def_grammar::proofs::Rules::import_is, def_grammar::proofs::Flat::idents_flat))]
 fn import(cursor: &mut Cursor) -> Result<Import, Stop>
     ensures { Reads (read_rule max_nesting import_rule cursor.old) result cursor.new }
 {
@@ -142,7 +142,7 @@ fn other_module(cursor: &mut Cursor) -> Result<Module, Stop>
     })
 }
 
-#[tactic(auto, using(m2_grammar::proofs::Rules::module_is))]
+#[tactic(auto, using(def_grammar::proofs::Rules::module_is))]
 fn module(cursor: &mut Cursor) -> Result<Module, Stop>
     ensures { Reads (read_rule max_nesting module_rule cursor.old) result cursor.new }
 {

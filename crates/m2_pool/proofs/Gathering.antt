@@ -6,11 +6,11 @@ use Rattle.std.proofs.lemmas.List.{length-map, take_more}
 use Rattle.std.proofs.Math.Seq.{take-length}
 use mathlib.Core.List.{map-append}
 use Rattle.once_cell.specs.Once.{Agrees}
-use Rattle.m2_board.specs.Lists.{times}
-use Rattle.m2_board.specs.Graph.{prerequisites_of, IsJobGraph}
-use Rattle.m2_worker.specs.Results.{with_item, picked, all_jobs, AreResults, NoJobs, OneMore, IsResult}
-use Rattle.m2_worker.proofs.Picks.{get_in}
-use Rattle.m2_worker.proofs.Resulting.{as_many, and_one, one_of, job_at, all_long, all_more, here_once, there_too, item}
+use Rattle.pool_board.specs.Lists.{times}
+use Rattle.pool_board.specs.Graph.{prerequisites_of, IsJobGraph}
+use Rattle.pool_board.specs.Results.{with_item, picked, all_jobs, AreResults, NoJobs, OneMore, IsResult}
+use Rattle.pool_board.proofs.Picks.{get_in}
+use Rattle.pool_board.proofs.Resulting.{as_many, and_one, one_of, job_at, all_long, all_more, here_once, there_too, item}
 use Rattle.m2_pool.specs.Settled.{IsSettled, all_settled}
 use Rattle.m2_pool.proofs.Items.{next_in}
 

@@ -1,7 +1,7 @@
 -- The next of a list's items, and what an answer that may fail gives.
 use Rattle.std.proofs.Common.{◌≡◌, ◌<◌, List, [], ◌∷◌, ◌++◌, length, get_or, refl, sym, ap, ◌∙◌, arith, append-nil, append_assoc, length-append, Ok, Err}
 use Rattle.std.specs.Prelude.{Result, IfOk}
-use Rattle.m2_board.specs.Lists.{together}
+use Rattle.pool_board.specs.Lists.{together}
 
 after : {A : Type 0} (xs ys : List A) (x d : A) → get_or (xs ++ x ∷ ys) (length xs) d ≡ x
 after [] ys x d = refl

@@ -2,9 +2,9 @@
 use Rattle.std.proofs.Common.{◌≡◌, ℕ, eqb, ◌<◌, ◌≢◌, List, [], ◌∷◌, ◌++◌, length, map, get_or, set, sym, ap, ◌∙◌, subst, ⊎_elim, arith, Option, Some, None, get_or-set_other, get_or-set_same}
 use Rattle.std.specs.Prelude.{MatchOption, IfSome}
 use mathlib.Core.List.{map-append}
-use Rattle.m2_board.specs.Lists.{times}
-use Rattle.m2_board.proofs.Weights.{weigh-push}
-use Rattle.m2_board.proofs.Consistent.{bit, one_if}
+use Rattle.pool_board.specs.Lists.{times}
+use Rattle.pool_board.proofs.Weights.{weigh-push}
+use Rattle.pool_board.proofs.Consistent.{bit, one_if}
 
 -- another fact of a place with nothing in it
 match_none : {R : Type 0} (o : Option R) (P P' : Type 0) (Q : R → Type 0) → (P → P') → MatchOption o P Q → MatchOption o P' Q

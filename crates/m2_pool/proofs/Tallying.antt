@@ -1,12 +1,12 @@
 -- The tally has each job once, and nothing else.
 use Rattle.std.proofs.Common.{◌≡◌, ◌≢◌, ℕ, zero, suc, ◌<◌, ◌≤◌, List, ◌++◌, length, map, All, eqb, eq-eqb, ne_eqb, refl, ap, ◌∙◌, ⊎_elim, arith}
 use Rattle.std.proofs.lemmas.Bool.{cases_eq, cases_lt, lt-ltb, le-ltb}
-use Rattle.m2_board.specs.Lists.{times, listed}
-use Rattle.m2_board.specs.Rule.{IsConsistent, IsSourced}
-use Rattle.m2_board.specs.Seats.{SeatState, all_had, all_met, all_counts, without}
-use Rattle.m2_board.proofs.Consistent.{bit, one_if}
-use Rattle.m2_board.proofs.Tallied.{listed-map}
-use Rattle.m2_board.proofs.Weights.{weigh-push, weigh-append}
+use Rattle.pool_board.specs.Lists.{times, listed}
+use Rattle.pool_board.specs.Rule.{IsConsistent, IsSourced}
+use Rattle.pool_board.specs.Seats.{SeatState, all_had, all_met, all_counts, without}
+use Rattle.pool_board.proofs.Consistent.{bit, one_if}
+use Rattle.pool_board.proofs.Tallied.{listed-map}
+use Rattle.pool_board.proofs.Weights.{weigh-push, weigh-append}
 use Rattle.m2_pool.specs.Tallied.{IsTally}
 
 -- no number past the jobs is left

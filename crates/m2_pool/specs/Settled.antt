@@ -1,7 +1,7 @@
 -- What the gatherer knows of a settled job.
 use Rattle.std.specs.Prelude.{◌≡◌, ℕ, Bool, List, slice_get, slice_index_or, Option, Some, None, is_some}
 use Rattle.std.specs.List.{list_all}
-use Rattle.m2_worker.specs.Results.{IsResult}
+use Rattle.pool_board.specs.Results.{IsResult}
 
 -- The cell of this name is that of the job, and what is known of it is a result of the job. The names are those of the
 -- cells of all jobs.

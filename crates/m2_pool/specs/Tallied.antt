@@ -1,8 +1,8 @@
 -- What the tally of a run says.
 use Rattle.std.specs.Prelude.{◌≡◌, ℕ, List, ◌++◌, length, map, All, nat_lt, if◌then◌else◌}
-use Rattle.m2_board.specs.Lists.{times, listed}
-use Rattle.m2_board.specs.Rule.{IsConsistent, IsSourced}
-use Rattle.m2_board.specs.Seats.{SeatState, all_had, all_met, all_counts, without}
+use Rattle.pool_board.specs.Lists.{times, listed}
+use Rattle.pool_board.specs.Rule.{IsConsistent, IsSourced}
+use Rattle.pool_board.specs.Seats.{SeatState, all_had, all_met, all_counts, without}
 
 -- The lists are what the seats of a board had, as these were when all workers had ended, and `left` is what no seat had.
 pub record IsTally (graph : List (List ℕ)) (workers : ℕ) (lists : List (List ℕ)) (left : List ℕ) : Type 0 where

@@ -1,13 +1,13 @@
 // The gatherer, who works when all workers have ended.
 ghost use Rattle.std.specs.Prelude.{◌≡◌, ℕ, List, ◌<◌, length, map, All, IfOk, IfSome, MatchOption, MatchResult, IsTrue, slice_index_or, slice_set, None, Some, true, false};
 ghost use Rattle.once_cell.specs.Once.{cell_name, Agrees};
-ghost use Rattle.m2_board.specs.Lists.{times};
-ghost use Rattle.m2_board.specs.Graph.{prerequisites_of};
-ghost use Rattle.m2_worker.specs.Results.{picked, all_jobs, AreResults, IsResult, IsRan, IsMade};
+ghost use Rattle.pool_board.specs.Lists.{times};
+ghost use Rattle.pool_board.specs.Graph.{prerequisites_of};
+ghost use Rattle.pool_board.specs.Results.{picked, all_jobs, AreResults, IsResult, IsRan, IsMade};
 ghost use Rattle.m2_pool.specs.Settled.{IsSettled, all_settled};
 
-use m2_worker::{Gate, Pool, Ran, Work};
 use once_cell::race::Note;
+use pool_board::{Gate, Pool, Ran, Work};
 use std::alloc::{AllocError, Global};
 
 /// For each job what a worker handed back of it, or nothing where no worker ran it.

@@ -2,8 +2,8 @@
 //!
 //! [`run_jobs`] answers a result for each job, in job order, and who had which job. Each result is one that the work's own
 //! definition gives for its job from results of its prerequisites, for every number of workers, every gate and every
-//! schedule. The board on which the workers claim the jobs is that of `m2_board`, and what one worker does is that of
-//! `m2_worker`: their public items that callers need are passed on. Here the jobs are dealt, the workers run on threads,
+//! schedule. The board on which the workers claim the jobs is that of `pool_board`, and what one worker does is that of
+//! `pool_board`: their public items that callers need are passed on. Here the jobs are dealt, the workers run on threads,
 //! and the results are gathered: those that the workers handed back are shown by their notes to stand on one another, and
 //! what is left is run.
 #![tactic(auto)]
@@ -11,6 +11,5 @@
 mod gather;
 mod run;
 
-pub use m2_board::{Board, BoardSeat, JobGraph, PoolRefusal, Tally};
-pub use m2_worker::{Gate, Work};
+pub use pool_board::{Board, BoardSeat, Gate, JobGraph, PoolRefusal, Tally, Work};
 pub use run::{run_jobs, run_on};

@@ -1,15 +1,17 @@
 // The whole: workers on threads of their own, and the gatherer.
 ghost use Rattle.std.specs.Prelude.{◌≡◌, ◌≢◌, ◌++◌, [], ℕ, ◌<◌, ◌≤◌, ◌↔◌, length, map, All, IfOk, MatchResult, Err};
 ghost use Rattle.once_cell.specs.Once.{cell_name};
-ghost use Rattle.m2_board.specs.Seats.{IsAllSeats, all_had, max_workers};
-ghost use Rattle.m2_worker.specs.Results.{all_jobs, AreResults, IsRan, IsMade};
+ghost use Rattle.pool_board.specs.Seats.{IsAllSeats, all_had, max_workers};
+ghost use Rattle.pool_board.specs.Results.{all_jobs, AreResults, IsRan, IsMade};
 ghost use Rattle.m2_pool.specs.Tallied.{IsTally};
 
 use crate::gather::{gathered, placed};
 use crossbeam_deque::{Stealer, Worker};
-use m2_board::{Board, BoardSeat, JobGraph, PoolRefusal, Tally};
-use m2_worker::{Gate, Member, Pool, Ran, Work, empty_cells, work_on};
 use once_cell::race::OnceBox;
+use pool_board::{
+    Board, BoardSeat, Gate, JobGraph, Member, Pool, PoolRefusal, Ran, Tally, Work, empty_cells,
+    work_on,
+};
 use std::alloc::{AllocError, Global};
 use std::thread;
 use std::thread::Threads;

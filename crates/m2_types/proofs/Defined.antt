@@ -2,11 +2,11 @@
 use Rattle.std.proofs.Common.{◌≡◌, ℕ, List, Result, ap, ◌∙◌}
 use Rattle.m2_tree.specs.declared.decl.Def.{Def}
 use Rattle.m2_tree.specs.declared.decl.Module.{Module}
-use Rattle.m2_typed.specs.declared.table.Table.{Table}
-use Rattle.m2_scopes.specs.declared.fault.Fault.{Fault}
-use Rattle.m2_scopes.specs.declared.scope.Scope.{Scope}
-use Rattle.m2_scopes.specs.Scopes.{State}
-use Rattle.m2_scopes.specs.Elaborated.{least}
+use Rattle.typed_tree.specs.declared.table.Table.{Table}
+use Rattle.check_scope.specs.declared.fault.Fault.{Fault}
+use Rattle.check_scope.specs.declared.scope.Scope.{Scope}
+use Rattle.check_scope.specs.Scopes.{State}
+use Rattle.check_scope.specs.Elaborated.{least}
 use Rattle.m2_types.specs.Importing.{numbered_modules}
 use Rattle.m2_types.specs.Predeclared.{first_scope}
 use Rattle.m2_types.specs.Compiled.{declared_in, table_or, of_definition}

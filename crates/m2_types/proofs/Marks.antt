@@ -10,8 +10,8 @@ use Rattle.m2_tree.specs.declared.decl.TypeExpr.{TypeExpr, TypeExpr-F, out-TypeE
 use Rattle.m2_tree.specs.declared.decl.TypeExpr.TheOpen as layer
 use Rattle.m2_tree.specs.declared.decl.TypeExpr.TheVariants as type
 use Rattle.m2_tree.specs.declared.decl.Field.{Field, out-Field, fold_out-Field}
-use Rattle.m2_scopes.specs.declared.fault.Fault.{Fault}
-use Rattle.m2_scopes.specs.declared.scope.Scope.{Scope}
+use Rattle.check_scope.specs.declared.fault.Fault.{Fault}
+use Rattle.check_scope.specs.declared.scope.Scope.{Scope}
 use Rattle.m2_types.specs.Marking.{marked_simple, then_marks, type_layer, field_layer, marked_in, marked_field, marked_with_field}
 
 abbrev M : Type 0

@@ -5,10 +5,10 @@ use Rattle.m2_tree.specs.declared.decl.Def.{Def}
 use Rattle.m2_tree.specs.declared.decl.Contents.{Contents}
 use Rattle.m2_tree.specs.declared.decl.Contents.TheVariants as contents
 use Rattle.m2_tree.specs.declared.decl.Module.{Module}
-use Rattle.m2_typed.specs.declared.table.Table.{Table}
-use Rattle.m2_scopes.specs.declared.scope.Scope.{Scope}
-use Rattle.m2_scopes.specs.Scopes.{State}
-use Rattle.m2_scopes.specs.Elaborated.{Gathers, reported, ◌▷◌}
+use Rattle.typed_tree.specs.declared.table.Table.{Table}
+use Rattle.check_scope.specs.declared.scope.Scope.{Scope}
+use Rattle.check_scope.specs.Scopes.{State}
+use Rattle.check_scope.specs.Elaborated.{Gathers, reported, ◌▷◌}
 use Rattle.m2_types.specs.Marking.{marked_def}
 use Rattle.m2_types.specs.Predeclared.{console, first_scope}
 use Rattle.m2_types.specs.Importing.{numbered_modules, with_import}

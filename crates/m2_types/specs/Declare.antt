@@ -13,17 +13,17 @@ use Rattle.m2_tree.specs.declared.decl.Simple.TheVariants as simple
 use Rattle.m2_tree.specs.declared.decl.TypeExpr.{TypeExpr, TypeExpr-F, out-TypeExpr}
 use Rattle.m2_tree.specs.declared.decl.TypeExpr.TheOpen as layer
 use Rattle.m2_tree.specs.declared.decl.Field.{Field}
-use Rattle.m2_typed.specs.declared.types.TypeNo.{TypeNo}
-use Rattle.m2_typed.specs.declared.meaning.Value.{Value}
-use Rattle.m2_typed.specs.declared.meaning.Meaning.{Meaning}
-use Rattle.m2_typed.specs.declared.meaning.Meaning.TheVariants as meaning
-use Rattle.m2_scopes.specs.declared.scope.Scope.{Scope}
-use Rattle.m2_scopes.specs.Scopes.{State, declared, begun, finished}
-use Rattle.m2_scopes.specs.Elaborated.{Gathers, beside, ◌▷◌}
-use Rattle.m2_constants.specs.Parts.{constant}
-use Rattle.m2_exprs.specs.Meanings.{part}
-use Rattle.m2_made.specs.Headings.{heading_of, names_of}
-use Rattle.m2_made.specs.Made.{nothing_of, type_of, with_made}
+use Rattle.typed_tree.specs.declared.types.TypeNo.{TypeNo}
+use Rattle.typed_tree.specs.declared.meaning.Value.{Value}
+use Rattle.typed_tree.specs.declared.meaning.Meaning.{Meaning}
+use Rattle.typed_tree.specs.declared.meaning.Meaning.TheVariants as meaning
+use Rattle.check_scope.specs.declared.scope.Scope.{Scope}
+use Rattle.check_scope.specs.Scopes.{State, declared, begun, finished}
+use Rattle.check_scope.specs.Elaborated.{Gathers, beside, ◌▷◌}
+use Rattle.check_const.specs.Parts.{constant}
+use Rattle.check_expr.specs.Meanings.{part}
+use Rattle.check_type_expr.specs.Headings.{heading_of, names_of}
+use Rattle.check_type_expr.specs.Made.{nothing_of, type_of, with_made}
 
 -- ---- constants
 

@@ -3,16 +3,16 @@ use Rattle.std.specs.Prelude.{ℕ, List, [], ◌∷◌, ◌++◌, Option, Some, 
 use Rattle.std.specs.List.{fold}
 use Rattle.m2_tree.specs.declared.name.Ident.{Ident}
 use Rattle.m2_tree.specs.declared.decl.Import.{Import}
-use Rattle.m2_typed.specs.declared.shape.Made.{Made}
-use Rattle.m2_typed.specs.declared.meaning.Meaning.{Meaning}
-use Rattle.m2_typed.specs.declared.table.ModuleTypes.{ModuleTypes}
-use Rattle.m2_typed.specs.declared.table.Table.{Table}
-use Rattle.m2_typed.specs.Names.{found, entered}
-use Rattle.m2_scopes.specs.declared.known.Origin.{Origin}
-use Rattle.m2_scopes.specs.declared.known.Origin.TheVariants.{Here, Module, Export}
-use Rattle.m2_scopes.specs.declared.known.Known.{Known}
-use Rattle.m2_scopes.specs.declared.known.Known.TheVariants.{Later, Ahead, Begun, Headed, Declared}
-use Rattle.m2_typed.specs.declared.known_types.Types.{Types}
+use Rattle.typed_tree.specs.declared.shape.Made.{Made}
+use Rattle.typed_tree.specs.declared.meaning.Meaning.{Meaning}
+use Rattle.typed_tree.specs.declared.table.ModuleTypes.{ModuleTypes}
+use Rattle.typed_tree.specs.declared.table.Table.{Table}
+use Rattle.typed_tree.specs.Names.{found, entered}
+use Rattle.check_scope.specs.declared.known.Origin.{Origin}
+use Rattle.check_scope.specs.declared.known.Origin.TheVariants.{Here, Module, Export}
+use Rattle.check_scope.specs.declared.known.Known.{Known}
+use Rattle.check_scope.specs.declared.known.Known.TheVariants.{Later, Ahead, Begun, Headed, Declared}
+use Rattle.typed_tree.specs.declared.known_types.Types.{Types}
 
 -- ---- exports: what the block declares, in order
 

@@ -5,16 +5,16 @@ use Rattle.std.specs.Option.{is_some}
 use Rattle.m2_tree.specs.declared.pos.Pos.{Pos}
 use Rattle.m2_tree.specs.declared.name.Ident.{Ident}
 use Rattle.m2_tree.specs.declared.decl.Import.{Import}
-use Rattle.m2_typed.specs.declared.meaning.Meaning.{Meaning}
-use Rattle.m2_typed.specs.declared.meaning.Meaning.TheVariants as meaning
-use Rattle.m2_typed.specs.declared.table.Table.{Table}
-use Rattle.m2_typed.specs.Names.{found, place_of, entered}
-use Rattle.m2_scopes.specs.declared.known.Origin.TheVariants.{Module, Export}
-use Rattle.m2_scopes.specs.declared.known.Known.{Known}
-use Rattle.m2_scopes.specs.declared.known.Known.TheVariants.{Later, Ahead, Begun, Headed, Declared}
-use Rattle.m2_scopes.specs.declared.scope.Scope.{Scope}
-use Rattle.m2_scopes.specs.Scopes.{State, is_one_origin, imported}
-use Rattle.m2_scopes.specs.Elaborated.{Gathers, reported, reported_where, beside}
+use Rattle.typed_tree.specs.declared.meaning.Meaning.{Meaning}
+use Rattle.typed_tree.specs.declared.meaning.Meaning.TheVariants as meaning
+use Rattle.typed_tree.specs.declared.table.Table.{Table}
+use Rattle.typed_tree.specs.Names.{found, place_of, entered}
+use Rattle.check_scope.specs.declared.known.Origin.TheVariants.{Module, Export}
+use Rattle.check_scope.specs.declared.known.Known.{Known}
+use Rattle.check_scope.specs.declared.known.Known.TheVariants.{Later, Ahead, Begun, Headed, Declared}
+use Rattle.check_scope.specs.declared.scope.Scope.{Scope}
+use Rattle.check_scope.specs.Scopes.{State, is_one_origin, imported}
+use Rattle.check_scope.specs.Elaborated.{Gathers, reported, reported_where, beside}
 
 -- ---- modules by name: the first of a name counts
 

@@ -11,9 +11,9 @@ use Rattle.m2_tree.specs.declared.decl.Simple.TheVariants as simple
 use Rattle.m2_tree.specs.declared.decl.TypeExpr.{TypeExpr, TypeExpr-F, fold-TypeExpr}
 use Rattle.m2_tree.specs.declared.decl.TypeExpr.TheOpen as layer
 use Rattle.m2_tree.specs.declared.decl.Field.{Field, Field-F, fold-Field}
-use Rattle.m2_scopes.specs.declared.known.Known.TheVariants.{Later, Ahead}
-use Rattle.m2_scopes.specs.declared.scope.Scope.{Scope}
-use Rattle.m2_scopes.specs.Scopes.{marked}
+use Rattle.check_scope.specs.declared.known.Known.TheVariants.{Later, Ahead}
+use Rattle.check_scope.specs.declared.scope.Scope.{Scope}
+use Rattle.check_scope.specs.Scopes.{marked}
 
 abbrev pub Marks : Type 0 → Type 0
 Marks T = Scope T → Scope T

@@ -4,20 +4,20 @@ use Rattle.std.specs.List.{fold}
 use Rattle.std.specs.Map.{lookup}
 use Rattle.std.specs.Option.{is_some}
 use Rattle.indexmap.specs.IndexMap.{insert_entry}
-use Rattle.m2_typed.specs.declared.shape.Made.{Made}
-use Rattle.m2_typed.specs.declared.meaning.Value.TheVariants as value
-use Rattle.m2_typed.specs.declared.meaning.Standard.TheVariants.{Abs, Cap, Chr, High, Max, Min, Odd, Ord, Val, Inc, Dec, Incl, Excl, Halt, Put}
-use Rattle.m2_typed.specs.declared.meaning.Meaning.{Meaning}
-use Rattle.m2_typed.specs.declared.meaning.Meaning.TheVariants as meaning
-use Rattle.m2_typed.specs.declared.table.ModuleTypes.{ModuleTypes}
-use Rattle.m2_typed.specs.declared.table.Table.{Table}
-use Rattle.m2_typed.specs.Types.{integer, cardinal, boolean, char, bitset}
-use Rattle.m2_typed.specs.Names.{entered}
-use Rattle.m2_scopes.specs.declared.known.Origin.TheVariants.{Here}
-use Rattle.m2_scopes.specs.declared.known.Known.{Known}
-use Rattle.m2_scopes.specs.declared.known.Known.TheVariants.{Declared}
-use Rattle.m2_scopes.specs.declared.scope.Block.{Block}
-use Rattle.m2_scopes.specs.declared.scope.Scope.{Scope}
+use Rattle.typed_tree.specs.declared.shape.Made.{Made}
+use Rattle.typed_tree.specs.declared.meaning.Value.TheVariants as value
+use Rattle.typed_tree.specs.declared.meaning.Standard.TheVariants.{Abs, Cap, Chr, High, Max, Min, Odd, Ord, Val, Inc, Dec, Incl, Excl, Halt, Put}
+use Rattle.typed_tree.specs.declared.meaning.Meaning.{Meaning}
+use Rattle.typed_tree.specs.declared.meaning.Meaning.TheVariants as meaning
+use Rattle.typed_tree.specs.declared.table.ModuleTypes.{ModuleTypes}
+use Rattle.typed_tree.specs.declared.table.Table.{Table}
+use Rattle.typed_tree.specs.Types.{integer, cardinal, boolean, char, bitset}
+use Rattle.typed_tree.specs.Names.{entered}
+use Rattle.check_scope.specs.declared.known.Origin.TheVariants.{Here}
+use Rattle.check_scope.specs.declared.known.Known.{Known}
+use Rattle.check_scope.specs.declared.known.Known.TheVariants.{Declared}
+use Rattle.check_scope.specs.declared.scope.Block.{Block}
+use Rattle.check_scope.specs.declared.scope.Scope.{Scope}
 
 -- ---- predeclared names
 

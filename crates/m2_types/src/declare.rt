@@ -2,15 +2,15 @@
 
 ghost use Rattle.std.specs.Prelude.{◌≡◌, Ok, IfOk, OnOk};
 ghost use Rattle.std.specs.List.{fold};
-ghost use Rattle.m2_scopes.specs.Elaborated.{least};
+ghost use Rattle.check_scope.specs.Elaborated.{least};
 ghost use Rattle.m2_types.specs.Declare.{constant_meaning, nothing_reported, with_constant, brings_simple, brings_with, type_meaning, with_type, begun_name, variable_meaning, with_variable_type, finished_variable, with_variables, procedure_meaning, with_procedure_type, declared_procedure, with_procedure, with_def};
 
-use m2_exprs::constant_of;
-use m2_made::{heading_of, names_of, nothing_of, type_of, with_made};
-use m2_scopes::{Elaborated, Fault, Scope, begin, beside, declare, finish};
+use check_expr::constant_of;
+use check_scope::{Elaborated, Fault, Scope, begin, beside, declare, finish};
+use check_type_expr::{heading_of, names_of, nothing_of, type_of, with_made};
 use m2_tree::{Constant, Def, Heading, Ident, Simple, TypeDecl, TypeExpr, Variables};
-use m2_typed::{Meaning, Procedure, TypeNo, Value, Variable};
 use std::alloc::{AllocError, Global};
+use typed_tree::{Meaning, Procedure, TypeNo, Value, Variable};
 
 // ---- constants
 

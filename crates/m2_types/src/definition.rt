@@ -1,7 +1,7 @@
 //! The table of a definition.
 
 ghost use Rattle.std.specs.Prelude.{◌≡◌, IfOk, ◌++◌, ◌∷◌, []};
-ghost use Rattle.m2_scopes.specs.Elaborated.{least};
+ghost use Rattle.check_scope.specs.Elaborated.{least};
 ghost use Rattle.m2_types.specs.Predeclared.{console};
 ghost use Rattle.m2_types.specs.Compiled.{table_of, declared_in, table_or, of_definition, compiled};
 
@@ -10,10 +10,10 @@ use crate::export::{exports, imported_modules, reached_of};
 use crate::importing::{import_all, modules_of};
 use crate::marking::mark_defs;
 use crate::predeclared::{console, first_scope};
-use m2_scopes::{Elaborated, Fault, Scope, reported};
+use check_scope::{Elaborated, Fault, Scope, reported};
 use m2_tree::{Contents, Def, Items, Module};
-use m2_typed::{Dictionary, Shared, Table};
 use std::alloc::{AllocError, Global};
+use typed_tree::{Dictionary, Shared, Table};
 
 /// The tables of a module's imports, and that of Console.
 pub fn with_console(

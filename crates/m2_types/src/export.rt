@@ -6,10 +6,10 @@ ghost use Rattle.std.specs.Option.{option_map, option_copied};
 ghost use Rattle.m2_types.specs.Steps.{if_some};
 ghost use Rattle.m2_types.specs.Export.{with_meaning, with_declared, with_export, exports, with_types, own_types, reached_of, with_table_if, with_imported, with_import_of, imported_modules};
 
-use m2_scopes::{Fault, Known, Origin};
+use check_scope::{Fault, Known, Origin};
 use m2_tree::{Ident, Import, Items};
-use m2_typed::{Dictionary, Made, Meaning, ModuleTypes, Reached, Shared, Table, Types};
 use std::alloc::{AllocError, Global};
+use typed_tree::{Dictionary, Made, Meaning, ModuleTypes, Reached, Shared, Table, Types};
 
 // ---- exports
 

@@ -3,16 +3,16 @@
 ghost use Rattle.std.specs.Prelude.{◌≡◌, not, ◌+◌, ◌<◌, ◌^◌, [], Ok, IfOk, OnOk, length, take, drop, slice_get};
 ghost use Rattle.std.specs.List.{fold};
 ghost use Rattle.std.specs.Option.{option_copied, option_map};
-ghost use Rattle.m2_scopes.specs.Elaborated.{least, reported_where};
-ghost use Rattle.m2_scopes.specs.Scopes.{is_one_origin};
-ghost use Rattle.m2_scopes.specs.declared.known.Origin.TheVariants.{Export};
+ghost use Rattle.check_scope.specs.Elaborated.{least, reported_where};
+ghost use Rattle.check_scope.specs.Scopes.{is_one_origin};
+ghost use Rattle.check_scope.specs.declared.known.Origin.TheVariants.{Export};
 ghost use Rattle.m2_types.specs.Steps.{if_some};
 ghost use Rattle.m2_types.specs.Importing.{with_place, numbered_modules, module_named, with_module_as, with_module_name, with_entry, brings_in, brings_of, reported_of_taken, from_place, with_from, exports_of, from_module, with_import};
 
-use m2_scopes::{Elaborated, Fault, Known, Origin, Scope, beside, import, reported};
+use check_scope::{Elaborated, Fault, Known, Origin, Scope, beside, import, reported};
 use m2_tree::{Ident, Import, Pos};
-use m2_typed::{Dictionary, Meaning, Shared, Table};
 use std::alloc::{AllocError, Global};
+use typed_tree::{Dictionary, Meaning, Shared, Table};
 
 /// Gives the name of a module its place, unless it has one.
 fn with_module(

@@ -15,6 +15,6 @@ pub use declare::{
 pub use definition::{compile_definition, with_console};
 pub use export::with_import_of;
 pub use importing::{import_all, modules_of};
-pub use m2_typed::{Table, TypeNo};
 pub use marking::{mark_constants, mark_types, mark_variables};
 pub use predeclared::{first_scope, with_table};
+pub use typed_tree::{Table, TypeNo};

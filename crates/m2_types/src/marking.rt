@@ -4,7 +4,7 @@ ghost use Rattle.std.specs.Prelude.{◌≡◌, OnOk};
 ghost use Rattle.std.specs.List.{fold};
 ghost use Rattle.m2_types.specs.Marking.{marked_later, marked_simple, marked_in, marked_field, marked_constant, marked_type, marked_variables, marked_def, marked_with_field};
 
-use m2_scopes::{Fault, Known, Scope, mark};
+use check_scope::{Fault, Known, Scope, mark};
 use m2_tree::{Constant, Def, Field, Ident, Simple, TypeDecl, TypeExpr, Variables};
 use std::alloc::{AllocError, Global};
 

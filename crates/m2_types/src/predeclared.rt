@@ -4,13 +4,13 @@ ghost use Rattle.std.specs.Prelude.{◌≡◌, [], IfOk, OnOk};
 ghost use Rattle.std.specs.List.{fold};
 ghost use Rattle.m2_types.specs.Predeclared.{predeclared_as, truth, with_types, with_truth, with_functions, with_bounds, with_procedures, predeclared, console, with_reached, with_table, others_of, first_scope};
 
-use m2_scopes::{Block, Fault, Known, Origin, Scope};
+use check_scope::{Block, Fault, Known, Origin, Scope};
 use m2_tree::{Items, Name};
-use m2_typed::{
+use std::alloc::{AllocError, Global};
+use typed_tree::{
     BITSET, BOOLEAN, CARDINAL, CHAR, Dictionary, INTEGER, Meaning, ModuleTypes, Reached,
     ScalarValue, Shared, Standard, Table, Types, Value,
 };
-use std::alloc::{AllocError, Global};
 
 fn predeclare(
     alloc: Global,

@@ -2,8 +2,8 @@
 use Rattle.std.proofs.Common.{◌≡◌, inl, inr, ℕ, ◌*◌, ◌<◌, List, [], ◌∷◌, map, Result, Ok, refl, sym, ap, subst, ◌∙◌, arith}
 use Rattle.std.specs.Global.{Vec}
 use Rattle.std.proofs.lemmas.Option.{same_Some}
-use Rattle.m2_scopes.specs.declared.fault.Fault.{Fault}
-use Rattle.m2_compile.specs.Compiling.{tables_of, typed_body}
+use Rattle.check_scope.specs.declared.fault.Fault.{Fault}
+use Rattle.build_jobs.specs.Compiling.{tables_of, typed_body}
 use Rattle.m2_tree.specs.declared.refusal.Refusal.{Refusal}
 use Rattle.m2_tree.specs.declared.decl.Module.{Module}
 use Rattle.wasm_binary.specs.Binary.{module_encoding}
@@ -11,14 +11,14 @@ use Rattle.m2_graph.specs.declared.error.GraphError.TheVariants as graph_error
 use Rattle.m2_graph.specs.Files.{numbered}
 use Rattle.m2_graph.specs.Graph.{IsGraph, IsRefusal}
 use Rattle.m2_graph.specs.Reported.{Reported as Tale, reported as tale}
-use Rattle.m2_graph_laws.proofs.Once.{one_graph, one_refusal, graph_or_refusal}
-use Rattle.m2_typed.specs.declared.typed_module.TypedModule.{TypedModule}
-use Rattle.m2_meaning.specs.Around.{Modules}
-use Rattle.m2_scheme.specs.Modules.{typed_link}
-use Rattle.m2_read.specs.declared.file.SourceFile.{SourceFile}
+use Rattle.law_graph.proofs.Once.{one_graph, one_refusal, graph_or_refusal}
+use Rattle.typed_tree.specs.declared.typed_module.TypedModule.{TypedModule}
+use Rattle.def_meaning.specs.Around.{Modules}
+use Rattle.def_scheme.specs.Modules.{typed_link}
+use Rattle.build_jobs.specs.declared.file.SourceFile.{SourceFile}
 use Rattle.m2c.specs.declared.files.Outcome.{Outcome}
 use Rattle.m2c.specs.declared.files.Outcome.TheVariants as outcome
-use Rattle.m2_jobs.specs.Encoded.{needed_of}
+use Rattle.build_jobs.specs.Encoded.{needed_of}
 use Rattle.m2c.specs.Modules.{IsTyped, AreTyped}
 use Rattle.m2c.specs.Build.{Reported, reported, reported_at, AreReported, refused_of, refused_by, built_of, named, modules, data_and_stack, program_file, AreUnread, AreUngraphed, AreUncompiled, HaveGraph, IsTooLarge, IsProgram, IsBuilt, AreAlike}
 use Rattle.m2c.proofs.Same.{same_refused, one_trees, trees_or_refused}

@@ -5,13 +5,13 @@ use Rattle.std.specs.List.{flat_map}
 use Rattle.std.specs.Global.{Global, Vec}
 use Rattle.std.proofs.lemmas.List.{append-nil, take_more}
 use Rattle.std.proofs.lemmas.Grind.{flat_map-append}
-use Rattle.m2_execute.specs.Reported.{Printed, Says}
-use Rattle.m2_execute.proofs.Saying.{says_more}
-use Rattle.m2_read.specs.declared.file.SourceFile.{SourceFile}
+use Rattle.run_directory.specs.Reported.{Printed, Says}
+use Rattle.run_directory.proofs.Saying.{says_more}
+use Rattle.build_jobs.specs.declared.file.SourceFile.{SourceFile}
 use Rattle.m2_tree.specs.declared.refusal.Refusal.{Refusal}
-use Rattle.m2_write.specs.declared.fault.SaveFault.{SaveFault}
-use Rattle.m2_write.specs.Calls.{Call, module_file}
-use Rattle.m2_write.specs.Saves.{Saves}
+use Rattle.write_directory.specs.declared.fault.SaveFault.{SaveFault}
+use Rattle.write_directory.specs.Calls.{Call, module_file}
+use Rattle.write_directory.specs.Saves.{Saves}
 use Rattle.m2c.specs.declared.files.Outcome.TheVariants as outcome
 use Rattle.m2c.specs.Build.{IsBuilt}
 use Rattle.m2c.specs.Endings.{line_of}

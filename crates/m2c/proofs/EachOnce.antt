@@ -13,7 +13,7 @@ use Rattle.graph_walk.specs.Links.{times}
 use Rattle.m2_graph.specs.Files.{numbered}
 use Rattle.m2_graph.specs.Graph.{CompileEach}
 use Rattle.m2_graph.specs.Jobs.{number_of}
-use Rattle.m2_graph_laws.proofs.Lists.{among-permutation}
+use Rattle.law_graph.proofs.Lists.{among-permutation}
 
 -- ---- how often a number is in a list
 

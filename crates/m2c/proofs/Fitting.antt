@@ -3,18 +3,18 @@ use Rattle.std.proofs.Common.{◌≡◌, ℕ, Bool, true, List, [], ◌∷◌, r
 use Rattle.std.specs.List.{list_all}
 use Rattle.std.specs.Arc.{arc_value}
 use Rattle.m2_tree.specs.declared.decl.Module.{Module}
-use Rattle.m2_meaning.specs.Around.{Modules}
-use Rattle.m2_formed.specs.FormedKnown.{fits_module}
-use Rattle.m2_formed.proofs.Folds.{and_both}
-use Rattle.m2_formed.proofs.Spelled.{module_fits}
-use Rattle.m2_formed.proofs.Tokens.{tokens_fit}
-use Rattle.m2_typing.specs.FormedTrees.{fits_contents}
-use Rattle.m2_typing.proofs.Rules.{text_whole}
-use Rattle.m2_typing.specs.FormedCoherent.{AreBodiesIn}
-use Rattle.m2_read.specs.declared.file.SourceFile.{SourceFile}
-use Rattle.m2_read.specs.declared.reading.Read.{Read}
-use Rattle.m2_read.specs.declared.reading.Read.TheVariants as read
-use Rattle.m2_read.specs.Reading.{HasTree, AreRead}
+use Rattle.def_meaning.specs.Around.{Modules}
+use Rattle.law_well_formed.specs.FormedKnown.{fits_module}
+use Rattle.law_well_formed.proofs.Folds.{and_both}
+use Rattle.law_well_formed.proofs.Spelled.{module_fits}
+use Rattle.law_well_formed.proofs.Tokens.{tokens_fit}
+use Rattle.law_programs.specs.FormedTrees.{fits_contents}
+use Rattle.law_programs.proofs.Rules.{text_whole}
+use Rattle.law_programs.specs.FormedCoherent.{AreBodiesIn}
+use Rattle.build_jobs.specs.declared.file.SourceFile.{SourceFile}
+use Rattle.build_jobs.specs.declared.reading.Read.{Read}
+use Rattle.build_jobs.specs.declared.reading.Read.TheVariants as read
+use Rattle.build_jobs.specs.Reading.{HasTree, AreRead}
 use Rattle.m2c.specs.Modules.{AreTyped}
 use Rattle.m2c.specs.Build.{modules, trees_of, AreTrees}
 

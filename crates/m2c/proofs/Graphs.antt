@@ -8,36 +8,36 @@ use Rattle.std.specs.Borrow.{Bor}
 use Rattle.m2_tree.specs.declared.decl.Module.{Module}
 use Rattle.wasm_binary.specs.Binary.{module_encoding, Encodes}
 use Rattle.m2_graph.specs.Jobs.{ArePlaces, place_of}
-use Rattle.m2_graph_laws.specs.Started.{AreStarted, at_places}
-use Rattle.m2_graph_laws.proofs.Started.{are_started}
+use Rattle.law_graph.specs.Started.{AreStarted, at_places}
+use Rattle.law_graph.proofs.Started.{are_started}
 use Rattle.std.proofs.lemmas.List.{length-map}
 use Rattle.std.proofs.lemmas.List.Elements.{All-cons}
 use Rattle.wasm_tree.specs.declared.module.WModule.{WModule}
 use Rattle.wasm_tree.specs.Validity.{IsValid}
 use Rattle.m2_tree.specs.declared.refusal.Refusal.{Refusal}
-use Rattle.m2_typed.specs.declared.typed_module.TypedModule.{TypedModule}
-use Rattle.m2_meaning.specs.Around.{Modules}
-use Rattle.m2_scheme.specs.Modules.{Part, typed_module, typed_link, part_of, link_of, stack_begin}
+use Rattle.typed_tree.specs.declared.typed_module.TypedModule.{TypedModule}
+use Rattle.def_meaning.specs.Around.{Modules}
+use Rattle.def_scheme.specs.Modules.{Part, typed_module, typed_link, part_of, link_of, stack_begin}
 use Rattle.m2_emit.specs.declared.emitted.ModuleBytes.{ModuleBytes}
 use Rattle.m2_emit.specs.Emitted.{emitted, parts}
-use Rattle.m2_read.specs.declared.file.SourceFile.{SourceFile}
-use Rattle.m2_compile.specs.declared.outcome.Compiled.{Compiled}
-use Rattle.m2_jobs.specs.Jobs.{all_compiled}
-use Rattle.m2_jobs.proofs.Rounds.{jobs_count}
-use Rattle.m2_jobs.specs.Borrowed.{borrowed, modules_borrowed}
+use Rattle.build_jobs.specs.declared.file.SourceFile.{SourceFile}
+use Rattle.build_jobs.specs.declared.outcome.Compiled.{Compiled}
+use Rattle.build_jobs.specs.Jobs.{all_compiled}
+use Rattle.build_jobs.proofs.Rounds.{jobs_count}
+use Rattle.build_jobs.specs.Borrowed.{borrowed, modules_borrowed}
 use Rattle.m2c.specs.Modules.{result_of, module_in, modules_at}
 use Rattle.m2c.specs.Build.{AreEncoded as BytesEncode}
 use Rattle.m2c.specs.Build.{Reported, AreReported, reported_at, built_of, named_bytes, modules, refusal_in, refused_from, refused_by, started, data_and_stack, program_file, HaveGraph, IsTooLarge, IsProgram}
-use Rattle.m2_jobs.specs.Encoded.{AreEncoded}
-use Rattle.m2_links.specs.Linked.{IsLinkable, imported_names}
-use Rattle.m2_agree.specs.Modules.{AreModules, AreTypedModules}
-use Rattle.m2_agree.proofs.LinkedPrograms.{typed_behave}
-use Rattle.m2_whole_runs.proofs.Programs.{strict_runs, nothing_lacks}
-use Rattle.m2_links.proofs.Placed.{modules_link}
-use Rattle.m2_typing.proofs.Links.{slots_few, link_valid}
-use Rattle.m2_typing.proofs.GraphModules.{are_modules}
+use Rattle.build_jobs.specs.Encoded.{AreEncoded}
+use Rattle.law_modules.specs.Linked.{IsLinkable, imported_names}
+use Rattle.law_simulation.specs.Modules.{AreModules, AreTypedModules}
+use Rattle.law_simulation.proofs.LinkedPrograms.{typed_behave}
+use Rattle.law_nothing_missing.proofs.Programs.{strict_runs, nothing_lacks}
+use Rattle.law_modules.proofs.Placed.{modules_link}
+use Rattle.law_programs.proofs.Links.{slots_few, link_valid}
+use Rattle.law_programs.proofs.GraphModules.{are_modules}
 use Rattle.m2c.proofs.Linked.{all_modules}
-use Rattle.m2_typing.proofs.TypedModules.{are_typed}
+use Rattle.law_programs.proofs.TypedModules.{are_typed}
 use Rattle.m2c.proofs.Fitting.{trees_fit, trees_whole, bodies_in}
 use Rattle.m2c.proofs.Valid.{all_valid}
 use Rattle.m2c.proofs.Programs.{AreFit, AreBuilt, all_built, distinct_all, count_all}

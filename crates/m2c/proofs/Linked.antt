@@ -10,32 +10,32 @@ use Rattle.m2_tree.specs.declared.name.Ident.{Ident}
 use Rattle.m2_tree.specs.declared.decl.Contents.{Contents}
 use Rattle.m2_tree.specs.declared.decl.Contents.TheVariants as contents
 use Rattle.m2_tree.specs.declared.decl.Module.{Module}
-use Rattle.m2_board.specs.Graph.{prerequisites_of}
-use Rattle.m2_worker.specs.Results.{results_below, picked, with_item}
+use Rattle.pool_board.specs.Graph.{prerequisites_of}
+use Rattle.pool_board.specs.Results.{results_below, picked, with_item}
 use Rattle.m2_graph.specs.Files.{numbered}
 use Rattle.m2_graph.specs.Graph.{IsGraph}
 use Rattle.m2_graph.specs.Imports.{imported, is_definition, is_definition_part, definition_of}
 use Rattle.m2_tree.specs.Names.{is_console, same_name}
-use Rattle.m2_graph_laws.specs.Started.{at_places, is_named, definition_imported, all_imported}
-use Rattle.m2_graph_laws.proofs.Defined.{one_definition}
-use Rattle.m2_typed.specs.declared.table.Table.{Table}
-use Rattle.m2_typed.specs.declared.typed_module.Imported.{Imported}
-use Rattle.m2_typed.specs.declared.typed_module.TypedModule.{TypedModule}
-use Rattle.m2_scopes.specs.declared.fault.Fault.{Fault}
-use Rattle.m2_scopes.specs.Elaborated.{least}
+use Rattle.law_graph.specs.Started.{at_places, is_named, definition_imported, all_imported}
+use Rattle.law_graph.proofs.Defined.{one_definition}
+use Rattle.typed_tree.specs.declared.table.Table.{Table}
+use Rattle.typed_tree.specs.declared.typed_module.Imported.{Imported}
+use Rattle.typed_tree.specs.declared.typed_module.TypedModule.{TypedModule}
+use Rattle.check_scope.specs.declared.fault.Fault.{Fault}
+use Rattle.check_scope.specs.Elaborated.{least}
 use Rattle.m2_layout.specs.Layouts.{too_large}
 use Rattle.m2_types.specs.Compiled as types
 use Rattle.m2_check.specs.Checks.{elaborated}
-use Rattle.m2_meaning.specs.Around.{Modules}
-use Rattle.m2_formed.specs.FormedImports.{is_imported, is_imported_by, IsImport, NamesImports, StandsOnImports}
-use Rattle.m2_formed.proofs.NamedImports.{tables_named, modules_stand}
-use Rattle.m2_links.specs.Linked.{imported_names}
-use Rattle.m2_compile.specs.declared.outcome.Compiled.{Compiled}
-use Rattle.m2_compile.specs.declared.outcome.Compiled.TheVariants.{Defined, Built, Refused, Blocked}
-use Rattle.m2_compile.specs.Own.{own_table, tables_behind}
-use Rattle.m2_compile.specs.Compiling.{is_sound, table_in, tables_of, of_definition, of_fit, of_checked, of_contents, typed_body, compiled}
-use Rattle.m2_jobs.specs.Jobs.{compiled_in, compiled_at}
-use Rattle.m2_jobs.specs.Encoded.{needed_of}
+use Rattle.def_meaning.specs.Around.{Modules}
+use Rattle.law_well_formed.specs.FormedImports.{is_imported, is_imported_by, IsImport, NamesImports, StandsOnImports}
+use Rattle.law_well_formed.proofs.NamedImports.{tables_named, modules_stand}
+use Rattle.law_modules.specs.Linked.{imported_names}
+use Rattle.build_jobs.specs.declared.outcome.Compiled.{Compiled}
+use Rattle.build_jobs.specs.declared.outcome.Compiled.TheVariants.{Defined, Built, Refused, Blocked}
+use Rattle.build_jobs.specs.Own.{own_table, tables_behind}
+use Rattle.build_jobs.specs.Compiling.{is_sound, table_in, tables_of, of_definition, of_fit, of_checked, of_contents, typed_body, compiled}
+use Rattle.build_jobs.specs.Jobs.{compiled_in, compiled_at}
+use Rattle.build_jobs.specs.Encoded.{needed_of}
 use Rattle.m2c.specs.Modules.{IsTyped, AreTyped}
 use Rattle.m2c.specs.Build.{modules}
 use Rattle.m2c.proofs.Unrefused.{is_below}

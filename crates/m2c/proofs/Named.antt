@@ -6,17 +6,17 @@ use Rattle.std.specs.Arc.{arc_value}
 use Rattle.std.specs.Borrow.{Bor}
 use Rattle.std.proofs.lemmas.List.Elements.{All-from_recursion, All-nil, All-cons, All-head, All-tail}
 use Rattle.m2_tree.specs.declared.decl.Module.{Module}
-use Rattle.m2_meaning.specs.Around.{Modules}
-use Rattle.m2_links.specs.Linked as linked
+use Rattle.def_meaning.specs.Around.{Modules}
+use Rattle.law_modules.specs.Linked as linked
 use Rattle.m2_emit.specs.declared.emitted.ModuleBytes.{ModuleBytes}
 use Rattle.m2_emit.specs.Emitted.{emitted}
-use Rattle.m2_graph_laws.specs.Started.{at_places, names_of}
-use Rattle.m2_read.specs.declared.file.SourceFile.{SourceFile}
-use Rattle.m2_read.specs.declared.reading.Read.{Read}
-use Rattle.m2_read.specs.declared.reading.Read.TheVariants as read
-use Rattle.m2_read.specs.Reading.{AreRead}
-use Rattle.m2_read.proofs.Named.{name_read}
-use Rattle.m2_jobs.specs.Encoded.{AreEncoded}
+use Rattle.law_graph.specs.Started.{at_places, names_of}
+use Rattle.build_jobs.specs.declared.file.SourceFile.{SourceFile}
+use Rattle.build_jobs.specs.declared.reading.Read.{Read}
+use Rattle.build_jobs.specs.declared.reading.Read.TheVariants as read
+use Rattle.build_jobs.specs.Reading.{AreRead}
+use Rattle.build_jobs.proofs.Named.{name_read}
+use Rattle.build_jobs.specs.Encoded.{AreEncoded}
 use Rattle.m2c.specs.Names.{IsName}
 use Rattle.m2c.specs.Build.{modules, trees_of, refused_by, started, AreTrees, HaveGraph}
 use Rattle.m2c.proofs.Graphs.{whole}

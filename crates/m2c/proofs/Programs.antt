@@ -16,36 +16,36 @@ use Rattle.wasm_binary.specs.Binary.{module_fits}
 use Rattle.m2_graph.specs.Files.{numbered}
 use Rattle.m2_graph.specs.Graph.{CompileEach}
 use Rattle.m2_graph.specs.Imports.{is_definition, is_definition_part}
-use Rattle.m2_graph_laws.specs.Started.{at_places, names_of, AreApart, AreStarted}
-use Rattle.m2_graph_laws.proofs.Lists.{some_at}
-use Rattle.m2_typed.specs.declared.table.Table.{Table}
-use Rattle.m2_typed.specs.declared.statement.TypedStmt.{TypedStmt}
-use Rattle.m2_typed.specs.declared.typed_module.TypedModule.{TypedModule}
-use Rattle.m2_scopes.specs.declared.fault.Fault.{Fault}
-use Rattle.m2_scopes.specs.declared.scope.Scope.{Scope}
-use Rattle.m2_scopes.specs.Elaborated.{least, both, ◌▷◌}
+use Rattle.law_graph.specs.Started.{at_places, names_of, AreApart, AreStarted}
+use Rattle.law_graph.proofs.Lists.{some_at}
+use Rattle.typed_tree.specs.declared.table.Table.{Table}
+use Rattle.typed_tree.specs.declared.statement.TypedStmt.{TypedStmt}
+use Rattle.typed_tree.specs.declared.typed_module.TypedModule.{TypedModule}
+use Rattle.check_scope.specs.declared.fault.Fault.{Fault}
+use Rattle.check_scope.specs.declared.scope.Scope.{Scope}
+use Rattle.check_scope.specs.Elaborated.{least, both, ◌▷◌}
 use Rattle.m2_layout.specs.Layouts.{too_large}
 use Rattle.m2_emit.specs.declared.emitted.ModuleBytes.{ModuleBytes}
 use Rattle.m2_emit.specs.Emitted.{emitted}
-use Rattle.m2_meaning.specs.Around.{Modules}
-use Rattle.m2_scheme.specs.Modules.{typed_module}
-use Rattle.m2_links.specs.Linked as linked
+use Rattle.def_meaning.specs.Around.{Modules}
+use Rattle.def_scheme.specs.Modules.{typed_module}
+use Rattle.law_modules.specs.Linked as linked
 use Rattle.m2_types.specs.Importing.{numbered_modules}
 use Rattle.m2_types.specs.Predeclared.{first_scope}
-use Rattle.m2_modules.specs.Own.{implementation_scope}
-use Rattle.m2_blocks.specs.Nesting.{procedure_ends}
-use Rattle.m2_bodies.specs.Checked as bodies
-use Rattle.m2_bodies.specs.Bodies.{Checked}
-use Rattle.m2_modules.specs.Routines as routines
+use Rattle.m2_check.specs.Own.{implementation_scope}
+use Rattle.check_block.specs.Nesting.{procedure_ends}
+use Rattle.m2_check.specs.Checked as bodies
+use Rattle.m2_check.specs.Bodies.{Checked}
+use Rattle.m2_check.specs.Routines as routines
 use Rattle.m2_check.specs.Checks.{elaborated}
-use Rattle.m2_compile.specs.declared.outcome.Compiled.{Compiled}
-use Rattle.m2_compile.specs.declared.outcome.Compiled.TheVariants.{Built}
-use Rattle.m2_compile.specs.Own.{own_table}
-use Rattle.m2_compile.specs.Compiling.{is_sound, tables_of, of_fit, of_checked, of_contents, typed_body, compiled}
-use Rattle.m2_compile.specs.Encoded.{IsEncoded, fit_encoded, checked_encoded, contents_encoded}
-use Rattle.m2_jobs.specs.Jobs.{compiled_in}
-use Rattle.m2_jobs.specs.Encoded.{encoded_in, AreEncoded}
-use Rattle.m2_typing.specs.FormedGraphs.{IsFit}
+use Rattle.build_jobs.specs.declared.outcome.Compiled.{Compiled}
+use Rattle.build_jobs.specs.declared.outcome.Compiled.TheVariants.{Built}
+use Rattle.build_jobs.specs.Own.{own_table}
+use Rattle.build_jobs.specs.Compiling.{is_sound, tables_of, of_fit, of_checked, of_contents, typed_body, compiled}
+use Rattle.build_jobs.specs.ModuleEncoded.{IsEncoded, fit_encoded, checked_encoded, contents_encoded}
+use Rattle.build_jobs.specs.Jobs.{compiled_in}
+use Rattle.build_jobs.specs.Encoded.{encoded_in, AreEncoded}
+use Rattle.law_programs.specs.FormedGraphs.{IsFit}
 use Rattle.m2c.specs.Modules.{module_in, modules_at, IsTyped, AreTyped}
 use Rattle.m2c.specs.Build.{modules, refused_by, result_at}
 use Rattle.m2c.proofs.EachOnce.{all_within, file_job, job_of}

@@ -13,7 +13,7 @@ use Rattle.std.specs.Cmp.Lexicographic.{slice_cmp}
 use Rattle.std.proofs.lemmas.List.{get_or-map as mapped_at, length-map}
 use Rattle.std.proofs.lemmas.List.Sorted.{list_any-IsPermutation}
 use Rattle.m2_tree.specs.declared.refusal.Refusal.{Refusal}
-use Rattle.m2_graph_laws.proofs.Sorting.{by_key, one_stable_sort}
+use Rattle.law_graph.proofs.Sorting.{by_key, one_stable_sort}
 use Rattle.m2c.specs.Order.{AreInOrder}
 use Rattle.m2c.specs.Build.{Reported, reported, AreReported}
 

@@ -1,8 +1,8 @@
 -- Files that are there, and the first that is not.
 use Rattle.std.proofs.Common.{◌≡◌, ℕ, ◌<◌, suc, List, [], ◌∷◌, ◌++◌, length, take, drop, map, get_or, Some, None, sym, subst}
-use Rattle.m2_execute.specs.Directory.{Files, Stays}
-use Rattle.m2_execute.proofs.Missing.{map_one_between}
-use Rattle.m2_read.specs.declared.file.SourceFile.{SourceFile}
+use Rattle.run_directory.specs.Directory.{Files, Stays}
+use Rattle.run_directory.proofs.Missing.{map_one_between}
+use Rattle.build_jobs.specs.declared.file.SourceFile.{SourceFile}
 use Rattle.m2c.specs.declared.ending.Ending.{Ending}
 use Rattle.m2c.specs.declared.ending.Ending.TheVariants.{Unbuilt, Unread, Refused, Saved}
 use Rattle.m2c.specs.Compiles.{IsGiven, AreGiven, Empty, More, Lacks, FirstLack}

@@ -3,11 +3,11 @@ use Rattle.std.proofs.Common.{◌≡◌, ◌≢◌, ℕ, List, [], ◌∷◌, �
 use Rattle.std.specs.String.{string_bytes}
 use Rattle.m2_tree.specs.declared.decl.Module.{Module}
 use Rattle.m2_tree.specs.declared.pos.Pos.{Pos}
-use Rattle.m2_read.specs.declared.file.SourceFile.{SourceFile}
-use Rattle.m2_read.specs.declared.reading.Read.{Read}
-use Rattle.m2_read.specs.declared.reading.Read.TheVariants.{Parsed, Refused}
-use Rattle.m2_read.specs.Reading.{AreRead, AreSame}
-use Rattle.m2_read.proofs.Once.{one_read}
+use Rattle.build_jobs.specs.declared.file.SourceFile.{SourceFile}
+use Rattle.build_jobs.specs.declared.reading.Read.{Read}
+use Rattle.build_jobs.specs.declared.reading.Read.TheVariants.{Parsed, Refused}
+use Rattle.build_jobs.specs.Reading.{AreRead, AreSame}
+use Rattle.build_jobs.proofs.Once.{one_read}
 use Rattle.m2c.specs.Build.{reported_at, refused_in, refused_of, tree_in, trees_of, each_two, AreTrees}
 
 -- ---- texts

@@ -9,23 +9,23 @@ use Rattle.m2_tree.specs.declared.pos.Pos.{Pos}
 use Rattle.m2_tree.specs.declared.decl.Contents.{Contents}
 use Rattle.m2_tree.specs.declared.decl.Contents.TheVariants as contents
 use Rattle.m2_tree.specs.declared.decl.Module.{Module}
-use Rattle.m2_board.specs.Graph.{prerequisites_of}
-use Rattle.m2_worker.specs.Results.{results_below, picked, with_item}
-use Rattle.m2_worker.proofs.Resulting.{results-length}
+use Rattle.pool_board.specs.Graph.{prerequisites_of}
+use Rattle.pool_board.specs.Results.{results_below, picked, with_item}
+use Rattle.pool_board.proofs.Resulting.{results-length}
 use Rattle.m2_graph.specs.Files.{numbered}
 use Rattle.m2_graph.specs.Graph.{CompileEach}
-use Rattle.m2_typed.specs.declared.table.Table.{Table}
-use Rattle.m2_scopes.specs.declared.fault.Fault.{Fault}
+use Rattle.typed_tree.specs.declared.table.Table.{Table}
+use Rattle.check_scope.specs.declared.fault.Fault.{Fault}
 use Rattle.m2_layout.specs.Layouts.{too_large}
-use Rattle.m2_compile.specs.declared.outcome.Compiled.{Compiled}
-use Rattle.m2_compile.specs.declared.outcome.Compiled.TheVariants.{Refused, Blocked}
-use Rattle.m2_compile.specs.Compiling.{is_sound, tables_of, of_definition, of_fit, of_checked, of_contents, typed_body, compiled}
-use Rattle.m2_scopes.specs.Elaborated.{least}
+use Rattle.build_jobs.specs.declared.outcome.Compiled.{Compiled}
+use Rattle.build_jobs.specs.declared.outcome.Compiled.TheVariants.{Refused, Blocked}
+use Rattle.build_jobs.specs.Compiling.{is_sound, tables_of, of_definition, of_fit, of_checked, of_contents, typed_body, compiled}
+use Rattle.check_scope.specs.Elaborated.{least}
 use Rattle.m2_types.specs.Compiled as types
 use Rattle.std.proofs.lemmas.List.{length-map}
-use Rattle.m2_graph_laws.proofs.Lists.{some_at}
-use Rattle.m2_typed.specs.declared.typed_module.TypedModule.{TypedModule}
-use Rattle.m2_jobs.specs.Jobs.{compiled_in, compiled_at}
+use Rattle.law_graph.proofs.Lists.{some_at}
+use Rattle.typed_tree.specs.declared.typed_module.TypedModule.{TypedModule}
+use Rattle.build_jobs.specs.Jobs.{compiled_in, compiled_at}
 use Rattle.m2c.specs.Build.{refusal_in, refused_from, refused_by, result_at, modules}
 use Rattle.m2c.proofs.EachOnce.{job_of}
 

@@ -6,11 +6,11 @@ use Rattle.wasm_tree.specs.Validity.{IsValid}
 use Rattle.m2_tree.specs.declared.decl.Module.{Module}
 use Rattle.m2_graph.specs.Files.{numbered}
 use Rattle.m2_graph.specs.Graph.{IsGraph}
-use Rattle.m2_typed.specs.declared.typed_module.TypedModule.{TypedModule}
-use Rattle.m2_meaning.specs.Around.{Modules}
-use Rattle.m2_scheme.specs.Modules.{typed_module}
-use Rattle.m2_formed.specs.Formed.{Holds, fine, broken}
-use Rattle.m2_typing.proofs.ValidPrograms.{programs_valid}
+use Rattle.typed_tree.specs.declared.typed_module.TypedModule.{TypedModule}
+use Rattle.def_meaning.specs.Around.{Modules}
+use Rattle.def_scheme.specs.Modules.{typed_module}
+use Rattle.law_well_formed.specs.Formed.{Holds, fine, broken}
+use Rattle.law_programs.proofs.ValidPrograms.{programs_valid}
 use Rattle.m2c.specs.Modules.{IsTyped, AreTyped}
 use Rattle.m2c.specs.Build.{modules}
 

@@ -15,24 +15,24 @@ use Rattle.wasm_tree.specs.Linking.{link as linked}
 use Rattle.m2_graph.specs.declared.error.GraphError.TheVariants as graph_error
 use Rattle.m2_graph.specs.Files.{numbered}
 use Rattle.m2_graph.specs.Graph.{CompileEach, IsGraph, IsRefusal}
-use Rattle.m2_typed.specs.declared.typed_module.TypedModule.{TypedModule}
-use Rattle.m2_meaning.specs.Around.{Modules}
-use Rattle.m2_meaning.specs.Answer.{Stopped, halted}
-use Rattle.m2_meaning.specs.Runs.{run}
-use Rattle.m2_whole_runs.specs.Runs.{strict_run}
-use Rattle.m2_scheme.specs.Modules.{typed_module, typed_link, part_of, stack_begin}
+use Rattle.typed_tree.specs.declared.typed_module.TypedModule.{TypedModule}
+use Rattle.def_meaning.specs.Around.{Modules}
+use Rattle.def_meaning.specs.Answer.{Stopped, halted}
+use Rattle.def_meaning.specs.Runs.{run}
+use Rattle.law_nothing_missing.specs.Runs.{strict_run}
+use Rattle.def_scheme.specs.Modules.{typed_module, typed_link, part_of, stack_begin}
 use Rattle.m2_emit.specs.declared.emitted.ModuleBytes.{ModuleBytes}
-use Rattle.m2_agree.specs.Behaves.{Behaves}
-use Rattle.m2_read.specs.declared.file.SourceFile.{SourceFile}
+use Rattle.law_simulation.specs.Behaves.{Behaves}
+use Rattle.build_jobs.specs.declared.file.SourceFile.{SourceFile}
 use Rattle.m2c.specs.declared.files.Outcome.{Outcome}
 use Rattle.m2c.specs.declared.files.Outcome.TheVariants as outcome
-use Rattle.m2_read.specs.declared.reading.Read.{Read}
-use Rattle.m2_read.specs.declared.reading.Read.TheVariants as read
-use Rattle.m2_compile.specs.declared.outcome.Compiled.{Compiled}
-use Rattle.m2_compile.specs.declared.outcome.Compiled.TheVariants as jobs
+use Rattle.build_jobs.specs.declared.reading.Read.{Read}
+use Rattle.build_jobs.specs.declared.reading.Read.TheVariants as read
+use Rattle.build_jobs.specs.declared.outcome.Compiled.{Compiled}
+use Rattle.build_jobs.specs.declared.outcome.Compiled.TheVariants as jobs
 use Rattle.m2c.specs.Order.{AreInOrder}
-use Rattle.m2_read.specs.Reading.{AreRead}
-use Rattle.m2_jobs.specs.Jobs.{all_compiled}
+use Rattle.build_jobs.specs.Reading.{AreRead}
+use Rattle.build_jobs.specs.Jobs.{all_compiled}
 use Rattle.m2c.specs.Modules.{result_of, modules_at, AreTyped}
 
 -- ---- what is reported

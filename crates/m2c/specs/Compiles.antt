@@ -3,15 +3,15 @@ use Rattle.std.specs.Prelude.{◌≡◌, ◌<◌, ◌≤◌, ◌⊎◌, ℕ, Boo
 use Rattle.std.specs.List.{flat_map}
 use Rattle.std.specs.String.{string_bytes}
 use Rattle.std.specs.Global.{Global, Vec}
-use Rattle.m2_board.specs.Seats.{max_workers}
-use Rattle.m2_scheme.specs.Modules.{max_pages}
-use Rattle.m2_execute.specs.Directory.{Files}
-use Rattle.m2_execute.specs.Reported.{Says}
-use Rattle.m2_read.specs.declared.file.SourceFile.{SourceFile}
+use Rattle.pool_board.specs.Seats.{max_workers}
+use Rattle.def_scheme.specs.Modules.{max_pages}
+use Rattle.run_directory.specs.Directory.{Files}
+use Rattle.run_directory.specs.Reported.{Says}
+use Rattle.build_jobs.specs.declared.file.SourceFile.{SourceFile}
 use Rattle.m2_tree.specs.declared.refusal.Refusal.{Refusal}
-use Rattle.m2_write.specs.declared.fault.SaveFault.{SaveFault}
-use Rattle.m2_write.specs.Calls.{Call, module_file}
-use Rattle.m2_write.specs.Saves.{Saves}
+use Rattle.write_directory.specs.declared.fault.SaveFault.{SaveFault}
+use Rattle.write_directory.specs.Calls.{Call, module_file}
+use Rattle.write_directory.specs.Saves.{Saves}
 use Rattle.m2c.specs.declared.ending.Ending.{Ending}
 use Rattle.m2c.specs.declared.ending.Ending.TheVariants.{Unbuilt, Unread, Refused, Saved}
 use Rattle.m2c.specs.declared.files.BuildFault.{BuildFault}

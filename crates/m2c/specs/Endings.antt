@@ -1,11 +1,11 @@
 -- The status of a compilation, and what is said of it.
 use Rattle.std.specs.Prelude.{ℕ, true, false, List, [], ◌++◌, Ok, Err, if◌then◌else◌, codes, decimal}
 use Rattle.std.specs.String.{string_bytes}
-use Rattle.m2_board.specs.Seats.{max_workers}
-use Rattle.m2_scheme.specs.Modules.{max_pages}
+use Rattle.pool_board.specs.Seats.{max_workers}
+use Rattle.def_scheme.specs.Modules.{max_pages}
 use Rattle.m2_tree.specs.declared.refusal.Refusal.{Refusal}
-use Rattle.m2_write.specs.declared.fault.SaveFault.{SaveFault}
-use Rattle.m2_write.specs.declared.fault.SaveFault.TheVariants as save
+use Rattle.write_directory.specs.declared.fault.SaveFault.{SaveFault}
+use Rattle.write_directory.specs.declared.fault.SaveFault.TheVariants as save
 use Rattle.m2c.specs.declared.ending.Ending.{Ending}
 use Rattle.m2c.specs.declared.ending.Ending.TheVariants.{Unbuilt, Unread, Refused, Saved}
 use Rattle.m2c.specs.declared.files.BuildFault.{BuildFault}

@@ -2,7 +2,7 @@
 
 ghost use Rattle.std.specs.Prelude.{◌≡◌, ◌<◌, ◌^◌, ◌+◌, map, List, ℕ};
 ghost use Rattle.std.specs.String.{string_bytes};
-ghost use Rattle.m2_read.specs.declared.file.SourceFile.{SourceFile};
+ghost use Rattle.build_jobs.specs.declared.file.SourceFile.{SourceFile};
 ghost use Rattle.m2c.specs.Build.{IsBuilt};
 ghost use Rattle.m2c.specs.Compiles.{AreFine, Checks, ComesOf, Comes, Compiles};
 
@@ -10,13 +10,12 @@ use crate::ending::Ending;
 use crate::files::{BuildFault, MAX_PAGES, Options, Outcome, build};
 use crate::say::{print_refusals, write_ending};
 use crate::sources::read_files;
-use m2_board::MAX_WORKERS;
-use m2_execute::{InDir, Sink};
-use m2_read::SourceFile;
-use m2_worker::Gate;
-use m2_write::{OutDir, save};
+use build_jobs::SourceFile;
+use pool_board::{Gate, MAX_WORKERS};
+use run_directory::{InDir, Sink};
 use std::alloc::Global;
 use std::thread::Threads;
+use write_directory::{OutDir, save};
 
 /// Lets every worker in.
 #[derive(Drop)]

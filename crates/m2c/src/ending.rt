@@ -1,7 +1,7 @@
 //! What comes of a compilation.
 
 use crate::files::BuildFault;
-use m2_write::SaveFault;
+use write_directory::SaveFault;
 
 /// What comes of a compilation.
 #[derive(Clone, Copy)]

@@ -1,16 +1,14 @@
 //! Files to modules.
 
 ghost use Rattle.std.specs.Prelude.{◌≡◌, ◌<◌, ◌≤◌, ◌⊎◌, ◌↔◌, IfOk, IsErrOf};
-ghost use Rattle.m2_board.specs.Seats.{max_workers};
-ghost use Rattle.m2_scheme.specs.Modules.{max_pages};
+ghost use Rattle.pool_board.specs.Seats.{max_workers};
+ghost use Rattle.def_scheme.specs.Modules.{max_pages};
 ghost use Rattle.m2c.specs.Build.{AreAlike, IsBuilt};
 
 use crate::outcome::outcome_of;
-use m2_board::MAX_WORKERS;
-use m2_jobs::Runner;
-use m2_read::SourceFile;
+use build_jobs::{Runner, SourceFile};
 use m2_tree::Refusal;
-use m2_worker::Gate;
+use pool_board::{Gate, MAX_WORKERS};
 use std::alloc::{AllocError, Global};
 use std::thread::Threads;
 use thiserror::Error;

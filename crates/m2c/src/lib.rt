@@ -13,11 +13,10 @@ mod say;
 mod sources;
 mod texts;
 
+pub use build_jobs::SourceFile;
 pub use compiling::compile;
 pub use files::{BuildFault, MAX_PAGES, Options, Outcome, build};
-pub use m2_board::MAX_WORKERS;
-pub use m2_execute::{InDir, Sink, execute};
-pub use m2_read::SourceFile;
 pub use m2_tree::Refusal;
-pub use m2_worker::Gate;
-pub use m2_write::{OutDir, SaveFault, save};
+pub use pool_board::{Gate, MAX_WORKERS};
+pub use run_directory::{InDir, Sink, execute};
+pub use write_directory::{OutDir, SaveFault, save};

@@ -4,7 +4,7 @@ ghost use Rattle.std.specs.Prelude.{◌≡◌, ◌≤◌, ◌<◌, ◌*◌, ◌+
 ghost use Rattle.std.specs.String.{string_bytes};
 ghost use Rattle.m2_emit.specs.Emitted.{parts};
 ghost use Rattle.m2_graph.specs.Refused.{max_files};
-ghost use Rattle.m2_scheme.specs.Modules.{stack_begin};
+ghost use Rattle.def_scheme.specs.Modules.{stack_begin};
 ghost use Rattle.m2c.specs.Build.{named, named_bytes};
 ghost use Rattle.m2c.specs.Names.{IsName};
 

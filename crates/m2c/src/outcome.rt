@@ -2,15 +2,15 @@
 
 ghost use Rattle.std.specs.Prelude.{◌≡◌, ◌≤◌, ◌+◌, ◌*◌, ◌∷◌, [], length, map, nat_lt, IfOk};
 ghost use Rattle.m2_emit.specs.Emitted.{parts};
-ghost use Rattle.m2_scheme.specs.Modules.{max_pages, stack_begin};
+ghost use Rattle.def_scheme.specs.Modules.{max_pages, stack_begin};
 ghost use Rattle.m2_graph.specs.Files.{numbered};
 ghost use Rattle.m2_graph.specs.Graph.{CompileEach};
 ghost use Rattle.m2_graph.specs.Jobs.{ArePlaces};
 ghost use Rattle.m2_graph.specs.Refused.{max_files};
-ghost use Rattle.m2_jobs.specs.Jobs.{all_compiled};
-ghost use Rattle.m2_jobs.specs.Borrowed.{borrowed, modules_borrowed};
-ghost use Rattle.m2_jobs.specs.Encoded.{AreEncoded};
-ghost use Rattle.m2_read.specs.Reading.{AreRead};
+ghost use Rattle.build_jobs.specs.Jobs.{all_compiled};
+ghost use Rattle.build_jobs.specs.Borrowed.{borrowed, modules_borrowed};
+ghost use Rattle.build_jobs.specs.Encoded.{AreEncoded};
+ghost use Rattle.build_jobs.specs.Reading.{AreRead};
 ghost use Rattle.m2c.specs.Build.{is_program_part, program_file, refused_by, started, reported, reported_at, AreTrees, HaveGraph, IsBuilt};
 
 use crate::files::Outcome;
@@ -19,13 +19,11 @@ use crate::order::in_order;
 use crate::refusals::{refusal, refused_of};
 use crate::results::{modules_at, places_of, refused_by};
 use crate::texts::trees_of;
-use m2_compile::Compiled;
+use build_jobs::{Compiled, Read, Runner, SourceFile};
 use m2_emit::{ModuleBytes, emit_link};
 use m2_graph::{Graph, GraphError};
-use m2_jobs::Runner;
-use m2_read::{Read, SourceFile};
 use m2_tree::{Contents, Module, Pos, Refusal};
-use m2_worker::Gate;
+use pool_board::Gate;
 use std::alloc::{AllocError, AllocFailed, Global};
 use std::thread;
 use std::thread::Threads;

@@ -4,7 +4,7 @@ ghost use Rattle.std.specs.Prelude.{◌≡◌, ◌++◌, IfOk, OnOk, length, map
 ghost use Rattle.std.specs.String.{string_bytes};
 ghost use Rattle.m2c.specs.Build.{reported, reported_at, refused_in, refused_of};
 
-use m2_read::{Read, SourceFile};
+use build_jobs::{Read, SourceFile};
 use m2_tree::{Pos, Refusal};
 use std::alloc::{AllocError, Global};
 

@@ -4,12 +4,12 @@ ghost use Rattle.std.specs.Prelude.{◌≡◌, ◌<◌, ◌++◌, ℕ, ◌==◌,
 ghost use Rattle.std.specs.Option.{option_and_then, option_copied};
 ghost use Rattle.m2_graph.specs.Jobs.{place_of, ArePlaces};
 ghost use Rattle.m2_graph.specs.Parts.{or_first};
-ghost use Rattle.m2_jobs.specs.Borrowed.{borrowed};
+ghost use Rattle.build_jobs.specs.Borrowed.{borrowed};
 ghost use Rattle.m2c.specs.Build.{refusal_in, refused_from, reported};
 ghost use Rattle.m2c.specs.Modules.{module_in, modules_at};
 
 use crate::refusals::refusal;
-use m2_compile::Compiled;
+use build_jobs::Compiled;
 use m2_emit::ModuleBytes;
 use m2_tree::{Module, Refusal};
 use std::alloc::{AllocError, Global};

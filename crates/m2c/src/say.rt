@@ -2,16 +2,16 @@
 
 ghost use Rattle.std.specs.Prelude.{◌≡◌, ◌<◌, ◌^◌, ◌+◌, Bool};
 ghost use Rattle.std.specs.List.{flat_map};
-ghost use Rattle.m2_execute.specs.Reported.{Says};
+ghost use Rattle.run_directory.specs.Reported.{Says};
 ghost use Rattle.m2c.specs.Endings.{status, words, range_words, fault_words, unread_words, save_words, line_of};
 
 use crate::ending::Ending;
 use crate::files::{BuildFault, MAX_PAGES, Options};
 use itoa::Buffer;
-use m2_board::MAX_WORKERS;
-use m2_execute::{InDir, Sink, say_all};
 use m2_tree::Refusal;
-use m2_write::SaveFault;
+use pool_board::MAX_WORKERS;
+use run_directory::{InDir, Sink, say_all};
+use write_directory::SaveFault;
 
 /// The status if all modules were saved.
 const BUILT: u8 = 0;

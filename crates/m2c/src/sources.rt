@@ -2,14 +2,14 @@
 
 ghost use Rattle.std.specs.Prelude.{◌≡◌, ◌++◌, ◌∷◌, [], map, IfOk, IfErr};
 ghost use Rattle.std.specs.String.{string_bytes};
-ghost use Rattle.m2_execute.specs.Directory.{Stays};
-ghost use Rattle.m2_read.specs.declared.file.SourceFile.{SourceFile};
+ghost use Rattle.run_directory.specs.Directory.{Stays};
+ghost use Rattle.build_jobs.specs.declared.file.SourceFile.{SourceFile};
 ghost use Rattle.m2c.specs.Compiles.{IsGiven, AreGiven, Lacks, FirstLack};
 
 use crate::ending::Ending;
 use crate::files::BuildFault;
-use m2_execute::InDir;
-use m2_read::SourceFile;
+use build_jobs::SourceFile;
+use run_directory::InDir;
 use std::alloc::Global;
 
 /// Adds the file of this name.

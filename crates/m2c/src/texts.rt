@@ -3,9 +3,9 @@
 ghost use Rattle.std.specs.Prelude.{◌≡◌, ◌++◌, IfOk, OnOk, length};
 ghost use Rattle.std.specs.String.{string_bytes};
 ghost use Rattle.m2c.specs.Build.{tree_in, trees_of};
-ghost use Rattle.m2_jobs.specs.Borrowed.{borrowed};
+ghost use Rattle.build_jobs.specs.Borrowed.{borrowed};
 
-use m2_read::{Read, SourceFile};
+use build_jobs::{Read, SourceFile};
 use m2_tree::Module;
 use std::alloc::{AllocError, Global};
 

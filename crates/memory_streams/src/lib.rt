@@ -3,7 +3,7 @@
 
 ghost use Rattle.std.specs.Prelude.{◌≡◌};
 
-use m2_execute::{InDir, Sink};
+use run_directory::{InDir, Sink};
 use std::alloc::Global;
 
 /// The folder of a build: link, and the other modules under their names.

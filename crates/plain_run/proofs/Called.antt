@@ -1,11 +1,11 @@
 -- What a call gives, from what is known of its parts.
 use Rattle.std.proofs.Common.{◌≡◌, ℕ, suc, ℤ, List, map, Option, Some, None, Result, Ok, Err, IfOk, MatchOption, ap, sym, ◌∙◌, subst}
 use Rattle.std.specs.Option.{option_map}
-use Rattle.m2_typed.specs.declared.computed.Argument.{Argument}
-use Rattle.m2_typed.specs.declared.statement.TypedStmt.{TypedStmt}
-use Rattle.m2_meaning.specs.Answer.{State as Meant, Answer as Given, Outcome as Course}
-use Rattle.m2_meaning.specs.Answer.{Gave, Ended, empty_procedure, storage_fault}
-use Rattle.m2_meaning.specs.Calls.{calling, runs, entered, is_function, result}
+use Rattle.typed_tree.specs.declared.computed.Argument.{Argument}
+use Rattle.typed_tree.specs.declared.statement.TypedStmt.{TypedStmt}
+use Rattle.def_meaning.specs.Answer.{State as Meant, Answer as Given, Outcome as Course}
+use Rattle.def_meaning.specs.Answer.{Gave, Ended, empty_procedure, storage_fault}
+use Rattle.def_meaning.specs.Calls.{calling, runs, entered, is_function, result}
 use Rattle.plain_store.specs.declared.state.State.{State}
 use Rattle.plain_store.specs.declared.state.Answer.{Answer}
 use Rattle.plain_store.specs.declared.state.Answer.TheVariants as answer

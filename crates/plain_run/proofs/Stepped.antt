@@ -3,25 +3,25 @@ use Rattle.std.proofs.Common.{◌≡◌, ℕ, suc, ◌+◌, ◌-◌, ◌<◌, �
 use Rattle.std.proofs.Math.Path.{fun_ext}
 use Rattle.std.specs.Prelude.{◌+ℤ◌, if◌then◌else◌}
 use Rattle.std.specs.List.{list_any}
-use Rattle.m2_typed.specs.declared.types.TypeNo.{TypeNo}
-use Rattle.m2_typed.specs.declared.known_types.Types.{Types}
-use Rattle.m2_typed.specs.declared.computed.Call.{Call}
-use Rattle.m2_typed.specs.declared.computed.Place.{Place}
-use Rattle.m2_typed.specs.declared.computed.TypedExpr.{TypedExpr}
-use Rattle.m2_typed.specs.declared.statement.Change.{Change}
-use Rattle.m2_typed.specs.declared.statement.Membership.{Membership}
-use Rattle.m2_typed.specs.declared.statement.TypedStmt.{TypedStmt, TypedStmt-F, out-TypedStmt, map-TypedStmt, fold_out-TypedStmt}
-use Rattle.m2_typed.specs.declared.statement.TypedStmt.TheOpen as layer
-use Rattle.m2_typed.specs.declared.statement.TypedStmt.TheVariants as sv
-use Rattle.m2_typed.specs.declared.statement.TypedArm.{TypedArm, out-TypedArm, fold-TypedArm, fold_out-TypedArm}
-use Rattle.m2_typed.specs.Types.{char}
-use Rattle.m2_meaning.specs.Store.{Location, copied}
-use Rattle.m2_meaning.specs.Answer.{State as Meant, Answer as Given, Outcome as Course}
-use Rattle.m2_meaning.specs.Answer.{Gave, Ended, Running, then_give, Went, Left, Came, Stopped, Unfinished, then_go, with_answer, range_fault, case_fault, halted}
-use Rattle.m2_meaning.specs.Operators.{is_true}
-use Rattle.m2_meaning.specs.Around.{Modules, Around as Setting}
-use Rattle.m2_meaning.specs.Expressions.{Asks, within, as_type}
-use Rattle.m2_meaning.specs.Statements.{Does, Arm, in_turn, or_else, chosen, does, step_layer, arm_layer, stored, looped, loop_left, while_true, until_true, has_passed, for_turns, for_all, is_labelled, changed, rechecked, with_element}
+use Rattle.typed_tree.specs.declared.types.TypeNo.{TypeNo}
+use Rattle.typed_tree.specs.declared.known_types.Types.{Types}
+use Rattle.typed_tree.specs.declared.computed.Call.{Call}
+use Rattle.typed_tree.specs.declared.computed.Place.{Place}
+use Rattle.typed_tree.specs.declared.computed.TypedExpr.{TypedExpr}
+use Rattle.typed_tree.specs.declared.statement.Change.{Change}
+use Rattle.typed_tree.specs.declared.statement.Membership.{Membership}
+use Rattle.typed_tree.specs.declared.statement.TypedStmt.{TypedStmt, TypedStmt-F, out-TypedStmt, map-TypedStmt, fold_out-TypedStmt}
+use Rattle.typed_tree.specs.declared.statement.TypedStmt.TheOpen as layer
+use Rattle.typed_tree.specs.declared.statement.TypedStmt.TheVariants as sv
+use Rattle.typed_tree.specs.declared.statement.TypedArm.{TypedArm, out-TypedArm, fold-TypedArm, fold_out-TypedArm}
+use Rattle.typed_tree.specs.Types.{char}
+use Rattle.def_meaning.specs.Store.{Location, copied}
+use Rattle.def_meaning.specs.Answer.{State as Meant, Answer as Given, Outcome as Course}
+use Rattle.def_meaning.specs.Answer.{Gave, Ended, Running, then_give, Went, Left, Came, Stopped, Unfinished, then_go, with_answer, range_fault, case_fault, halted}
+use Rattle.def_meaning.specs.Operators.{is_true}
+use Rattle.def_meaning.specs.Around.{Modules, Around as Setting}
+use Rattle.def_meaning.specs.Expressions.{Asks, within, as_type}
+use Rattle.def_meaning.specs.Statements.{Does, Arm, in_turn, or_else, chosen, does, step_layer, arm_layer, stored, looped, loop_left, while_true, until_true, has_passed, for_turns, for_all, is_labelled, changed, rechecked, with_element}
 use Rattle.plain_store.specs.declared.state.State.{State}
 use Rattle.plain_store.specs.declared.state.Stop.{Stop}
 use Rattle.plain_store.specs.declared.state.Stop.TheVariants as stop

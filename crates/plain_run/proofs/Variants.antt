@@ -2,34 +2,34 @@
 use Rattle.std.proofs.Common.{◌≡◌, ℕ, suc, ℤ, pos, true, false, List, [], ◌∷◌, ◌++◌, map, Option, Some, None, refl, ap, ◌∙◌}
 use Rattle.std.proofs.Math.Path.{fun_ext}
 use Rattle.std.specs.Prelude.{◌-ℤ◌, not, drop, slice_get, if◌then◌else◌}
-use Rattle.m2_typed.specs.declared.types.TypeNo.{TypeNo}
-use Rattle.m2_typed.specs.declared.meaning.Procedure.{Procedure}
-use Rattle.m2_typed.specs.declared.computed.Slot.{Slot}
-use Rattle.m2_typed.specs.declared.computed.LocalProcedure.{LocalProcedure}
-use Rattle.m2_typed.specs.declared.computed.Arithmetic.{Arithmetic}
-use Rattle.m2_typed.specs.declared.computed.Comparison.{Comparison}
-use Rattle.m2_typed.specs.declared.computed.SetOperator.{SetOperator}
-use Rattle.m2_typed.specs.declared.computed.Inclusion.{Inclusion}
-use Rattle.m2_typed.specs.declared.computed.TypedExpr.{TypedExpr, TypedExpr-F, out-TypedExpr, map-TypedExpr, fold_out-TypedExpr}
-use Rattle.m2_typed.specs.declared.computed.TypedExpr.TheVariants as ev
-use Rattle.m2_typed.specs.declared.computed.Component.{Component, Component-F, out-Component, map-Component, fold_out-Component}
-use Rattle.m2_typed.specs.declared.computed.Component.TheVariants as kv
-use Rattle.m2_typed.specs.declared.computed.Link.{Link, Link-F, out-Link, map-Link, fold_out-Link}
-use Rattle.m2_typed.specs.declared.computed.Link.TheVariants as lv
-use Rattle.m2_typed.specs.declared.computed.Place.{Place, fold_out-Place}
-use Rattle.m2_typed.specs.declared.computed.Call.{Call, Call-F, out-Call, map-Call, fold_out-Call}
-use Rattle.m2_typed.specs.declared.computed.Call.TheVariants as cv
-use Rattle.m2_typed.specs.declared.computed.Argument.{Argument, Argument-F, out-Argument, map-Argument, fold_out-Argument}
-use Rattle.m2_typed.specs.declared.computed.Argument.TheOpen as layer
-use Rattle.m2_typed.specs.declared.computed.Argument.TheVariants as xv
-use Rattle.m2_typed.specs.Types.{integer}
-use Rattle.m2_meaning.specs.Store.{Location}
-use Rattle.m2_meaning.specs.Answer.{State as Meant, Answer as Given}
-use Rattle.m2_meaning.specs.Answer.{Gave, Ended, Running, then_give, range_fault, empty_procedure}
-use Rattle.m2_meaning.specs.Operators.{truth, is_true, compared, combined, included, absolute, capital, odd}
-use Rattle.m2_meaning.specs.Around.{Modules, Callee as Asked, Passed as Sent, Number, Variable, Array, Text, module_place, procedure_value, entry_of, entry_callee, module_callee, nested_in, named, location_of, high_of}
-use Rattle.m2_meaning.specs.Expressions.{Asks, Gives, Reaches, Continues, asked_if, argument_layer, call_layer, component_layer, link_layer, expr_layer, place_layer, root_layer, value, locate, called, within, as_type, in_base, ordinal, index_range, high_index, element, element_in}
-use Rattle.m2_meaning.specs.Calls.{calling, runs}
+use Rattle.typed_tree.specs.declared.types.TypeNo.{TypeNo}
+use Rattle.typed_tree.specs.declared.meaning.Procedure.{Procedure}
+use Rattle.typed_tree.specs.declared.computed.Slot.{Slot}
+use Rattle.typed_tree.specs.declared.computed.LocalProcedure.{LocalProcedure}
+use Rattle.typed_tree.specs.declared.computed.Arithmetic.{Arithmetic}
+use Rattle.typed_tree.specs.declared.computed.Comparison.{Comparison}
+use Rattle.typed_tree.specs.declared.computed.SetOperator.{SetOperator}
+use Rattle.typed_tree.specs.declared.computed.Inclusion.{Inclusion}
+use Rattle.typed_tree.specs.declared.computed.TypedExpr.{TypedExpr, TypedExpr-F, out-TypedExpr, map-TypedExpr, fold_out-TypedExpr}
+use Rattle.typed_tree.specs.declared.computed.TypedExpr.TheVariants as ev
+use Rattle.typed_tree.specs.declared.computed.Component.{Component, Component-F, out-Component, map-Component, fold_out-Component}
+use Rattle.typed_tree.specs.declared.computed.Component.TheVariants as kv
+use Rattle.typed_tree.specs.declared.computed.Link.{Link, Link-F, out-Link, map-Link, fold_out-Link}
+use Rattle.typed_tree.specs.declared.computed.Link.TheVariants as lv
+use Rattle.typed_tree.specs.declared.computed.Place.{Place, fold_out-Place}
+use Rattle.typed_tree.specs.declared.computed.Call.{Call, Call-F, out-Call, map-Call, fold_out-Call}
+use Rattle.typed_tree.specs.declared.computed.Call.TheVariants as cv
+use Rattle.typed_tree.specs.declared.computed.Argument.{Argument, Argument-F, out-Argument, map-Argument, fold_out-Argument}
+use Rattle.typed_tree.specs.declared.computed.Argument.TheOpen as layer
+use Rattle.typed_tree.specs.declared.computed.Argument.TheVariants as xv
+use Rattle.typed_tree.specs.Types.{integer}
+use Rattle.def_meaning.specs.Store.{Location}
+use Rattle.def_meaning.specs.Answer.{State as Meant, Answer as Given}
+use Rattle.def_meaning.specs.Answer.{Gave, Ended, Running, then_give, range_fault, empty_procedure}
+use Rattle.def_meaning.specs.Operators.{truth, is_true, compared, combined, included, absolute, capital, odd}
+use Rattle.def_meaning.specs.Around.{Modules, Callee as Asked, Passed as Sent, Number, Variable, Array, Text, module_place, procedure_value, entry_of, entry_callee, module_callee, nested_in, named, location_of, high_of}
+use Rattle.def_meaning.specs.Expressions.{Asks, Gives, Reaches, Continues, asked_if, argument_layer, call_layer, component_layer, link_layer, expr_layer, place_layer, root_layer, value, locate, called, within, as_type, in_base, ordinal, index_range, high_index, element, element_in}
+use Rattle.def_meaning.specs.Calls.{calling, runs}
 use Rattle.plain_store.specs.declared.state.State.{State}
 use Rattle.plain_store.specs.declared.state.Stop.{Stop}
 use Rattle.plain_values.specs.declared.checks.Operands.{Operands}

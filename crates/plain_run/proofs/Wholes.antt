@@ -2,9 +2,9 @@
 use Rattle.std.proofs.Common.{◌≡◌, ℕ, suc, ◌+◌, ◌-◌, ◌*◌, ◌<◌, ◌≤◌, ℤ, List, [], ◌∷◌, map, length, get_or, drop, take, Result, Ok, Err, IfOk, refl, ap, sym, ◌∙◌, subst, arith}
 use Rattle.std.proofs.lemmas.List.{length-map, take_rest}
 use Rattle.m2_tree.specs.declared.pos.Pos.{Pos}
-use Rattle.m2_typed.specs.declared.statement.TypedStmt.{TypedStmt}
-use Rattle.m2_typed.specs.declared.typed_module.TypedModule.{TypedModule}
-use Rattle.m2_typed.specs.declared.known_types.Types.{Types}
+use Rattle.typed_tree.specs.declared.statement.TypedStmt.{TypedStmt}
+use Rattle.typed_tree.specs.declared.typed_module.TypedModule.{TypedModule}
+use Rattle.typed_tree.specs.declared.known_types.Types.{Types}
 use Rattle.m2_layout.specs.declared.layout.Layout.{Layout}
 use Rattle.m2_layout.specs.Types.{row}
 use Rattle.m2_layout.specs.Sizes.{size}
@@ -12,13 +12,13 @@ use Rattle.m2_layout.specs.Frames.{module_row}
 use Rattle.m2_layout.specs.Texts.{characters, module_texts}
 use Rattle.m2_layout.specs.Capped.{capped}
 use Rattle.m2_layout.specs.Layouts.{IsAnswer}
-use Rattle.m2_meaning.specs.Store.{Store, fresh}
-use Rattle.m2_meaning.specs.Answer.{State as Meant, Outcome as Course}
-use Rattle.m2_meaning.specs.Answer.{Stopped, Unfinished}
-use Rattle.m2_meaning.specs.Around.{Modules, Around as Setting, Named as Name}
-use Rattle.m2_meaning.specs.Statements.{does, in_turn}
-use Rattle.m2_meaning.specs.Calls.{body_does, calling}
-use Rattle.m2_meaning.specs.Runs.{run, bodies, data_size, storage, body_frame, first_state, around_body, then_body}
+use Rattle.def_meaning.specs.Store.{Store, fresh}
+use Rattle.def_meaning.specs.Answer.{State as Meant, Outcome as Course}
+use Rattle.def_meaning.specs.Answer.{Stopped, Unfinished}
+use Rattle.def_meaning.specs.Around.{Modules, Around as Setting, Named as Name}
+use Rattle.def_meaning.specs.Statements.{does, in_turn}
+use Rattle.def_meaning.specs.Calls.{body_does, calling}
+use Rattle.def_meaning.specs.Runs.{run, bodies, data_size, storage, body_frame, first_state, around_body, then_body}
 use Rattle.plain_store.specs.declared.state.State.{State}
 use Rattle.plain_store.specs.declared.state.Stop.{Stop}
 use Rattle.plain_store.specs.declared.state.Stop.TheVariants as stop

@@ -1,11 +1,11 @@
 -- The run of a program.
 use Rattle.std.specs.Prelude.{◌≡◌, ℕ, suc, List, [], length}
-use Rattle.m2_meaning.specs.Answer.{Outcome as Course}
-use Rattle.m2_meaning.specs.Answer.{State as Meant}
-use Rattle.m2_meaning.specs.Around.{Modules}
-use Rattle.m2_meaning.specs.Runs.{bodies, data_size}
+use Rattle.def_meaning.specs.Answer.{Outcome as Course}
+use Rattle.def_meaning.specs.Answer.{State as Meant}
+use Rattle.def_meaning.specs.Around.{Modules}
+use Rattle.def_meaning.specs.Runs.{bodies, data_size}
 use Rattle.plain_values.specs.Surroundings.{modules_of}
-use Rattle.m2_meaning.specs.Answer.{Stopped, Unfinished}
+use Rattle.def_meaning.specs.Answer.{Stopped, Unfinished}
 use Rattle.plain_store.specs.declared.state.Stop.{Stop}
 use Rattle.plain_store.specs.declared.state.Stop.TheVariants as stop
 use Rattle.plain_store.specs.declared.prepared.Prepared.{Prepared}

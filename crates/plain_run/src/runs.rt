@@ -2,14 +2,13 @@
 
 ghost use Rattle.std.specs.Prelude.{◌≡◌, suc, map, IfOk, MatchOption};
 ghost use Rattle.std.specs.Option.{option_map};
-ghost use Rattle.m2_meaning.specs.Calls.{runs, calling};
-ghost use Rattle.m2_typed.specs.declared.statement.TypedStmt.TheVariants.{If, Case, With};
+ghost use Rattle.def_meaning.specs.Calls.{runs, calling};
+ghost use Rattle.typed_tree.specs.declared.statement.TypedStmt.TheVariants.{If, Case, With};
 ghost use Rattle.plain_store.specs.Seen.{seen, answered, ended};
 ghost use Rattle.plain_values.specs.Surroundings.{modules_of, callee_of, sent, value_in, located_in, called_in, linked_in, links_in, reached_in, components_in, given_in, all_given_in, does_in, steps_in};
 ghost use Rattle.plain_steps.specs.Parts.{answered_sent, answered_all, pair_in, in_in, target_in, ends_in, asked_in, while_in, repeat_in, loop_in, for_in, for_begun, turns_in};
 
 use m2_tree::Items;
-use m2_typed::{Argument, Call, Component, Link, Place, TypeNo, TypedArm, TypedExpr, TypedStmt};
 use plain_steps::callees::{module_callee, nested_callee, procedure_value, variable_callee};
 use plain_steps::entering::{Request, around_body, enter, rest_of, result};
 use plain_steps::passing::{
@@ -29,6 +28,7 @@ use plain_values::places::{
     component, element_at, module_place, open_element_at, root_location, slot_high, whole,
 };
 use plain_values::program::{Around, Callee, Passed, Program, under};
+use typed_tree::{Argument, Call, Component, Link, Place, TypeNo, TypedArm, TypedExpr, TypedStmt};
 
 /// The value of an expression.
 #[cycle(runs)]

@@ -4,8 +4,8 @@ ghost use Rattle.std.specs.Prelude.{◌≡◌, ◌-◌, map, IfOk};
 ghost use Rattle.m2_layout.specs.Frames.{module_row};
 ghost use Rattle.m2_layout.specs.Texts.{module_texts, characters};
 ghost use Rattle.m2_layout.specs.Types.{row as row_type};
-ghost use Rattle.m2_meaning.specs.Store.{fresh};
-ghost use Rattle.m2_meaning.specs.Runs.{run, storage, body_frame};
+ghost use Rattle.def_meaning.specs.Store.{fresh};
+ghost use Rattle.def_meaning.specs.Runs.{run, storage, body_frame};
 ghost use Rattle.plain_store.specs.Seen.{seen, halted};
 ghost use Rattle.plain_values.specs.Surroundings.{modules_in};
 ghost use Rattle.plain_store.specs.Contents.{contents};
@@ -15,13 +15,13 @@ ghost use Rattle.plain_run.specs.Whole.{IsBodyAround, reported, data_of, bodies_
 use crate::runs::steps;
 use m2_layout::Layout;
 use m2_tree::Items;
-use m2_typed::TypedModule;
 use plain_store::blanks::{Blank, Kept, known, plus, row, variables_blank};
 use plain_store::held::Held;
 use plain_store::prepared::Prepared;
 use plain_store::state::{Outcome, RunFault, State, Stop};
 use plain_values::program::{Around, Program};
 use std::alloc::Global;
+use typed_tree::TypedModule;
 
 /// How a run ends, and what it has printed.
 #[derive(Drop)]

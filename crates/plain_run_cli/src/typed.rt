@@ -2,14 +2,14 @@
 //! no broken rule are read and checked here once more, each module by the functions by which m2c's jobs do it.
 
 use anyhow::{Result, bail};
+use build_jobs::{Read, SourceFile, read_text};
 use m2_check::check;
 use m2_graph::{Graph, GraphError};
-use m2_read::{Read, SourceFile, read_text};
 use m2_tree::{Contents, Items, Module};
-use m2_typed::{Shared, Table, TypedModule};
 use m2_types::compile_definition;
 use std::alloc::Global;
 use std::sync::Arc;
+use typed_tree::{Shared, Table, TypedModule};
 
 /// What a job of the graph gives.
 #[derive(Drop)]

@@ -1,16 +1,16 @@
 -- How calls begin.
 use Rattle.std.proofs.Common.{◌≡◌, ℕ, zero, suc, ◌+◌, ◌-◌, ℤ, pos, Bool, true, false, List, [], ◌∷◌, ◌++◌, map, length, refl, ap, sym, ◌∙◌, append-nil, append_assoc, arith}
 use Rattle.std.proofs.lemmas.List.{length-map}
-use Rattle.m2_typed.specs.declared.types.TypeNo.{TypeNo}
-use Rattle.m2_typed.specs.declared.typed_module.Routine.{Routine}
-use Rattle.m2_typed.specs.declared.known_types.Types.{Types}
+use Rattle.typed_tree.specs.declared.types.TypeNo.{TypeNo}
+use Rattle.typed_tree.specs.declared.typed_module.Routine.{Routine}
+use Rattle.typed_tree.specs.declared.known_types.Types.{Types}
 use Rattle.m2_layout.specs.Frames.{formals_of, frame}
 use Rattle.m2_layout.specs.Texts.{passed}
-use Rattle.m2_meaning.specs.Store.{Location, Store, assigned, copied, placed, fresh}
-use Rattle.m2_meaning.specs.Answer.{State as Meant, Answer as Given, Outcome as Course}
-use Rattle.m2_meaning.specs.Around.{Named as Name, Passed as Sent, At, Elements, Number, Variable, Array, Text}
-use Rattle.m2_meaning.specs.Statements.{character, stored}
-use Rattle.m2_meaning.specs.Calls.{Entered, variable_at, with_passed, with_all, variables_from, entered, result}
+use Rattle.def_meaning.specs.Store.{Location, Store, assigned, copied, placed, fresh}
+use Rattle.def_meaning.specs.Answer.{State as Meant, Answer as Given, Outcome as Course}
+use Rattle.def_meaning.specs.Around.{Named as Name, Passed as Sent, At, Elements, Number, Variable, Array, Text}
+use Rattle.def_meaning.specs.Statements.{character, stored}
+use Rattle.def_meaning.specs.Calls.{Entered, variable_at, with_passed, with_all, variables_from, entered, result}
 use Rattle.plain_store.specs.declared.state.State.{State}
 use Rattle.plain_store.specs.declared.state.Stop.{Stop}
 use Rattle.plain_store.specs.declared.state.Stop.TheVariants as stop

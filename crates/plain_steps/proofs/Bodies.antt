@@ -1,15 +1,15 @@
 -- What the body of a call does.
 use Rattle.std.proofs.Common.{◌≡◌, ℕ, ◌-◌, ◌<◌, ◌≤◌, ℤ, Bool, true, false, List, [], ◌∷◌, ◌++◌, map, length, nat_lt, refl, ap, sym, ◌∙◌, lt-ltb, le-ltb}
 use Rattle.std.specs.Prelude.{if◌then◌else◌}
-use Rattle.m2_meaning.specs.Store.{Store}
-use Rattle.m2_meaning.specs.Answer.{State as Meant, Answer as Given, Outcome as Course}
-use Rattle.m2_meaning.specs.Answer.{Ended, storage_fault}
-use Rattle.m2_meaning.specs.Around.{Modules, Named as Name, Passed as Sent, Around as Setting, Callee as Asked}
-use Rattle.m2_meaning.specs.Expressions.{Asks}
-use Rattle.m2_meaning.specs.Statements.{does, in_turn}
-use Rattle.m2_meaning.specs.Calls.{Entered, variables_from, entered, around_of, body_does, calling, needed, is_function, result, runs, runs_in}
-use Rattle.m2_typed.specs.declared.statement.TypedStmt.{TypedStmt}
-use Rattle.m2_typed.specs.declared.known_types.Types.{Types}
+use Rattle.def_meaning.specs.Store.{Store}
+use Rattle.def_meaning.specs.Answer.{State as Meant, Answer as Given, Outcome as Course}
+use Rattle.def_meaning.specs.Answer.{Ended, storage_fault}
+use Rattle.def_meaning.specs.Around.{Modules, Named as Name, Passed as Sent, Around as Setting, Callee as Asked}
+use Rattle.def_meaning.specs.Expressions.{Asks}
+use Rattle.def_meaning.specs.Statements.{does, in_turn}
+use Rattle.def_meaning.specs.Calls.{Entered, variables_from, entered, around_of, body_does, calling, needed, is_function, result, runs, runs_in}
+use Rattle.typed_tree.specs.declared.statement.TypedStmt.{TypedStmt}
+use Rattle.typed_tree.specs.declared.known_types.Types.{Types}
 use Rattle.plain_store.specs.declared.prepared.Prepared.{Prepared}
 use Rattle.plain_values.specs.declared.program.Program.{Program}
 use Rattle.plain_values.specs.declared.program.Around.{Around}

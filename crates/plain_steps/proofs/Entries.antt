@@ -1,9 +1,9 @@
 -- The entries of all modules, one by one.
 use Rattle.std.proofs.Common.{◌≡◌, ℕ, zero, suc, ◌+◌, ◌-◌, ◌<◌, ◌≤◌, List, [], ◌∷◌, ◌++◌, length, Option, Some, None, refl, ap, sym, ◌∙◌, Bool, true, false, ltb-true, ltb-false, arith}
 use Rattle.std.specs.Prelude.{slice_get, nat_lt, if◌then◌else◌}
-use Rattle.m2_typed.specs.declared.typed_module.Routine.{Routine}
-use Rattle.m2_typed.specs.declared.typed_module.TypedModule.{TypedModule}
-use Rattle.m2_meaning.specs.Around.{Entry, Body, Procedure, numbered_from, entries_from, entries_before}
+use Rattle.typed_tree.specs.declared.typed_module.Routine.{Routine}
+use Rattle.typed_tree.specs.declared.typed_module.TypedModule.{TypedModule}
+use Rattle.def_meaning.specs.Around.{Entry, Body, Procedure, numbered_from, entries_from, entries_before}
 use Rattle.plain_steps.specs.declared.callees.Found.{Found}
 use Rattle.plain_steps.specs.Parts.{found_in, entries_at}
 

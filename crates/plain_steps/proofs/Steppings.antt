@@ -1,13 +1,13 @@
 -- The steps of FOR.
 use Rattle.std.proofs.Common.{◌≡◌, ℤ, Bool, true, false, refl, ap, sym, ◌∙◌}
 use Rattle.std.specs.Prelude.{◌+ℤ◌, if◌then◌else◌}
-use Rattle.m2_typed.specs.declared.types.TypeNo.{TypeNo}
-use Rattle.m2_typed.specs.declared.known_types.Types.{Types}
-use Rattle.m2_meaning.specs.Store.{Location}
-use Rattle.m2_meaning.specs.Answer.{State as Meant, Answer as Given}
-use Rattle.m2_meaning.specs.Answer.{Gave, then_give}
-use Rattle.m2_meaning.specs.Expressions.{as_type}
-use Rattle.m2_meaning.specs.Statements.{stored, has_passed}
+use Rattle.typed_tree.specs.declared.types.TypeNo.{TypeNo}
+use Rattle.typed_tree.specs.declared.known_types.Types.{Types}
+use Rattle.def_meaning.specs.Store.{Location}
+use Rattle.def_meaning.specs.Answer.{State as Meant, Answer as Given}
+use Rattle.def_meaning.specs.Answer.{Gave, then_give}
+use Rattle.def_meaning.specs.Expressions.{as_type}
+use Rattle.def_meaning.specs.Statements.{stored, has_passed}
 use Rattle.plain_steps.specs.Parts.{stepped}
 
 abbrev later : Types → TypeNo → Location → Meant → ℤ → Given Bool

@@ -1,6 +1,6 @@
 -- Whether a call fits into what is free.
 use Rattle.std.specs.Prelude.{◌≡◌, ℕ, ◌-◌, ◌<◌, ◌≤◌, map}
-use Rattle.m2_meaning.specs.Calls.{needed}
+use Rattle.def_meaning.specs.Calls.{needed}
 use Rattle.plain_steps.specs.declared.entering.Request.{Request}
 use Rattle.plain_values.specs.Surroundings.{sent}
 

@@ -1,8 +1,8 @@
 -- How calls begin, as the definition sees it.
 use Rattle.std.specs.Prelude.{◌≡◌, ℕ, List, [], ◌∷◌, ◌++◌, map, length}
-use Rattle.m2_meaning.specs.Answer.{State as Meant}
-use Rattle.m2_meaning.specs.Around.{Named as Name}
-use Rattle.m2_meaning.specs.Calls.{Entered, variables_from}
+use Rattle.def_meaning.specs.Answer.{State as Meant}
+use Rattle.def_meaning.specs.Around.{Named as Name}
+use Rattle.def_meaning.specs.Calls.{Entered, variables_from}
 use Rattle.plain_values.specs.declared.program.Named.{Named}
 use Rattle.plain_values.specs.declared.program.Program.{Program}
 use Rattle.plain_values.specs.declared.program.Around.{Around}

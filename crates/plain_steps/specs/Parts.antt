@@ -2,22 +2,22 @@
 use Rattle.std.specs.Prelude.{◌≡◌, ℕ, zero, suc, length, ℤ, pos, ◌-◌, nat_lt, ◌+ℤ◌, Bool, true, false, slice_get, List, [], ◌∷◌, ◌++◌, map, Option, Some, None, if◌then◌else◌}
 use Rattle.std.specs.List.{list_any}
 use Rattle.std.specs.Option.{option_map}
-use Rattle.m2_typed.specs.declared.types.TypeNo.{TypeNo}
-use Rattle.m2_typed.specs.declared.known_types.Types.{Types}
-use Rattle.m2_typed.specs.declared.computed.Argument.{Argument}
-use Rattle.m2_typed.specs.declared.computed.Place.{Place}
-use Rattle.m2_typed.specs.declared.computed.TypedExpr.{TypedExpr}
-use Rattle.m2_typed.specs.declared.statement.TypedStmt.{TypedStmt}
-use Rattle.m2_typed.specs.declared.statement.TypedArm.{TypedArm, out-TypedArm}
-use Rattle.m2_meaning.specs.Store.{Location, placed}
-use Rattle.m2_meaning.specs.Answer.{State as Meant, Answer as Given, Outcome as Course}
-use Rattle.m2_meaning.specs.Answer.{Gave, Ended, Went, then_give, range_fault, empty_procedure}
-use Rattle.m2_meaning.specs.Operators.{truth, has}
-use Rattle.m2_meaning.specs.Around.{Modules, Entry, Body, Procedure, module_callee}
-use Rattle.m2_meaning.specs.Around.{Callee as Asked, Passed as Sent}
-use Rattle.m2_meaning.specs.Expressions.{within, as_type}
-use Rattle.m2_meaning.specs.Statements.{in_turn, does, while_true, until_true, looped, for_turns, for_all, is_labelled, stored, has_passed, character}
-use Rattle.m2_meaning.specs.Calls.{Entered as Begun}
+use Rattle.typed_tree.specs.declared.types.TypeNo.{TypeNo}
+use Rattle.typed_tree.specs.declared.known_types.Types.{Types}
+use Rattle.typed_tree.specs.declared.computed.Argument.{Argument}
+use Rattle.typed_tree.specs.declared.computed.Place.{Place}
+use Rattle.typed_tree.specs.declared.computed.TypedExpr.{TypedExpr}
+use Rattle.typed_tree.specs.declared.statement.TypedStmt.{TypedStmt}
+use Rattle.typed_tree.specs.declared.statement.TypedArm.{TypedArm, out-TypedArm}
+use Rattle.def_meaning.specs.Store.{Location, placed}
+use Rattle.def_meaning.specs.Answer.{State as Meant, Answer as Given, Outcome as Course}
+use Rattle.def_meaning.specs.Answer.{Gave, Ended, Went, then_give, range_fault, empty_procedure}
+use Rattle.def_meaning.specs.Operators.{truth, has}
+use Rattle.def_meaning.specs.Around.{Modules, Entry, Body, Procedure, module_callee}
+use Rattle.def_meaning.specs.Around.{Callee as Asked, Passed as Sent}
+use Rattle.def_meaning.specs.Expressions.{within, as_type}
+use Rattle.def_meaning.specs.Statements.{in_turn, does, while_true, until_true, looped, for_turns, for_all, is_labelled, stored, has_passed, character}
+use Rattle.def_meaning.specs.Calls.{Entered as Begun}
 use Rattle.plain_store.specs.declared.state.State.{State}
 use Rattle.plain_store.specs.declared.state.Answer.{Answer}
 use Rattle.plain_store.specs.declared.state.Answer.TheVariants as answer

@@ -3,22 +3,22 @@
 ghost use Rattle.std.specs.Prelude.{◌≡◌, ◌∷◌, [], ◌++◌, suc, false, map, length, IfOk, OnOk, MatchOption};
 ghost use Rattle.m2_layout.specs.Frames.{formals_of};
 ghost use Rattle.m2_layout.specs.Texts.{passed};
-ghost use Rattle.m2_meaning.specs.Around.{Elements, Number, Variable, Array, Text};
-ghost use Rattle.m2_meaning.specs.Calls.{variable_at, with_passed, with_all, variables_from, entered, is_function, copies_size, copy_size, needed};
-ghost use Rattle.m2_meaning.specs.Calls.{result as end_of};
+ghost use Rattle.def_meaning.specs.Around.{Elements, Number, Variable, Array, Text};
+ghost use Rattle.def_meaning.specs.Calls.{variable_at, with_passed, with_all, variables_from, entered, is_function, copies_size, copy_size, needed};
+ghost use Rattle.def_meaning.specs.Calls.{result as end_of};
 ghost use Rattle.plain_store.specs.Seen.{seen, answered, ended};
 ghost use Rattle.plain_values.specs.Surroundings.{name_of, sent};
 ghost use Rattle.plain_steps.specs.Entering.{begun_of, names_of, IsBodyOf};
 ghost use Rattle.plain_steps.specs.Asked.{need_of, IsTooSmall, HasRoom};
 
 use m2_tree::Items;
-use m2_typed::{Formal, Routine, Shape, TypeNo, Types, made_of};
 use plain_store::blanks::{formals_of, plus, times};
 use plain_store::prepared::Prepared;
 use plain_store::state::{Answer, Outcome, RunFault, State, Stop, copy_to, put_at, store, text_to};
 use plain_store::storage::{frame_held, frame_size, type_size};
 use plain_values::program::{Around, Callee, Named, Passed, Program};
 use std::alloc::{AllocError, Global};
+use typed_tree::{Formal, Routine, Shape, TypeNo, Types, made_of};
 
 /// How formals begin: their names, and the number of the next instance.
 #[derive(Drop)]

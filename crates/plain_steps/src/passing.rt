@@ -1,20 +1,20 @@
 //! Arguments that were evaluated.
 
 ghost use Rattle.std.specs.Prelude.{◌≡◌, ◌∷◌, map, IfOk};
-ghost use Rattle.m2_meaning.specs.Answer.{Gave, then_give};
-ghost use Rattle.m2_meaning.specs.Around.{Number, Variable, Array, Text, location_of, high_of, named};
-ghost use Rattle.m2_meaning.specs.Expressions.{as_type, high_index};
+ghost use Rattle.def_meaning.specs.Answer.{Gave, then_give};
+ghost use Rattle.def_meaning.specs.Around.{Number, Variable, Array, Text, location_of, high_of, named};
+ghost use Rattle.def_meaning.specs.Expressions.{as_type, high_index};
 ghost use Rattle.plain_store.specs.Seen.{seen, answered};
 ghost use Rattle.plain_values.specs.Surroundings.{surroundings, sent};
 ghost use Rattle.plain_steps.specs.Parts.{answered_sent};
 
 use m2_tree::Items;
-use m2_typed::{Slot, TypeNo};
 use plain_store::state::{Answer, RunFault, State, load};
 use plain_values::checks::as_type;
 use plain_values::places::{high_index, slot_high, slot_location};
 use plain_values::program::{Around, Passed};
 use std::alloc::{AllocError, Global};
+use typed_tree::{Slot, TypeNo};
 
 /// The number at the location that is given.
 #[tactic(auto, using(plain_store::proofs::Threads::threads))]

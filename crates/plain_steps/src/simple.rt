@@ -3,24 +3,24 @@
 ghost use Rattle.std.specs.Prelude.{◌≡◌, ◌+ℤ◌, ◌∷◌, [], ◌++◌, pos, false, Some, IfOk, OnOk};
 ghost use Rattle.std.specs.Option.{option_copied};
 ghost use Rattle.std.specs.List.{list_any};
-ghost use Rattle.m2_typed.specs.Types.{char};
-ghost use Rattle.m2_typed.specs.Known.{scalar_at};
-ghost use Rattle.m2_typed.specs.declared.statement.TypedArm.{out-TypedArm};
-ghost use Rattle.m2_meaning.specs.Store.{copied};
-ghost use Rattle.m2_meaning.specs.Answer.{Went, Came, Gave, then_give, with_answer, range_fault};
-ghost use Rattle.m2_meaning.specs.Expressions.{as_type, within};
-ghost use Rattle.m2_meaning.specs.Statements.{stored, changed, rechecked, base_of, with_element, has_passed, is_labelled};
+ghost use Rattle.typed_tree.specs.Types.{char};
+ghost use Rattle.typed_tree.specs.Known.{scalar_at};
+ghost use Rattle.typed_tree.specs.declared.statement.TypedArm.{out-TypedArm};
+ghost use Rattle.def_meaning.specs.Store.{copied};
+ghost use Rattle.def_meaning.specs.Answer.{Went, Came, Gave, then_give, with_answer, range_fault};
+ghost use Rattle.def_meaning.specs.Expressions.{as_type, within};
+ghost use Rattle.def_meaning.specs.Statements.{stored, changed, rechecked, base_of, with_element, has_passed, is_labelled};
 ghost use Rattle.plain_store.specs.Seen.{seen, answered, ended, with_store, with_byte};
 ghost use Rattle.plain_values.specs.Surroundings.{surroundings};
 ghost use Rattle.plain_steps.specs.Parts.{first_arm, text_put, stepped};
 
 use m2_tree::Items;
-use m2_typed::{CHAR, Change, Label, Membership, Scalar, TypeNo, TypedArm, scalar_of};
 use plain_store::state::{Answer, Outcome, RunFault, State, copy_to, load, print, store, text_to};
 use plain_values::checks::{as_type, in_base, within};
 use plain_values::operators;
 use plain_values::operators::{difference, is_between, sum};
 use plain_values::program::Around;
+use typed_tree::{CHAR, Change, Label, Membership, Scalar, TypeNo, TypedArm, scalar_of};
 
 /// A location, and the value behind it.
 #[derive(Drop)]

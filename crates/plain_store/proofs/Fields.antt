@@ -2,8 +2,8 @@
 use Rattle.std.proofs.Common.{◌≡◌, ℕ, zero, suc, ◌+◌, List, [], ◌∷◌, ◌++◌, map, take, Option, refl, ap, sym, ◌∙◌, append-nil, append_assoc, add-one}
 use Rattle.std.specs.Prelude.{slice_get}
 use Rattle.std.specs.List.{fold}
-use Rattle.m2_typed.specs.declared.types.TypeNo.{TypeNo}
-use Rattle.m2_typed.specs.declared.shape.Formal.{Formal}
+use Rattle.typed_tree.specs.declared.types.TypeNo.{TypeNo}
+use Rattle.typed_tree.specs.declared.shape.Formal.{Formal}
 use Rattle.plain_store.specs.declared.blanks.Blank.{Blank}
 use Rattle.plain_store.specs.declared.blanks.Kept.{Kept}
 use Rattle.plain_store.specs.Blanks.{field_blank, if_some, header_blank, formal_blank, blank_in}

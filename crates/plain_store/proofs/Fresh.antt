@@ -6,24 +6,24 @@ use Rattle.std.specs.List.{fold}
 use Rattle.std.specs.Map.{lookup}
 use Rattle.std.specs.Option.{option_map}
 use Rattle.std.proofs.lemmas.List.{length-map, map-append}
-use Rattle.m2_typed.specs.declared.types.Home.{Home}
-use Rattle.m2_typed.specs.declared.types.Home.TheVariants.{Predeclared, Module}
-use Rattle.m2_typed.specs.declared.types.TypeNo.{TypeNo}
-use Rattle.m2_typed.specs.declared.shape.Scalar.{Scalar as Range}
-use Rattle.m2_typed.specs.declared.shape.Formal.{Formal}
-use Rattle.m2_typed.specs.declared.shape.Shape.{Shape}
-use Rattle.m2_typed.specs.declared.shape.Shape.TheVariants as shape
-use Rattle.m2_typed.specs.declared.shape.Made.{Made}
-use Rattle.m2_typed.specs.declared.known_types.Types.{Types}
-use Rattle.m2_typed.specs.declared.typed_module.Routine.{Routine}
-use Rattle.m2_typed.specs.Known.{predeclared_scalar, scalar_at}
+use Rattle.typed_tree.specs.declared.types.Home.{Home}
+use Rattle.typed_tree.specs.declared.types.Home.TheVariants.{Predeclared, Module}
+use Rattle.typed_tree.specs.declared.types.TypeNo.{TypeNo}
+use Rattle.typed_tree.specs.declared.shape.Scalar.{Scalar as Range}
+use Rattle.typed_tree.specs.declared.shape.Formal.{Formal}
+use Rattle.typed_tree.specs.declared.shape.Shape.{Shape}
+use Rattle.typed_tree.specs.declared.shape.Shape.TheVariants as shape
+use Rattle.typed_tree.specs.declared.shape.Made.{Made}
+use Rattle.typed_tree.specs.declared.known_types.Types.{Types}
+use Rattle.typed_tree.specs.declared.typed_module.Routine.{Routine}
+use Rattle.typed_tree.specs.Known.{predeclared_scalar, scalar_at}
 use Rattle.m2_layout.specs.Types.{Ty, Scalar, Natural, Callable, Cell, Hidden, Array, Nothing, Field, row, component, first}
 use Rattle.m2_layout.specs.Sizes.{size, width}
 use Rattle.m2_layout.specs.Shapes.{heading_tree, Trees, or_nothing, in_module, scalar_kind, scalar_tree, tree_from, tree_in, shape_tree, module_trees, other_trees, known_trees, tree, elements_of}
 use Rattle.m2_layout.specs.Shapes.{with_made as with_tree, with_module as with_trees}
-use Rattle.m2_typed.specs.declared.typed_module.TypedModule.{TypedModule}
+use Rattle.typed_tree.specs.declared.typed_module.TypedModule.{TypedModule}
 use Rattle.m2_layout.specs.Frames.{formals_of, formal_tree, variable_trees, frame, module_row}
-use Rattle.m2_meaning.specs.Store.{Location, fresh, first_in}
+use Rattle.def_meaning.specs.Store.{Location, fresh, first_in}
 use Rattle.plain_store.specs.declared.held.Held.{Held}
 use Rattle.plain_store.specs.declared.held.Held.TheVariants.{Same, Parts}
 use Rattle.plain_store.specs.declared.held.Held.TheVariants as held

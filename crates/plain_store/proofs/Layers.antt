@@ -1,7 +1,7 @@
 -- What each variant holds.
 use Rattle.std.proofs.Common.{◌≡◌, ℕ, zero, suc, ℤ, pos, List, [], ◌∷◌, map, Some, None, refl, ap, sym, ◌∙◌}
 use Rattle.std.specs.Prelude.{nat_lt, slice_get, if◌then◌else◌}
-use Rattle.m2_meaning.specs.Store.{Location}
+use Rattle.def_meaning.specs.Store.{Location}
 use Rattle.plain_store.specs.declared.held.Held.{Held, Held-F, out-Held, map-Held, fold_out-Held}
 use Rattle.plain_store.specs.declared.held.Held.TheOpen as layer
 use Rattle.plain_store.specs.declared.held.Held.TheVariants.{Same, Parts, Array, outs-Same, outs-Parts, outs-Array}

@@ -3,7 +3,7 @@ use Rattle.std.proofs.Common.{◌≡◌, ℕ, zero, suc, ◌+◌, Bool, true, fa
 use Rattle.std.specs.Prelude.{nat_eq, slice_get, slice_set, if◌then◌else◌}
 use Rattle.std.proofs.Math.Seq.{drop-length}
 use Rattle.std.proofs.lemmas.Bool.{eqb-true, eqb-false}
-use Rattle.m2_meaning.specs.Store.{Location, behind, chosen, placed}
+use Rattle.def_meaning.specs.Store.{Location, behind, chosen, placed}
 use Rattle.plain_store.specs.declared.held.Held.{Held}
 use Rattle.plain_store.specs.declared.opened_tree.Components.{Components}
 use Rattle.plain_store.specs.Contents.{Contents, or_rest, contents, opened_contents, with_component, IsOpened, IsReplaced}

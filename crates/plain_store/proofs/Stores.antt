@@ -2,8 +2,8 @@
 use Rattle.std.proofs.Common.{◌≡◌, ℕ, zero, suc, ℤ, pos, List, [], ◌∷◌, ◌++◌, map, Some, None, Result, Ok, Err, IfOk, refl, ap, ◌∙◌}
 use Rattle.std.specs.Prelude.{slice_get}
 use Rattle.std.proofs.Math.Path.{fun_ext}
-use Rattle.m2_meaning.specs.Store.{Location, assigned, copied, placed}
-use Rattle.m2_meaning.specs.Statements.{or_zero, character}
+use Rattle.def_meaning.specs.Store.{Location, assigned, copied, placed}
+use Rattle.def_meaning.specs.Statements.{or_zero, character}
 use Rattle.plain_store.specs.declared.held.Held.{Held}
 use Rattle.plain_store.specs.declared.held.Held.TheVariants.{Same}
 use Rattle.plain_store.specs.Contents.{Contents, or_rest, contents, or_nought, behind_it, IsReplaced, opened_contents, spread}

@@ -1,7 +1,7 @@
 -- What comes next, where a value is given and where there is none.
 use Rattle.std.proofs.Common.{◌≡◌, ℕ, refl, ap}
-use Rattle.m2_meaning.specs.Answer.{State as Meant, Answer as Given, Outcome as Course}
-use Rattle.m2_meaning.specs.Answer.{Gave, Ended, Running, then_give, Went, Left, Came, Stopped, Unfinished, then_go, with_answer}
+use Rattle.def_meaning.specs.Answer.{State as Meant, Answer as Given, Outcome as Course}
+use Rattle.def_meaning.specs.Answer.{Gave, Ended, Running, then_give, Went, Left, Came, Stopped, Unfinished, then_go, with_answer}
 use Rattle.plain_store.specs.declared.state.State.{State}
 use Rattle.plain_store.specs.declared.state.Stop.{Stop}
 use Rattle.plain_store.specs.declared.state.Stop.TheVariants as stop

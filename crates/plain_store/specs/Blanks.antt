@@ -1,18 +1,18 @@
 -- What fresh variables of each type hold, and their sizes: found of each type from those before it.
 use Rattle.std.specs.Prelude.{◌≡◌, ℕ, ◌+◌, ◌*◌, ℤ, pos, nat_eq, cond, length, List, [], ◌∷◌, ◌++◌, map, Option, Some, None}
 use Rattle.std.specs.List.{fold}
-use Rattle.m2_typed.specs.declared.types.Home.{Home}
-use Rattle.m2_typed.specs.declared.types.Home.TheVariants.{Predeclared, Module}
-use Rattle.m2_typed.specs.declared.types.TypeNo.{TypeNo}
-use Rattle.m2_typed.specs.declared.shape.Scalar.{Scalar as Range}
-use Rattle.m2_typed.specs.declared.shape.Formal.{Formal}
-use Rattle.m2_typed.specs.declared.shape.Shape.{Shape}
-use Rattle.m2_typed.specs.declared.shape.Shape.TheVariants as shape
-use Rattle.m2_typed.specs.declared.shape.Made.{Made}
-use Rattle.m2_typed.specs.declared.known_types.Types.{Types}
-use Rattle.m2_typed.specs.declared.typed_module.Routine.{Routine}
-use Rattle.m2_typed.specs.declared.typed_module.TypedModule.{TypedModule}
-use Rattle.m2_typed.specs.Known.{predeclared_scalar, scalar_at}
+use Rattle.typed_tree.specs.declared.types.Home.{Home}
+use Rattle.typed_tree.specs.declared.types.Home.TheVariants.{Predeclared, Module}
+use Rattle.typed_tree.specs.declared.types.TypeNo.{TypeNo}
+use Rattle.typed_tree.specs.declared.shape.Scalar.{Scalar as Range}
+use Rattle.typed_tree.specs.declared.shape.Formal.{Formal}
+use Rattle.typed_tree.specs.declared.shape.Shape.{Shape}
+use Rattle.typed_tree.specs.declared.shape.Shape.TheVariants as shape
+use Rattle.typed_tree.specs.declared.shape.Made.{Made}
+use Rattle.typed_tree.specs.declared.known_types.Types.{Types}
+use Rattle.typed_tree.specs.declared.typed_module.Routine.{Routine}
+use Rattle.typed_tree.specs.declared.typed_module.TypedModule.{TypedModule}
+use Rattle.typed_tree.specs.Known.{predeclared_scalar, scalar_at}
 use Rattle.std.specs.Prelude.{slice_get, if◌then◌else◌}
 use Rattle.m2_layout.specs.Types.{Scalar, Natural, first}
 use Rattle.m2_layout.specs.Sizes.{width}

@@ -1,6 +1,6 @@
 -- What a tree says of a variable and of each of its components.
 use Rattle.std.specs.Prelude.{◌≡◌, ℕ, zero, suc, ℤ, pos, ◌<◌, nat_lt, length, List, [], ◌∷◌, ◌++◌, map, Option, Some, None, slice_get, slice_set, if◌then◌else◌}
-use Rattle.m2_meaning.specs.Store.{Location, placed}
+use Rattle.def_meaning.specs.Store.{Location, placed}
 use Rattle.plain_store.specs.declared.held.Held.{Held, Held-F, fold-Held}
 use Rattle.plain_store.specs.declared.held.Held.TheOpen as layer
 use Rattle.plain_store.specs.declared.opened_tree.Components.{Components}

@@ -1,9 +1,9 @@
 -- The definition's view of what the interpreter keeps.
 use Rattle.std.specs.Prelude.{ℕ, ℤ, List, [], ◌∷◌, ◌++◌, map, unsigned_abs}
-use Rattle.m2_meaning.specs.Store.{Location, Store}
-use Rattle.m2_meaning.specs.Answer.{Gave, Ended, Running}
-use Rattle.m2_meaning.specs.Answer.{State as Meant, Answer as Given, Outcome as Course}
-use Rattle.m2_meaning.specs.Answer.{Went, Left, Came, Stopped, Unfinished}
+use Rattle.def_meaning.specs.Store.{Location, Store}
+use Rattle.def_meaning.specs.Answer.{Gave, Ended, Running}
+use Rattle.def_meaning.specs.Answer.{State as Meant, Answer as Given, Outcome as Course}
+use Rattle.def_meaning.specs.Answer.{Went, Left, Came, Stopped, Unfinished}
 use Rattle.plain_store.specs.declared.state.State.{State}
 use Rattle.plain_store.specs.declared.state.Stop.{Stop}
 use Rattle.plain_store.specs.declared.state.Stop.TheVariants as stop

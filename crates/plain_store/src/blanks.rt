@@ -13,11 +13,11 @@ use crate::copying::copy;
 use crate::held::Held;
 use crate::state::RunFault;
 use m2_tree::{Boxed, Items};
-use m2_typed::{
+use std::alloc::Global;
+use typed_tree::{
     Dictionary, Formal, Home, Made, Routine, Scalar, Shape, Shared, TypeNo, Types, are_same,
     is_integer, made_of, scalar_of,
 };
-use std::alloc::Global;
 
 /// What a fresh variable of a type holds, and its size.
 #[derive(Drop)]

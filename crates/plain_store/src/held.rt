@@ -2,7 +2,7 @@
 
 ghost use Rattle.std.specs.Prelude.{◌≡◌, ◌∷◌, ◌++◌, []};
 ghost use Rattle.std.specs.Option.{option_copied};
-ghost use Rattle.m2_meaning.specs.Store.{Location};
+ghost use Rattle.def_meaning.specs.Store.{Location};
 ghost use Rattle.plain_store.specs.Contents.{contents, or_nought};
 
 use m2_tree::{Boxed, Items};

@@ -4,7 +4,7 @@ ghost use Rattle.std.specs.Prelude.{◌≡◌};
 ghost use Rattle.plain_store.specs.Blanks.{known_blanks};
 
 use crate::blanks::Kept;
-use m2_typed::TypedModule;
+use typed_tree::TypedModule;
 
 /// A module of a program, and a variable of each type that it knows.
 #[derive(Clone, Copy)]

@@ -1,8 +1,8 @@
 //! What changes while a program runs, and how its parts end.
 
 ghost use Rattle.std.specs.Prelude.{◌≡◌, ◌<◌, ◌∷◌, ◌++◌, [], ℤ, OnOk, IfOk};
-ghost use Rattle.m2_meaning.specs.Store.{copied, placed};
-ghost use Rattle.m2_meaning.specs.Statements.{character, stored};
+ghost use Rattle.def_meaning.specs.Store.{copied, placed};
+ghost use Rattle.def_meaning.specs.Statements.{character, stored};
 ghost use Rattle.plain_store.specs.declared.state.RunFault.TheVariants.{NoMemory};
 ghost use Rattle.plain_store.specs.Contents.{contents};
 ghost use Rattle.plain_store.specs.Seen.{seen, with_store, with_byte};

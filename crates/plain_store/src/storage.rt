@@ -4,15 +4,15 @@ ghost use Rattle.std.specs.Prelude.{◌≡◌, IfOk};
 ghost use Rattle.m2_layout.specs.Sizes.{size};
 ghost use Rattle.m2_layout.specs.Shapes.{tree};
 ghost use Rattle.m2_layout.specs.Frames.{frame};
-ghost use Rattle.m2_meaning.specs.Store.{fresh};
+ghost use Rattle.def_meaning.specs.Store.{fresh};
 ghost use Rattle.plain_store.specs.Contents.{contents};
 
 use crate::blanks::{frame, type_blank};
 use crate::held::Held;
 use crate::prepared::Prepared;
 use crate::state::RunFault;
-use m2_typed::{Routine, TypeNo};
 use std::alloc::Global;
+use typed_tree::{Routine, TypeNo};
 
 /// The size of a type. The only error is that memory ran out, or that a number does not fit.
 #[tactic(auto, using(crate::proofs::Fresh::sizes))]

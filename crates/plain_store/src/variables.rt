@@ -1,8 +1,8 @@
 //! The store of a program.
 
 ghost use Rattle.std.specs.Prelude.{◌≡◌, map, IfOk};
-ghost use Rattle.m2_meaning.specs.Store.{assigned, copied, placed};
-ghost use Rattle.m2_meaning.specs.Statements.{character};
+ghost use Rattle.def_meaning.specs.Store.{assigned, copied, placed};
+ghost use Rattle.def_meaning.specs.Statements.{character};
 ghost use Rattle.plain_store.specs.Contents.{contents, behind_it};
 ghost use Rattle.plain_store.specs.Characters.{character_part};
 

@@ -1,10 +1,10 @@
 -- An operator with its first operand.
 use Rattle.std.specs.Prelude.{ℤ}
-use Rattle.m2_typed.specs.declared.computed.Arithmetic.{Arithmetic}
-use Rattle.m2_typed.specs.declared.types.TypeNo.{TypeNo}
-use Rattle.m2_typed.specs.declared.known_types.Types.{Types}
-use Rattle.m2_meaning.specs.Answer.{State as Meant, Answer as Given}
-use Rattle.m2_meaning.specs.Expressions.{operated}
+use Rattle.typed_tree.specs.declared.computed.Arithmetic.{Arithmetic}
+use Rattle.typed_tree.specs.declared.types.TypeNo.{TypeNo}
+use Rattle.typed_tree.specs.declared.known_types.Types.{Types}
+use Rattle.def_meaning.specs.Answer.{State as Meant, Answer as Given}
+use Rattle.def_meaning.specs.Expressions.{operated}
 
 unfoldable pub operated_on : Types → Arithmetic → TypeNo → ℤ → ℤ → Meant → Given ℤ
 operated_on types o t x y st = operated types o t x y st

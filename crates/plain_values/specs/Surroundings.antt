@@ -1,20 +1,20 @@
 -- What the definition's words mean around a part of a program.
 use Rattle.std.specs.Prelude.{◌≡◌, ℕ, ℤ, List, [], ◌∷◌, ◌++◌, map, Option}
 use Rattle.std.specs.Option.{option_map}
-use Rattle.m2_typed.specs.declared.computed.Argument.{Argument, fold-Argument}
-use Rattle.m2_typed.specs.declared.computed.Call.{Call}
-use Rattle.m2_typed.specs.declared.computed.Component.{Component, fold-Component}
-use Rattle.m2_typed.specs.declared.computed.Link.{Link, fold-Link}
-use Rattle.m2_typed.specs.declared.computed.Place.{Place}
-use Rattle.m2_typed.specs.declared.computed.TypedExpr.{TypedExpr}
-use Rattle.m2_typed.specs.declared.statement.TypedStmt.{TypedStmt}
-use Rattle.m2_meaning.specs.Store.{Location}
-use Rattle.m2_meaning.specs.Answer.{State as Meant, Answer as Given, Outcome as Course}
-use Rattle.m2_meaning.specs.Around.{Modules, Entry}
-use Rattle.m2_meaning.specs.Around.{Around as Setting, Named as Name, Callee as Asked, Passed as Sent, At, Elements, Number, Variable, Array, Text}
-use Rattle.m2_meaning.specs.Expressions.{Asks, Gives, Reaches, Continues, one_by_one, all_given, argument_layer, call_layer, component_layer, link_layer, expr_layer, place_layer, value, locate, called}
-use Rattle.m2_meaning.specs.Statements.{does, in_turn}
-use Rattle.m2_meaning.specs.Calls.{calling}
+use Rattle.typed_tree.specs.declared.computed.Argument.{Argument, fold-Argument}
+use Rattle.typed_tree.specs.declared.computed.Call.{Call}
+use Rattle.typed_tree.specs.declared.computed.Component.{Component, fold-Component}
+use Rattle.typed_tree.specs.declared.computed.Link.{Link, fold-Link}
+use Rattle.typed_tree.specs.declared.computed.Place.{Place}
+use Rattle.typed_tree.specs.declared.computed.TypedExpr.{TypedExpr}
+use Rattle.typed_tree.specs.declared.statement.TypedStmt.{TypedStmt}
+use Rattle.def_meaning.specs.Store.{Location}
+use Rattle.def_meaning.specs.Answer.{State as Meant, Answer as Given, Outcome as Course}
+use Rattle.def_meaning.specs.Around.{Modules, Entry}
+use Rattle.def_meaning.specs.Around.{Around as Setting, Named as Name, Callee as Asked, Passed as Sent, At, Elements, Number, Variable, Array, Text}
+use Rattle.def_meaning.specs.Expressions.{Asks, Gives, Reaches, Continues, one_by_one, all_given, argument_layer, call_layer, component_layer, link_layer, expr_layer, place_layer, value, locate, called}
+use Rattle.def_meaning.specs.Statements.{does, in_turn}
+use Rattle.def_meaning.specs.Calls.{calling}
 use Rattle.plain_store.specs.declared.prepared.Prepared.{Prepared}
 use Rattle.plain_values.specs.declared.program.Program.{Program}
 use Rattle.plain_values.specs.declared.program.Named.{Named}

@@ -1,10 +1,10 @@
 //! Checks of values.
 
 ghost use Rattle.std.specs.Prelude.{◌≡◌, ◌-ℤ◌, pos, not, IfOk};
-ghost use Rattle.m2_typed.specs.Types.{integer};
-ghost use Rattle.m2_meaning.specs.Answer.{Gave, then_give};
-ghost use Rattle.m2_meaning.specs.Operators.{truth, is_true, absolute, capital, odd, compared, included, has, combined};
-ghost use Rattle.m2_meaning.specs.Expressions.{within, within_range, as_type, in_base, operated, ordinal};
+ghost use Rattle.typed_tree.specs.Types.{integer};
+ghost use Rattle.def_meaning.specs.Answer.{Gave, then_give};
+ghost use Rattle.def_meaning.specs.Operators.{truth, is_true, absolute, capital, odd, compared, included, has, combined};
+ghost use Rattle.def_meaning.specs.Expressions.{within, within_range, as_type, in_base, operated, ordinal};
 ghost use Rattle.plain_store.specs.Seen.{seen, answered};
 ghost use Rattle.plain_values.specs.Operated.{operated_on};
 ghost use Rattle.plain_values.specs.Surroundings.{surroundings};
@@ -14,10 +14,10 @@ use crate::operators::{
     difference, is_between, is_odd, is_true, product, quotient, remainder, sum, truth,
 };
 use crate::program::Around;
-use m2_typed::{
+use plain_store::state::{Answer, RunFault, State, Stop};
+use typed_tree::{
     Arithmetic, Comparison, INTEGER, Inclusion, Scalar, SetOperator, TypeNo, scalar_of,
 };
-use plain_store::state::{Answer, RunFault, State, Stop};
 
 /// Two operands.
 #[derive(Clone, Copy)]

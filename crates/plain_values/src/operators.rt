@@ -1,11 +1,11 @@
 //! What operators and standard functions make of numbers.
 
 ghost use Rattle.std.specs.Prelude.{◌≡◌, ◌+ℤ◌, ◌-ℤ◌, ◌*ℤ◌, ◌<◌, pos, IfOk, int_lt};
-ghost use Rattle.m2_meaning.specs.Operators.{is_between, truth, is_true, compared, bits, without, combined, included, has, single, absolute, capital, odd, quotient, remainder};
-ghost use Rattle.m2_meaning.specs.Statements.{with_element};
+ghost use Rattle.def_meaning.specs.Operators.{is_between, truth, is_true, compared, bits, without, combined, included, has, single, absolute, capital, odd, quotient, remainder};
+ghost use Rattle.def_meaning.specs.Statements.{with_element};
 
-use m2_typed::{Comparison, Inclusion, Membership, SetOperator};
 use plain_store::state::RunFault;
+use typed_tree::{Comparison, Inclusion, Membership, SetOperator};
 
 /// Whether a number lies within these bounds.
 pub fn is_between(low: i64, v: i64, high: i64) -> bool

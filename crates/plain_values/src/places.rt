@@ -4,19 +4,19 @@ ghost use Rattle.std.specs.Prelude.{◌≡◌, ◌≤◌, ◌==◌, ◌∷◌, �
 ghost use Rattle.std.specs.List.{position_or_len};
 ghost use Rattle.std.specs.Option.{option_copied, option_map};
 ghost use Rattle.m2_layout.specs.Shapes.{elements_of};
-ghost use Rattle.m2_meaning.specs.Answer.{then_give};
-ghost use Rattle.m2_meaning.specs.Around.{named, location_of, high_of, or_root, module_place};
-ghost use Rattle.m2_meaning.specs.Expressions.{element, element_in, index_made, index_range, high_index, root_layer};
+ghost use Rattle.def_meaning.specs.Answer.{then_give};
+ghost use Rattle.def_meaning.specs.Around.{named, location_of, high_of, or_root, module_place};
+ghost use Rattle.def_meaning.specs.Expressions.{element, element_in, index_made, index_range, high_index, root_layer};
 ghost use Rattle.plain_store.specs.Seen.{seen, answered};
 ghost use Rattle.plain_values.specs.Surroundings.{surroundings, modules_in, modules_of, asks_of, name_of};
 
 use crate::operators::{difference, is_between};
 use crate::program::{Around, Named};
 use m2_tree::Items;
-use m2_typed::{Made, Root, Scalar, Shape, Slot, TypeNo, Types, made_of, scalar_of};
 use plain_store::prepared::Prepared;
 use plain_store::state::{Answer, RunFault, State, Stop};
 use std::alloc::{AllocError, Global};
+use typed_tree::{Made, Root, Scalar, Shape, Slot, TypeNo, Types, made_of, scalar_of};
 
 /// What a slot stands for.
 #[tactic(auto, using(crate::proofs::Lists::named_none, crate::proofs::Lists::named_some), unfolding(crate::specs::Surroundings::surroundings))]

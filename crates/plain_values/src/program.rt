@@ -4,10 +4,10 @@ ghost use Rattle.std.specs.Prelude.{◌≡◌, ◌++◌, ◌∷◌, [], IfOk};
 ghost use Rattle.plain_values.specs.Surroundings.{IsUnder};
 
 use m2_tree::Items;
-use m2_typed::Routine;
 use plain_store::prepared::Prepared;
 use plain_store::state::RunFault;
 use std::alloc::{AllocError, Global};
+use typed_tree::Routine;
 
 /// A program, and its bound.
 #[derive(Clone, Copy)]

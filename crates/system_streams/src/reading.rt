@@ -1,6 +1,6 @@
 //! Where files are read from.
 
-use m2_execute::InDir;
+use run_directory::InDir;
 use std::alloc::Global;
 use std::rt::Files;
 use std::{fs, io};

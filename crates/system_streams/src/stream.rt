@@ -2,7 +2,7 @@
 
 ghost use Rattle.std.specs.Prelude.{◌≡◌};
 
-use m2_execute::Sink;
+use run_directory::Sink;
 use std::alloc::Global;
 
 /// A stream that writes each byte by itself.

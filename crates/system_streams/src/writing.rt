@@ -2,9 +2,9 @@
 
 ghost use Rattle.std.specs.Prelude.{◌≡◌};
 
-use m2_write::OutDir;
 use std::rt::Files;
 use std::{fs, io};
+use write_directory::OutDir;
 
 /// A folder into which files are written.
 #[derive(Drop)]

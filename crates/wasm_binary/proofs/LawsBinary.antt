@@ -11,16 +11,16 @@ use Rattle.wasm_tree.specs.declared.module.Locals.{Locals}
 use Rattle.wasm_tree.specs.declared.module.ExportKind.{ExportKind}
 use Rattle.wasm_tree.specs.declared.module.ExportKind.TheVariants as exported
 use Rattle.wasm_tree.specs.Format.{◌>>=◌}
-use Rattle.wasm_bytes.specs.Number.{unsigned}
-use Rattle.wasm_bytes.specs.Parts.{◌◂◌, ◌·◌, seen, vector, sized, bytes_left, name}
+use Rattle.wasm_code.specs.Number.{unsigned}
+use Rattle.wasm_code.specs.Parts.{◌◂◌, ◌·◌, seen, vector, sized, bytes_left, name}
 use Rattle.wasm_code.specs.Instructions.{value_type, code}
 use Rattle.wasm_binary.specs.Binary.{table_type, memory_type, import_kind, import, global, export_kind, export, element, locals_at, locals_encoding, declared, locals, body, data_segment}
-use Rattle.wasm_bytes.proofs.Laws.{IsBytes, IsBytes-tail, bind_ok, guard_ok, read_is, Taken, Law, whole}
+use Rattle.wasm_code.proofs.Laws.{IsBytes, IsBytes-tail, bind_ok, guard_ok, read_is, Taken, Law, whole}
 use Rattle.wasm_code.proofs.LawsTagged.{if_tag, bind_behind, tagged, value_type_law, value_type_fits}
 use Rattle.wasm_binary.proofs.LawsKinds.{table_type_law, memory_type_law}
 use Rattle.wasm_code.proofs.LawsCode.{code_law}
-use Rattle.wasm_bytes.proofs.LawsNumber.{unsigned_law}
-use Rattle.wasm_bytes.proofs.LawsParts.{name_law, behind_law, then_law, seen_law, vector_law, sized_law, bytes_left_law}
+use Rattle.wasm_code.proofs.LawsNumber.{unsigned_law}
+use Rattle.wasm_code.proofs.LawsParts.{name_law, behind_law, then_law, seen_law, vector_law, sized_law, bytes_left_law}
 
 -- ---- the parts of a module
 

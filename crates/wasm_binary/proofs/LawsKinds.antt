@@ -2,14 +2,14 @@
 use Rattle.std.proofs.Common.{◌≡◌, ℕ, zero, suc, Bool, true, false, ◌&&◌, List, [], ◌∷◌, ◌++◌, Option, Some, None, Ok, refl, sym, ◌∙◌, append_assoc}
 use Rattle.std.proofs.lemmas.Bool.{and_parts}
 use Rattle.wasm_tree.specs.declared.kinds.Limits.{Limits}
-use Rattle.wasm_bytes.specs.Number.{unsigned}
-use Rattle.wasm_bytes.specs.Parts.{◌▸◌, ◌·◌, vector}
+use Rattle.wasm_code.specs.Number.{unsigned}
+use Rattle.wasm_code.specs.Parts.{◌▸◌, ◌·◌, vector}
 use Rattle.wasm_code.specs.Instructions.{value_type}
 use Rattle.wasm_code.proofs.LawsTagged.{tagged, bind_pair, value_type_law}
 use Rattle.wasm_binary.specs.Binary.{func_type, limits, table_type, memory_type}
-use Rattle.wasm_bytes.proofs.Laws.{IsBytes, IsBytes-tail, Taken, Law}
-use Rattle.wasm_bytes.proofs.LawsNumber.{unsigned_law}
-use Rattle.wasm_bytes.proofs.LawsParts.{before_law, then_law, seen_law, vector_law}
+use Rattle.wasm_code.proofs.Laws.{IsBytes, IsBytes-tail, Taken, Law}
+use Rattle.wasm_code.proofs.LawsNumber.{unsigned_law}
+use Rattle.wasm_code.proofs.LawsParts.{before_law, then_law, seen_law, vector_law}
 
 pub func_type_law : Law func_type
 unfolding func_type

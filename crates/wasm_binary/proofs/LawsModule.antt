@@ -11,12 +11,12 @@ use Rattle.wasm_tree.specs.declared.module.Function.{Function}
 use Rattle.wasm_tree.specs.declared.module.Data.{Data}
 use Rattle.wasm_tree.specs.declared.module.WModule.{WModule}
 use Rattle.wasm_tree.specs.Format.{Format, Reading, ◌>>=◌, Gives, skip}
-use Rattle.wasm_bytes.specs.Number.{groups, unsigned}
-use Rattle.wasm_bytes.specs.Parts.{sized, section}
+use Rattle.wasm_code.specs.Number.{groups, unsigned}
+use Rattle.wasm_code.specs.Parts.{sized, section}
 use Rattle.wasm_binary.specs.Binary.{func_type, import, table_type, memory_type, global, export, element, body, data_segment, header, skip_all, bodies, code_entries, code_content, code_section, at_end, module_at, body_encoding, bodies_encoding, code_encoding, types_of, first_sections, middle_sections, last_sections, module_encoding, module_fits, binary, Encodes, IsOnlyEncoding}
-use Rattle.wasm_bytes.proofs.Laws.{IsBytes, IsBytes-tail, IsBytes-after, bind_ok, guard_ok, ok_is, read_is, Taken, Law, WholeLaw}
-use Rattle.wasm_bytes.proofs.LawsNumber.{unsigned_law}
-use Rattle.wasm_bytes.proofs.LawsParts.{skip_ok, skip_same, sized_takes, sized_inner, sized_again, Past, Past-section, Past-less, section_law}
+use Rattle.wasm_code.proofs.Laws.{IsBytes, IsBytes-tail, IsBytes-after, bind_ok, guard_ok, ok_is, read_is, Taken, Law, WholeLaw}
+use Rattle.wasm_code.proofs.LawsNumber.{unsigned_law}
+use Rattle.wasm_code.proofs.LawsParts.{skip_ok, skip_same, sized_takes, sized_inner, sized_again, Past, Past-section, Past-less, section_law}
 use Rattle.wasm_binary.proofs.LawsKinds.{func_type_law, table_type_law, memory_type_law}
 use Rattle.wasm_binary.proofs.LawsBinary.{import_law, global_law, export_law, element_law, body_law, data_segment_law}
 

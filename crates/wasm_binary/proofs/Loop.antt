@@ -8,7 +8,7 @@ use Rattle.wasm_tree.specs.Format.{Fails}
 use Rattle.wasm_code.proofs.Loop.{then_more, fails_first, one_less}
 use Rattle.std.proofs.lemmas.Bool.{lt-ltb, le-ltb}
 use Rattle.wasm_tree.specs.declared.kinds.ValueType.{ValueType}
-use Rattle.wasm_bytes.specs.Number.{unsigned}
+use Rattle.wasm_code.specs.Number.{unsigned}
 use Rattle.wasm_tree.specs.Format.{skip}
 use Rattle.wasm_tree.specs.declared.module.Body.{Body}
 use Rattle.wasm_code.specs.Instructions.{value_type}

@@ -3,8 +3,8 @@ use Rattle.std.proofs.Common.{◌≡◌, ℕ, ◌^◌, true, false, ◌&&◌, �
 use Rattle.std.proofs.lemmas.Bool.{and_left, and_right, and_cases}
 use Rattle.std.specs.List.{list_all}
 use Rattle.wasm_tree.specs.declared.module.WModule.{WModule}
-use Rattle.wasm_bytes.specs.Number.{groups, unsigned}
-use Rattle.wasm_bytes.specs.Parts.{section}
+use Rattle.wasm_code.specs.Number.{groups, unsigned}
+use Rattle.wasm_code.specs.Parts.{section}
 use Rattle.wasm_binary.specs.Binary.{body, bodies_encoding, data_segment, element, export, func_type, global, import, memory_type, module_fits, table_type, types_of}
 
 pub no_bodies : nat_lt (length (bodies_encoding [])) (2 ^ 32) ≡ true

@@ -21,9 +21,9 @@ use Rattle.wasm_tree.specs.declared.module.Function.{Function}
 use Rattle.wasm_tree.specs.declared.module.Data.{Data}
 use Rattle.wasm_tree.specs.declared.module.WModule.{WModule}
 use Rattle.wasm_tree.specs.Format.{Format, Reading, ◌>>=◌, byte_at, skip}
-use Rattle.wasm_bytes.specs.Number.{unsigned}
+use Rattle.wasm_code.specs.Number.{unsigned}
 use Rattle.wasm_code.specs.Instructions.{value_type, code}
-use Rattle.wasm_bytes.specs.Parts.{◌▸◌, ◌◂◌, ◌·◌, seen, vector, closed, sized, bytes_left, section, name}
+use Rattle.wasm_code.specs.Parts.{◌▸◌, ◌◂◌, ◌·◌, seen, vector, closed, sized, bytes_left, section, name}
 
 -- ---- types (5.3)
 

@@ -2,8 +2,8 @@
 
 ghost use Rattle.std.specs.Prelude.{◌≡◌, ◌≢◌, ◌<◌, ◌≤◌, ◌^◌, IfOk, length, Err, ◌++◌, List, ℕ, OnOk, true, false};
 ghost use Rattle.wasm_tree.specs.Format.{Format, Gives};
-ghost use Rattle.wasm_bytes.specs.Number.{unsigned};
-ghost use Rattle.wasm_bytes.specs.Parts.{many, vector, entries, section};
+ghost use Rattle.wasm_code.specs.Number.{unsigned};
+ghost use Rattle.wasm_code.specs.Parts.{many, vector, entries, section};
 
 mod body;
 mod kinds;
@@ -12,7 +12,7 @@ mod sections;
 pub use body::body_over;
 use sqlite_items::Items;
 use std::alloc::Global;
-use wasm_bytes::{Writer, closed, front, unsigned_at};
+use wasm_code::{Writer, closed, front, unsigned_at};
 use wasm_tree::{EncodeError, WFault};
 
 /// The most entries of a list.

@@ -2,8 +2,8 @@
 
 ghost use Rattle.std.specs.Prelude.{◌≡◌, ◌≢◌, Err, IsOk, ◌++◌, List, ℕ, true, false, ◌&&◌, [], map, OnOk, IfOk, Ok, MatchResult, ◌⊎◌, length, nat_lt, ◌^◌};
 ghost use Rattle.std.specs.List.{list_all};
-ghost use Rattle.wasm_bytes.specs.Number.{unsigned};
-ghost use Rattle.wasm_bytes.specs.Parts.{section};
+ghost use Rattle.wasm_code.specs.Number.{unsigned};
+ghost use Rattle.wasm_code.specs.Parts.{section};
 ghost use Rattle.wasm_tree.specs.Format.{Format, Gives};
 ghost use Rattle.wasm_binary.specs.Binary.{body, data_segment, element, export, func_type, global, import, memory_type, table_type, header, skip_all, bodies, code_entries, code_content, code_section, at_end, module_at, types_of, bodies_encoding, code_encoding, first_sections, middle_sections, last_sections, module_encoding, module_fits, Encodes, IsOnlyEncoding};
 ghost use Rattle.wasm_tree.specs.declared.fault.WFault.TheVariants.{NoMemory};
@@ -12,7 +12,7 @@ ghost use Rattle.wasm_tree.specs.declared.module.WModule.{WModule};
 use crate::binary::{Binary, body_over, section, write_section};
 use sqlite_items::Items;
 use std::alloc::{AllocError, Global};
-use wasm_bytes::{Writer, closed, front, skip, unsigned_at};
+use wasm_code::{Writer, closed, front, skip, unsigned_at};
 use wasm_tree::{EncodeError, Function, WFault, WModule};
 
 /// The magic number and the version.

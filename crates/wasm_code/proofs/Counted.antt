@@ -9,11 +9,11 @@ use Rattle.wasm_tree.specs.declared.code.Op.TheVariants as op
 use Rattle.wasm_tree.specs.declared.instr.Instr.{Instr, Instr-F, map-Instr, ind-Instr, roll-Instr, fold-roll-Instr}
 use Rattle.wasm_tree.specs.declared.instr.Instr.TheOpen as layer
 use Rattle.wasm_tree.specs.Code.{joined, flat_step, flat_one, flat}
-use Rattle.wasm_bytes.specs.Number.{unsigned, signed32, signed64, groups}
+use Rattle.wasm_code.specs.Number.{unsigned, signed32, signed64, groups}
 use Rattle.wasm_code.specs.Instructions.{block_type, encoding_step, instr_encoding, opened, instr_of, code_in, code_within}
 use Rattle.wasm_tree.specs.declared.kinds.ValueType.{ValueType}
 use Rattle.wasm_tree.specs.Format.{byte_at}
-use Rattle.wasm_bytes.proofs.Laws.{IsBytes, IsBytes-tail, read_is}
+use Rattle.wasm_code.proofs.Laws.{IsBytes, IsBytes-tail, read_is}
 use Rattle.wasm_code.specs.declared.code.Ending.{Ending}
 use Rattle.wasm_code.specs.ScratchStack.{onto, onto_sequence, onto_code}
 use Rattle.wasm_code.proofs.LawsCode.{block_type_takes, instr_takes, code_in_taken, code_takes}

@@ -10,8 +10,8 @@ use Rattle.wasm_tree.specs.declared.instr.Instr.{Instr, Instr-F, out-Instr, map-
 use Rattle.wasm_tree.specs.declared.instr.Instr.TheOpen as layer
 use Rattle.wasm_tree.specs.declared.instr.Instr.TheVariants.{Unreachable, Block, Loop, If, Br, BrIf, BrTable, Return, Call, CallIndirect, Drop, LocalGet, LocalSet, LocalTee, GlobalGet, Load, Store, I32Const, I64Const, Numeric}
 use Rattle.wasm_tree.specs.declared.instr.Instr.TheVariants.{outs-Unreachable, outs-Block, outs-Loop, outs-If, outs-Br, outs-BrIf, outs-BrTable, outs-Return, outs-Call, outs-CallIndirect, outs-Drop, outs-LocalGet, outs-LocalSet, outs-LocalTee, outs-GlobalGet, outs-Load, outs-Store, outs-I32Const, outs-I64Const, outs-Numeric}
-use Rattle.wasm_bytes.specs.Number.{unsigned, signed32, signed64}
-use Rattle.wasm_bytes.specs.Parts.{vector}
+use Rattle.wasm_code.specs.Number.{unsigned, signed32, signed64}
+use Rattle.wasm_code.specs.Parts.{vector}
 use Rattle.wasm_code.specs.Opcode.{load_opcode, store_opcode, numeric_opcode}
 use Rattle.wasm_code.specs.Instructions.{block_type, encoding_step, instr_encoding}
 

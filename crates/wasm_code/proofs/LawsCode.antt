@@ -22,13 +22,13 @@ use Rattle.wasm_tree.specs.declared.instr.Instr.TheVariants.{rolls-Block, rolls-
 use Rattle.wasm_tree.specs.Format.{Format, Reading, ◌>>=◌, byte_at, skip}
 use Rattle.wasm_code.specs.declared.code.Ending.{Ending}
 use Rattle.wasm_code.specs.declared.code.Ending.TheVariants.{End, Else}
-use Rattle.wasm_bytes.specs.Number.{unsigned, signed32, signed64}
-use Rattle.wasm_bytes.specs.Parts.{◌◂◌, ◌·◌, vector}
+use Rattle.wasm_code.specs.Number.{unsigned, signed32, signed64}
+use Rattle.wasm_code.specs.Parts.{◌◂◌, ◌·◌, vector}
 use Rattle.wasm_code.specs.Opcode.{found, tests, calculations, loads as all_loads, widths, numeric_opcode, load_opcode, store_opcode, numeric_of, load_of, store_of}
 use Rattle.wasm_code.specs.Instructions.{value_type, block_type, instr_encoding, instr_fits, no_offset, memory_reading, memory_of, variable_of, plain_of, opens, one_sided, ending_of, Sequence, instr_of, sequence, ended, closing, opened, code_in, code_within, code}
-use Rattle.wasm_bytes.proofs.Laws.{IsBytes, IsBytes-tail, IsBytes-after, bind_ok, guard_ok, ok_is, read_is, Taken, taken_at, Law}
-use Rattle.wasm_bytes.proofs.LawsNumber.{unsigned_law, signed32_law, signed64_law}
-use Rattle.wasm_bytes.proofs.LawsParts.{skip_ok, behind_law, then_law, vector_law}
+use Rattle.wasm_code.proofs.Laws.{IsBytes, IsBytes-tail, IsBytes-after, bind_ok, guard_ok, ok_is, read_is, Taken, taken_at, Law}
+use Rattle.wasm_code.proofs.LawsNumber.{unsigned_law, signed32_law, signed64_law}
+use Rattle.wasm_code.proofs.LawsParts.{skip_ok, behind_law, then_law, vector_law}
 use Rattle.wasm_code.proofs.LawsTagged.{if_tag, read_as, tagged, bind_behind, bind_pair, value_type_law}
 use Rattle.wasm_code.proofs.Loop.{with_instrs}
 use Rattle.wasm_code.proofs.Encoded.{encoded-Block, encoded-Loop, encoded-If-None, encoded-If-Some, encoded-Unreachable, encoded-Br, encoded-BrIf, encoded-BrTable, encoded-Return, encoded-Call, encoded-CallIndirect, encoded-Drop, encoded-LocalGet, encoded-LocalSet, encoded-LocalTee, encoded-GlobalGet, encoded-Load, encoded-Store, encoded-I32Const, encoded-I64Const, encoded-Numeric}

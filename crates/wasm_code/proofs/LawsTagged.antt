@@ -6,9 +6,9 @@ use Rattle.wasm_tree.specs.declared.fault.WFault.TheVariants.{OutsideProfile}
 use Rattle.wasm_tree.specs.declared.kinds.ValueType.{ValueType}
 use Rattle.wasm_tree.specs.declared.kinds.ValueType.TheVariants.{I32, I64}
 use Rattle.wasm_tree.specs.Format.{Format, Reading, ◌>>=◌, skip}
-use Rattle.wasm_bytes.specs.Parts.{◌◂◌, ◌·◌}
+use Rattle.wasm_code.specs.Parts.{◌◂◌, ◌·◌}
 use Rattle.wasm_code.specs.Instructions.{value_type}
-use Rattle.wasm_bytes.proofs.Laws.{IsBytes, IsBytes-tail, bind_ok, guard_ok, read_is, put_before, Taken, taken_at, Law}
+use Rattle.wasm_code.proofs.Laws.{IsBytes, IsBytes-tail, bind_ok, guard_ok, read_is, put_before, Taken, taken_at, Law}
 
 -- ---- a byte that says which of several parts follows
 

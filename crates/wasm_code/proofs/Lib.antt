@@ -7,3 +7,8 @@ pub mod LawsTagged
 pub mod Fitting
 pub mod LawsCode
 pub mod Counted
+pub mod Groups
+pub mod Utf8
+pub mod Laws
+pub mod LawsNumber
+pub mod LawsParts

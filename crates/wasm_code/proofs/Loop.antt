@@ -4,9 +4,9 @@ use Rattle.std.proofs.lemmas.List.{append-nil}
 use Rattle.wasm_tree.specs.declared.fault.WFault.{WFault}
 use Rattle.wasm_tree.specs.declared.fault.WFault.TheVariants.{Malformed, OutsideProfile, Invalid, Unlinked, SegmentOutside, NoMemory}
 use Rattle.wasm_tree.specs.Format.{Format, Reading, ◌>>=◌, Fails, byte_at}
-use Rattle.wasm_bytes.proofs.Laws.{read_is}
+use Rattle.wasm_code.proofs.Laws.{read_is}
 use Rattle.wasm_tree.specs.declared.instr.Instr.{Instr}
-use Rattle.wasm_bytes.specs.Parts.{many}
+use Rattle.wasm_code.specs.Parts.{many}
 use Rattle.wasm_code.specs.declared.code.Ending.{Ending}
 use Rattle.wasm_code.specs.Instructions.{ending_of, instr_of, Sequence, sequence}
 

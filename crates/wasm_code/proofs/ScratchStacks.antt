@@ -16,7 +16,7 @@ use Rattle.wasm_code.specs.declared.code.Ending.{Ending}
 use Rattle.wasm_code.specs.declared.code.Ending.TheVariants.{End, Else}
 use Rattle.wasm_code.specs.Instructions.{Sequence, one_sided, closing, code_in, code_within, code, ended}
 use Rattle.wasm_code.specs.ScratchStack.{is_plain, one_sided_op, onto, onto_sequence, onto_code, sides_of}
-use Rattle.wasm_bytes.proofs.Laws.{read_is}
+use Rattle.wasm_code.proofs.Laws.{read_is}
 use Rattle.wasm_code.proofs.Loop.{with_instrs, fails_same}
 use Rattle.wasm_code.proofs.Flats.{plain_flat, table_flat, one_flat, sides_flat}
 

@@ -6,8 +6,8 @@ use Rattle.wasm_tree.specs.declared.code.Op.{Op}
 use Rattle.wasm_tree.specs.declared.instr.Instr.{Instr}
 use Rattle.wasm_tree.specs.Code.{tree, head, behind, label_of}
 use Rattle.wasm_tree.proofs.Flat.{tree_front, tree_none, behind_le}
-use Rattle.wasm_bytes.specs.Number.{unsigned}
-use Rattle.wasm_bytes.specs.Parts.{vector}
+use Rattle.wasm_code.specs.Number.{unsigned}
+use Rattle.wasm_code.specs.Parts.{vector}
 use Rattle.wasm_code.specs.Instructions.{instr_encoding}
 use Rattle.wasm_code.specs.ScratchStack.{label_encoding}
 

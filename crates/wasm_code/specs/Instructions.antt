@@ -14,9 +14,9 @@ use Rattle.wasm_tree.specs.declared.instr.Instr.TheVariants.{Unreachable, Block,
 use Rattle.wasm_tree.specs.Format.{Format, Reading, ◌>>=◌, byte_at, skip}
 use Rattle.wasm_code.specs.declared.code.Ending.{Ending}
 use Rattle.wasm_code.specs.declared.code.Ending.TheVariants.{End, Else}
-use Rattle.wasm_bytes.specs.Number.{unsigned, signed32, signed64}
+use Rattle.wasm_code.specs.Number.{unsigned, signed32, signed64}
 use Rattle.wasm_code.specs.Opcode.{numeric_opcode, load_opcode, store_opcode, numeric_of, load_of, store_of}
-use Rattle.wasm_bytes.specs.Parts.{vector}
+use Rattle.wasm_code.specs.Parts.{vector}
 
 -- ---- types of values (5.3.1)
 

@@ -7,7 +7,7 @@ use Rattle.wasm_tree.specs.declared.instr.Instr.{Instr}
 use Rattle.wasm_tree.specs.Code.{flat_one, flat, label_of}
 use Rattle.wasm_tree.specs.Format.{Reading, ◌>>=◌}
 use Rattle.wasm_code.specs.declared.code.Ending.{Ending}
-use Rattle.wasm_bytes.specs.Number.{unsigned}
+use Rattle.wasm_code.specs.Number.{unsigned}
 use Rattle.wasm_code.specs.Instructions.{Sequence, closing, code_in}
 
 -- an operation behind which none belongs to it

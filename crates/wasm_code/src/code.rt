@@ -6,16 +6,16 @@ ghost use Rattle.wasm_tree.specs.Code.{tree, head, behind, label_of};
 ghost use Rattle.wasm_tree.specs.Format.{Format, Gives};
 ghost use Rattle.wasm_tree.specs.declared.code.Op.TheVariants.{Br, IfElse};
 ghost use Rattle.wasm_tree.specs.declared.instr.Instr.TheVariants as instr;
-ghost use Rattle.wasm_bytes.specs.Number.{unsigned, signed32, signed64};
-ghost use Rattle.wasm_bytes.specs.Parts.{many, vector};
+ghost use Rattle.wasm_code.specs.Number.{unsigned, signed32, signed64};
+ghost use Rattle.wasm_code.specs.Parts.{many, vector};
 ghost use Rattle.wasm_code.specs.Instructions.{block_type, no_offset, memory_of, variable_of, plain_of, opens, ending_of, instr_of, code_in, opened, code_within, instr_encoding, code};
 ghost use Rattle.wasm_code.specs.ScratchStack.{is_plain, one_sided_op, onto, onto_sequence, onto_code, sides_of};
 
 use crate::fits::code_fits;
 use crate::opcode::{load_of, load_opcode, numeric_of, numeric_opcode, store_of, store_opcode};
+use crate::{Writer, byte_at, signed32_at, signed64_at, skip, unsigned_at};
 use sqlite_items::Items;
 use std::alloc::{AllocError, Global};
-use wasm_bytes::{Writer, byte_at, signed32_at, signed64_at, skip, unsigned_at};
 use wasm_tree::{Code, EncodeError, Op, ValueType, WFault, behind, first_of, label_of, split_ops};
 
 /// How deep blocks may nest.

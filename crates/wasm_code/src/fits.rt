@@ -3,8 +3,8 @@
 ghost use Rattle.std.specs.Prelude.{◌≡◌, map};
 ghost use Rattle.std.specs.List.{list_all};
 ghost use Rattle.wasm_tree.specs.Code.{tree, head, label_of};
-ghost use Rattle.wasm_bytes.specs.Number.{unsigned, signed64};
-ghost use Rattle.wasm_bytes.specs.Parts.{vector};
+ghost use Rattle.wasm_code.specs.Number.{unsigned, signed64};
+ghost use Rattle.wasm_code.specs.Parts.{vector};
 ghost use Rattle.wasm_code.specs.Instructions.{code, code_within, instr_fits};
 ghost use Rattle.wasm_code.specs.Inside.{fits_inside};
 

@@ -8,7 +8,7 @@
 #![tactic(auto)]
 
 pub use wasm_binary::{read_module, write_module};
-pub use wasm_bytes::Writer;
+pub use wasm_code::Writer;
 pub use wasm_tree::{
     Body, Code, Data, Element, EncodeError, Export, ExportKind, FuncType, Function, Global, Import,
     ImportKind, Instr, Limits, Load, Locals, MemoryType, Numeric, Op, Operation, Relation,

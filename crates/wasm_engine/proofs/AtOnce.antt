@@ -10,8 +10,8 @@ use Rattle.std.specs.Option.{option_and_then, option_map}
 use Rattle.wasm_tree.specs.declared.store.Callee.{Callee}
 use Rattle.wasm_tree.specs.declared.store.Callee.TheVariants.{Own, Put, Stop}
 use Rattle.wasm_tree.specs.declared.store.Instance.{Instance}
-use Rattle.wasm_effect.specs.Bytes.{cleared_bytes}
-use Rattle.wasm_effect.proofs.Ways.{split_last-push}
+use Rattle.law_effect.specs.Bytes.{cleared_bytes}
+use Rattle.law_effect.proofs.Ways.{split_last-push}
 use Rattle.wasm_sound.proofs.Calls.{then_some}
 use Rattle.wasm_known.proofs.Fill.{fill_returns}
 use Rattle.wasm_machine.specs.There.{IsThere}
@@ -36,7 +36,7 @@ use Rattle.wasm_tree.specs.Code.{tree}
 use Rattle.wasm_tree.proofs.Flat.{tree_front}
 use Rattle.wasm_tree.specs.Machine.{Activation, Config, Going, Progress, Typed, top_i32, top_i64, callee_at, instance_of, memory_of, reduce, run}
 use Rattle.wasm_sound.specs.Ready.{IsI64, AreI32, AreI64}
-use Rattle.wasm_effect.proofs.Steps.{top_32, top_64}
+use Rattle.law_effect.proofs.Steps.{top_32, top_64}
 use Rattle.wasm_known.specs.Codes.{check_typed, div_typed, fill_typed, mod_typed}
 use Rattle.wasm_known.specs.Known.{with, bounded, Leads}
 use Rattle.wasm_known.specs.declared.table.KnownFunction.{KnownFunction}

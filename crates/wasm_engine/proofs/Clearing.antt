@@ -2,7 +2,7 @@
 use Rattle.std.proofs.Common.{◌≡◌, ℕ, zero, suc, ◌+◌, ◌-◌, ◌<◌, ◌≤◌, List, [], ◌∷◌, ◌++◌, take, drop, length, refl, sym, ap, ◌∙◌, arith}
 use Rattle.std.specs.Prelude.{slice_set}
 use Rattle.wasm_tree.specs.Machine.{pasted}
-use Rattle.wasm_effect.specs.Bytes.{cleared_bytes}
+use Rattle.law_effect.specs.Bytes.{cleared_bytes}
 
 pub set_pasted : (m : List ℕ) (k x : ℕ) → k < length m → slice_set m k x ≡ pasted m k (x ∷ [])
 set_pasted [] k x h = absurd (omega arith)

@@ -6,8 +6,8 @@ use Rattle.wasm_tree.specs.declared.store.Value.{Value}
 use Rattle.wasm_tree.specs.declared.store.Value.TheVariants.{I32, I64}
 use Rattle.wasm_tree.specs.Machine.{top_i64}
 use Rattle.wasm_sound.specs.Ready.{IsI64}
-use Rattle.wasm_effect.proofs.Steps.{top_64}
-use Rattle.wasm_effect.proofs.Ways.{split_last-push}
+use Rattle.law_effect.proofs.Steps.{top_64}
+use Rattle.law_effect.proofs.Ways.{split_last-push}
 use Rattle.wasm_engine.specs.Quick.{HasFour}
 
 -- so many operands, given by their numbers, on top of others

@@ -1,7 +1,7 @@
 //! Bytes of a memory, changed in bulk.
 
 ghost use Rattle.std.specs.Prelude.{◌≡◌, ◌≤◌, ◌<◌, ◌+◌, ◌^◌, map, length};
-ghost use Rattle.wasm_effect.specs.Bytes.{cleared_bytes};
+ghost use Rattle.law_effect.specs.Bytes.{cleared_bytes};
 ghost use Rattle.wasm_machine.specs.Going.{memory_from};
 ghost use Rattle.wasm_engine.specs.Quick.{Changed, memory_place};
 

@@ -6,9 +6,9 @@ use Rattle.std.proofs.lemmas.List.{take_all}
 use Rattle.std.proofs.lemmas.List.Elements.{All-more, All-map}
 use Rattle.wasm_tree.specs.declared.fault.WFault.{WFault}
 use Rattle.wasm_tree.specs.Validity.{AreDistinct}
-use Rattle.wasm_typing.specs.Typing.{Refuses}
-use Rattle.wasm_typing.proofs.Located.{all_names}
-use Rattle.wasm_typing.proofs.Stacks.{refuses_so}
+use Rattle.wasm_valid.specs.Typing.{Refuses}
+use Rattle.wasm_valid.proofs.Located.{all_names}
+use Rattle.wasm_valid.proofs.Stacks.{refuses_so}
 
 pub each_more : {X : Type 0} (P : X → Type 0) (xs : List X) (k : ℕ) (x : X) → k < length xs → x ≡ get_or xs k x → All P (take k xs) → P x → All P (take (k + 1) xs)
 each_more P xs k x lt is before here = All-more P xs k x lt before (subst P is here)

@@ -1,3 +1,9 @@
 pub mod Each
 pub mod Names
 pub mod Whole
+pub mod Stacks
+pub mod Opened
+pub mod Rules
+pub mod Walks
+pub mod Located
+pub mod Within

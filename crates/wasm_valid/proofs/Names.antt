@@ -11,7 +11,7 @@ use Rattle.std.proofs.lemmas.List.{drop_all}
 use Rattle.std.proofs.lemmas.List.Elements.{All-nil, All-cons, All-head, All-tail, All-map}
 use Rattle.wasm_tree.specs.Validity.{AreDistinct}
 use Rattle.wasm_valid.specs.Named.{holds, is_among}
-use Rattle.wasm_typing.proofs.Located.{all_names}
+use Rattle.wasm_valid.proofs.Located.{all_names}
 use Rattle.wasm_valid.proofs.Each.{distinct_more, distinct_less}
 
 both_false : (b c : Bool) → cond b true c ≡ false → (b ≡ false) × (c ≡ false)

@@ -14,9 +14,9 @@ use Rattle.wasm_tree.specs.declared.module.Data.{Data}
 use Rattle.wasm_tree.specs.declared.module.WModule.{WModule}
 use Rattle.wasm_tree.specs.Validity.{Context, context, initial_context, function_context, Leads, IsConstantOf, IsFunction, IsGlobal, IsElement, IsData, AreKinds, AreBodies, IsValid}
 use Rattle.wasm_valid.specs.Single.{AreSingle}
-use Rattle.wasm_typing.specs.Typing.{Refuses, Decides}
-use Rattle.wasm_typing.proofs.Stacks.{refuses_so}
-use Rattle.wasm_typing.proofs.Walks.{decides_same}
+use Rattle.wasm_valid.specs.Typing.{Refuses, Decides}
+use Rattle.wasm_valid.proofs.Stacks.{refuses_so}
+use Rattle.wasm_valid.proofs.Walks.{decides_same}
 
 -- ---- the parts
 

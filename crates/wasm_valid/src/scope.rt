@@ -3,12 +3,12 @@
 ghost use Rattle.std.specs.Prelude.{◌≡◌, ◌++◌, map, IfOk};
 ghost use Rattle.std.specs.List.{filter_map};
 ghost use Rattle.wasm_tree.specs.Validity.{function_import, table_import, memory_import, global_import, context, initial_context};
-ghost use Rattle.wasm_typing.specs.Scope.{scope_of};
+ghost use Rattle.wasm_valid.specs.CodeScope.{scope_of};
 ghost use Rattle.wasm_valid.specs.Scope.{HasNames};
 
+use crate::Scope;
 use std::alloc::{AllocError, Global};
 use wasm_tree::{Import, ImportKind, Limits, ValueType, WModule};
-use wasm_typing::Scope;
 
 /// The lists that a scope borrows.
 #[derive(Drop)]

@@ -2,13 +2,14 @@
 
 ghost use Rattle.std.specs.Prelude.{◌≢◌, Err, List, ℕ, not, cond, true, ◌≡◌, ◌<◌, ◌^◌, ◌↔◌, ◌⊎◌, All, IsTrue, OnOk, IfOk, MatchResult, map, length};
 ghost use Rattle.wasm_tree.specs.Validity.{context, AreLimits, IsFuncType, IsImport, IsFunction, IsGlobal, IsExport, IsElement, IsData, AreDistinct, AreKinds, AreBodies, IsValid};
-ghost use Rattle.wasm_typing.specs.Scope.{scope_of};
+ghost use Rattle.wasm_valid.specs.CodeScope.{scope_of};
 ghost use Rattle.std.specs.Str.{bytes_eq};
 ghost use Rattle.wasm_valid.specs.Named.{holds};
-ghost use Rattle.wasm_typing.specs.Typing.{Decides};
+ghost use Rattle.wasm_valid.specs.Typing.{Decides};
 ghost use Rattle.wasm_valid.specs.Single.{AreSingle};
 
 use crate::scope::{functions_of, initial_scope, names_of, whole_scope};
+use crate::{Scope, Spares, check_body, check_constant};
 use sqlite_items::at;
 use std::alloc::{AllocError, Global};
 use std::collections::HashSet;
@@ -17,7 +18,6 @@ use wasm_tree::{
     Data, Element, Export, ExportKind, FuncType, Function, Global as Constant, Import, ImportKind,
     Limits, MemoryType, TableType, ValueType, WFault, WModule,
 };
-use wasm_typing::{Scope, Spares, check_body, check_constant};
 
 fn are_limits(limits: Limits, most: u64) -> bool
     ensures { IsTrue result ↔ AreLimits most limits }

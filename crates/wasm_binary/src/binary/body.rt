@@ -7,8 +7,7 @@ ghost use Rattle.wasm_binary.specs.Binary.{declared, locals, locals_at, locals_e
 use crate::binary::{Binary, MAX_ENTRIES};
 use sqlite_items::Items;
 use std::alloc::Global;
-use wasm_bytes::{Writer, closed, front, unsigned_at};
-use wasm_code::{code_over, write_code};
+use wasm_code::{Writer, closed, code_over, front, unsigned_at, write_code};
 use wasm_tree::{Body, EncodeError, Locals, Op, ValueType, WFault};
 
 /// The most locals of a body.

@@ -7,7 +7,7 @@ ghost use Rattle.wasm_binary.specs.Binary.{func_type, limits, table_type, memory
 
 use crate::binary::{Binary, vector, write_vector};
 use std::alloc::Global;
-use wasm_bytes::{Writer, byte_at, skip, unsigned_at};
+use wasm_code::{Writer, byte_at, skip, unsigned_at};
 use wasm_tree::{EncodeError, FuncType, Limits, MemoryType, TableType, ValueType, WFault};
 
 #[tactic(auto, unfolding(wasm_code::specs::Instructions::value_type))]

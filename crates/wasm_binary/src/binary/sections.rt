@@ -7,8 +7,9 @@ ghost use Rattle.wasm_binary.specs.Binary.{import_kind, import, global, export_k
 use crate::binary::{Binary, vector, write_vector};
 use sqlite_items::Items;
 use std::alloc::Global;
-use wasm_bytes::{Writer, byte_at, closed, front, name_at, skip, unsigned_at, write_name};
-use wasm_code::{code_at, write_code};
+use wasm_code::{
+    Writer, byte_at, closed, code_at, front, name_at, skip, unsigned_at, write_code, write_name,
+};
 use wasm_tree::{
     Data, Element, EncodeError, Export, ExportKind, Global as Constant, Import, ImportKind,
     MemoryType, TableType, ValueType, WFault,

@@ -1,5 +1,5 @@
 use Rattle.std.proofs.Common.{ap, ◌∙◌}
-use Rattle.m2_typed.specs.declared.typed_module.Which.TheVariants as which
+use Rattle.typed_tree.specs.declared.typed_module.Which.TheVariants as which
 use Rattle.m2_emit.proofs.Procedures.{found_at, one_more}
 use Rattle.m2_emit.proofs.functions.push_locals.Goals as goal
 

@@ -1,7 +1,7 @@
 use Rattle.std.proofs.Common.{◌≡◌, ◌++◌, drop}
-use Rattle.m2_typed.specs.declared.typed_module.Which.TheVariants as which
-use Rattle.m2_scheme.specs.Functions.{functions_from}
-use Rattle.m2_scheme.specs.Modules.{numbered}
+use Rattle.typed_tree.specs.declared.typed_module.Which.TheVariants as which
+use Rattle.def_scheme.specs.Functions.{functions_from}
+use Rattle.def_scheme.specs.Modules.{numbered}
 use Rattle.m2_emit.proofs.functions.push_locals.Given as goal
 
 abbrev pub invariant-loop-number : goal.invariant-loop-number

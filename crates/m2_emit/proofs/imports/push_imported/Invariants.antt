@@ -1,5 +1,5 @@
 use Rattle.std.proofs.Common.{◌≡◌, ◌++◌, take, map}
-use Rattle.m2_scheme.specs.Scheme.{imported_globals}
+use Rattle.def_scheme.specs.Scheme.{imported_globals}
 use Rattle.m2_emit.proofs.imports.push_imported.Given as goal
 
 abbrev pub invariant-loop-module : goal.invariant-loop-module

@@ -1,5 +1,5 @@
 use Rattle.std.proofs.Common.{◌≡◌, ◌++◌, drop, map}
-use Rattle.m2_scheme.specs.Modules.{globals_from}
+use Rattle.def_scheme.specs.Modules.{globals_from}
 use Rattle.m2_emit.specs.Emitted.{parts}
 use Rattle.m2_emit.proofs.link.push_globals.Given as goal
 

@@ -1,5 +1,5 @@
 use Rattle.std.proofs.Common.{◌≡◌, ◌+◌, drop, map}
-use Rattle.m2_scheme.specs.Modules.{stack_begin}
+use Rattle.def_scheme.specs.Modules.{stack_begin}
 use Rattle.m2_emit.specs.Emitted.{parts}
 use Rattle.m2_emit.proofs.link.stack_begin.Given as goal
 

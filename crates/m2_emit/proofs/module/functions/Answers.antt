@@ -1,6 +1,6 @@
 use Rattle.std.proofs.Common.{◌≡◌, subst}
 use Rattle.std.specs.Prelude.{IfOk}
-use Rattle.m2_scheme.specs.Modules.{functions}
+use Rattle.def_scheme.specs.Modules.{functions}
 use Rattle.m2_emit.proofs.module.functions.Goals as goal
 
 pub returns : goal.returns

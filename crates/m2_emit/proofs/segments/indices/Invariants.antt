@@ -1,6 +1,6 @@
 use Rattle.std.proofs.Common.{◌≡◌}
 use Rattle.std.specs.List.{range_with_len}
-use Rattle.m2_scheme.specs.Coded.{body_index}
+use Rattle.def_scheme.specs.Coded.{body_index}
 use Rattle.m2_emit.proofs.segments.indices.Given as goal
 
 abbrev pub invariant-loop-slot : goal.invariant-loop-slot

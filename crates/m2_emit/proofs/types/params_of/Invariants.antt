@@ -1,6 +1,6 @@
 use Rattle.std.proofs.Common.{◌≡◌, ◌∷◌}
 use Rattle.wasm_tree.specs.declared.kinds.ValueType.TheVariants.{I32}
-use Rattle.m2_scheme.specs.Signatures.{so_many}
+use Rattle.def_scheme.specs.Signatures.{so_many}
 use Rattle.m2_emit.proofs.types.params_of.Given as goal
 
 abbrev pub invariant-loop : goal.invariant-loop

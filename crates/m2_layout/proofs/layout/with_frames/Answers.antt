@@ -1,6 +1,6 @@
 use Rattle.std.proofs.Common.{[], List, ap, ◌∙◌}
 use Rattle.std.specs.List.{fold}
-use Rattle.m2_typed.specs.declared.typed_module.Routine.{Routine}
+use Rattle.typed_tree.specs.declared.typed_module.Routine.{Routine}
 use Rattle.m2_layout.specs.Layouts.{with_routine}
 use Rattle.m2_layout.proofs.Sized.{checked}
 use Rattle.m2_layout.proofs.layout.with_frames.Goals as goal

@@ -1,12 +1,12 @@
 use Rattle.std.proofs.Common.{◌≡◌, true, false, refl, sym, ◌∙◌, rules, arith}
 use Rattle.std.proofs.lemmas.Grind.{common_steps}
-use Rattle.m2_grammar.specs.Ebnf.{decl}
-use Rattle.m2_grammar.specs.Tables.{in_decl}
-use Rattle.m2_grammar.specs.Reading.{begins}
-use Rattle.m2_grammar.proofs.Rules as rules_of
-use Rattle.m2_grammar.proofs.Turns.{many-is}
-use Rattle.m2_grammar.proofs.Loops.{plain, loop_turn, loop_stop, turn_shorter, mapped_ok}
-use Rattle.m2_grammar.proofs.Items as each
+use Rattle.def_grammar.specs.Ebnf.{decl}
+use Rattle.def_grammar.specs.Tables.{in_decl}
+use Rattle.def_grammar.specs.Reading.{begins}
+use Rattle.def_grammar.proofs.Rules as rules_of
+use Rattle.def_grammar.proofs.Turns.{many-is}
+use Rattle.def_grammar.proofs.Loops.{plain, loop_turn, loop_stop, turn_shorter, mapped_ok}
+use Rattle.def_grammar.proofs.Items as each
 use Rattle.m2_parse.proofs.decl.+decl.Goals as goal
 
 pub decls-returns-in_err-decl : goal.decls-returns-in_err-decl

@@ -1,12 +1,12 @@
 use Rattle.std.proofs.Common.{refl, sym, ◌∙◌, rules, arith}
 use Rattle.std.proofs.lemmas.Grind.{common_steps}
 use Rattle.m2_tree.specs.declared.token.Symbol.TheVariants.{Semicolon}
-use Rattle.m2_grammar.specs.declared.kind.Kind.TheVariants as the
-use Rattle.m2_grammar.specs.Grammar.{◌▸◌}
-use Rattle.m2_grammar.specs.Ebnf.{section}
-use Rattle.m2_grammar.proofs.Turns.{many-is}
-use Rattle.m2_grammar.proofs.Loops.{plain, loop_turn, loop_stop, word_then, turn_shorter, mapped_ok}
-use Rattle.m2_grammar.proofs.Items as each
+use Rattle.def_grammar.specs.declared.kind.Kind.TheVariants as the
+use Rattle.def_grammar.specs.Grammar.{◌▸◌}
+use Rattle.def_grammar.specs.Ebnf.{section}
+use Rattle.def_grammar.proofs.Turns.{many-is}
+use Rattle.def_grammar.proofs.Loops.{plain, loop_turn, loop_stop, word_then, turn_shorter, mapped_ok}
+use Rattle.def_grammar.proofs.Items as each
 use Rattle.m2_parse.proofs.decl.sections.Goals as goal
 
 pub returns-in_err-section-2 : goal.returns-in_err-section-2

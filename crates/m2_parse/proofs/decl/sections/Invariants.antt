@@ -1,9 +1,9 @@
 use Rattle.std.proofs.Common.{◌≡◌, length}
 use Rattle.m2_tree.specs.declared.token.Symbol.TheVariants.{Semicolon}
-use Rattle.m2_grammar.specs.Grammar.{◌▸◌, many}
-use Rattle.m2_grammar.specs.Ebnf.{section, sections}
-use Rattle.m2_grammar.specs.Trees.{with_first}
-use Rattle.m2_grammar.specs.Reading.{gathered, mapped, read}
+use Rattle.def_grammar.specs.Grammar.{◌▸◌, many}
+use Rattle.def_grammar.specs.Ebnf.{section, sections}
+use Rattle.def_grammar.specs.Trees.{with_first}
+use Rattle.def_grammar.specs.Reading.{gathered, mapped, read}
 use Rattle.m2_parse.proofs.decl.sections.Given as goal
 
 abbrev pub invariant-loop-semicolon : goal.invariant-loop-semicolon

@@ -1,11 +1,11 @@
 use Rattle.std.proofs.Common.{◌≡◌, true, false, refl, sym, ◌∙◌, rules, arith, [], ◌∷◌}
 use Rattle.std.proofs.lemmas.Grind.{common_steps}
-use Rattle.m2_grammar.specs.declared.kind.Kind.TheVariants as the
-use Rattle.m2_grammar.specs.Ebnf.{type_decl}
-use Rattle.m2_grammar.specs.Reading.{begins}
-use Rattle.m2_grammar.proofs.Turns.{many-is}
-use Rattle.m2_grammar.proofs.Loops.{plain, loop_turn, loop_stop, turn_shorter, mapped_ok}
-use Rattle.m2_grammar.proofs.Items as each
+use Rattle.def_grammar.specs.declared.kind.Kind.TheVariants as the
+use Rattle.def_grammar.specs.Ebnf.{type_decl}
+use Rattle.def_grammar.specs.Reading.{begins}
+use Rattle.def_grammar.proofs.Turns.{many-is}
+use Rattle.def_grammar.proofs.Loops.{plain, loop_turn, loop_stop, turn_shorter, mapped_ok}
+use Rattle.def_grammar.proofs.Items as each
 use Rattle.m2_parse.proofs.decl.type_decls.Goals as goal
 
 pub returns-in_err-type_decl : goal.returns-in_err-type_decl

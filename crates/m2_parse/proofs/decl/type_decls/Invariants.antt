@@ -1,7 +1,7 @@
 use Rattle.std.proofs.Common.{◌≡◌, [], length}
-use Rattle.m2_grammar.specs.Grammar.{many}
-use Rattle.m2_grammar.specs.Ebnf.{type_decl}
-use Rattle.m2_grammar.specs.Reading.{gathered, read}
+use Rattle.def_grammar.specs.Grammar.{many}
+use Rattle.def_grammar.specs.Ebnf.{type_decl}
+use Rattle.def_grammar.specs.Reading.{gathered, read}
 use Rattle.m2_parse.proofs.decl.type_decls.Given as goal
 
 abbrev pub invariant-loop-found : goal.invariant-loop-found

@@ -1,12 +1,12 @@
 use Rattle.std.proofs.Common.{◌≡◌, true, false, refl, sym, ◌∙◌, rules, arith}
 use Rattle.std.proofs.lemmas.Grind.{common_steps}
-use Rattle.m2_grammar.specs.Ebnf.{def}
-use Rattle.m2_grammar.specs.Tables.{in_decl}
-use Rattle.m2_grammar.specs.Refusal.{max_nesting}
-use Rattle.m2_grammar.specs.Reading.{begins}
-use Rattle.m2_grammar.proofs.Turns.{many-is}
-use Rattle.m2_grammar.proofs.Loops.{plain, loop_turn, loop_stop, turn_shorter, mapped_ok}
-use Rattle.m2_grammar.proofs.Items as each
+use Rattle.def_grammar.specs.Ebnf.{def}
+use Rattle.def_grammar.specs.Tables.{in_decl}
+use Rattle.def_grammar.specs.Refusal.{max_nesting}
+use Rattle.def_grammar.specs.Reading.{begins}
+use Rattle.def_grammar.proofs.Turns.{many-is}
+use Rattle.def_grammar.proofs.Loops.{plain, loop_turn, loop_stop, turn_shorter, mapped_ok}
+use Rattle.def_grammar.proofs.Items as each
 use Rattle.m2_parse.proofs.module.defs.Goals as goal
 
 pub returns-in_err-def : goal.returns-in_err-def

@@ -1,13 +1,13 @@
 use Rattle.std.proofs.Common.{◌≡◌, true, false, refl, sym, ◌∙◌, rules, arith, [], ◌∷◌}
 use Rattle.std.proofs.lemmas.Grind.{common_steps}
 use Rattle.m2_tree.specs.declared.token.Symbol.TheVariants.{From, Import}
-use Rattle.m2_grammar.specs.Ebnf.{import}
-use Rattle.m2_grammar.specs.Tables.{symbols}
-use Rattle.m2_grammar.specs.Refusal.{max_nesting}
-use Rattle.m2_grammar.specs.Reading.{begins}
-use Rattle.m2_grammar.proofs.Turns.{many-is}
-use Rattle.m2_grammar.proofs.Loops.{plain, loop_turn, loop_stop, turn_shorter, mapped_ok}
-use Rattle.m2_grammar.proofs.Items as each
+use Rattle.def_grammar.specs.Ebnf.{import}
+use Rattle.def_grammar.specs.Tables.{symbols}
+use Rattle.def_grammar.specs.Refusal.{max_nesting}
+use Rattle.def_grammar.specs.Reading.{begins}
+use Rattle.def_grammar.proofs.Turns.{many-is}
+use Rattle.def_grammar.proofs.Loops.{plain, loop_turn, loop_stop, turn_shorter, mapped_ok}
+use Rattle.def_grammar.proofs.Items as each
 use Rattle.m2_parse.proofs.module.imports.Goals as goal
 
 pub returns-in_err-import : goal.returns-in_err-import

@@ -1,8 +1,8 @@
 use Rattle.std.proofs.Common.{◌≡◌, [], length}
-use Rattle.m2_grammar.specs.Grammar.{many}
-use Rattle.m2_grammar.specs.Ebnf.{import}
-use Rattle.m2_grammar.specs.Refusal.{max_nesting}
-use Rattle.m2_grammar.specs.Reading.{gathered, read}
+use Rattle.def_grammar.specs.Grammar.{many}
+use Rattle.def_grammar.specs.Ebnf.{import}
+use Rattle.def_grammar.specs.Refusal.{max_nesting}
+use Rattle.def_grammar.specs.Reading.{gathered, read}
 use Rattle.m2_parse.proofs.module.imports.Given as goal
 
 abbrev pub invariant-loop-found : goal.invariant-loop-found

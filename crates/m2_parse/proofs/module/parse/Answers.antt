@@ -1,7 +1,7 @@
 use Rattle.std.proofs.Common.{◌≡◌, true, false, List, [], rules}
 use Rattle.std.specs.Prelude.{IsTrue}
 use Rattle.m2_tree.specs.declared.token.Token.{Token}
-use Rattle.m2_grammar.proofs.Exact.{is_tree, reported, reported_rest, none_refused, none_rest, one_tree}
+use Rattle.def_grammar.proofs.Exact.{is_tree, reported, reported_rest, none_refused, none_rest, one_tree}
 use Rattle.m2_parse.proofs.module.parse.Goals as goal
 
 never : IsTrue false → ⊥

@@ -1,7 +1,7 @@
 use Rattle.std.proofs.Common.{ℕ, ◌<◌, List, [], ◌∷◌, ◌++◌, length, map, refl, sym, ap, ◌∙◌, arith, rules, append_assoc, length-append}
 use Rattle.std.proofs.lemmas.Grind.{common_steps}
 use Rattle.once_cell.specs.Once.{cell_name}
-use Rattle.m2_board.specs.Graph.{prerequisites_of}
+use Rattle.pool_board.specs.Graph.{prerequisites_of}
 use Rattle.m2_pool.proofs.Gathering.{have_cells, next_cell, same_long, next_compared, next_agreed, not_all, none_used, one_more_used, all_used}
 use Rattle.m2_pool.proofs.gather.agree.Goals as goal
 

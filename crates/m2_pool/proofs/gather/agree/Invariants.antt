@@ -1,7 +1,7 @@
 use Rattle.std.proofs.Common.{◌≡◌, ◌++◌, List, length, map, take, Some}
 use Rattle.std.specs.Vec.Iter.{into_iter_items, into_iter_len}
-use Rattle.m2_board.specs.Graph.{prerequisites_of}
-use Rattle.m2_worker.specs.Results.{AreResults}
+use Rattle.pool_board.specs.Graph.{prerequisites_of}
+use Rattle.pool_board.specs.Results.{AreResults}
 use Rattle.m2_pool.proofs.gather.agree.Given as goal
 
 abbrev pub invariant-loop-note : goal.invariant-loop-note

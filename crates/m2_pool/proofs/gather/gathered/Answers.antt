@@ -1,7 +1,7 @@
 use Rattle.std.proofs.Common.{◌≡◌, suc, [], ◌∷◌, ◌++◌, length, map, None, refl, sym, ap, ◌∙◌, subst, arith, append_assoc, length-append}
 use Rattle.std.proofs.lemmas.Grind.{common_steps}
 use Rattle.once_cell.specs.Once.{cell_name}
-use Rattle.m2_worker.specs.Results.{AreResults, NoJobs}
+use Rattle.pool_board.specs.Results.{AreResults, NoJobs}
 use Rattle.m2_pool.proofs.Items.{next_in}
 use Rattle.m2_pool.proofs.Gathering.{Settles, all_so_far, next_result, places_more, no_places_yet}
 use Rattle.m2_pool.proofs.gather.gathered.Goals as goal

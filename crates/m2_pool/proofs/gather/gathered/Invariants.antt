@@ -2,7 +2,7 @@ use Rattle.std.proofs.Common.{◌≡◌, ◌++◌, ℕ, length, map, get_or, Non
 use Rattle.std.specs.Prelude.{IfSome}
 use Rattle.std.specs.Vec.Iter.{into_iter_items, into_iter_len}
 use Rattle.once_cell.specs.Once.{cell_name}
-use Rattle.m2_worker.specs.Results.{all_jobs, AreResults}
+use Rattle.pool_board.specs.Results.{all_jobs, AreResults}
 use Rattle.m2_pool.specs.Settled.{IsSettled}
 use Rattle.m2_pool.proofs.gather.gathered.Given as goal
 

@@ -1,6 +1,6 @@
 use Rattle.std.proofs.Common.{◌++◌, ◌∷◌, [], map, get_or, Some, sym, ap, ◌∙◌}
 use mathlib.Core.List.{map-append}
-use Rattle.m2_worker.proofs.Picks.{picked_more, picked_past, get_in}
+use Rattle.pool_board.proofs.Picks.{picked_more, picked_past, get_in}
 use Rattle.m2_pool.proofs.gather.picks.Goals as goal
 use Rattle.m2_pool.proofs.gather.picks.Goals.{then-job-outs+in_ok-push, else-job-outs}
 

@@ -1,5 +1,5 @@
 use Rattle.std.proofs.Common.{◌≡◌, map, take}
-use Rattle.m2_worker.specs.Results.{picked}
+use Rattle.pool_board.specs.Results.{picked}
 use Rattle.m2_pool.proofs.gather.picks.Given as goal
 
 abbrev pub invariant-loop-job : goal.invariant-loop-job

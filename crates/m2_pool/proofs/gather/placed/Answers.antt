@@ -2,7 +2,7 @@ use Rattle.std.proofs.Common.{◌≡◌, [], ◌∷◌, ◌++◌, length, map, S
 use Rattle.std.proofs.lemmas.Grind.{common_steps}
 use Rattle.std.specs.Prelude.{MatchResult}
 use Rattle.once_cell.specs.Once.{cell_name}
-use Rattle.m2_worker.specs.Results.{IsRan, IsMade}
+use Rattle.pool_board.specs.Results.{IsRan, IsMade}
 use Rattle.m2_pool.proofs.Items.{next_in}
 use Rattle.m2_pool.proofs.Places.{placed_in}
 use Rattle.m2_pool.proofs.gather.placed.Goals as goal

@@ -2,8 +2,8 @@ use Rattle.std.proofs.Common.{◌≡◌, ◌++◌, ◌<◌, ℕ, length, map, ge
 use Rattle.std.specs.Prelude.{MatchOption, MatchResult}
 use Rattle.std.specs.Vec.Iter.{into_iter_items, into_iter_len}
 use Rattle.once_cell.specs.Once.{cell_name}
-use Rattle.m2_board.specs.Lists.{times}
-use Rattle.m2_worker.specs.Results.{IsRan, IsMade}
+use Rattle.pool_board.specs.Lists.{times}
+use Rattle.pool_board.specs.Results.{IsRan, IsMade}
 use Rattle.m2_pool.proofs.gather.placed.Given as goal
 
 abbrev pub invariant-loop-ran : goal.invariant-loop-ran

@@ -1,8 +1,8 @@
 use Rattle.std.proofs.Common.{ℕ, List, length, map, sym, ap, ◌∙◌, subst}
 use Rattle.std.proofs.lemmas.List.{length-map}
-use Rattle.m2_board.specs.Graph.{prerequisites_of}
-use Rattle.m2_worker.specs.Results.{picked, AreResults}
-use Rattle.m2_worker.proofs.Resulting.{as_many}
+use Rattle.pool_board.specs.Graph.{prerequisites_of}
+use Rattle.pool_board.specs.Results.{picked, AreResults}
+use Rattle.pool_board.proofs.Resulting.{as_many}
 use Rattle.m2_pool.proofs.Items.{if_ok}
 use Rattle.m2_pool.proofs.Gathering.{picked_are}
 use Rattle.m2_pool.proofs.gather.run_here.Goals as goal

@@ -4,8 +4,8 @@ use Rattle.std.proofs.lemmas.Grind.{common_steps}
 use Rattle.std.proofs.lemmas.List.Elements.{All-push, All-append}
 use Rattle.once_cell.specs.Once.{cell_name}
 use mathlib.Core.List.{map-append}
-use Rattle.m2_board.specs.Seats.{SeatState, all_had}
-use Rattle.m2_worker.specs.Results.{IsRan, IsMade}
+use Rattle.pool_board.specs.Seats.{SeatState, all_had}
+use Rattle.pool_board.specs.Results.{IsRan, IsMade}
 use Rattle.m2_pool.proofs.Items.{next_in, together_push}
 use Rattle.m2_pool.proofs.run.returned.Goals as goal
 

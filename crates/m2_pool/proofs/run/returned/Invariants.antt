@@ -2,8 +2,8 @@ use Rattle.std.proofs.Common.{◌≡◌, ◌++◌, map, length, All}
 use Rattle.std.specs.Prelude.{MatchResult}
 use Rattle.std.specs.Vec.Iter.{into_iter_items, into_iter_len}
 use Rattle.once_cell.specs.Once.{cell_name}
-use Rattle.m2_board.specs.Seats.{SeatState, all_had}
-use Rattle.m2_worker.specs.Results.{IsRan, IsMade}
+use Rattle.pool_board.specs.Seats.{SeatState, all_had}
+use Rattle.pool_board.specs.Results.{IsRan, IsMade}
 use Rattle.m2_pool.proofs.run.returned.Given as goal
 
 abbrev pub invariant-loop-one : goal.invariant-loop-one

@@ -1,7 +1,7 @@
 use Rattle.std.proofs.Common.{◌≡◌, ℕ, ◌<◌, List, length, map, get_or, zero, suc, [], ◌∷◌, ◌++◌, None, refl, sym, ap, ◌∙◌}
 use Rattle.std.proofs.lemmas.List.{length-map}
-use Rattle.m2_board.specs.Lists.{times, listed}
-use Rattle.m2_board.specs.Seats.{SeatState}
+use Rattle.pool_board.specs.Lists.{times, listed}
+use Rattle.pool_board.specs.Seats.{SeatState}
 use Rattle.m2_pool.proofs.Places.{match_some}
 use Rattle.m2_pool.proofs.Tallying.{is_tally}
 use Rattle.m2_pool.proofs.run.run_on.Goals as goal

@@ -1,7 +1,7 @@
 use Rattle.std.proofs.Common.{◌≡◌, take}
 use Rattle.std.specs.List.{fold}
 use Rattle.m2_types.specs.Declare.{with_constant}
-use Rattle.m2_scopes.specs.Elaborated.{least}
+use Rattle.check_scope.specs.Elaborated.{least}
 use Rattle.m2_types.proofs.declare.declare_constants.Given as goal
 
 abbrev pub invariant-loop-constant : goal.invariant-loop-constant

@@ -1,6 +1,6 @@
 use Rattle.std.proofs.Common.{◌≡◌, IfOk, Result, subst}
-use Rattle.m2_typed.specs.declared.table.Table.{Table}
-use Rattle.m2_scopes.specs.declared.fault.Fault.{Fault}
+use Rattle.typed_tree.specs.declared.table.Table.{Table}
+use Rattle.check_scope.specs.declared.fault.Fault.{Fault}
 use Rattle.m2_types.proofs.Defined.{definition_is}
 use Rattle.m2_types.proofs.definition.of_definition.Goals as goal
 

@@ -1,5 +1,5 @@
 use Rattle.std.proofs.Common.{Ok}
-use Rattle.m2_scopes.specs.Elaborated.{least}
+use Rattle.check_scope.specs.Elaborated.{least}
 use Rattle.m2_types.specs.Importing.{with_entry}
 use Rattle.m2_types.proofs.Walks.{walked_from}
 use Rattle.m2_types.proofs.importing.bring_all.Goals as goal

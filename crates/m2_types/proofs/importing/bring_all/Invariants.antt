@@ -1,7 +1,7 @@
 use Rattle.std.proofs.Common.{◌≡◌, take, Ok}
 use Rattle.std.specs.List.{fold}
 use Rattle.m2_types.specs.Importing.{with_entry}
-use Rattle.m2_scopes.specs.Elaborated.{least}
+use Rattle.check_scope.specs.Elaborated.{least}
 use Rattle.std.specs.Prelude.{drop}
 use Rattle.m2_types.proofs.importing.bring_all.Given as goal
 

@@ -1,7 +1,7 @@
 use Rattle.std.proofs.Common.{◌≡◌, take}
 use Rattle.std.specs.List.{fold}
 use Rattle.m2_types.specs.Importing.{with_module_name}
-use Rattle.m2_scopes.specs.Elaborated.{least}
+use Rattle.check_scope.specs.Elaborated.{least}
 use Rattle.m2_types.proofs.importing.import_modules.Given as goal
 
 abbrev pub invariant-loop-name : goal.invariant-loop-name

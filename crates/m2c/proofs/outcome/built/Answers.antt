@@ -2,10 +2,10 @@ use Rattle.std.proofs.Common.{◌≡◌, ◌≤◌, ◌+◌, ◌*◌, ℕ, List,
 use Rattle.std.specs.Prelude.{All}
 use Rattle.std.specs.Global.{Vec}
 use Rattle.wasm_binary.specs.Binary.{Encodes}
-use Rattle.m2_scheme.specs.Modules.{link_of, stack_begin}
+use Rattle.def_scheme.specs.Modules.{link_of, stack_begin}
 use Rattle.m2_emit.specs.declared.emitted.ModuleBytes.{ModuleBytes}
 use Rattle.m2_emit.specs.Emitted.{parts}
-use Rattle.m2_jobs.specs.Borrowed.{borrowed}
+use Rattle.build_jobs.specs.Borrowed.{borrowed}
 use Rattle.m2c.specs.Build.{named, named_bytes, started}
 use Rattle.m2c.proofs.Graphs.{is_program, encoded_borrowed}
 use Rattle.m2c.proofs.Borrowed.{copies_borrowed}

@@ -4,7 +4,7 @@ use Rattle.std.proofs.lemmas.Bool.{eq-eqb, eqb-true}
 use Rattle.m2_tree.specs.declared.refusal.Refusal.{Refusal}
 use Rattle.std.specs.Borrow.{Bor}
 use Rattle.m2_emit.specs.declared.emitted.ModuleBytes.{ModuleBytes}
-use Rattle.m2_jobs.specs.Borrowed.{borrowed}
+use Rattle.build_jobs.specs.Borrowed.{borrowed}
 use Rattle.m2c.specs.Build.{reported, refused_by}
 use Rattle.m2c.proofs.Two.{none_reported}
 use Rattle.m2c.proofs.Graphs.{refusals_are, started_are}

@@ -3,10 +3,10 @@ use Rattle.std.specs.Borrow.{Bor}
 use Rattle.std.specs.Global.{Vec}
 use Rattle.std.proofs.lemmas.Bool.{ltb-true, ltb-false}
 use Rattle.std.proofs.lemmas.List.{length-map}
-use Rattle.m2_scheme.specs.Modules.{stack_begin}
+use Rattle.def_scheme.specs.Modules.{stack_begin}
 use Rattle.m2_emit.specs.declared.emitted.ModuleBytes.{ModuleBytes}
 use Rattle.m2_emit.specs.Emitted.{parts}
-use Rattle.m2_jobs.specs.Borrowed.{borrowed}
+use Rattle.build_jobs.specs.Borrowed.{borrowed}
 use Rattle.m2c.proofs.Graphs.{program_count, is_too_large, encoded_borrowed}
 use Rattle.m2c.proofs.outcome.program.Goals as goal
 

@@ -2,7 +2,7 @@ use Rattle.std.proofs.Common.{◌≡◌, ◌++◌, drop, map}
 use Rattle.std.specs.Prelude.{slice_get}
 use Rattle.std.specs.Option.{option_and_then}
 use Rattle.m2_graph.specs.Jobs.{place_of}
-use Rattle.m2_jobs.specs.Borrowed.{borrowed}
+use Rattle.build_jobs.specs.Borrowed.{borrowed}
 use Rattle.m2c.specs.Build.{reported, refused_from}
 use Rattle.m2c.proofs.results.refused_by.Given as goal
 

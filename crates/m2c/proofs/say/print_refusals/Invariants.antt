@@ -1,6 +1,6 @@
 use Rattle.std.proofs.Common.{take}
 use Rattle.std.specs.List.{flat_map}
-use Rattle.m2_execute.specs.Reported.{Printed}
+use Rattle.run_directory.specs.Reported.{Printed}
 use Rattle.m2c.specs.Endings.{line_of}
 use Rattle.m2c.proofs.say.print_refusals.Given as goal
 

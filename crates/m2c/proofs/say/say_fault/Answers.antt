@@ -1,7 +1,7 @@
 use Rattle.std.proofs.Common.{ap}
 use Rattle.m2c.specs.Endings.{fault_words}
 use Rattle.m2c.specs.declared.files.BuildFault.TheVariants.{NoEncoding}
-use Rattle.m2_execute.proofs.Saying.{said}
+use Rattle.run_directory.proofs.Saying.{said}
 use Rattle.m2c.proofs.say.say_fault.Goals as goal
 
 pub returns-in-NoEncoding : goal.returns-in-NoEncoding

@@ -1,6 +1,6 @@
 use Rattle.std.proofs.Common.{◌≡◌, ◌∙◌, ◌++◌, ℕ, List, ap, sym, codes, decimal}
 use Rattle.m2c.specs.Endings.{range_words}
-use Rattle.m2_execute.proofs.Saying.{said}
+use Rattle.run_directory.proofs.Saying.{said}
 use Rattle.m2c.proofs.say.say_range.Goals as goal
 
 pub returns : goal.returns

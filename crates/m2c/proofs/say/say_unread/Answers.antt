@@ -1,6 +1,6 @@
 use Rattle.std.proofs.Common.{◌∙◌, ℕ, List, ap, sym}
 use Rattle.m2c.specs.Endings.{unread_words}
-use Rattle.m2_execute.proofs.Saying.{said}
+use Rattle.run_directory.proofs.Saying.{said}
 use Rattle.m2c.proofs.say.say_unread.Goals as goal
 
 pub returns : goal.returns

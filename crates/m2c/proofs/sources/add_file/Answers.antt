@@ -1,5 +1,5 @@
 use Rattle.std.proofs.Common.{◌≡◌, ◌++◌, ◌∷◌, [], rules}
-use Rattle.m2_read.specs.declared.file.SourceFile.{SourceFile}
+use Rattle.build_jobs.specs.declared.file.SourceFile.{SourceFile}
 use Rattle.m2c.proofs.sources.add_file.Goals as goal
 
 pub returns-clause-ok : goal.returns-clause-ok

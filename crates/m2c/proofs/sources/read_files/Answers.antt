@@ -1,6 +1,6 @@
 use Rattle.std.proofs.Common.{take, map}
 use Rattle.std.specs.String.{string_bytes}
-use Rattle.m2_execute.proofs.Missing.{map_one_more}
+use Rattle.run_directory.proofs.Missing.{map_one_more}
 use Rattle.m2c.proofs.Readable.{none_so_far, one_behind, stops_at}
 use Rattle.m2c.proofs.sources.read_files.Goals as goal
 

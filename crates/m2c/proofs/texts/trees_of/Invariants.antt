@@ -1,6 +1,6 @@
 use Rattle.std.proofs.Common.{◌≡◌, ◌++◌, drop}
 use Rattle.m2c.specs.Build.{trees_of}
-use Rattle.m2_jobs.specs.Borrowed.{borrowed}
+use Rattle.build_jobs.specs.Borrowed.{borrowed}
 use Rattle.m2c.proofs.texts.trees_of.Given as goal
 
 abbrev pub invariant-loop-k : goal.invariant-loop-k

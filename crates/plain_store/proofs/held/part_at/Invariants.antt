@@ -1,6 +1,6 @@
 use Rattle.std.proofs.Common.{◌≡◌, ◌++◌}
 use Rattle.std.specs.Prelude.{drop}
-use Rattle.m2_meaning.specs.Store.{Location}
+use Rattle.def_meaning.specs.Store.{Location}
 use Rattle.plain_store.specs.Contents.{contents}
 use Rattle.plain_store.proofs.held.part_at.Given as goal
 

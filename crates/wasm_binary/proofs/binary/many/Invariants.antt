@@ -1,5 +1,5 @@
 use Rattle.std.proofs.Common.{◌≡◌, ◌≤◌, ◌-◌, length}
-use Rattle.wasm_bytes.specs.Parts.{many}
+use Rattle.wasm_code.specs.Parts.{many}
 use Rattle.wasm_code.proofs.Loop.{with_front}
 use Rattle.wasm_binary.proofs.binary.many.Given as goal
 

@@ -1,6 +1,6 @@
 use Rattle.std.proofs.Common.{◌≡◌, ◌++◌, length, take, true}
 use Rattle.std.specs.List.{flat_map, list_all}
-use Rattle.wasm_bytes.specs.Number.{unsigned}
+use Rattle.wasm_code.specs.Number.{unsigned}
 use Rattle.wasm_binary.proofs.binary.write_vector.Given as goal
 
 abbrev pub invariant-loop-item : goal.invariant-loop-item

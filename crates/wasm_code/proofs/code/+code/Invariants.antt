@@ -1,6 +1,6 @@
 use Rattle.std.proofs.Common.{◌≡◌, ◌≤◌, ◌+◌, ◌-◌, ◌*◌, length}
 use Rattle.wasm_code.specs.Instructions.{opened, sequence}
-use Rattle.wasm_bytes.proofs.Laws.{IsBytes}
+use Rattle.wasm_code.proofs.Laws.{IsBytes}
 use Rattle.wasm_code.specs.ScratchStack.{onto_sequence}
 use Rattle.wasm_code.proofs.code.+code.Given as goal
 

@@ -1,6 +1,6 @@
 use Rattle.std.proofs.Common.{[], ◌∷◌, arith, length-append}
 use Rattle.std.proofs.lemmas.Result.{err_from_is_err_and}
-use Rattle.wasm_bytes.specs.Number.{unsigned}
+use Rattle.wasm_code.specs.Number.{unsigned}
 use Rattle.wasm_code.proofs.Loop.{goes_on, fails, is_whole, many_more, many_fail, many_none}
 use Rattle.wasm_code.proofs.code.many_labels.Goals as goal
 

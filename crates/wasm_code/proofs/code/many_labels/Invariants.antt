@@ -1,6 +1,6 @@
 use Rattle.std.proofs.Common.{◌≡◌, ◌-◌, length}
-use Rattle.wasm_bytes.specs.Parts.{many}
-use Rattle.wasm_bytes.specs.Number.{unsigned}
+use Rattle.wasm_code.specs.Parts.{many}
+use Rattle.wasm_code.specs.Number.{unsigned}
 use Rattle.wasm_code.proofs.Loop.{with_front}
 use Rattle.wasm_code.proofs.code.many_labels.Given as goal
 

@@ -1,6 +1,6 @@
 use Rattle.std.proofs.Common.{◌≡◌, ◌++◌, length, take}
 use Rattle.std.specs.List.{flat_map}
-use Rattle.wasm_bytes.specs.Number.{unsigned}
+use Rattle.wasm_code.specs.Number.{unsigned}
 use Rattle.wasm_code.specs.ScratchStack.{label_encoding}
 use Rattle.wasm_code.proofs.code.write_labels.Given as goal
 

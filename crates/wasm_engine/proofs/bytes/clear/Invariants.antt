@@ -1,5 +1,5 @@
 use Rattle.std.proofs.Common.{◌≡◌, ◌+◌, ◌-◌, length}
-use Rattle.wasm_effect.specs.Bytes.{cleared_bytes}
+use Rattle.law_effect.specs.Bytes.{cleared_bytes}
 use Rattle.wasm_engine.proofs.bytes.clear.Given as goal
 
 abbrev pub invariant-loop-place : goal.invariant-loop-place

@@ -1,5 +1,5 @@
 use Rattle.std.proofs.Common.{◌+◌, sym, arith}
-use Rattle.wasm_effect.specs.Bytes.{cleared_bytes}
+use Rattle.law_effect.specs.Bytes.{cleared_bytes}
 use Rattle.wasm_engine.proofs.AtOnce.{changed_by}
 use Rattle.wasm_engine.proofs.bytes.cleared.Goals as goal
 

@@ -1,7 +1,7 @@
 use Rattle.std.proofs.Common.{◌+◌, map, refl, arith}
 use Rattle.wasm_tree.specs.Code.{tree}
 use Rattle.wasm_machine.specs.Going.{activation, store_of, callers_of, going, memory_from}
-use Rattle.wasm_effect.specs.Bytes.{cleared_bytes}
+use Rattle.law_effect.specs.Bytes.{cleared_bytes}
 use Rattle.wasm_machine.proofs.Ready.{topmost_i32, lower_i32}
 use Rattle.wasm_engine.proofs.AtOnce.{has_fill, fill_callee, none_made, did_fill, did_no_fill, narrow_back, memory_left, changed_filled, did_nothing}
 use Rattle.wasm_engine.proofs.quick.fill_at_once.Goals as goal

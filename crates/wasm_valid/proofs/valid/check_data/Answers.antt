@@ -1,5 +1,5 @@
 use Rattle.wasm_tree.specs.Code.{tree}
-use Rattle.wasm_typing.specs.Scope.{scope_of}
+use Rattle.wasm_valid.specs.CodeScope.{scope_of}
 use Rattle.wasm_valid.proofs.Whole.{data_decides}
 use Rattle.wasm_valid.proofs.valid.check_data.Goals as goal
 

@@ -1,7 +1,7 @@
 use Rattle.std.proofs.Common.{◌<◌, List, ℕ, length, refl, subst}
 use Rattle.std.specs.Prelude.{All}
 use Rattle.wasm_tree.specs.Code.{tree}
-use Rattle.wasm_typing.specs.Scope.{scope_of}
+use Rattle.wasm_valid.specs.CodeScope.{scope_of}
 use Rattle.wasm_valid.proofs.Whole.{element_decides}
 use Rattle.wasm_valid.proofs.valid.check_element.Goals as goal
 

@@ -1,4 +1,4 @@
-use Rattle.wasm_typing.specs.Scope.{scope_of}
+use Rattle.wasm_valid.specs.CodeScope.{scope_of}
 use Rattle.wasm_valid.proofs.Whole.{function_decides}
 use Rattle.wasm_valid.proofs.valid.check_function.Goals as goal
 

@@ -1,7 +1,7 @@
-use Rattle.wasm_typing.specs.Scope.{scope_of}
+use Rattle.wasm_valid.specs.CodeScope.{scope_of}
 use Rattle.wasm_tree.specs.Validity.{IsFunction}
 use Rattle.std.proofs.lemmas.Result.{err_from_is_err_and}
-use Rattle.wasm_typing.proofs.Stacks.{exit}
+use Rattle.wasm_valid.proofs.Stacks.{exit}
 use Rattle.wasm_valid.proofs.Each.{each_more, each_all, each_refused}
 use Rattle.wasm_valid.proofs.valid.check_functions.Goals as goal
 

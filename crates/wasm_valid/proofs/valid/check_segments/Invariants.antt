@@ -1,5 +1,5 @@
 use Rattle.std.specs.Prelude.{All, take}
-use Rattle.wasm_typing.specs.Scope.{scope_of}
+use Rattle.wasm_valid.specs.CodeScope.{scope_of}
 use Rattle.wasm_tree.specs.Validity.{IsData}
 use Rattle.wasm_valid.proofs.valid.check_segments.Given as goal
 

@@ -1,0 +1,38 @@
+use Rattle.std.proofs.Common.{◌≡◌, ℕ, List, map, Option, Some, sym, ap, subst, ◌∙◌}
+use Rattle.std.specs.Prelude.{Result, IfOk, OnOk, slice_get}
+use Rattle.std.specs.Option.{option_copied, option_map}
+use Rattle.std.specs.Borrow.{Bor}
+use Rattle.std.proofs.lemmas.Option.{slice_get-map}
+use Rattle.m2_tree.specs.declared.decl.Module.{Module}
+use Rattle.build_jobs.specs.declared.outcome.Compiled.{Compiled}
+use Rattle.build_jobs.specs.Compiling.{compiled}
+use Rattle.build_jobs.specs.Jobs.{compiled_in}
+use Rattle.build_jobs.specs.ModuleEncoded.{IsEncoded}
+use Rattle.build_jobs.specs.Encoded.{encoded_in}
+use Rattle.build_jobs.specs.Borrowed.{modules_borrowed}
+use Rattle.build_jobs.proofs.modules.compiled_in.Goals as goal
+
+abbrev tree_of : Bor (List ℕ) × Bor Module → Module
+tree_of t = t.1.now
+
+in_place : {E : Type 0} (r : Result Compiled E) (o : Option Module) (m : Module) (job : ℕ) (needed : List Compiled) → o ≡ Some m
+    → IfOk r (λ x. x ≡ compiled m job needed) → IfOk r (λ x. x ≡ compiled_in o job needed)
+in_place r o m job needed e h = subst (λ (p : Option Module). IfOk r (λ x. x ≡ compiled_in p job needed)) (sym e) h
+
+pub returns-in-Some-clause-becomes : goal.returns-in-Some-clause-becomes
+returns-in-Some-clause-becomes c =
+    let some : slice_get (modules_borrowed c.args.trees.now) c.args.file ≡ Some c.in-Some.tree.now.1.now =
+    slice_get-map tree_of c.args.trees.now c.args.file ∙ ap (option_map tree_of) (sym c.at.ensures ∙ ap option_copied c.in-Some.is)
+    in
+    in_place c.compile.result (slice_get (modules_borrowed c.args.trees.now) c.args.file) c.in-Some.tree.now.1.now c.args.job (map (λ (n : Bor Compiled). n.now) c.args.needed.now) some c.compile.ensures.becomes
+
+encoded_in_place : {E : Type 0} (r : Result Compiled E) (o : Option Module) (m : Module) (job : ℕ) (needed : List Compiled) → o ≡ Some m
+    → OnOk r (IsEncoded m job needed) → OnOk r (encoded_in o job needed)
+encoded_in_place r o m job needed e h = subst (λ (p : Option Module). OnOk r (encoded_in p job needed)) (sym e) h
+
+pub returns-in-Some-clause-encoded : goal.returns-in-Some-clause-encoded
+returns-in-Some-clause-encoded c =
+    let some : slice_get (modules_borrowed c.args.trees.now) c.args.file ≡ Some c.in-Some.tree.now.1.now =
+    slice_get-map tree_of c.args.trees.now c.args.file ∙ ap (option_map tree_of) (sym c.at.ensures ∙ ap option_copied c.in-Some.is)
+    in
+    encoded_in_place c.compile.result (slice_get (modules_borrowed c.args.trees.now) c.args.file) c.in-Some.tree.now.1.now c.args.job (map (λ (n : Bor Compiled). n.now) c.args.needed.now) some c.compile.ensures.encoded

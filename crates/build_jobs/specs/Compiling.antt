@@ -1,0 +1,66 @@
+-- What becomes of a module, from what became of those that it needs.
+use Rattle.std.specs.Prelude.{ℕ, Bool, true, false, cond, List, [], ◌∷◌, Option, Some, None, Result, Ok, Err}
+use Rattle.std.specs.List.{flat_map, list_all}
+use Rattle.m2_tree.specs.declared.pos.Pos.{Pos}
+use Rattle.m2_tree.specs.declared.decl.Contents.{Contents}
+use Rattle.m2_tree.specs.declared.decl.Contents.TheVariants as contents
+use Rattle.m2_tree.specs.declared.decl.Module.{Module}
+use Rattle.typed_tree.specs.declared.table.Table.{Table}
+use Rattle.typed_tree.specs.declared.typed_module.TypedModule.{TypedModule}
+use Rattle.check_scope.specs.declared.fault.Fault.{Fault}
+use Rattle.check_scope.specs.Elaborated.{least}
+use Rattle.m2_types.specs.Compiled as types
+use Rattle.m2_check.specs.Checks.{checked}
+use Rattle.m2_layout.specs.Layouts.{too_large}
+use Rattle.m2_emit.specs.Emitted.{emitted}
+use Rattle.build_jobs.specs.declared.outcome.Compiled.{Compiled}
+use Rattle.build_jobs.specs.declared.outcome.Compiled.TheVariants.{Defined, Built, Refused, Blocked}
+use Rattle.build_jobs.specs.Own.{own_table, tables_behind}
+
+-- other modules can be compiled from it
+abbrev pub is_sound : Compiled → Bool
+is_sound (Defined t) = true
+is_sound (Built b) = true
+is_sound (Refused f) = false
+is_sound Blocked = false
+
+abbrev pub table_in : Compiled → List Table
+table_in (Defined t) = t ∷ []
+table_in (Built b) = []
+table_in (Refused f) = []
+table_in Blocked = []
+
+abbrev pub tables_of : List Compiled → List Table
+tables_of needed = flat_map table_in needed
+
+-- ---- definitions
+
+abbrev pub of_definition : Result Table Fault → Compiled
+of_definition (Ok t) = Defined t
+of_definition (Err f) = Refused f
+
+-- ---- bodies
+
+-- the body of a module in which no rule is broken
+abbrev pub typed_body : Module → (number : ℕ) → List Table → Result TypedModule Fault
+typed_body m number tables = let own = own_table m tables in checked least number m own (tables_behind own tables)
+
+-- Variables, texts or a frame that are too large are refused with 60. Else the module is emitted.
+abbrev pub of_fit : TypedModule → Option Pos → Compiled
+of_fit t None = Built (emitted t)
+of_fit t (Some at) = Refused (record { pos = at; number = 60 })
+
+abbrev pub of_checked : Result TypedModule Fault → Compiled
+of_checked (Ok t) = of_fit t (too_large t)
+of_checked (Err f) = Refused f
+
+-- ---- modules
+
+abbrev pub of_contents : Module → (number : ℕ) → List Table → Contents → Compiled
+of_contents m number tables (contents.Definition defs) = of_definition (types.compiled least number m tables)
+of_contents m number tables (contents.Implementation b) = of_checked (typed_body m number tables)
+of_contents m number tables (contents.Program b) = of_checked (typed_body m number tables)
+
+-- A module is blocked where one that it needs is refused or blocked.
+unfoldable pub compiled : Module → (number : ℕ) → List Compiled → Compiled
+compiled m number needed = cond (list_all is_sound needed) (of_contents m number (tables_of needed) m.contents) Blocked

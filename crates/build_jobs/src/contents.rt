@@ -1,0 +1,107 @@
+//! What becomes of a module, from what became of those that it needs.
+
+ghost use Rattle.std.specs.Prelude.{◌≡◌, IfOk, OnOk, map};
+ghost use Rattle.check_scope.specs.Elaborated.{least};
+ghost use Rattle.m2_layout.specs.Layouts.{too_large};
+ghost use Rattle.m2_types.specs.Compiled as types;
+ghost use Rattle.build_jobs.specs.Compiling.{compiled, of_checked, of_definition, of_fit, typed_body};
+ghost use Rattle.build_jobs.specs.ModuleEncoded.{IsEncoded, checked_encoded, fit_encoded};
+
+use crate::outcome::{Compiled, are_sound, tables_of};
+use crate::tables::{own_table, tables_behind};
+use check_scope::{Elaborated, Fault};
+use m2_check::check;
+use m2_emit::emit;
+use m2_layout::Layout;
+use m2_tree::{Contents, Items, Module};
+use m2_types::compile_definition;
+use std::alloc::{AllocError, Global};
+use typed_tree::{Shared, Table, TypedModule};
+use wasm_tree::EncodeError;
+
+/// A definition gives its table, or breaks a rule.
+fn definition(
+    alloc: Global,
+    tree: &Module,
+    number: u32,
+    tables: Items<Shared<Table>>,
+) -> Result<Compiled, AllocError>
+    ensures { IfOk result (λ c. c ≡ of_definition (types.compiled least number tree.now tables)) }
+{
+    match compile_definition(alloc, number, tree, tables)? {
+        Ok(table) => Ok(Compiled::Defined(Shared::new(alloc, table)?)),
+        Err(fault) => Ok(Compiled::Refused(fault)),
+    }
+}
+
+/// The body of a module in which no rule is broken, or the least rule that is.
+fn typed_body(
+    alloc: Global,
+    tree: &Module,
+    number: u32,
+    tables: &[Shared<Table>],
+) -> Result<Elaborated<TypedModule>, AllocError>
+    ensures { IfOk result (λ j. j ≡ typed_body tree.now number tables.now) }
+{
+    let own = own_table(tree, tables);
+    let imports = tables_behind(alloc, own, tables)?;
+    check(alloc, number, tree, own, imports)
+}
+
+/// The module of a body that breaks no rule, or 60 where its storage is too large.
+fn fitted(alloc: Global, typed: &TypedModule) -> Result<Compiled, EncodeError>
+    ensures becomes { IfOk result (λ c. c ≡ of_fit typed.now (too_large typed.now)) }
+    ensures encoded { OnOk result (fit_encoded typed.now (too_large typed.now)) }
+{
+    match Layout::of(alloc, typed)? {
+        Err(pos) => Ok(Compiled::Refused(Fault { pos, number: 60 })),
+        Ok(layout) => {
+            let module = emit(alloc, typed, &layout)?;
+            Ok(Compiled::Built(Shared::new(alloc, module)?))
+        }
+    }
+}
+
+/// A body that breaks no rule gives its module.
+fn body(
+    alloc: Global,
+    tree: &Module,
+    number: u32,
+    tables: &[Shared<Table>],
+) -> Result<Compiled, EncodeError>
+    ensures becomes { IfOk result (λ c.
+        c ≡ of_checked (typed_body tree.now number tables.now)) }
+    ensures encoded { OnOk result (checked_encoded (typed_body tree.now number tables.now)) }
+{
+    match typed_body(alloc, tree, number, tables)? {
+        Err(fault) => Ok(Compiled::Refused(fault)),
+        Ok(typed) => fitted(alloc, &typed),
+    }
+}
+
+/// What becomes of the module of a job, from what became of the modules that it needs: of its own definition if it is a
+/// body, and of the definitions that it imports, in this order. It is blocked where one of these is refused or blocked.
+/// Else each is checked, with its types known by the job's number, and reported where it breaks a rule. A definition gives its
+/// table. A body gives its module, which has an encoding, or 60 where its variables and texts, or a frame, are too large. The
+/// only error is that memory ran out, or that the module has no encoding.
+#[tactic(auto, unfolding(crate::specs::Compiling::compiled))]
+pub fn compile(
+    alloc: Global,
+    tree: &Module,
+    number: u32,
+    needed: &[&Compiled],
+) -> Result<Compiled, EncodeError>
+    ensures becomes { IfOk result (λ c.
+        c ≡ compiled tree.now number (map (λ n. n.now) needed.now)) }
+    ensures encoded { OnOk result (IsEncoded tree.now number (map (λ n. n.now) needed.now)) }
+{
+    if !are_sound(needed) {
+        return Ok(Compiled::Blocked);
+    }
+    let tables = tables_of(alloc, needed)?;
+    match &tree.contents {
+        Contents::Definition(_) => Ok(definition(alloc, tree, number, tables)?),
+        Contents::Implementation(_) => body(alloc, tree, number, tables.as_slice()),
+        Contents::Program(_) => body(alloc, tree, number, tables.as_slice()),
+    }
+}

@@ -1,0 +1,248 @@
+//! The declarations of a block.
+
+ghost use Rattle.std.specs.Prelude.{◌≡◌, Ok, IfOk, OnOk, Some};
+ghost use Rattle.std.specs.List.{fold};
+ghost use Rattle.std.specs.Option.{option_map};
+ghost use Rattle.check_scope.specs.Elaborated.{least};
+ghost use Rattle.m2_types.specs.Steps.{if_some};
+ghost use Rattle.m2_types.specs.Declare.{with_constant, with_type};
+ghost use Rattle.check_block.specs.Nesting.{number_behind};
+ghost use Rattle.check_block.specs.Declarations.{local_meaning, finished_local, with_locals, with_variables_of, with_procedure, with_decl, declared_block, is_awaited, or_awaited, lacks, reported_of_lack, declared_module};
+
+use crate::heading::{Standing, standing_known, with_heading};
+use crate::naming::mark_decls;
+use check_scope::{Elaborated, Fault, Known, Scope, beside, finish, reported};
+use check_type_expr::{nothing_of, type_of};
+use m2_tree::{Decl, Heading, Ident, Items, Module, Pos, Variables};
+use m2_types::{
+    begin_all, declare_constants, declare_types, declare_variables, import_all, with_variable_type,
+};
+use std::alloc::{AllocError, Global};
+use typed_tree::{Dictionary, LocalKind, LocalVariable, Meaning, TypeNo};
+
+// ---- variables of procedures
+
+fn local_meaning(level: usize, number: usize, t: Elaborated<TypeNo>) -> Elaborated<Meaning>
+    ensures { result ≡ local_meaning level number t }
+{
+    match t {
+        Err(fault) => Err(fault),
+        Ok(of) => Ok(Meaning::Local(LocalVariable {
+            level,
+            number,
+            kind: LocalKind::Variable,
+            of,
+        })),
+    }
+}
+
+fn finish_local(
+    alloc: Global,
+    scope: &mut Scope<Fault>,
+    t: Elaborated<TypeNo>,
+    name: &Ident,
+) -> Result<(), AllocError>
+    ensures { OnOk result (scope.new ≡ finished_local t scope.old name.now) }
+{
+    let means = local_meaning(scope.level, scope.variables.len(), t);
+    with_variable_type(scope, t)?;
+    finish(alloc, scope, name, means)
+}
+
+fn finish_locals(
+    alloc: Global,
+    scope: &mut Scope<Fault>,
+    t: Elaborated<TypeNo>,
+    names: &[Ident],
+) -> Result<(), AllocError>
+    ensures { OnOk result (scope.new ≡ fold (finished_local t) scope.old names.now) }
+{
+    for name in names {
+        finish_local(alloc, scope, t, name)?;
+    }
+    Ok(())
+}
+
+fn with_locals(
+    alloc: Global,
+    scope: &mut Scope<Fault>,
+    before: Elaborated<()>,
+    variables: &Variables,
+) -> Result<Elaborated<()>, AllocError>
+    ensures { IfOk result (λ j. (scope.new, j) ≡ with_locals least (scope.old, before) variables.now) }
+{
+    let elaborated = begin_all(alloc, scope, before, variables.names.as_slice())?;
+    let t = type_of(alloc, scope, &variables.of)?;
+    finish_locals(alloc, scope, t, variables.names.as_slice())?;
+    Ok(beside(elaborated, nothing_of(t)))
+}
+
+fn declare_locals(
+    alloc: Global,
+    scope: &mut Scope<Fault>,
+    before: Elaborated<()>,
+    list: &[Variables],
+) -> Result<Elaborated<()>, AllocError>
+    ensures { IfOk result (λ j. (scope.new, j) ≡ fold (with_locals least) (scope.old, before) list.now) }
+{
+    let mut elaborated = before;
+    for variables in list {
+        elaborated = with_locals(alloc, scope, elaborated, variables)?;
+    }
+    Ok(elaborated)
+}
+
+fn with_variables_of(
+    alloc: Global,
+    scope: &mut Scope<Fault>,
+    before: Elaborated<()>,
+    list: &[Variables],
+) -> Result<Elaborated<()>, AllocError>
+    ensures { IfOk result (λ j. (scope.new, j) ≡ with_variables_of least (scope.old, before) list.now) }
+{
+    if scope.level == 0 {
+        return declare_variables(alloc, scope, before, list);
+    }
+    declare_locals(alloc, scope, before, list)
+}
+
+// ---- declarations, in order
+
+fn number_behind(ends: &[usize], number: usize) -> usize
+    ensures { result ≡ number_behind ends.now number }
+{
+    match ends.get(number) {
+        None => number,
+        Some(end) => *end,
+    }
+}
+
+fn with_procedure(
+    alloc: Global,
+    scope: &mut Scope<Fault>,
+    ends: &[usize],
+    next: &mut usize,
+    before: Elaborated<()>,
+    heading: &Heading,
+) -> Result<Elaborated<()>, AllocError>
+    ensures { IfOk result (λ j. (scope.new, j, next.new) ≡ with_procedure least ends.now (scope.old, before, next.old) heading.now) }
+{
+    let one = with_heading(alloc, scope, *next, heading)?;
+    *next = number_behind(ends, *next);
+    Ok(beside(before, one))
+}
+
+fn with_decl(
+    alloc: Global,
+    scope: &mut Scope<Fault>,
+    ends: &[usize],
+    next: &mut usize,
+    before: Elaborated<()>,
+    decl: &Decl,
+) -> Result<Elaborated<()>, AllocError>
+    ensures { IfOk result (λ j. (scope.new, j, next.new) ≡ with_decl least ends.now (scope.old, before, next.old) decl.now) }
+{
+    match decl {
+        Decl::Constants(list) => declare_constants(alloc, scope, before, list.as_slice()),
+        Decl::Types(list) => declare_types(alloc, scope, before, list.as_slice()),
+        Decl::Variables(list) => with_variables_of(alloc, scope, before, list.as_slice()),
+        Decl::Procedure(heading, _) => with_procedure(alloc, scope, ends, next, before, heading),
+    }
+}
+
+fn with_decls(
+    alloc: Global,
+    scope: &mut Scope<Fault>,
+    ends: &[usize],
+    next: &mut usize,
+    before: Elaborated<()>,
+    decls: &[Decl],
+) -> Result<Elaborated<()>, AllocError>
+    ensures { IfOk result (λ j. (scope.new, j, next.new) ≡ fold (with_decl least ends.now) (scope.old, before, next.old) decls.now) }
+{
+    let mut elaborated = before;
+    for decl in decls {
+        elaborated = with_decl(alloc, scope, ends, next, elaborated, decl)?;
+    }
+    Ok(elaborated)
+}
+
+/// Declares what a block declares, in order, and answers what is reported, and how many names of the block stand before
+/// each declaration. The names that the block declares are known to be declared wherever they stand, and all its
+/// procedures are known behind it. Its procedures are numbered from the first number on, if the block is a procedure's.
+pub fn declare_block(
+    alloc: Global,
+    scope: &mut Scope<Fault>,
+    ends: &[usize],
+    before: Elaborated<()>,
+    first: usize,
+    decls: &[Decl],
+) -> Result<(Elaborated<()>, Items<usize>), AllocError>
+    ensures { IfOk result (λ r. (scope.new, r.0, r.1) ≡ declared_block least ends.now (scope.old, before) first decls.now) }
+{
+    let seen = mark_decls(alloc, scope, decls)?;
+    let mut next = first;
+    let elaborated = with_decls(alloc, scope, ends, &mut next, before, decls)?;
+    Ok((elaborated, seen))
+}
+
+// ---- modules
+
+fn is_awaited(standing: Standing) -> bool
+    ensures { result ≡ is_awaited standing }
+{
+    match standing {
+        Standing::Free => false,
+        Standing::Awaited(_) => true,
+        Standing::Taken => false,
+    }
+}
+
+fn or_awaited_if(so_far: bool, entry: Option<(&[u8], &Known<Fault>)>) -> bool
+    ensures { result ≡ if_some or_awaited so_far (option_map (λ e. (e.0.now, e.1.now)) entry.entry) }
+{
+    match entry {
+        None => so_far,
+        Some((_, known)) => so_far || is_awaited(standing_known(known)),
+    }
+}
+
+/// Whether a procedure of the definition still awaits its heading.
+fn lacks(own: &Dictionary<Known<Fault>>) -> bool
+    ensures { result ≡ lacks own.now }
+{
+    let mut found = false;
+    for place in 0..own.len() {
+        found = or_awaited_if(found, own.get(place));
+    }
+    found
+}
+
+fn reported_of_lack(at: Pos, scope: &Scope<Fault>) -> Elaborated<()>
+    ensures { result ≡ reported_of_lack least at scope.now }
+{
+    if lacks(&scope.own) {
+        return reported(at, 51);
+    }
+    Ok(())
+}
+
+/// Declares what a module imports and what its block declares, and answers what is reported, and how many names stand
+/// before each declaration. An exported procedure that the block lacks is 51 at the module's name.
+pub fn declare_module(
+    alloc: Global,
+    scope: &mut Scope<Fault>,
+    modules: &Dictionary<usize>,
+    ends: &[usize],
+    tree: &Module,
+    decls: &[Decl],
+) -> Result<(Elaborated<()>, Items<usize>), AllocError>
+    ensures { IfOk result (λ r. (scope.new, r.0, r.1) ≡ declared_module least modules.now ends.now scope.old tree.now decls.now) }
+{
+    let imported = import_all(alloc, scope, modules, tree.imports.as_slice())?;
+    let (elaborated, seen) = declare_block(alloc, scope, ends, imported, 0, decls)?;
+    Ok((
+        beside(elaborated, reported_of_lack(tree.name.pos, scope)),
+        seen,
+    ))
+}

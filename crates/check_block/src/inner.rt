@@ -1,0 +1,219 @@
+//! From a block into a procedure, and back.
+
+ghost use Rattle.std.specs.Prelude.{◌≡◌, ◌∷◌, [], IfOk, OnOk};
+ghost use Rattle.std.specs.List.{fold};
+ghost use Rattle.check_scope.specs.Elaborated.{least};
+ghost use Rattle.check_block.specs.Inner.{inwards, outside, formal_kind, formal_meaning, unless_found, with_formal_type, with_formal, with_section, formals_in, entered_in, entered_procedure, split_last, popped, left_procedure};
+
+use check_scope::{Block, Elaborated, Fault, Known, Origin, Scope};
+use check_type_expr::{formal_of, result_of};
+use m2_tree::{Heading, Ident, Items, Section};
+use std::alloc::{AllocError, Global};
+use std::mem;
+use typed_tree::{Dictionary, Formal, LocalKind, LocalVariable, Meaning, TypeNo};
+
+/// What is put back behind a procedure.
+#[derive(Drop)]
+pub struct Outside {
+    pub level: usize,
+    /// The types of the variables of the block around the procedure.
+    pub variables: Items<TypeNo>,
+}
+
+/// A procedure that was entered.
+#[derive(Drop)]
+pub struct Entered {
+    pub outside: Outside,
+    /// What the procedure gives, if it gives something.
+    pub result: Elaborated<Option<TypeNo>>,
+}
+
+fn inwards(alloc: Global, scope: &mut Scope<Fault>, seen: usize) -> Result<Outside, AllocError>
+    ensures within { OnOk result (scope.new ≡ inwards scope.old seen) }
+    ensures around { IfOk result (λ o. o ≡ outside scope.old) }
+{
+    let names = mem::replace(&mut scope.own, Dictionary::new(alloc));
+    let variables = mem::replace(&mut scope.variables, Items::new(alloc));
+    let level = mem::replace(&mut scope.level, scope.outer.len());
+    scope.outer.push(Block { names, seen })?;
+    Ok(Outside { level, variables })
+}
+
+// ---- formals
+
+fn formal_kind(formal: Formal) -> LocalKind
+    ensures { result ≡ formal_kind formal }
+{
+    if formal.is_open {
+        return LocalKind::Open;
+    }
+    if formal.is_var {
+        return LocalKind::Alias;
+    }
+    LocalKind::Value
+}
+
+fn formal_meaning(level: usize, number: usize, formal: Elaborated<Formal>) -> Elaborated<Meaning>
+    ensures { result ≡ formal_meaning level number formal }
+{
+    match formal {
+        Err(fault) => Err(fault),
+        Ok(formal) => Ok(Meaning::Local(LocalVariable {
+            level,
+            number,
+            kind: formal_kind(formal),
+            of: formal.of,
+        })),
+    }
+}
+
+fn unless_found(
+    alloc: Global,
+    names: &mut Dictionary<Known<Fault>>,
+    name: &[u8],
+    known: Known<Fault>,
+) -> Result<(), AllocError>
+    ensures { OnOk result (names.new ≡ unless_found name.now known names.old) }
+{
+    if names.find(name).is_some() {
+        return Ok(());
+    }
+    names.enter(alloc, name, known)
+}
+
+fn with_formal_type(types: &mut Items<TypeNo>, formal: Elaborated<Formal>) -> Result<(), AllocError>
+    ensures { OnOk result (types.new ≡ with_formal_type types.old formal) }
+{
+    match formal {
+        Err(_) => Ok(()),
+        Ok(formal) => types.push(formal.of),
+    }
+}
+
+fn with_formal(
+    alloc: Global,
+    names: &mut Dictionary<Known<Fault>>,
+    types: &mut Items<TypeNo>,
+    level: usize,
+    formal: Elaborated<Formal>,
+    name: &Ident,
+) -> Result<(), AllocError>
+    ensures { OnOk result ((names.new, types.new) ≡ with_formal level formal (names.old, types.old) name.now) }
+{
+    let means = formal_meaning(level, types.len(), formal);
+    unless_found(
+        alloc,
+        names,
+        name.name.as_bytes(),
+        Known::Declared(Origin::Here, means),
+    )?;
+    with_formal_type(types, formal)
+}
+
+fn with_names(
+    alloc: Global,
+    names: &mut Dictionary<Known<Fault>>,
+    types: &mut Items<TypeNo>,
+    level: usize,
+    formal: Elaborated<Formal>,
+    list: &[Ident],
+) -> Result<(), AllocError>
+    ensures { OnOk result ((names.new, types.new) ≡ fold (with_formal level formal) (names.old, types.old) list.now) }
+{
+    for name in list {
+        with_formal(alloc, names, types, level, formal, name)?;
+    }
+    Ok(())
+}
+
+fn with_section(
+    alloc: Global,
+    scope: &Scope<Fault>,
+    names: &mut Dictionary<Known<Fault>>,
+    types: &mut Items<TypeNo>,
+    section: &Section,
+) -> Result<(), AllocError>
+    ensures { OnOk result ((names.new, types.new) ≡ with_section least scope.now (names.old, types.old) section.now) }
+{
+    let formal = formal_of(scope, section.is_var, &section.of)?;
+    with_names(
+        alloc,
+        names,
+        types,
+        scope.level,
+        formal,
+        section.names.as_slice(),
+    )
+}
+
+fn with_sections(
+    alloc: Global,
+    scope: &Scope<Fault>,
+    names: &mut Dictionary<Known<Fault>>,
+    types: &mut Items<TypeNo>,
+    list: &[Section],
+) -> Result<(), AllocError>
+    ensures { OnOk result ((names.new, types.new) ≡ fold (with_section least scope.now) (names.old, types.old) list.now) }
+{
+    for section in list {
+        with_section(alloc, scope, names, types, section)?;
+    }
+    Ok(())
+}
+
+fn enter_in(
+    alloc: Global,
+    scope: &mut Scope<Fault>,
+    heading: &Heading,
+) -> Result<Elaborated<Option<TypeNo>>, AllocError>
+    ensures { IfOk result (λ t. (scope.new, t) ≡ entered_in least scope.old heading.now) }
+{
+    let result = result_of(scope, &heading.result)?;
+    let mut names = Dictionary::new(alloc);
+    let mut types = Items::new(alloc);
+    with_sections(
+        alloc,
+        scope,
+        &mut names,
+        &mut types,
+        heading.formals.as_slice(),
+    )?;
+    scope.own = names;
+    scope.variables = types;
+    Ok(result)
+}
+
+/// Enters a procedure of a block, of whose names so many stand before it. The types in the heading are looked up
+/// outside of it, and its formals are the first names in it. What is reported of the heading is reported where it is declared.
+pub fn enter(
+    alloc: Global,
+    scope: &mut Scope<Fault>,
+    seen: usize,
+    heading: &Heading,
+) -> Result<Entered, AllocError>
+    ensures within { IfOk result (λ e. (scope.new, e.result) ≡ entered_procedure least scope.old seen heading.now) }
+    ensures around { IfOk result (λ e. e.outside ≡ outside scope.old) }
+{
+    let outside = inwards(alloc, scope, seen)?;
+    let result = enter_in(alloc, scope, heading)?;
+    Ok(Entered { outside, result })
+}
+
+/// Takes the names of the innermost block around a place.
+fn pop_names(alloc: Global, outer: &mut Items<Block<Fault>>) -> Dictionary<Known<Fault>>
+    ensures { (outer.new, result) ≡ popped (split_last outer.old) }
+{
+    match outer.pop() {
+        None => Dictionary::new(alloc),
+        Some(block) => block.names,
+    }
+}
+
+/// Leaves a procedure. What is around it is as it was, but for the types that were made in it.
+pub fn leave(alloc: Global, scope: &mut Scope<Fault>, outside: Outside)
+    ensures { scope.new ≡ left_procedure outside scope.old }
+{
+    scope.own = pop_names(alloc, &mut scope.outer);
+    scope.level = outside.level;
+    scope.variables = outside.variables;
+}

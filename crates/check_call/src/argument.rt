@@ -1,0 +1,244 @@
+//! Arguments against formals.
+
+ghost use Rattle.std.specs.Prelude.{◌≡◌, IfOk};
+ghost use Rattle.check_scope.specs.Elaborated.{least};
+ghost use Rattle.check_call.specs.Actuals.{starts_at_zero, elements_suit_in, elements_suit, variable_passed, open_passed, text_argument, text_passed, open_value, whole_passed, simple_passed, value_passed, actual, next_formal, with_argument};
+
+use check_operator::{Class, Computed, Designated, array_of, class_of, taken, value_suited};
+use check_scope::{Elaborated, both, reported};
+use m2_tree::{Items, Pos};
+use std::alloc::AllocError;
+use typed_tree::{Argument, CHAR, Formal, Scalar, TypeNo, Types, Value, are_same, scalar_of};
+
+fn starts_at_zero(index: Option<Scalar>) -> bool
+    ensures { result ≡ starts_at_zero index }
+{
+    match index {
+        None => false,
+        Some(index) => 0 <= index.low && index.low <= 0,
+    }
+}
+
+fn elements_suit_in(types: &Types, t: TypeNo, array: Option<(TypeNo, TypeNo)>) -> bool
+    ensures { result ≡ elements_suit_in types.now t array }
+{
+    match array {
+        None => false,
+        Some((index, element)) => {
+            are_same(element, t) && starts_at_zero(scalar_of(types, index))
+        }
+    }
+}
+
+/// Whether a type is an array of these elements whose least index has number 0.
+fn elements_suit(types: &Types, t: TypeNo, array: TypeNo) -> bool
+    ensures { result ≡ elements_suit types.now t array }
+{
+    elements_suit_in(types, t, array_of(types, array))
+}
+
+/// An argument for a VAR formal of this type.
+fn variable_passed(t: TypeNo, at: Pos, designated: Designated) -> Elaborated<Argument>
+    ensures { result ≡ variable_passed least t at designated }
+{
+    match designated {
+        Designated::Variable(u, place) => {
+            if !are_same(u, t) {
+                return reported(at, 44);
+            }
+            Ok(Argument::Place(place))
+        }
+        Designated::Value(value) => {
+            drop(value);
+            reported(at, 44)
+        }
+        Designated::Open(_, _) => reported(at, 44),
+        Designated::Type(_) => reported(at, 44),
+        Designated::Procedure(_) => reported(at, 44),
+        Designated::Nested(_) => reported(at, 44),
+        Designated::Standard(_) => reported(at, 44),
+        Designated::Module(_) => reported(at, 44),
+    }
+}
+
+/// An argument for a VAR formal ARRAY OF these elements.
+fn open_passed(types: &Types, t: TypeNo, at: Pos, designated: Designated) -> Elaborated<Argument>
+    ensures { result ≡ open_passed least types.now t at designated }
+{
+    match designated {
+        Designated::Variable(u, place) => {
+            if !elements_suit(types, t, u) {
+                return reported(at, 44);
+            }
+            Ok(Argument::Array(u, place))
+        }
+        Designated::Open(u, slot) => {
+            if !are_same(u, t) {
+                return reported(at, 44);
+            }
+            Ok(Argument::Open(slot))
+        }
+        Designated::Value(value) => {
+            drop(value);
+            reported(at, 44)
+        }
+        Designated::Type(_) => reported(at, 44),
+        Designated::Procedure(_) => reported(at, 44),
+        Designated::Nested(_) => reported(at, 44),
+        Designated::Standard(_) => reported(at, 44),
+        Designated::Module(_) => reported(at, 44),
+    }
+}
+
+fn text_argument(t: TypeNo, at: Pos, value: Value) -> Elaborated<Argument>
+    ensures { result ≡ text_argument least t at value }
+{
+    match value {
+        Value::Text(text) => {
+            if !are_same(t, CHAR) {
+                return reported(at, 43);
+            }
+            Ok(Argument::Text(text))
+        }
+        Value::Number(_) => reported(at, 43),
+        Value::Scalar(_) => reported(at, 43),
+        Value::Set(_) => reported(at, 43),
+    }
+}
+
+fn text_passed(t: TypeNo, at: Pos, value: Computed) -> Elaborated<Argument>
+    ensures { result ≡ text_passed least t at value }
+{
+    match value {
+        Computed::Constant(value) => text_argument(t, at, value),
+        Computed::Scalar(_, _, _) => reported(at, 43),
+        Computed::Set(_) => reported(at, 43),
+        Computed::Routine(_, _) => reported(at, 43),
+        Computed::Procedure(_) => reported(at, 43),
+        Computed::Whole(_, _) => reported(at, 43),
+        Computed::Untaken => reported(at, 43),
+    }
+}
+
+/// An argument for a value formal ARRAY OF these elements.
+fn open_value(types: &Types, t: TypeNo, at: Pos, designated: Designated) -> Elaborated<Argument>
+    ensures { result ≡ open_value least types.now t at designated }
+{
+    match designated {
+        Designated::Variable(u, place) => {
+            if !elements_suit(types, t, u) {
+                return reported(at, 43);
+            }
+            Ok(Argument::Array(u, place))
+        }
+        Designated::Open(u, slot) => {
+            if !are_same(u, t) {
+                return reported(at, 43);
+            }
+            Ok(Argument::Open(slot))
+        }
+        Designated::Value(value) => text_passed(t, at, value),
+        Designated::Type(_) => reported(at, 40),
+        Designated::Procedure(_) => reported(at, 43),
+        Designated::Nested(_) => reported(at, 53),
+        Designated::Standard(_) => reported(at, 53),
+        Designated::Module(_) => reported(at, 40),
+    }
+}
+
+/// An argument for a value formal of this array or record type.
+fn whole_passed(t: TypeNo, at: Pos, designated: Designated) -> Elaborated<Argument>
+    ensures { result ≡ whole_passed least t at designated }
+{
+    match designated {
+        Designated::Variable(u, place) => {
+            if !are_same(u, t) {
+                return reported(at, 43);
+            }
+            Ok(Argument::Place(place))
+        }
+        Designated::Value(value) => {
+            drop(value);
+            reported(at, 43)
+        }
+        Designated::Open(_, _) => reported(at, 43),
+        Designated::Type(_) => reported(at, 40),
+        Designated::Procedure(_) => reported(at, 43),
+        Designated::Nested(_) => reported(at, 53),
+        Designated::Standard(_) => reported(at, 53),
+        Designated::Module(_) => reported(at, 40),
+    }
+}
+
+fn simple_passed(types: &Types, t: TypeNo, at: Pos, designated: Designated) -> Elaborated<Argument>
+    ensures { result ≡ simple_passed least types.now t at designated }
+{
+    match taken(types, at, designated) {
+        Err(fault) => Err(fault),
+        Ok(value) => match value_suited(43, types, t, at, value) {
+            Err(fault) => Err(fault),
+            Ok(e) => Ok(Argument::Value(t, e)),
+        },
+    }
+}
+
+/// An argument for a value formal of this type.
+fn value_passed(types: &Types, t: TypeNo, at: Pos, designated: Designated) -> Elaborated<Argument>
+    ensures { result ≡ value_passed least types.now t at designated }
+{
+    match class_of(types, t) {
+        Class::Scalar(_) => simple_passed(types, t, at, designated),
+        Class::Set => simple_passed(types, t, at, designated),
+        Class::Procedure => simple_passed(types, t, at, designated),
+        Class::Whole => whole_passed(t, at, designated),
+    }
+}
+
+/// An argument at a place, for a formal. What a value formal does not take is 43, or 40 or 53 if it is no value, and what
+/// a VAR formal does not take is 44. A constant out of range is 52.
+pub fn actual(
+    types: &Types,
+    formal: Formal,
+    at: Pos,
+    designated: Designated,
+) -> Elaborated<Argument>
+    ensures { result ≡ actual least types.now formal at designated }
+{
+    if formal.is_var {
+        if formal.is_open {
+            open_passed(types, formal.of, at, designated)
+        } else {
+            variable_passed(formal.of, at, designated)
+        }
+    } else if formal.is_open {
+        open_value(types, formal.of, at, designated)
+    } else {
+        value_passed(types, formal.of, at, designated)
+    }
+}
+
+/// The next formal, and those behind it.
+pub fn next_formal(formals: &[Formal]) -> (Option<Formal>, &[Formal])
+    ensures { (result.0, result.1.now) ≡ next_formal formals.now }
+{
+    match formals {
+        [] => (None, formals),
+        [formal, rest @ ..] => (Some(*formal), rest),
+    }
+}
+
+/// One more argument.
+pub fn with_argument(
+    arguments: Elaborated<Items<Argument>>,
+    argument: Elaborated<Argument>,
+) -> Result<Elaborated<Items<Argument>>, AllocError>
+    ensures { IfOk result (λ xs. xs ≡ with_argument least arguments argument) }
+{
+    match both(arguments, argument) {
+        Err(fault) => Ok(Err(fault)),
+        Ok((mut all, one)) => {
+            all.push(one)?;
+            Ok(Ok(all))
+        }
+    }
+}

@@ -1,0 +1,258 @@
+//! What assignments and standard procedures do.
+
+ghost use Rattle.std.specs.Prelude.{◌≡◌};
+ghost use Rattle.check_scope.specs.Elaborated.{least};
+ghost use Rattle.check_call.specs.Effects.{target_of, target_at, stored, assigned_to, assigned, changed_as, changed, set_as, set_variable, untyped, known_amount, amount, element_known, element, change_by, membership_of, put};
+
+use check_const_ops::{Ordinal, whole_number};
+use check_operator::{Accepted, Class, Computed, Designated, class_of, suited, value_suited};
+use check_scope::{Elaborated, Sought, both, of_sort, reported};
+use m2_tree::Pos;
+use typed_tree::{
+    CARDINAL, CHAR, Change, INTEGER, Membership, Place, TypeNo, TypedExpr, TypedStmt, Types,
+    is_numeric,
+};
+
+/// The left side of an assignment.
+#[derive(Drop)]
+pub enum Target {
+    Variable(TypeNo, Place),
+    /// An open array, to which nothing can be assigned.
+    Open,
+}
+
+fn target_of(at: Pos, designated: Designated) -> Elaborated<Target>
+    ensures { result ≡ target_of least at designated }
+{
+    match designated {
+        Designated::Variable(t, place) => Ok(Target::Variable(t, place)),
+        Designated::Open(_, _) => Ok(Target::Open),
+        Designated::Value(value) => {
+            drop(value);
+            reported(at, 40)
+        }
+        Designated::Type(_) => reported(at, 40),
+        Designated::Procedure(_) => reported(at, 40),
+        Designated::Nested(_) => reported(at, 40),
+        Designated::Standard(_) => reported(at, 40),
+        Designated::Module(_) => reported(at, 40),
+    }
+}
+
+/// The left side of an assignment at a place: 40 where it is no variable.
+pub fn target_at(at: Pos, designated: Sought<Designated>) -> Elaborated<Target>
+    ensures { result ≡ target_at least at designated }
+{
+    match of_sort(at, 40, designated) {
+        Err(fault) => Err(fault),
+        Ok(designated) => target_of(at, designated),
+    }
+}
+
+fn stored(t: TypeNo, place: Place, accepted: Accepted) -> TypedStmt
+    ensures { result ≡ stored t place accepted }
+{
+    match accepted {
+        Accepted::Value(e) => TypedStmt::Assign(place, t, e),
+        Accepted::Whole(from) => TypedStmt::Copy(place, from, t),
+        Accepted::Text(text) => TypedStmt::CopyText(place, t, text),
+    }
+}
+
+fn assigned_to(types: &Types, target: Target, at: Pos, value: Computed) -> Elaborated<TypedStmt>
+    ensures { result ≡ assigned_to least types.now target at value }
+{
+    match target {
+        Target::Open => reported(at, 41),
+        Target::Variable(t, place) => match suited(41, types, t, at, value) {
+            Err(fault) => Err(fault),
+            Ok(accepted) => Ok(stored(t, place, accepted)),
+        },
+    }
+}
+
+/// An assignment of a value at a place: 41 where it is not assignment compatible, and 52 where a constant is out of range.
+pub fn assigned(
+    types: &Types,
+    target: Elaborated<Target>,
+    at: Pos,
+    value: Elaborated<Computed>,
+) -> Elaborated<TypedStmt>
+    ensures { result ≡ assigned least types.now target at value }
+{
+    match both(target, value) {
+        Err(fault) => Err(fault),
+        Ok((target, value)) => assigned_to(types, target, at, value),
+    }
+}
+
+fn changed_as(at: Pos, t: TypeNo, place: Place, class: Class) -> Elaborated<(TypeNo, Place)>
+    ensures { result ≡ changed_as least at t place class }
+{
+    match class {
+        Class::Scalar(_) => Ok((t, place)),
+        Class::Set => reported(at, 44),
+        Class::Procedure => reported(at, 44),
+        Class::Whole => reported(at, 44),
+    }
+}
+
+/// The variable of INC or DEC: 44 where it is no scalar variable.
+pub fn changed(types: &Types, at: Pos, designated: Designated) -> Elaborated<(TypeNo, Place)>
+    ensures { result ≡ changed least types.now at designated }
+{
+    match designated {
+        Designated::Variable(t, place) => changed_as(at, t, place, class_of(types, t)),
+        Designated::Value(value) => {
+            drop(value);
+            reported(at, 44)
+        }
+        Designated::Open(_, _) => reported(at, 44),
+        Designated::Type(_) => reported(at, 44),
+        Designated::Procedure(_) => reported(at, 44),
+        Designated::Nested(_) => reported(at, 44),
+        Designated::Standard(_) => reported(at, 44),
+        Designated::Module(_) => reported(at, 44),
+    }
+}
+
+fn set_as(at: Pos, place: Place, class: Class) -> Elaborated<Place>
+    ensures { result ≡ set_as least at place class }
+{
+    match class {
+        Class::Set => Ok(place),
+        Class::Scalar(_) => reported(at, 44),
+        Class::Procedure => reported(at, 44),
+        Class::Whole => reported(at, 44),
+    }
+}
+
+/// The variable of INCL or EXCL: 44 where it is no BITSET variable.
+pub fn set_variable(types: &Types, at: Pos, designated: Designated) -> Elaborated<Place>
+    ensures { result ≡ set_variable least types.now at designated }
+{
+    match designated {
+        Designated::Variable(t, place) => set_as(at, place, class_of(types, t)),
+        Designated::Value(value) => {
+            drop(value);
+            reported(at, 44)
+        }
+        Designated::Open(_, _) => reported(at, 44),
+        Designated::Type(_) => reported(at, 44),
+        Designated::Procedure(_) => reported(at, 44),
+        Designated::Nested(_) => reported(at, 44),
+        Designated::Standard(_) => reported(at, 44),
+        Designated::Module(_) => reported(at, 44),
+    }
+}
+
+/// The type of a number for which nothing is asked.
+pub fn untyped(a: Ordinal) -> TypeNo
+    ensures { result ≡ untyped a.number a.sort }
+{
+    match a.sort {
+        Some(t) => t,
+        None => { if a.number < 0 { INTEGER } else { CARDINAL } }
+    }
+}
+
+fn known_amount(at: Pos, a: Option<Ordinal>) -> Elaborated<TypedExpr>
+    ensures { result ≡ known_amount least at a }
+{
+    match a {
+        None => reported(at, 43),
+        Some(a) => Ok(TypedExpr::Constant(untyped(a), a.number)),
+    }
+}
+
+/// An INTEGER, a CARDINAL or a number at a place, else 43.
+pub fn amount(at: Pos, value: Computed) -> Elaborated<TypedExpr>
+    ensures { result ≡ amount least at value }
+{
+    match value {
+        Computed::Constant(value) => known_amount(at, whole_number(&value)),
+        Computed::Scalar(_, base, e) => {
+            if !is_numeric(base) {
+                return reported(at, 43);
+            }
+            Ok(e)
+        }
+        Computed::Set(_) => reported(at, 43),
+        Computed::Routine(_, _) => reported(at, 43),
+        Computed::Procedure(_) => reported(at, 43),
+        Computed::Whole(_, _) => reported(at, 43),
+        Computed::Untaken => reported(at, 43),
+    }
+}
+
+fn element_known(at: Pos, a: Option<Ordinal>) -> Elaborated<TypedExpr>
+    ensures { result ≡ element_known least at a }
+{
+    match a {
+        None => reported(at, 43),
+        Some(a) => {
+            if !(0 <= a.number && a.number <= 31) {
+                return reported(at, 52);
+            }
+            Ok(TypedExpr::Constant(untyped(a), a.number))
+        }
+    }
+}
+
+/// The element of INCL or EXCL at a place: 43 where it is no number, and 52 where a constant is not from 0 to 31.
+pub fn element(at: Pos, value: Computed) -> Elaborated<TypedExpr>
+    ensures { result ≡ element least at value }
+{
+    match value {
+        Computed::Constant(value) => element_known(at, whole_number(&value)),
+        Computed::Scalar(_, base, e) => {
+            if !is_numeric(base) {
+                return reported(at, 43);
+            }
+            Ok(e)
+        }
+        Computed::Set(_) => reported(at, 43),
+        Computed::Routine(_, _) => reported(at, 43),
+        Computed::Procedure(_) => reported(at, 43),
+        Computed::Whole(_, _) => reported(at, 43),
+        Computed::Untaken => reported(at, 43),
+    }
+}
+
+/// INC or DEC of a variable by an amount.
+pub fn change_by(
+    change: Change,
+    variable: Elaborated<(TypeNo, Place)>,
+    amount: Elaborated<TypedExpr>,
+) -> Elaborated<TypedStmt>
+    ensures { result ≡ change_by least change variable amount }
+{
+    match both(variable, amount) {
+        Err(fault) => Err(fault),
+        Ok(((t, place), amount)) => Ok(TypedStmt::Change(change, place, t, amount)),
+    }
+}
+
+/// INCL or EXCL of a set and an element.
+pub fn membership_of(
+    membership: Membership,
+    set: Elaborated<Place>,
+    element: Elaborated<TypedExpr>,
+) -> Elaborated<TypedStmt>
+    ensures { result ≡ membership_of least membership set element }
+{
+    match both(set, element) {
+        Err(fault) => Err(fault),
+        Ok((place, element)) => Ok(TypedStmt::Membership(membership, place, element)),
+    }
+}
+
+/// Put of a value at a place: 43 where it is no CHAR.
+pub fn put(types: &Types, at: Pos, value: Computed) -> Elaborated<TypedStmt>
+    ensures { result ≡ put least types.now at value }
+{
+    match value_suited(43, types, CHAR, at, value) {
+        Err(fault) => Err(fault),
+        Ok(e) => Ok(TypedStmt::Put(e)),
+    }
+}

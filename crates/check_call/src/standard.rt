@@ -1,0 +1,225 @@
+//! Standard functions.
+
+ghost use Rattle.std.specs.Prelude.{◌≡◌, IfOk};
+ghost use Rattle.check_scope.specs.Elaborated.{least};
+ghost use Rattle.check_call.specs.Functions.{form_of, unary_takes, unary_built, unary_scalar, unary_at, type_named, bound_at, converted_scalar, converted_value, conversion_at, high_of};
+
+use check_const::{bound_by, scalar_type, unary_of};
+use check_const_ops::converted;
+use check_operator::{Computed, Designated, of_value};
+use check_scope::{Elaborated, both, reported};
+use m2_tree::{Boxed, Pos};
+use std::alloc::{AllocError, Global};
+use typed_tree::{
+    BOOLEAN, CARDINAL, CHAR, Scalar, Standard, TypeNo, TypedExpr, Types, are_same, is_numeric,
+    scalar_of,
+};
+
+/// A standard function of one value.
+#[derive(Clone, Copy)]
+pub enum Unary {
+    Abs,
+    Cap,
+    Chr,
+    Odd,
+    Ord,
+}
+
+/// What a standard procedure asks for in an expression.
+#[derive(Clone, Copy)]
+pub enum Form {
+    /// One value.
+    Unary(Unary),
+    /// One type.
+    Bound,
+    /// A type and a value.
+    Conversion,
+    /// An open array.
+    High,
+    /// It gives nothing.
+    Proper,
+}
+
+/// What a standard procedure asks for in an expression.
+pub fn form_of(standard: Standard) -> Form
+    ensures { result ≡ form_of standard }
+{
+    match standard {
+        Standard::Abs => Form::Unary(Unary::Abs),
+        Standard::Cap => Form::Unary(Unary::Cap),
+        Standard::Chr => Form::Unary(Unary::Chr),
+        Standard::Odd => Form::Unary(Unary::Odd),
+        Standard::Ord => Form::Unary(Unary::Ord),
+        Standard::Max | Standard::Min => Form::Bound,
+        Standard::Val => Form::Conversion,
+        Standard::High => Form::High,
+        Standard::Inc
+        | Standard::Dec
+        | Standard::Incl
+        | Standard::Excl
+        | Standard::Halt
+        | Standard::Put => Form::Proper,
+    }
+}
+
+fn unary_takes(function: Unary, base: TypeNo) -> bool
+    ensures { result ≡ unary_takes function base }
+{
+    match function {
+        Unary::Abs | Unary::Chr | Unary::Odd => is_numeric(base),
+        Unary::Cap => are_same(base, CHAR),
+        Unary::Ord => true,
+    }
+}
+
+fn unary_built(function: Unary, base: TypeNo, e: Boxed<TypedExpr>) -> Computed
+    ensures { result ≡ unary_built function base e }
+{
+    match function {
+        Unary::Abs => Computed::Scalar(base, base, TypedExpr::Abs(base, e)),
+        Unary::Cap => Computed::Scalar(CHAR, CHAR, TypedExpr::Cap(e)),
+        Unary::Chr => Computed::Scalar(CHAR, CHAR, TypedExpr::Chr(e)),
+        Unary::Odd => Computed::Scalar(BOOLEAN, BOOLEAN, TypedExpr::Odd(e)),
+        Unary::Ord => Computed::Scalar(CARDINAL, CARDINAL, TypedExpr::Ord(e)),
+    }
+}
+
+fn unary_scalar(
+    alloc: Global,
+    function: Unary,
+    at: Pos,
+    base: TypeNo,
+    e: TypedExpr,
+) -> Result<Elaborated<Computed>, AllocError>
+    ensures { IfOk result (λ v. v ≡ unary_scalar least function at base e) }
+{
+    if !unary_takes(function, base) {
+        return Ok(reported(at, 43));
+    }
+    Ok(Ok(unary_built(function, base, Boxed::new(alloc, e)?)))
+}
+
+/// A standard function of one value at a place: 43 where it does not take the value, and 52 where a constant is out of
+/// range.
+pub fn unary_at(
+    alloc: Global,
+    standard: Standard,
+    function: Unary,
+    at: Pos,
+    value: Computed,
+) -> Result<Elaborated<Computed>, AllocError>
+    ensures { IfOk result (λ v. v ≡ unary_at least standard function at value) }
+{
+    match value {
+        Computed::Constant(value) => Ok(of_value(unary_of(standard, at, &value))),
+        Computed::Scalar(_, base, e) => unary_scalar(alloc, function, at, base, e),
+        Computed::Set(_) => Ok(reported(at, 43)),
+        Computed::Routine(_, _) => Ok(reported(at, 43)),
+        Computed::Procedure(_) => Ok(reported(at, 43)),
+        Computed::Whole(_, _) => Ok(reported(at, 43)),
+        Computed::Untaken => Ok(reported(at, 43)),
+    }
+}
+
+/// An argument that names a scalar type: 33 where it does not.
+pub fn type_named(types: &Types, at: Pos, designated: Designated) -> Elaborated<(TypeNo, Scalar)>
+    ensures { result ≡ type_named least types.now at designated }
+{
+    match designated {
+        Designated::Type(t) => scalar_type(at, t, scalar_of(types, t)),
+        Designated::Value(value) => {
+            drop(value);
+            reported(at, 33)
+        }
+        Designated::Variable(_, _) => reported(at, 33),
+        Designated::Open(_, _) => reported(at, 33),
+        Designated::Procedure(_) => reported(at, 33),
+        Designated::Nested(_) => reported(at, 33),
+        Designated::Standard(_) => reported(at, 33),
+        Designated::Module(_) => reported(at, 33),
+    }
+}
+
+/// MIN, or else MAX, of a type.
+pub fn bound_at(standard: Standard, argument: Elaborated<(TypeNo, Scalar)>) -> Elaborated<Computed>
+    ensures { result ≡ bound_at standard argument }
+{
+    match argument {
+        Err(fault) => Err(fault),
+        Ok((t, scalar)) => Ok(Computed::Constant(bound_by(standard, t, scalar))),
+    }
+}
+
+fn converted_scalar(
+    alloc: Global,
+    t: TypeNo,
+    to: Scalar,
+    at: Pos,
+    base: TypeNo,
+    e: TypedExpr,
+) -> Result<Elaborated<Computed>, AllocError>
+    ensures { IfOk result (λ v. v ≡ converted_scalar least t to at base e) }
+{
+    if !is_numeric(base) {
+        return Ok(reported(at, 43));
+    }
+    let operand = Boxed::new(alloc, e)?;
+    Ok(Ok(Computed::Scalar(t, to.base, TypedExpr::Val(t, operand))))
+}
+
+fn converted_value(
+    alloc: Global,
+    t: TypeNo,
+    to: Scalar,
+    at: Pos,
+    value: Computed,
+) -> Result<Elaborated<Computed>, AllocError>
+    ensures { IfOk result (λ v. v ≡ converted_value least t to at value) }
+{
+    match value {
+        Computed::Constant(value) => Ok(of_value(converted(t, to, at, &value))),
+        Computed::Scalar(_, base, e) => converted_scalar(alloc, t, to, at, base, e),
+        Computed::Set(_) => Ok(reported(at, 43)),
+        Computed::Routine(_, _) => Ok(reported(at, 43)),
+        Computed::Procedure(_) => Ok(reported(at, 43)),
+        Computed::Whole(_, _) => Ok(reported(at, 43)),
+        Computed::Untaken => Ok(reported(at, 43)),
+    }
+}
+
+/// VAL of a type and of a value at a place: 43 where the value is no number, and 52 where the type does not have a
+/// constant.
+pub fn conversion_at(
+    alloc: Global,
+    to: Elaborated<(TypeNo, Scalar)>,
+    at: Pos,
+    value: Elaborated<Computed>,
+) -> Result<Elaborated<Computed>, AllocError>
+    ensures { IfOk result (λ v. v ≡ conversion_at least to at value) }
+{
+    match both(to, value) {
+        Err(fault) => Ok(Err(fault)),
+        Ok(((t, scalar), value)) => converted_value(alloc, t, scalar, at, value),
+    }
+}
+
+/// HIGH of what stands at a place: 43 where that is no open array, or 40 or 53 if it is no value.
+pub fn high_of(at: Pos, designated: Designated) -> Elaborated<Computed>
+    ensures { result ≡ high_of least at designated }
+{
+    match designated {
+        Designated::Open(_, slot) => {
+            Ok(Computed::Scalar(CARDINAL, CARDINAL, TypedExpr::High(slot)))
+        }
+        Designated::Value(value) => {
+            drop(value);
+            reported(at, 43)
+        }
+        Designated::Variable(_, _) => reported(at, 43),
+        Designated::Type(_) => reported(at, 40),
+        Designated::Procedure(_) => reported(at, 43),
+        Designated::Nested(_) => reported(at, 53),
+        Designated::Standard(_) => reported(at, 53),
+        Designated::Module(_) => reported(at, 40),
+    }
+}

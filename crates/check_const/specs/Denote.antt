@@ -1,0 +1,84 @@
+-- What designators stand for.
+use Rattle.std.specs.Prelude.{ℕ, not, List, Option, Some, None, Result, Ok, Err, slice_get}
+use Rattle.m2_tree.specs.declared.pos.Pos.{Pos}
+use Rattle.m2_tree.specs.declared.name.Ident.{Ident}
+use Rattle.typed_tree.specs.declared.types.TypeNo.{TypeNo}
+use Rattle.typed_tree.specs.declared.meaning.Value.{Value}
+use Rattle.typed_tree.specs.declared.meaning.Meaning.{Meaning}
+use Rattle.typed_tree.specs.declared.meaning.Meaning.TheVariants as meaning
+use Rattle.typed_tree.specs.declared.table.Table.{Table}
+use Rattle.typed_tree.specs.Types.{are_same, bitset}
+use Rattle.typed_tree.specs.Names.{found}
+use Rattle.check_scope.specs.declared.meaningless.Meaningless.{Meaningless}
+use Rattle.check_scope.specs.declared.meaningless.Meaningless.TheVariants.{Broken, Headless}
+use Rattle.check_scope.specs.Elaborated.{Gathers, reported, reported_where, ◌▷◌}
+use Rattle.check_const.specs.declared.denoted.Denoted.{Denoted}
+use Rattle.check_const.specs.declared.denoted.Denoted.TheVariants as denoted
+
+abbrev pub denoted_by : Meaning → Denoted
+denoted_by (meaning.Constant v) = denoted.Value v
+denoted_by (meaning.Type t n) = denoted.Type t
+denoted_by (meaning.Variable v) = denoted.Variable
+denoted_by (meaning.Local v) = denoted.Variable
+denoted_by (meaning.Field f) = denoted.Variable
+denoted_by (meaning.Procedure p) = denoted.Procedure
+denoted_by (meaning.LocalProcedure p) = denoted.Procedure
+denoted_by meaning.Ahead = denoted.Procedure
+denoted_by (meaning.Standard f) = denoted.Standard f
+denoted_by (meaning.Module k) = denoted.Module k
+
+-- a procedure is no constant, whatever its heading
+abbrev pub denoted_of : {T : Type 0} → Result Meaning (Meaningless T) → Result Denoted T
+denoted_of (Ok m) = Ok (denoted_by m)
+denoted_of (Err (Broken e)) = Err e
+denoted_of (Err (Headless e)) = Ok denoted.Procedure
+
+-- ---- constants
+
+abbrev pub as_constant : (g : Gathers) → Pos → Denoted → Result Value g.Reported
+as_constant g at (denoted.Value v) = Ok v
+as_constant g at (denoted.Type t) = reported g at 34
+as_constant g at denoted.Variable = reported g at 34
+as_constant g at denoted.Procedure = reported g at 34
+as_constant g at (denoted.Standard f) = reported g at 34
+as_constant g at (denoted.Module k) = reported g at 34
+
+abbrev pub constant_by : (g : Gathers) → Pos → Result Denoted g.Reported → Result Value g.Reported
+constant_by g at d = d ▷ as_constant g at
+
+abbrev pub of_value : {T : Type 0} → Result Value T → Result Denoted T
+of_value v = v ▷ λ x. Ok (denoted.Value x)
+
+abbrev pub is_bitset : (g : Gathers) → Pos → Meaning → Result (Unit {0}) g.Reported
+is_bitset g at (meaning.Type t n) = reported_where g (not (are_same t bitset)) at 33 (Ok tt)
+is_bitset g at (meaning.Constant v) = reported g at 33
+is_bitset g at (meaning.Variable v) = reported g at 33
+is_bitset g at (meaning.Local v) = reported g at 33
+is_bitset g at (meaning.Field f) = reported g at 33
+is_bitset g at (meaning.Procedure p) = reported g at 33
+is_bitset g at (meaning.LocalProcedure p) = reported g at 33
+is_bitset g at meaning.Ahead = reported g at 33
+is_bitset g at (meaning.Standard f) = reported g at 33
+is_bitset g at (meaning.Module k) = reported g at 33
+
+-- ---- components, and names of modules
+
+-- Constants and modules have no components. A type or a procedure with selectors is no constant.
+abbrev pub component : (g : Gathers) → Pos → Denoted → Result Denoted g.Reported
+component g at denoted.Variable = Ok denoted.Variable
+component g at (denoted.Value v) = reported g at 40
+component g at (denoted.Type t) = Ok denoted.Variable
+component g at denoted.Procedure = Ok denoted.Variable
+component g at (denoted.Standard f) = Ok denoted.Variable
+component g at (denoted.Module k) = reported g at 40
+
+abbrev pub exported_by : List ℕ → Option Table → Option Meaning
+exported_by name None = None
+exported_by name (Some table) = found name table.exported
+
+abbrev pub exported : (g : Gathers) → Pos → Option Meaning → Result Meaning g.Reported
+exported g at None = reported g at 32
+exported g at (Some m) = Ok m
+
+abbrev pub member : (g : Gathers) → List Table → ℕ → Ident → Result Meaning g.Reported
+member g tables k name = exported g name.pos (exported_by name.name (slice_get tables k))

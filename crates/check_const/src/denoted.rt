@@ -1,0 +1,122 @@
+//! What designators stand for.
+
+ghost use Rattle.std.specs.Prelude.{◌≡◌};
+ghost use Rattle.check_scope.specs.Elaborated.{least, ◌▷◌};
+ghost use Rattle.check_const.specs.Denote.{denoted_by, denoted_of, as_constant, constant_by, is_bitset, component, of_value};
+
+use check_scope::{Elaborated, Meaningless, Sought, reported};
+use m2_tree::Pos;
+use typed_tree::{BITSET, Meaning, Standard, TypeNo, Value, are_same};
+
+/// What a designator stands for in a constant expression.
+#[derive(Drop)]
+pub enum Denoted {
+    Value(Value),
+    Type(TypeNo),
+    /// A variable, or a component of one, or a type or a procedure with selectors.
+    Variable,
+    Procedure,
+    Standard(Standard),
+    /// A module, by the place of its table.
+    Module(usize),
+}
+
+/// What a name stands for.
+pub fn denoted_by(meaning: Meaning) -> Denoted
+    ensures { result ≡ denoted_by meaning }
+{
+    match meaning {
+        Meaning::Constant(value) => Denoted::Value(value),
+        Meaning::Type(t, _) => Denoted::Type(t),
+        Meaning::Variable(_) => Denoted::Variable,
+        Meaning::Local(_) => Denoted::Variable,
+        Meaning::Field(_) => Denoted::Variable,
+        Meaning::Procedure(_) => Denoted::Procedure,
+        Meaning::LocalProcedure(_) => Denoted::Procedure,
+        Meaning::Ahead => Denoted::Procedure,
+        Meaning::Standard(standard) => Denoted::Standard(standard),
+        Meaning::Module(place) => Denoted::Module(place),
+    }
+}
+
+/// What a name stands for. A procedure is no constant, whatever its heading.
+pub fn denoted_of(sought: Sought<Meaning>) -> Elaborated<Denoted>
+    ensures { result ≡ denoted_of sought }
+{
+    match sought {
+        Ok(meaning) => Ok(denoted_by(meaning)),
+        Err(Meaningless::Broken(fault)) => Err(fault),
+        Err(Meaningless::Headless(_)) => Ok(Denoted::Procedure),
+    }
+}
+
+fn as_constant(at: Pos, denoted: Denoted) -> Elaborated<Value>
+    ensures { result ≡ as_constant least at denoted }
+{
+    match denoted {
+        Denoted::Value(value) => Ok(value),
+        Denoted::Type(_) => reported(at, 34),
+        Denoted::Variable => reported(at, 34),
+        Denoted::Procedure => reported(at, 34),
+        Denoted::Standard(_) => reported(at, 34),
+        Denoted::Module(_) => reported(at, 34),
+    }
+}
+
+/// What stands at a place, taken as a constant.
+pub fn constant_by(at: Pos, denoted: Elaborated<Denoted>) -> Elaborated<Value>
+    ensures { result ≡ constant_by least at denoted }
+{
+    match denoted {
+        Err(fault) => Err(fault),
+        Ok(denoted) => as_constant(at, denoted),
+    }
+}
+
+/// A constant that stands for itself.
+pub fn of_value(value: Elaborated<Value>) -> Elaborated<Denoted>
+    ensures { result ≡ of_value value }
+{
+    match value {
+        Err(fault) => Err(fault),
+        Ok(value) => Ok(Denoted::Value(value)),
+    }
+}
+
+/// The type's name before a set.
+pub fn is_bitset(at: Pos, meaning: Meaning) -> Elaborated<()>
+    ensures { result ≡ is_bitset least at meaning }
+{
+    match meaning {
+        Meaning::Type(t, _) => {
+            if !are_same(t, BITSET) {
+                return reported(at, 33);
+            }
+            Ok(())
+        }
+        Meaning::Constant(_) => reported(at, 33),
+        Meaning::Variable(_) => reported(at, 33),
+        Meaning::Local(_) => reported(at, 33),
+        Meaning::Field(_) => reported(at, 33),
+        Meaning::Procedure(_) => reported(at, 33),
+        Meaning::LocalProcedure(_) => reported(at, 33),
+        Meaning::Ahead => reported(at, 33),
+        Meaning::Standard(_) => reported(at, 33),
+        Meaning::Module(_) => reported(at, 33),
+    }
+}
+
+/// A component of what stands before a bracket or a point. Constants and modules have none: 40 there. A type or a
+/// procedure with selectors is no constant.
+pub fn component(at: Pos, denoted: Denoted) -> Elaborated<Denoted>
+    ensures { result ≡ component least at denoted }
+{
+    match denoted {
+        Denoted::Variable => Ok(Denoted::Variable),
+        Denoted::Value(_) => reported(at, 40),
+        Denoted::Type(_) => Ok(Denoted::Variable),
+        Denoted::Procedure => Ok(Denoted::Variable),
+        Denoted::Standard(_) => Ok(Denoted::Variable),
+        Denoted::Module(_) => reported(at, 40),
+    }
+}

@@ -1,0 +1,43 @@
+//! Names of modules.
+
+ghost use Rattle.std.specs.Prelude.{◌≡◌, IfOk};
+ghost use Rattle.std.specs.Option.{option_copied};
+ghost use Rattle.check_scope.specs.Elaborated.{least};
+ghost use Rattle.check_const.specs.Denote.{exported_by, exported, member};
+
+use check_scope::{Elaborated, Fault, Scope, reported};
+use m2_tree::{Ident, Pos};
+use std::alloc::AllocError;
+use typed_tree::{Meaning, Shared, Table};
+
+fn exported_by<'a>(table: Option<&'a Shared<Table>>, name: &[u8]) -> Option<&'a Meaning>
+    ensures { option_copied result ≡ exported_by name.now (option_copied table.entry) }
+{
+    match table {
+        None => None,
+        Some(table) => table.get().exported.find(name),
+    }
+}
+
+fn exported(at: Pos, meaning: Option<&Meaning>) -> Result<Elaborated<Meaning>, AllocError>
+    ensures { IfOk result (λ m. m ≡ exported least at (option_copied meaning.entry)) }
+{
+    match meaning {
+        None => Ok(reported(at, 32)),
+        Some(meaning) => Ok(Ok(meaning.copy()?)),
+    }
+}
+
+/// What a name of a module means. The module is known by the place of its table.
+pub fn member(
+    scope: &Scope<Fault>,
+    place: usize,
+    name: &Ident,
+) -> Result<Elaborated<Meaning>, AllocError>
+    ensures { IfOk result (λ m. m ≡ member least scope.now.tables place name.now) }
+{
+    exported(
+        name.pos,
+        exported_by(scope.tables.get(place), name.name.as_bytes()),
+    )
+}

@@ -1,0 +1,119 @@
+//! Elements of sets.
+
+ghost use Rattle.std.specs.Prelude.{◌≡◌};
+ghost use Rattle.check_scope.specs.Elaborated.{least};
+ghost use Rattle.check_const_ops.specs.Sets.{numbered, element, is_element, single, is_unlike, ordered, in_set, related, related_bounds, spanned};
+
+use crate::operand::Ordinal;
+use crate::operate::common;
+use crate::sets::with_span;
+use crate::standard::whole_number;
+use check_scope::{Elaborated, beside, both, reported};
+use m2_tree::Pos;
+use typed_tree::Value;
+
+fn numbered(at: Pos, x: Option<Ordinal>) -> Elaborated<Ordinal>
+    ensures { result ≡ numbered least at x }
+{
+    match x {
+        None => reported(at, 40),
+        Some(a) => Ok(a),
+    }
+}
+
+/// The number of an element, which is an INTEGER, a CARDINAL or a number without a type.
+pub fn element(at: Pos, value: &Value) -> Elaborated<Ordinal>
+    ensures { result ≡ element least at value.now }
+{
+    numbered(at, whole_number(value))
+}
+
+fn is_element(at: Pos, a: Ordinal) -> Elaborated<()>
+    ensures { result ≡ is_element least at a }
+{
+    if !(0 <= a.number && a.number <= 31) {
+        return reported(at, 52);
+    }
+    Ok(())
+}
+
+/// The set of one element.
+pub fn single(at: Pos, value: &Value) -> Elaborated<u32>
+    ensures { result ≡ single least at value.now }
+{
+    match element(at, value) {
+        Err(fault) => Err(fault),
+        Ok(a) => match is_element(at, a) {
+            Err(fault) => Err(fault),
+            Ok(()) => Ok(with_span(0, a.number, a.number)),
+        },
+    }
+}
+
+fn is_unlike(a: Ordinal, b: Ordinal) -> bool
+    ensures { result ≡ is_unlike a b }
+{
+    match common(a.sort, b.sort) {
+        None => true,
+        Some(_) => false,
+    }
+}
+
+/// The bounds of a range, in order.
+fn ordered(at: Pos, low: i64, high: i64) -> Elaborated<()>
+    ensures { result ≡ ordered least at low high }
+{
+    if high < low {
+        return reported(at, 35);
+    }
+    Ok(())
+}
+
+fn in_set(at: Pos, a: Elaborated<Ordinal>) -> Elaborated<()>
+    ensures { result ≡ in_set least at a }
+{
+    match a {
+        Err(fault) => Err(fault),
+        Ok(a) => is_element(at, a),
+    }
+}
+
+fn related(at: Pos, high_at: Pos, a: Ordinal, b: Ordinal) -> Elaborated<()>
+    ensures { result ≡ related least at high_at a b }
+{
+    if is_unlike(a, b) {
+        return reported(high_at, 40);
+    }
+    ordered(at, a.number, b.number)
+}
+
+fn related_bounds(
+    at: Pos,
+    high_at: Pos,
+    low: Elaborated<Ordinal>,
+    high: Elaborated<Ordinal>,
+) -> Elaborated<()>
+    ensures { result ≡ related_bounds least at high_at low high }
+{
+    match both(low, high) {
+        Err(fault) => Err(fault),
+        Ok((a, b)) => related(at, high_at, a, b),
+    }
+}
+
+/// The set of a range of elements.
+pub fn spanned(
+    at: Pos,
+    low: Elaborated<Ordinal>,
+    high_at: Pos,
+    high: Elaborated<Ordinal>,
+) -> Elaborated<u32>
+    ensures { result ≡ spanned least at low high_at high }
+{
+    let within = beside(in_set(at, low), in_set(high_at, high));
+    let fine = beside(within, related_bounds(at, high_at, low, high));
+    match both(both(low, high), fine) {
+        Err(fault) => Err(fault),
+        Ok(((a, b), ())) => Ok(with_span(0, a.number, b.number)),
+    }
+}

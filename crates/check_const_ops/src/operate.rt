@@ -1,0 +1,260 @@
+//! What operators make of constants.
+
+ghost use Rattle.std.specs.Prelude.{◌≡◌, Ok};
+ghost use Rattle.check_scope.specs.Elaborated.{least, ◌▷◌};
+ghost use Rattle.check_const_ops.specs.Common.{common};
+ghost use Rattle.check_const_ops.specs.Operate.{takes, compared, applied, divisor, is_misfit, fitting, operated, on_scalars, binary, combined, is_signed, signed_scalar, signed_value, signed, negated_value, negated};
+
+use crate::number::{evaluated_at, fits, number_at, quotient, remainder};
+use crate::operand::{Operand, Ordinal, is_number, is_truth, operand_of, truth, valued};
+use crate::operator::{BinaryOp, is_division};
+use crate::sets::{member, on_sets};
+use check_scope::{Elaborated, beside, both, reported};
+use m2_tree::{Pos, RelOp, Sign};
+use typed_tree::{TypeNo, Value, are_same, is_integer, is_numeric};
+
+/// The type of two scalars, if they go together. A number without a type takes the type of the other.
+pub fn common(first: Option<TypeNo>, second: Option<TypeNo>) -> Option<Option<TypeNo>>
+    ensures { result ≡ common first second }
+{
+    match (first, second) {
+        (None, None) => Some(None),
+        (None, Some(t)) => { if is_numeric(t) { Some(Some(t)) } else { None } }
+        (Some(t), None) => { if is_numeric(t) { Some(Some(t)) } else { None } }
+        (Some(t), Some(u)) => { if are_same(t, u) { Some(Some(t)) } else { None } }
+    }
+}
+
+/// Whether an operator takes scalars of this type.
+pub fn takes(op: BinaryOp, sort: Option<TypeNo>) -> bool
+    ensures { result ≡ takes op sort }
+{
+    match op {
+        BinaryOp::Plus | BinaryOp::Minus | BinaryOp::Times | BinaryOp::Div | BinaryOp::Mod => {
+            is_number(sort)
+        }
+        BinaryOp::Over => false,
+        BinaryOp::And | BinaryOp::Or => is_truth(sort),
+        BinaryOp::Relation(relation) => match relation {
+            RelOp::In => false,
+            RelOp::Equal
+            | RelOp::Unequal
+            | RelOp::Less
+            | RelOp::AtMost
+            | RelOp::Greater
+            | RelOp::AtLeast => true,
+        },
+    }
+}
+
+fn compared(relation: RelOp, x: i64, y: i64) -> bool
+    ensures { result ≡ compared relation x y }
+{
+    match relation {
+        RelOp::Equal => x <= y && y <= x,
+        RelOp::Unequal => !(x <= y && y <= x),
+        RelOp::Less => x < y,
+        RelOp::AtMost => x <= y,
+        RelOp::Greater => y < x,
+        RelOp::AtLeast => y <= x,
+        RelOp::In => false,
+    }
+}
+
+/// What an operator makes of ordinal numbers of this type, which takes it.
+fn applied(op: BinaryOp, spot: Pos, sort: Option<TypeNo>, x: i64, y: i64) -> Elaborated<Value>
+    ensures { result ≡ applied least op spot sort x y }
+{
+    match op {
+        BinaryOp::Plus | BinaryOp::Minus | BinaryOp::Times => evaluated_at(spot, sort, op, x, y),
+        BinaryOp::Over => reported(spot, 40),
+        BinaryOp::Div => number_at(spot, sort, quotient(x, y)),
+        BinaryOp::Mod => number_at(spot, sort, remainder(x, y)),
+        BinaryOp::And => Ok(truth(x > 0 && y > 0)),
+        BinaryOp::Or => Ok(truth(x > 0 || y > 0)),
+        BinaryOp::Relation(relation) => Ok(truth(compared(relation, x, y))),
+    }
+}
+
+/// The rule that a constant divisor is positive.
+pub fn divisor(op: BinaryOp, spot: Pos, y: i64) -> Elaborated<()>
+    ensures { result ≡ divisor least op spot y }
+{
+    if is_division(op) && y < 1 {
+        return reported(spot, 52);
+    }
+    Ok(())
+}
+
+fn is_misfit(wanted: Option<TypeNo>, a: Ordinal) -> bool
+    ensures { result ≡ is_misfit wanted a.sort a.number }
+{
+    match wanted {
+        None => false,
+        Some(_) => match a.sort {
+            Some(_) => false,
+            None => !fits(wanted, a.number),
+        },
+    }
+}
+
+/// The rule that a number without a type is one of the other operand's type.
+pub fn fitting(wanted: Option<TypeNo>, at: Pos, a: Ordinal) -> Elaborated<()>
+    ensures { result ≡ fitting least wanted at a }
+{
+    if is_misfit(wanted, a) {
+        return reported(at, 52);
+    }
+    Ok(())
+}
+
+fn operated(
+    op: BinaryOp,
+    spot: Pos,
+    sort: Option<TypeNo>,
+    at: Pos,
+    a: Ordinal,
+    other_at: Pos,
+    b: Ordinal,
+) -> Elaborated<Value>
+    ensures { result ≡ operated least op spot sort at a other_at b }
+{
+    if !takes(op, sort) {
+        return reported(spot, 40);
+    }
+    let fit = beside(fitting(sort, at, a), fitting(sort, other_at, b));
+    match beside(divisor(op, spot, b.number), fit) {
+        Err(fault) => Err(fault),
+        Ok(()) => applied(op, spot, sort, a.number, b.number),
+    }
+}
+
+fn on_scalars(
+    op: BinaryOp,
+    spot: Pos,
+    at: Pos,
+    a: Ordinal,
+    other_at: Pos,
+    b: Ordinal,
+) -> Elaborated<Value>
+    ensures { result ≡ on_scalars least op spot at a other_at b (common a.sort b.sort) }
+{
+    match common(a.sort, b.sort) {
+        None => reported(spot, 40),
+        Some(sort) => operated(op, spot, sort, at, a, other_at, b),
+    }
+}
+
+/// An operator at a place, between two operands at theirs. What is none is refused.
+pub fn binary(
+    op: BinaryOp,
+    spot: Pos,
+    at: Pos,
+    x: Option<Operand>,
+    other_at: Pos,
+    y: Option<Operand>,
+) -> Elaborated<Value>
+    ensures { result ≡ binary least op spot at x other_at y }
+{
+    match (x, y) {
+        (Some(Operand::Scalar(a)), Some(Operand::Scalar(b))) => {
+            on_scalars(op, spot, at, a, other_at, b)
+        }
+        (Some(Operand::Scalar(a)), Some(Operand::Set(b))) => member(op, spot, at, a, b),
+        (Some(Operand::Set(_)), Some(Operand::Scalar(_))) => reported(spot, 40),
+        (Some(Operand::Set(a)), Some(Operand::Set(b))) => on_sets(op, spot, a, b),
+        (Some(Operand::Scalar(_)), None) => reported(spot, 40),
+        (Some(Operand::Set(_)), None) => reported(spot, 40),
+        (None, _) => reported(spot, 40),
+    }
+}
+
+/// An operator at a place, between two parts at theirs.
+pub fn combined(
+    op: BinaryOp,
+    spot: Pos,
+    at: Pos,
+    x: Elaborated<Value>,
+    other_at: Pos,
+    y: Elaborated<Value>,
+) -> Elaborated<Value>
+    ensures { result ≡ combined least op spot at x other_at y }
+{
+    match both(x, y) {
+        Err(fault) => Err(fault),
+        Ok((a, b)) => binary(op, spot, at, operand_of(&a), other_at, operand_of(&b)),
+    }
+}
+
+fn signed_value(sign: Sign, spot: Pos, x: Option<Operand>) -> Elaborated<Value>
+    ensures { result ≡ signed_value least sign spot x }
+{
+    match x {
+        None => reported(spot, 40),
+        Some(Operand::Set(_)) => reported(spot, 40),
+        Some(Operand::Scalar(a)) => signed_scalar(sign, spot, a),
+    }
+}
+
+fn is_signed(sort: Option<TypeNo>) -> bool
+    ensures { result ≡ is_signed sort }
+{
+    match sort {
+        None => true,
+        Some(t) => is_integer(t),
+    }
+}
+
+fn signed_scalar(sign: Sign, spot: Pos, a: Ordinal) -> Elaborated<Value>
+    ensures { result ≡ signed_scalar least sign spot a }
+{
+    match sign {
+        Sign::Plus => {
+            if !is_number(a.sort) {
+                return reported(spot, 40);
+            }
+            Ok(valued(a.sort, a.number))
+        }
+        Sign::Minus => {
+            if !is_signed(a.sort) {
+                return reported(spot, 40);
+            }
+            evaluated_at(spot, a.sort, BinaryOp::Minus, 0, a.number)
+        }
+    }
+}
+
+/// A sign at a place, before a term.
+pub fn signed(sign: Sign, spot: Pos, x: Elaborated<Value>) -> Elaborated<Value>
+    ensures { result ≡ signed least sign spot x }
+{
+    match x {
+        Err(fault) => Err(fault),
+        Ok(value) => signed_value(sign, spot, operand_of(&value)),
+    }
+}
+
+fn negated_value(spot: Pos, x: Option<Operand>) -> Elaborated<Value>
+    ensures { result ≡ negated_value least spot x }
+{
+    match x {
+        None => reported(spot, 40),
+        Some(Operand::Set(_)) => reported(spot, 40),
+        Some(Operand::Scalar(a)) => {
+            if !is_truth(a.sort) {
+                return reported(spot, 40);
+            }
+            Ok(truth(!(a.number > 0)))
+        }
+    }
+}
+
+/// NOT at a place.
+pub fn negated(spot: Pos, x: Elaborated<Value>) -> Elaborated<Value>
+    ensures { result ≡ negated least spot x }
+{
+    match x {
+        Err(fault) => Err(fault),
+        Ok(value) => negated_value(spot, operand_of(&value)),
+    }
+}

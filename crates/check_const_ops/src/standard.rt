@@ -1,0 +1,180 @@
+//! Standard procedures of constants.
+
+ghost use Rattle.std.specs.Prelude.{◌≡◌};
+ghost use Rattle.check_scope.specs.Elaborated.{least};
+ghost use Rattle.check_const_ops.specs.Standards.{scalar_part, whole_number, absolute_part, absolute, upper, is_char, capital_part, capital, character_part, character, odd_part, is_odd, ordinal_part, ordinal_of, converted_part, converted, bound_of};
+
+use crate::number::{evaluated_at, number_at};
+use crate::operand::{Operand, Ordinal, is_number, operand_of, truth, valued};
+use crate::operator::BinaryOp;
+use check_scope::{Elaborated, reported};
+use m2_tree::Pos;
+use typed_tree::{CARDINAL, CHAR, Scalar, ScalarValue, TypeNo, Value, are_same};
+
+fn scalar_part(x: Option<Operand>) -> Option<Ordinal>
+    ensures { result ≡ scalar_part x }
+{
+    match x {
+        None => None,
+        Some(Operand::Set(_)) => None,
+        Some(Operand::Scalar(a)) => Some(a),
+    }
+}
+
+/// An INTEGER, a CARDINAL or a number without a type.
+pub fn whole_number(value: &Value) -> Option<Ordinal>
+    ensures { result ≡ whole_number value.now }
+{
+    match scalar_part(operand_of(value)) {
+        None => None,
+        Some(a) => { if is_number(a.sort) { Some(a) } else { None } }
+    }
+}
+
+fn absolute_part(at: Pos, a: Option<Ordinal>) -> Elaborated<Value>
+    ensures { result ≡ absolute_part least at a }
+{
+    match a {
+        None => reported(at, 43),
+        Some(a) => {
+            if a.number < 0 {
+                evaluated_at(at, a.sort, BinaryOp::Minus, 0, a.number)
+            } else {
+                number_at(at, a.sort, a.number)
+            }
+        }
+    }
+}
+
+/// ABS of a constant at a place.
+pub fn absolute(at: Pos, value: &Value) -> Elaborated<Value>
+    ensures { result ≡ absolute least at value.now }
+{
+    absolute_part(at, whole_number(value))
+}
+
+fn upper(code: i64) -> i64
+    ensures { result ≡ upper code }
+{
+    if 97 <= code && code <= 122 {
+        code - 32
+    } else {
+        code
+    }
+}
+
+/// Whether it is CHAR.
+pub fn is_char(sort: Option<TypeNo>) -> bool
+    ensures { result ≡ is_char sort }
+{
+    match sort {
+        None => false,
+        Some(t) => are_same(t, CHAR),
+    }
+}
+
+fn capital_part(at: Pos, a: Option<Ordinal>) -> Elaborated<Value>
+    ensures { result ≡ capital_part least at a }
+{
+    match a {
+        None => reported(at, 43),
+        Some(a) => {
+            if !is_char(a.sort) {
+                return reported(at, 43);
+            }
+            Ok(valued(Some(CHAR), upper(a.number)))
+        }
+    }
+}
+
+/// CAP of a constant at a place.
+pub fn capital(at: Pos, value: &Value) -> Elaborated<Value>
+    ensures { result ≡ capital least at value.now }
+{
+    capital_part(at, scalar_part(operand_of(value)))
+}
+
+fn character_part(at: Pos, a: Option<Ordinal>) -> Elaborated<Value>
+    ensures { result ≡ character_part least at a }
+{
+    match a {
+        None => reported(at, 43),
+        Some(a) => {
+            if !(0 <= a.number && a.number <= 255) {
+                return reported(at, 52);
+            }
+            Ok(valued(Some(CHAR), a.number))
+        }
+    }
+}
+
+/// CHR of a constant at a place.
+pub fn character(at: Pos, value: &Value) -> Elaborated<Value>
+    ensures { result ≡ character least at value.now }
+{
+    character_part(at, whole_number(value))
+}
+
+fn odd_part(at: Pos, a: Option<Ordinal>) -> Elaborated<Value>
+    ensures { result ≡ odd_part least at a }
+{
+    match a {
+        None => reported(at, 43),
+        Some(a) => Ok(truth(0 < a.number.rem_euclid(2))),
+    }
+}
+
+/// ODD of a constant at a place.
+pub fn is_odd(at: Pos, value: &Value) -> Elaborated<Value>
+    ensures { result ≡ is_odd least at value.now }
+{
+    odd_part(at, whole_number(value))
+}
+
+fn ordinal_part(at: Pos, a: Option<Ordinal>) -> Elaborated<Value>
+    ensures { result ≡ ordinal_part least at a }
+{
+    match a {
+        None => reported(at, 43),
+        Some(a) => number_at(at, Some(CARDINAL), a.number),
+    }
+}
+
+/// ORD of a constant at a place.
+pub fn ordinal_of(at: Pos, value: &Value) -> Elaborated<Value>
+    ensures { result ≡ ordinal_of least at value.now }
+{
+    ordinal_part(at, scalar_part(operand_of(value)))
+}
+
+fn converted_part(t: TypeNo, to: Scalar, at: Pos, a: Option<Ordinal>) -> Elaborated<Value>
+    ensures { result ≡ converted_part least t to at a }
+{
+    match a {
+        None => reported(at, 43),
+        Some(a) => {
+            if !(to.low <= a.number && a.number <= to.high) {
+                return reported(at, 52);
+            }
+            Ok(bound_of(t, to, a.number))
+        }
+    }
+}
+
+/// VAL of a constant at a place, to a scalar type.
+pub fn converted(t: TypeNo, to: Scalar, at: Pos, value: &Value) -> Elaborated<Value>
+    ensures { result ≡ converted least t to at value.now }
+{
+    converted_part(t, to, at, whole_number(value))
+}
+
+/// A constant of a scalar type by its ordinal number.
+pub fn bound_of(t: TypeNo, scalar: Scalar, number: i64) -> Value
+    ensures { result ≡ bound_of t scalar number }
+{
+    Value::Scalar(ScalarValue {
+        of: t,
+        base: scalar.base,
+        number,
+    })
+}

@@ -1,0 +1,769 @@
+//! What expressions mean: each in a body, and as a constant expression.
+
+ghost use Rattle.std.specs.Prelude.{◌≡◌, [], Ok, IfOk, map};
+ghost use Rattle.std.specs.List.{fold};
+ghost use Rattle.check_scope.specs.Elaborated.{least};
+ghost use Rattle.check_const.specs.Calls.{sort_of};
+ghost use Rattle.check_const.specs.Parts as constants;
+ghost use Rattle.check_call.specs.Functions.{form_of};
+ghost use Rattle.check_expr.specs.Meanings.{part, meant, picks, head, item, as_constant, value_of, actual_in, look_in, looked_at, miscounted, routine_called, unary, bound, conversion, high, by_form, called_as, called_by, factor_in, term_in, pick_in, constant_factor_in, constant_term_in, item_in};
+
+use crate::fixed::denoted;
+use crate::pieces::{
+    argument_by, call_given, field_at, first_of, formals_of, high_at, index_at, looked, named,
+    of_computed, place_of, related, related_parts, signed_first, taken_at, type_at, type_of,
+    unary_of,
+};
+use check_call::{
+    Called, Callee, Form, Unary, bound_at, callee_of, conversion_at, form_of, function_of,
+    next_formal, with_argument,
+};
+use check_const::{
+    Denoted, Sort, bound as bound_of, constant_by, converted_by, element_of, joined_bits,
+    named_type, of_value, set_of, set_type, sign_place, signed_first as constant_signed, single_of,
+    sort_of, text_of, type_argument, unary as unary_constant, value_at,
+};
+use check_const_ops::{
+    add_op, combined as combined_constants, mul_op, negated as negated_constant, spanned, valued,
+};
+use check_operator::{Computed, Designated, combined, negated, signature_of};
+use check_scope::{
+    Elaborated, Fault, Scope, Sought, beside, of_heading, plain, refusal_beside, reported,
+    reported_beside,
+};
+use m2_tree::{AddOp, Designator, Expr, Item, Items, MulOp, Operator, Pos, Selector};
+use std::alloc::{AllocError, Global};
+use typed_tree::{Argument, CHAR, Formal, Scalar, Standard, TypeNo, Value};
+
+/// What an expression stands for.
+#[cycle(body)]
+#[tactic(auto, using(crate::proofs::Variants::variants))]
+pub fn stands_for(
+    alloc: Global,
+    scope: &Scope<Fault>,
+    e: &Expr,
+) -> Result<Sought<Designated>, AllocError>
+    ensures { IfOk result (λ d. d ≡ (meant least e.now).means scope.now) }
+{
+    match e {
+        Expr::Number(_, _) => itself(alloc, scope, e),
+        Expr::Char(_, _) => itself(alloc, scope, e),
+        Expr::Text(_, _) => itself(alloc, scope, e),
+        Expr::Set(_, _, _) => itself(alloc, scope, e),
+        Expr::Not(at, inner) => {
+            let value = value_of(alloc, scope, inner.get())?;
+            Ok(of_computed(negated(alloc, *at, value)?))
+        }
+        Expr::Bracketed(_, inner) => Ok(of_computed(value_of(alloc, scope, inner.get())?)),
+        Expr::Use(designator, args) => match args {
+            None => designated(alloc, scope, designator),
+            Some(args) => {
+                let callee = designated(alloc, scope, designator)?;
+                let at = first_of(designator);
+                Ok(of_computed(called_by(alloc, scope, at, callee, args.get().as_slice())?))
+            }
+        },
+        Expr::Term(first, rest) => {
+            let first = first.get();
+            let left = value_of(alloc, scope, first)?;
+            let product = factors(alloc, scope, place_of(first), left, rest.as_slice())?;
+            Ok(of_computed(product))
+        }
+        Expr::Sum(sign, first, rest) => {
+            let first = first.get();
+            let value = value_of(alloc, scope, first)?;
+            let left = signed_first(alloc, *sign, value)?;
+            let at = sign_place(*sign, place_of(first));
+            Ok(of_computed(terms(alloc, scope, at, left, rest.as_slice())?))
+        }
+        Expr::Relation(first, operator, second) => {
+            let first = first.get();
+            let second = second.get();
+            let left = value_of(alloc, scope, first)?;
+            let right = value_of(alloc, scope, second)?;
+            let types = &scope.types;
+            let value = related(alloc, types, first, left, operator, second, right)?;
+            Ok(of_computed(value))
+        }
+    }
+}
+
+/// The value of an expression.
+#[cycle(body)]
+pub fn value_of(
+    alloc: Global,
+    scope: &Scope<Fault>,
+    e: &Expr,
+) -> Result<Elaborated<Computed>, AllocError>
+    ensures { IfOk result (λ v. v ≡ value_of least scope.now (meant least e.now)) }
+{
+    let designated = stands_for(alloc, scope, e)?;
+    Ok(taken_at(&scope.types, place_of(e), designated))
+}
+
+/// What a designator stands for.
+#[cycle(body)]
+#[tactic(auto, using(crate::proofs::Variants::variants))]
+pub fn designated(
+    alloc: Global,
+    scope: &Scope<Fault>,
+    designator: &Designator,
+) -> Result<Sought<Designated>, AllocError>
+    ensures { IfOk result (λ d. d ≡ (head least designator.now).means scope.now) }
+{
+    let first = named(alloc, scope, &designator.name)?;
+    picked(alloc, scope, first, designator.selectors.as_slice())
+}
+
+/// What selectors pick, one after another.
+#[cycle(body)]
+fn picked(
+    alloc: Global,
+    scope: &Scope<Fault>,
+    first: Sought<Designated>,
+    selectors: &[Selector],
+) -> Result<Sought<Designated>, AllocError>
+    ensures { IfOk result (λ d. d ≡ fold (pick_in scope.now) first selectors.now) }
+{
+    let mut designated = first;
+    for selector in selectors {
+        designated = pick(alloc, scope, designated, selector)?;
+    }
+    Ok(designated)
+}
+
+/// What a selector picks.
+#[cycle(body)]
+#[tactic(auto, using(crate::proofs::Variants::variants))]
+fn pick(
+    alloc: Global,
+    scope: &Scope<Fault>,
+    from: Sought<Designated>,
+    selector: &Selector,
+) -> Result<Sought<Designated>, AllocError>
+    ensures { IfOk result (λ d. d ≡ (picks least selector.now).picks scope.now from) }
+{
+    match selector {
+        Selector::Field(at, name) => field_at(alloc, scope, *at, name, from),
+        Selector::Index(at, index) => {
+            let value = value_of(alloc, scope, index)?;
+            index_at(alloc, &scope.types, *at, from, place_of(index), value)
+        }
+    }
+}
+
+/// Factors, from the left.
+#[cycle(body)]
+fn factors(
+    alloc: Global,
+    scope: &Scope<Fault>,
+    at: Pos,
+    left: Elaborated<Computed>,
+    rest: &[(Operator<MulOp>, Expr)],
+) -> Result<Elaborated<Computed>, AllocError>
+    ensures { IfOk result (λ v. v ≡ fold (factor_in scope.now at) left rest.now) }
+{
+    let mut value = left;
+    for (operator, factor) in rest {
+        let right = value_of(alloc, scope, factor)?;
+        let op = mul_op(operator.op);
+        let other_at = place_of(factor);
+        value = combined(
+            alloc,
+            &scope.types,
+            op,
+            operator.pos,
+            at,
+            value,
+            other_at,
+            right,
+        )?;
+    }
+    Ok(value)
+}
+
+/// Terms, from the left.
+#[cycle(body)]
+fn terms(
+    alloc: Global,
+    scope: &Scope<Fault>,
+    at: Pos,
+    left: Elaborated<Computed>,
+    rest: &[(Operator<AddOp>, Expr)],
+) -> Result<Elaborated<Computed>, AllocError>
+    ensures { IfOk result (λ v. v ≡ fold (term_in scope.now at) left rest.now) }
+{
+    let mut value = left;
+    for (operator, term) in rest {
+        let right = value_of(alloc, scope, term)?;
+        let op = add_op(operator.op);
+        let other_at = place_of(term);
+        value = combined(
+            alloc,
+            &scope.types,
+            op,
+            operator.pos,
+            at,
+            value,
+            other_at,
+            right,
+        )?;
+    }
+    Ok(value)
+}
+
+/// A call in an expression.
+#[cycle(body)]
+fn called_by(
+    alloc: Global,
+    scope: &Scope<Fault>,
+    at: Pos,
+    callee: Sought<Designated>,
+    args: &[Expr],
+) -> Result<Elaborated<Computed>, AllocError>
+    ensures { IfOk result (λ v. v ≡ called_by least scope.now at callee (map (meant least) args.now)) }
+{
+    let called = match of_heading(callee) {
+        Err(fault) => Err(fault),
+        Ok(designated) => callee_of(&scope.types, at, designated),
+    };
+    match called {
+        Err(fault) => {
+            let rest = looked_at(alloc, scope, args)?;
+            Ok(refusal_beside(fault, rest))
+        }
+        Ok(called) => called_as(alloc, scope, at, args, called),
+    }
+}
+
+#[cycle(body)]
+fn called_as(
+    alloc: Global,
+    scope: &Scope<Fault>,
+    at: Pos,
+    args: &[Expr],
+    called: Called,
+) -> Result<Elaborated<Computed>, AllocError>
+    ensures { IfOk result (λ v. v ≡ called_as least scope.now at (map (meant least) args.now) called) }
+{
+    match called {
+        Called::Routine(heading, callee) => {
+            routine_called(alloc, scope, at, heading, callee, args)
+        }
+        Called::Standard(standard) => by_form(alloc, scope, at, standard, args),
+    }
+}
+
+/// A call of a function with this heading.
+#[cycle(body)]
+#[tactic(auto, using(crate::proofs::Variants::actuals_is, crate::proofs::Variants::count_is))]
+fn routine_called(
+    alloc: Global,
+    scope: &Scope<Fault>,
+    at: Pos,
+    heading: TypeNo,
+    callee: Callee,
+    args: &[Expr],
+) -> Result<Elaborated<Computed>, AllocError>
+    ensures { IfOk result
+        (λ v. v ≡ routine_called least scope.now at heading callee (map (meant least) args.now)) }
+{
+    let signature = signature_of(&scope.types, heading);
+    match function_of(at, signature, args.len()) {
+        Err(fault) => {
+            let rest = looked_at(alloc, scope, args)?;
+            Ok(refusal_beside(fault, rest))
+        }
+        Ok(t) => {
+            let arguments = actuals(alloc, scope, formals_of(signature), args)?;
+            call_given(alloc, &scope.types, t, callee, arguments)
+        }
+    }
+}
+
+/// Arguments, one after the other, with the formals.
+#[cycle(body)]
+pub fn actuals(
+    alloc: Global,
+    scope: &Scope<Fault>,
+    formals: &[Formal],
+    args: &[Expr],
+) -> Result<Elaborated<Items<Argument>>, AllocError>
+    ensures { IfOk result
+        (λ xs. xs ≡ (fold (actual_in scope.now) (formals.now, Ok []) args.now).1) }
+{
+    let mut left = formals;
+    let mut arguments = Ok(Items::new(alloc));
+    for arg in args {
+        let (formal, rest) = next_formal(left);
+        let designated = stands_for(alloc, scope, arg)?;
+        let argument = argument_by(&scope.types, formal, place_of(arg), designated);
+        arguments = with_argument(arguments, argument)?;
+        left = rest;
+    }
+    Ok(arguments)
+}
+
+/// What is broken in arguments themselves.
+#[cycle(body)]
+#[tactic(auto, using(crate::proofs::Variants::looks_is))]
+pub fn looked_at(
+    alloc: Global,
+    scope: &Scope<Fault>,
+    args: &[Expr],
+) -> Result<Elaborated<()>, AllocError>
+    ensures { IfOk result (λ j. j ≡ looked_at least scope.now (map (meant least) args.now)) }
+{
+    let mut done = Ok(());
+    for arg in args {
+        let designated = stands_for(alloc, scope, arg)?;
+        done = beside(done, looked(designated));
+    }
+    Ok(done)
+}
+
+/// A wrong number of arguments, beside what is broken in them.
+#[cycle(body)]
+fn miscounted(
+    alloc: Global,
+    scope: &Scope<Fault>,
+    at: Pos,
+    args: &[Expr],
+) -> Result<Elaborated<Computed>, AllocError>
+    ensures { IfOk result (λ v. v ≡ miscounted least scope.now at (map (meant least) args.now)) }
+{
+    let rest = looked_at(alloc, scope, args)?;
+    Ok(reported_beside(at, 42, rest))
+}
+
+/// A call of a standard procedure in an expression.
+#[cycle(body)]
+fn by_form(
+    alloc: Global,
+    scope: &Scope<Fault>,
+    at: Pos,
+    standard: Standard,
+    args: &[Expr],
+) -> Result<Elaborated<Computed>, AllocError>
+    ensures { IfOk result
+        (λ v. v ≡ by_form least scope.now at standard (map (meant least) args.now) (form_of standard)) }
+{
+    match form_of(standard) {
+        Form::Unary(function) => unary(alloc, scope, at, standard, function, args),
+        Form::Bound => bound(alloc, scope, at, standard, args),
+        Form::Conversion => conversion(alloc, scope, at, args),
+        Form::High => high(alloc, scope, at, args),
+        Form::Proper => {
+            let rest = looked_at(alloc, scope, args)?;
+            Ok(reported_beside(at, 40, rest))
+        }
+    }
+}
+
+/// A standard function of one value.
+#[cycle(body)]
+fn unary(
+    alloc: Global,
+    scope: &Scope<Fault>,
+    at: Pos,
+    standard: Standard,
+    function: Unary,
+    args: &[Expr],
+) -> Result<Elaborated<Computed>, AllocError>
+    ensures { IfOk result
+        (λ v. v ≡ unary least scope.now at standard function (map (meant least) args.now)) }
+{
+    match args {
+        [] => miscounted(alloc, scope, at, args),
+        [arg] => {
+            let value = value_of(alloc, scope, arg)?;
+            unary_of(alloc, standard, function, place_of(arg), value)
+        }
+        [_, _, ..] => miscounted(alloc, scope, at, args),
+    }
+}
+
+/// MIN and MAX.
+#[cycle(body)]
+fn bound(
+    alloc: Global,
+    scope: &Scope<Fault>,
+    at: Pos,
+    standard: Standard,
+    args: &[Expr],
+) -> Result<Elaborated<Computed>, AllocError>
+    ensures { IfOk result (λ v. v ≡ bound least scope.now at standard (map (meant least) args.now)) }
+{
+    match args {
+        [] => miscounted(alloc, scope, at, args),
+        [arg] => {
+            let designated = stands_for(alloc, scope, arg)?;
+            Ok(bound_at(standard, type_at(&scope.types, place_of(arg), designated)))
+        }
+        [_, _, ..] => miscounted(alloc, scope, at, args),
+    }
+}
+
+/// VAL.
+#[cycle(body)]
+fn conversion(
+    alloc: Global,
+    scope: &Scope<Fault>,
+    at: Pos,
+    args: &[Expr],
+) -> Result<Elaborated<Computed>, AllocError>
+    ensures { IfOk result (λ v. v ≡ conversion least scope.now at (map (meant least) args.now)) }
+{
+    match args {
+        [] => miscounted(alloc, scope, at, args),
+        [_] => miscounted(alloc, scope, at, args),
+        [to, arg] => {
+            let designated = stands_for(alloc, scope, to)?;
+            let t = type_at(&scope.types, place_of(to), designated);
+            let value = value_of(alloc, scope, arg)?;
+            conversion_at(alloc, t, place_of(arg), value)
+        }
+        [_, _, _, ..] => miscounted(alloc, scope, at, args),
+    }
+}
+
+/// HIGH.
+#[cycle(body)]
+fn high(
+    alloc: Global,
+    scope: &Scope<Fault>,
+    at: Pos,
+    args: &[Expr],
+) -> Result<Elaborated<Computed>, AllocError>
+    ensures { IfOk result (λ v. v ≡ high least scope.now at (map (meant least) args.now)) }
+{
+    match args {
+        [] => miscounted(alloc, scope, at, args),
+        [arg] => {
+            let designated = stands_for(alloc, scope, arg)?;
+            Ok(high_at(place_of(arg), designated))
+        }
+        [_, _, ..] => miscounted(alloc, scope, at, args),
+    }
+}
+
+/// A constant expression that stands for itself.
+#[cycle(body)]
+fn itself(alloc: Global, scope: &Scope<Fault>, e: &Expr) -> Result<Sought<Designated>, AllocError>
+    ensures { IfOk result (λ d. d ≡ as_constant least scope.now (part least e.now)) }
+{
+    match constant_of(alloc, scope, e)? {
+        Err(fault) => Ok(plain(Err(fault))),
+        Ok(value) => Ok(Ok(Designated::Value(Computed::Constant(value)))),
+    }
+}
+
+/// What a constant expression stands for.
+#[cycle(body)]
+#[tactic(auto, using(crate::proofs::Variants::variants))]
+fn denotes(alloc: Global, scope: &Scope<Fault>, e: &Expr) -> Result<Elaborated<Denoted>, AllocError>
+    ensures { IfOk result (λ d. d ≡ (part least e.now).denotes scope.now) }
+{
+    match e {
+        Expr::Number(_, n) => Ok(Ok(Denoted::Value(Value::Number(i64::from(*n))))),
+        Expr::Char(_, code) => Ok(Ok(Denoted::Value(valued(Some(CHAR), i64::from(*code))))),
+        Expr::Text(_, text) => Ok(Ok(Denoted::Value(text_of(alloc, text.as_bytes())?))),
+        Expr::Set(name, _, items) => {
+            let of = set_type(scope, name)?;
+            let bits = elements(alloc, scope, items.as_slice())?;
+            Ok(set_of(of, bits))
+        }
+        Expr::Not(at, inner) => {
+            let value = constant_of(alloc, scope, inner.get())?;
+            Ok(of_value(negated_constant(*at, value)))
+        }
+        Expr::Bracketed(_, inner) => Ok(of_value(constant_of(alloc, scope, inner.get())?)),
+        Expr::Use(designator, args) => match args {
+            None => denoted(scope, designator),
+            Some(args) => {
+                let callee = denoted(scope, designator)?;
+                let at = first_of(designator);
+                let args = args.get().as_slice();
+                Ok(of_value(constant_call(alloc, scope, at, callee, args)?))
+            }
+        },
+        Expr::Term(first, rest) => {
+            let left = constant_of(alloc, scope, first.get())?;
+            let at = place_of(first.get());
+            Ok(of_value(constant_factors(alloc, scope, at, left, rest.as_slice())?))
+        }
+        Expr::Sum(sign, first, rest) => {
+            let value = constant_of(alloc, scope, first.get())?;
+            let left = constant_signed(*sign, value);
+            let at = sign_place(*sign, place_of(first.get()));
+            Ok(of_value(constant_terms(alloc, scope, at, left, rest.as_slice())?))
+        }
+        Expr::Relation(first, operator, second) => {
+            let first = first.get();
+            let second = second.get();
+            let left = constant_of(alloc, scope, first)?;
+            let right = constant_of(alloc, scope, second)?;
+            Ok(related_parts(first, left, operator, second, right))
+        }
+    }
+}
+
+/// The value of a constant expression. What is no constant is 34 at its first token.
+#[cycle(body)]
+pub fn constant_of(
+    alloc: Global,
+    scope: &Scope<Fault>,
+    e: &Expr,
+) -> Result<Elaborated<Value>, AllocError>
+    ensures { IfOk result (λ v. v ≡ constants.constant least scope.now (part least e.now)) }
+{
+    let denoted = denotes(alloc, scope, e)?;
+    Ok(constant_by(place_of(e), denoted))
+}
+
+/// The type that an argument names, if it names one. A name with selectors is looked at as in a body.
+#[cycle(body)]
+#[tactic(auto, using(crate::proofs::Variants::naming))]
+fn type_named(
+    alloc: Global,
+    scope: &Scope<Fault>,
+    e: &Expr,
+) -> Result<Elaborated<Option<TypeNo>>, AllocError>
+    ensures { IfOk result (λ t. t ≡ (part least e.now).names scope.now) }
+{
+    match e {
+        Expr::Use(designator, args) => match args {
+            None => type_designated(alloc, scope, designator),
+            Some(_) => Ok(named_type(denotes(alloc, scope, e)?)),
+        },
+        Expr::Number(_, _)
+        | Expr::Char(_, _)
+        | Expr::Text(_, _)
+        | Expr::Set(_, _, _)
+        | Expr::Not(_, _)
+        | Expr::Bracketed(_, _)
+        | Expr::Term(_, _)
+        | Expr::Sum(_, _, _)
+        | Expr::Relation(_, _, _) => Ok(named_type(denotes(alloc, scope, e)?)),
+    }
+}
+
+/// The type that a designator names, if it names one.
+#[cycle(body)]
+#[tactic(auto, using(crate::proofs::Variants::naming))]
+fn type_designated(
+    alloc: Global,
+    scope: &Scope<Fault>,
+    designator: &Designator,
+) -> Result<Elaborated<Option<TypeNo>>, AllocError>
+    ensures { IfOk result (λ t. t ≡ (head least designator.now).fixed.names scope.now) }
+{
+    if designator.selectors.is_empty() {
+        return Ok(named_type(denoted(scope, designator)?));
+    }
+    let meant = designated(alloc, scope, designator)?;
+    Ok(type_of(first_of(designator), meant))
+}
+
+/// A call in a constant expression.
+#[cycle(body)]
+fn constant_call(
+    alloc: Global,
+    scope: &Scope<Fault>,
+    at: Pos,
+    callee: Elaborated<Denoted>,
+    args: &[Expr],
+) -> Result<Elaborated<Value>, AllocError>
+    ensures { IfOk result
+        (λ v. v ≡ constants.called least scope.now at callee (map (part least) args.now)) }
+{
+    match callee {
+        Err(fault) => Ok(Err(fault)),
+        Ok(denoted) => constant_call_of(alloc, scope, at, denoted, args),
+    }
+}
+
+#[cycle(body)]
+fn constant_call_of(
+    alloc: Global,
+    scope: &Scope<Fault>,
+    at: Pos,
+    callee: Denoted,
+    args: &[Expr],
+) -> Result<Elaborated<Value>, AllocError>
+    ensures { IfOk result
+        (λ v. v ≡ constants.called_as least scope.now at callee (map (part least) args.now)) }
+{
+    match callee {
+        Denoted::Standard(standard) => by_sort(alloc, scope, at, standard, args),
+        Denoted::Value(_) => Ok(reported(at, 34)),
+        Denoted::Type(_) => Ok(reported(at, 34)),
+        Denoted::Variable => Ok(reported(at, 34)),
+        Denoted::Procedure => Ok(reported(at, 34)),
+        Denoted::Module(_) => Ok(reported(at, 34)),
+    }
+}
+
+/// A call of a standard procedure in a constant expression.
+#[cycle(body)]
+fn by_sort(
+    alloc: Global,
+    scope: &Scope<Fault>,
+    at: Pos,
+    standard: Standard,
+    args: &[Expr],
+) -> Result<Elaborated<Value>, AllocError>
+    ensures { IfOk result
+        (λ v. v ≡ constants.by_sort least scope.now at standard (map (part least) args.now)
+        (sort_of standard)) }
+{
+    match sort_of(standard) {
+        Sort::Unary => Ok(unary_constant(standard, one(alloc, scope, at, args)?)),
+        Sort::Bound => Ok(bound_of(standard, type_only(alloc, scope, at, args)?)),
+        Sort::Conversion => constant_conversion(alloc, scope, at, args),
+        Sort::Never => Ok(reported(at, 34)),
+    }
+}
+
+/// The one argument, with its place.
+#[cycle(body)]
+fn one(
+    alloc: Global,
+    scope: &Scope<Fault>,
+    at: Pos,
+    args: &[Expr],
+) -> Result<Elaborated<(Pos, Value)>, AllocError>
+    ensures { IfOk result (λ x. x ≡ constants.one least scope.now at (map (part least) args.now)) }
+{
+    match args {
+        [] => Ok(reported(at, 42)),
+        [argument] => {
+            let value = constant_of(alloc, scope, argument)?;
+            Ok(value_at(place_of(argument), value))
+        }
+        [_, _, ..] => Ok(reported(at, 42)),
+    }
+}
+
+/// The one argument, which names a scalar type.
+#[cycle(body)]
+fn type_only(
+    alloc: Global,
+    scope: &Scope<Fault>,
+    at: Pos,
+    args: &[Expr],
+) -> Result<Elaborated<(TypeNo, Scalar)>, AllocError>
+    ensures { IfOk result
+        (λ x. x ≡ constants.type_only least scope.now at (map (part least) args.now)) }
+{
+    match args {
+        [] => Ok(reported(at, 42)),
+        [argument] => {
+            let named = type_named(alloc, scope, argument)?;
+            Ok(type_argument(&scope.types, place_of(argument), named))
+        }
+        [_, _, ..] => Ok(reported(at, 42)),
+    }
+}
+
+/// VAL of a type and a constant.
+#[cycle(body)]
+fn constant_conversion(
+    alloc: Global,
+    scope: &Scope<Fault>,
+    at: Pos,
+    args: &[Expr],
+) -> Result<Elaborated<Value>, AllocError>
+    ensures { IfOk result
+        (λ v. v ≡ constants.conversion least scope.now at (map (part least) args.now)) }
+{
+    match args {
+        [] => Ok(reported(at, 42)),
+        [_] => Ok(reported(at, 42)),
+        [to, argument] => {
+            let named = type_named(alloc, scope, to)?;
+            let t = type_argument(&scope.types, place_of(to), named);
+            let value = constant_of(alloc, scope, argument)?;
+            Ok(converted_by(t, place_of(argument), value))
+        }
+        [_, _, _, ..] => Ok(reported(at, 42)),
+    }
+}
+
+/// Factors of a constant expression, from the left.
+#[cycle(body)]
+fn constant_factors(
+    alloc: Global,
+    scope: &Scope<Fault>,
+    at: Pos,
+    left: Elaborated<Value>,
+    rest: &[(Operator<MulOp>, Expr)],
+) -> Result<Elaborated<Value>, AllocError>
+    ensures { IfOk result (λ v. v ≡ fold (constant_factor_in scope.now at) left rest.now) }
+{
+    let mut value = left;
+    for (operator, factor) in rest {
+        let right = constant_of(alloc, scope, factor)?;
+        let op = mul_op(operator.op);
+        value = combined_constants(op, operator.pos, at, value, place_of(factor), right);
+    }
+    Ok(value)
+}
+
+/// Terms of a constant expression, from the left.
+#[cycle(body)]
+fn constant_terms(
+    alloc: Global,
+    scope: &Scope<Fault>,
+    at: Pos,
+    left: Elaborated<Value>,
+    rest: &[(Operator<AddOp>, Expr)],
+) -> Result<Elaborated<Value>, AllocError>
+    ensures { IfOk result (λ v. v ≡ fold (constant_term_in scope.now at) left rest.now) }
+{
+    let mut value = left;
+    for (operator, term) in rest {
+        let right = constant_of(alloc, scope, term)?;
+        let op = add_op(operator.op);
+        value = combined_constants(op, operator.pos, at, value, place_of(term), right);
+    }
+    Ok(value)
+}
+
+/// The elements in braces.
+#[cycle(body)]
+fn elements(
+    alloc: Global,
+    scope: &Scope<Fault>,
+    items: &[Item],
+) -> Result<Elaborated<u32>, AllocError>
+    ensures { IfOk result (λ b. b ≡ fold (item_in scope.now) (Ok 0) items.now) }
+{
+    let mut bits = Ok(0);
+    for item in items {
+        let more = added(alloc, scope, item)?;
+        bits = joined_bits(bits, more);
+    }
+    Ok(bits)
+}
+
+/// One element or a range of elements.
+#[cycle(body)]
+#[tactic(auto, using(crate::proofs::Variants::adds_is))]
+fn added(alloc: Global, scope: &Scope<Fault>, element: &Item) -> Result<Elaborated<u32>, AllocError>
+    ensures { IfOk result (λ b. b ≡ item least element.now scope.now) }
+{
+    match &element.high {
+        None => {
+            let value = constant_of(alloc, scope, &element.low)?;
+            Ok(single_of(place_of(&element.low), value))
+        }
+        Some(high) => {
+            let low = constant_of(alloc, scope, &element.low)?;
+            let last = constant_of(alloc, scope, high)?;
+            let at = place_of(&element.low);
+            let high_at = place_of(high);
+            Ok(spanned(at, element_of(at, low), high_at, element_of(high_at, last)))
+        }
+    }
+}

@@ -1,0 +1,323 @@
+//! Calls as statements.
+
+ghost use Rattle.std.specs.Prelude.{◌≡◌, IfOk, map};
+ghost use Rattle.check_scope.specs.Elaborated.{least, ◌▷◌};
+ghost use Rattle.check_call.specs.Effects.{amount, change_by, element, membership_of};
+ghost use Rattle.check_expr.specs.Meanings.{meant, head, value_of, miscounted};
+ghost use Rattle.check_expr.specs.Effects.{call_done, routine_done, changed_in, changed_by, set_in, member_by, halted, put_by, function_done, standard_done, done_as, done_by};
+
+use crate::body::{actuals, designated, looked_at, stands_for, value_of};
+use crate::pieces::{first_of, formals_of, place_of};
+use check_call::{
+    Called, Callee, amount, call_by, callee_of, change_by, changed, element, membership_of,
+    proper_of, put, set_variable,
+};
+use check_operator::signature_of;
+use check_scope::{Elaborated, Fault, Scope, of_heading, of_sort, refusal_beside, reported_beside};
+use m2_tree::{Designator, Expr, Items, Pos};
+use std::alloc::{AllocError, Global};
+use typed_tree::{
+    Argument, CARDINAL, Change, Membership, Place, Standard, TypeNo, TypedExpr, TypedStmt,
+};
+
+fn call_done(callee: Callee, arguments: Elaborated<Items<Argument>>) -> Elaborated<TypedStmt>
+    ensures { result ≡ call_done callee arguments }
+{
+    match arguments {
+        Err(fault) => Err(fault),
+        Ok(arguments) => Ok(TypedStmt::Call(call_by(callee, arguments))),
+    }
+}
+
+/// A call of a procedure with this heading.
+#[tactic(auto, using(crate::proofs::Variants::actuals_is, crate::proofs::Variants::count_is))]
+fn routine_done(
+    alloc: Global,
+    scope: &Scope<Fault>,
+    at: Pos,
+    heading: TypeNo,
+    callee: Callee,
+    args: &[Expr],
+) -> Result<Elaborated<TypedStmt>, AllocError>
+    ensures { IfOk result
+        (λ j. j ≡ routine_done least scope.now at heading callee (map (meant least) args.now)) }
+{
+    let signature = signature_of(&scope.types, heading);
+    match proper_of(at, signature, args.len()) {
+        Err(fault) => {
+            let rest = looked_at(alloc, scope, args)?;
+            Ok(refusal_beside(fault, rest))
+        }
+        Ok(()) => {
+            let arguments = actuals(alloc, scope, formals_of(signature), args)?;
+            Ok(call_done(callee, arguments))
+        }
+    }
+}
+
+/// A wrong number of arguments, beside what is broken in them.
+fn miscounted(
+    alloc: Global,
+    scope: &Scope<Fault>,
+    at: Pos,
+    args: &[Expr],
+) -> Result<Elaborated<TypedStmt>, AllocError>
+    ensures { IfOk result (λ j. j ≡ miscounted least scope.now at (map (meant least) args.now)) }
+{
+    let rest = looked_at(alloc, scope, args)?;
+    Ok(reported_beside(at, 42, rest))
+}
+
+/// The variable of INC or DEC.
+fn changed_at(
+    alloc: Global,
+    scope: &Scope<Fault>,
+    arg: &Expr,
+) -> Result<Elaborated<(TypeNo, Place)>, AllocError>
+    ensures { IfOk result
+        (λ j. j ≡ changed_in least scope.now (meant least arg.now)) }
+{
+    let at = place_of(arg);
+    match of_sort(at, 44, stands_for(alloc, scope, arg)?) {
+        Err(fault) => Ok(Err(fault)),
+        Ok(designated) => Ok(changed(&scope.types, at, designated)),
+    }
+}
+
+/// The amount of INC or DEC.
+fn amount_at(
+    alloc: Global,
+    scope: &Scope<Fault>,
+    arg: &Expr,
+) -> Result<Elaborated<TypedExpr>, AllocError>
+    ensures { IfOk result
+        (λ j. j ≡ (value_of least scope.now (meant least arg.now)
+        ▷ amount least (meant least arg.now).fixed.at)) }
+{
+    match value_of(alloc, scope, arg)? {
+        Err(fault) => Ok(Err(fault)),
+        Ok(value) => Ok(amount(place_of(arg), value)),
+    }
+}
+
+/// INC and DEC by an amount.
+fn changed_by_amount(
+    alloc: Global,
+    scope: &Scope<Fault>,
+    change: Change,
+    variable: &Expr,
+    by: &Expr,
+) -> Result<Elaborated<TypedStmt>, AllocError>
+    ensures { IfOk result
+        (λ j. j ≡ change_by least change (changed_in least scope.now (meant least variable.now))
+        (value_of least scope.now (meant least by.now) ▷ amount least (meant least by.now).fixed.at)) }
+{
+    let place = changed_at(alloc, scope, variable)?;
+    let amount = amount_at(alloc, scope, by)?;
+    Ok(change_by(change, place, amount))
+}
+
+/// INC and DEC.
+fn changed_by(
+    alloc: Global,
+    scope: &Scope<Fault>,
+    at: Pos,
+    change: Change,
+    args: &[Expr],
+) -> Result<Elaborated<TypedStmt>, AllocError>
+    ensures { IfOk result
+        (λ j. j ≡ changed_by least scope.now at change (map (meant least) args.now)) }
+{
+    match args {
+        [] => miscounted(alloc, scope, at, args),
+        [variable] => {
+            let variable = changed_at(alloc, scope, variable)?;
+            Ok(change_by(change, variable, Ok(TypedExpr::Constant(CARDINAL, 1))))
+        }
+        [variable, by] => changed_by_amount(alloc, scope, change, variable, by),
+        [_, _, _, ..] => miscounted(alloc, scope, at, args),
+    }
+}
+
+/// The set of INCL or EXCL.
+fn set_at(alloc: Global, scope: &Scope<Fault>, arg: &Expr) -> Result<Elaborated<Place>, AllocError>
+    ensures { IfOk result
+        (λ j. j ≡ set_in least scope.now (meant least arg.now)) }
+{
+    let at = place_of(arg);
+    match of_sort(at, 44, stands_for(alloc, scope, arg)?) {
+        Err(fault) => Ok(Err(fault)),
+        Ok(designated) => Ok(set_variable(&scope.types, at, designated)),
+    }
+}
+
+/// The element of INCL or EXCL.
+fn element_at(
+    alloc: Global,
+    scope: &Scope<Fault>,
+    arg: &Expr,
+) -> Result<Elaborated<TypedExpr>, AllocError>
+    ensures { IfOk result
+        (λ j. j ≡ (value_of least scope.now (meant least arg.now)
+        ▷ element least (meant least arg.now).fixed.at)) }
+{
+    match value_of(alloc, scope, arg)? {
+        Err(fault) => Ok(Err(fault)),
+        Ok(value) => Ok(element(place_of(arg), value)),
+    }
+}
+
+/// INCL and EXCL of an element.
+fn member_of(
+    alloc: Global,
+    scope: &Scope<Fault>,
+    membership: Membership,
+    set: &Expr,
+    arg: &Expr,
+) -> Result<Elaborated<TypedStmt>, AllocError>
+    ensures { IfOk result
+        (λ j. j ≡ membership_of least membership (set_in least scope.now (meant least set.now))
+        (value_of least scope.now (meant least arg.now)
+        ▷ element least (meant least arg.now).fixed.at)) }
+{
+    let place = set_at(alloc, scope, set)?;
+    let element = element_at(alloc, scope, arg)?;
+    Ok(membership_of(membership, place, element))
+}
+
+/// INCL and EXCL.
+fn member_by(
+    alloc: Global,
+    scope: &Scope<Fault>,
+    at: Pos,
+    membership: Membership,
+    args: &[Expr],
+) -> Result<Elaborated<TypedStmt>, AllocError>
+    ensures { IfOk result
+        (λ j. j ≡ member_by least scope.now at membership (map (meant least) args.now)) }
+{
+    match args {
+        [] => miscounted(alloc, scope, at, args),
+        [_] => miscounted(alloc, scope, at, args),
+        [set, arg] => member_of(alloc, scope, membership, set, arg),
+        [_, _, _, ..] => miscounted(alloc, scope, at, args),
+    }
+}
+
+fn halted(
+    alloc: Global,
+    scope: &Scope<Fault>,
+    at: Pos,
+    args: &[Expr],
+) -> Result<Elaborated<TypedStmt>, AllocError>
+    ensures { IfOk result (λ j. j ≡ halted least scope.now at (map (meant least) args.now)) }
+{
+    match args {
+        [] => Ok(Ok(TypedStmt::Halt)),
+        [_, ..] => miscounted(alloc, scope, at, args),
+    }
+}
+
+/// A function is no statement.
+fn function_done(
+    alloc: Global,
+    scope: &Scope<Fault>,
+    at: Pos,
+    args: &[Expr],
+) -> Result<Elaborated<TypedStmt>, AllocError>
+    ensures { IfOk result (λ j. j ≡ function_done least scope.now at (map (meant least) args.now)) }
+{
+    let rest = looked_at(alloc, scope, args)?;
+    Ok(reported_beside(at, 40, rest))
+}
+
+/// `Console.Put`.
+fn put_by(
+    alloc: Global,
+    scope: &Scope<Fault>,
+    at: Pos,
+    args: &[Expr],
+) -> Result<Elaborated<TypedStmt>, AllocError>
+    ensures { IfOk result (λ j. j ≡ put_by least scope.now at (map (meant least) args.now)) }
+{
+    match args {
+        [] => miscounted(alloc, scope, at, args),
+        [arg] => match value_of(alloc, scope, arg)? {
+            Err(fault) => Ok(Err(fault)),
+            Ok(value) => Ok(put(&scope.types, place_of(arg), value)),
+        },
+        [_, _, ..] => miscounted(alloc, scope, at, args),
+    }
+}
+
+/// A call of a standard procedure.
+fn standard_done(
+    alloc: Global,
+    scope: &Scope<Fault>,
+    at: Pos,
+    args: &[Expr],
+    standard: Standard,
+) -> Result<Elaborated<TypedStmt>, AllocError>
+    ensures { IfOk result
+        (λ j. j ≡ standard_done least scope.now at (map (meant least) args.now) standard) }
+{
+    match standard {
+        Standard::Inc => changed_by(alloc, scope, at, Change::Increase, args),
+        Standard::Dec => changed_by(alloc, scope, at, Change::Decrease, args),
+        Standard::Incl => member_by(alloc, scope, at, Membership::Include, args),
+        Standard::Excl => member_by(alloc, scope, at, Membership::Exclude, args),
+        Standard::Halt => halted(alloc, scope, at, args),
+        Standard::Put => put_by(alloc, scope, at, args),
+        Standard::Abs
+        | Standard::Cap
+        | Standard::Chr
+        | Standard::High
+        | Standard::Max
+        | Standard::Min
+        | Standard::Odd
+        | Standard::Ord
+        | Standard::Val => function_done(alloc, scope, at, args),
+    }
+}
+
+fn done_as(
+    alloc: Global,
+    scope: &Scope<Fault>,
+    at: Pos,
+    args: &[Expr],
+    called: Called,
+) -> Result<Elaborated<TypedStmt>, AllocError>
+    ensures { IfOk result (λ j. j ≡ done_as least scope.now at (map (meant least) args.now) called) }
+{
+    match called {
+        Called::Routine(heading, callee) => {
+            routine_done(alloc, scope, at, heading, callee, args)
+        }
+        Called::Standard(standard) => standard_done(alloc, scope, at, args, standard),
+    }
+}
+
+/// A call of a designator as a statement. What is no procedure, and a function, are 40 at the designator, a wrong number
+/// of arguments is 42 there; each argument is elaborated for itself.
+pub fn done_by(
+    alloc: Global,
+    scope: &Scope<Fault>,
+    designator: &Designator,
+    args: &[Expr],
+) -> Result<Elaborated<TypedStmt>, AllocError>
+    ensures { IfOk result
+        (λ j. j ≡ done_by least scope.now (head least designator.now) (map (meant least) args.now)) }
+{
+    let at = first_of(designator);
+    let called = match of_heading(designated(alloc, scope, designator)?) {
+        Err(fault) => Err(fault),
+        Ok(designated) => callee_of(&scope.types, at, designated),
+    };
+    match called {
+        Err(fault) => {
+            let rest = looked_at(alloc, scope, args)?;
+            Ok(refusal_beside(fault, rest))
+        }
+        Ok(called) => done_as(alloc, scope, at, args, called),
+    }
+}

@@ -1,0 +1,355 @@
+//! One step each, of parts that are known.
+
+ghost use Rattle.std.specs.Prelude.{◌≡◌, IfOk, Ok};
+ghost use Rattle.std.specs.Option.{option_copied};
+ghost use Rattle.check_scope.specs.Elaborated.{least, of_sort, of_heading, ◌▷◌};
+ghost use Rattle.check_const.specs.Parts as constants;
+ghost use Rattle.check_call.specs.Functions.{type_named, high_of, unary_at};
+ghost use Rattle.check_expr.specs.Meanings.{part, meant, head, of_computed, taken_at, signed_first, related, named, member_of, field_of, field_at, index_at, formals_of, passed_for, argument_by, call_given, type_in, type_of};
+
+use check_call::{Callee, Unary, actual, call_by, high_of, type_named, unary_at};
+use check_const::{Denoted, member, set_place, sign_place};
+use check_const_ops::BinaryOp;
+use check_operator::{
+    Computed, Designated, combined, designated_by, field, given, indexed, indices, signed, taken,
+};
+use check_scope::{
+    Elaborated, Fault, Scope, Sought, looked_up, of_heading, of_sort, plain, reported,
+};
+use m2_tree::{Boxed, Designator, Expr, Ident, Items, Operator, Pos, RelOp, Sign};
+use std::alloc::{AllocError, Global};
+use typed_tree::{Argument, Formal, Scalar, Signature, Standard, TypeNo, TypedExpr, Types, Value};
+
+/// The place of an expression's first token.
+#[tactic(auto, using(crate::proofs::Variants::places))]
+pub fn place_of(e: &Expr) -> Pos
+    ensures { result ≡ (part least e.now).at }
+{
+    match e {
+        Expr::Number(at, _) => *at,
+        Expr::Char(at, _) => *at,
+        Expr::Text(at, _) => *at,
+        Expr::Set(name, at, _) => set_place(name, *at),
+        Expr::Not(at, _) => *at,
+        Expr::Bracketed(at, _) => *at,
+        Expr::Use(designator, _) => first_of(designator),
+        Expr::Term(first, _) => place_of(first.get()),
+        Expr::Sum(sign, first, _) => sign_place(*sign, place_of(first.get())),
+        Expr::Relation(first, _, _) => place_of(first.get()),
+    }
+}
+
+/// The place of a designator's first token.
+#[tactic(auto, using(crate::proofs::Variants::head_at))]
+pub fn first_of(designator: &Designator) -> Pos
+    ensures { result ≡ (head least designator.now).fixed.at }
+{
+    designator.name.pos
+}
+
+/// A value stands for itself.
+pub fn of_computed(value: Elaborated<Computed>) -> Sought<Designated>
+    ensures { result ≡ of_computed value }
+{
+    match value {
+        Err(fault) => plain(Err(fault)),
+        Ok(value) => Ok(Designated::Value(value)),
+    }
+}
+
+/// What stands at a place, taken as a value.
+pub fn taken_at(types: &Types, at: Pos, designated: Sought<Designated>) -> Elaborated<Computed>
+    ensures { result ≡ taken_at least types.now at designated }
+{
+    match of_heading(designated) {
+        Err(fault) => Err(fault),
+        Ok(designated) => taken(types, at, designated),
+    }
+}
+
+/// The first term of a sum with its sign.
+pub fn signed_first(
+    alloc: Global,
+    sign: Option<Operator<Sign>>,
+    value: Elaborated<Computed>,
+) -> Result<Elaborated<Computed>, AllocError>
+    ensures { IfOk result (λ v. v ≡ signed_first least sign value) }
+{
+    match sign {
+        None => Ok(value),
+        Some(operator) => signed(alloc, operator.op, operator.pos, value),
+    }
+}
+
+/// A relation between two expressions that have these values.
+pub fn related(
+    alloc: Global,
+    types: &Types,
+    first: &Expr,
+    left: Elaborated<Computed>,
+    operator: &Operator<RelOp>,
+    second: &Expr,
+    right: Elaborated<Computed>,
+) -> Result<Elaborated<Computed>, AllocError>
+    ensures { IfOk result (λ v. v ≡ related least types.now operator.now
+        (meant least first.now).fixed.at left (meant least second.now).fixed.at right) }
+{
+    let relation = BinaryOp::Relation(operator.op);
+    let at = place_of(first);
+    let other_at = place_of(second);
+    combined(
+        alloc,
+        types,
+        relation,
+        operator.pos,
+        at,
+        left,
+        other_at,
+        right,
+    )
+}
+
+/// What the first name of a designator stands for.
+pub fn named(
+    alloc: Global,
+    scope: &Scope<Fault>,
+    name: &Ident,
+) -> Result<Sought<Designated>, AllocError>
+    ensures { IfOk result (λ d. d ≡ named least scope.now name.now) }
+{
+    match looked_up(scope, name)? {
+        Err(meaningless) => Ok(Err(meaningless)),
+        Ok(meaning) => Ok(plain(designated_by(alloc, scope.level, name.pos, meaning)?)),
+    }
+}
+
+fn member_of(
+    alloc: Global,
+    scope: &Scope<Fault>,
+    place: usize,
+    name: &Ident,
+) -> Result<Elaborated<Designated>, AllocError>
+    ensures { IfOk result (λ d. d ≡ member_of least scope.now place name.now) }
+{
+    match member(scope, place, name)? {
+        Err(fault) => Ok(Err(fault)),
+        Ok(meaning) => designated_by(alloc, scope.level, name.pos, meaning),
+    }
+}
+
+/// A name of a module, or a field of a record, of what stands before it.
+pub fn field_of(
+    alloc: Global,
+    scope: &Scope<Fault>,
+    at: Pos,
+    name: &Ident,
+    from: Designated,
+) -> Result<Elaborated<Designated>, AllocError>
+    ensures { IfOk result (λ d. d ≡ field_of least scope.now at name.now from) }
+{
+    match from {
+        Designated::Module(place) => member_of(alloc, scope, place, name),
+        Designated::Value(value) => { field(&scope.types, at, name, Designated::Value(value)) }
+        Designated::Variable(t, place) => {
+            field(&scope.types, at, name, Designated::Variable(t, place))
+        }
+        Designated::Open(t, slot) => { field(&scope.types, at, name, Designated::Open(t, slot)) }
+        Designated::Type(t) => field(&scope.types, at, name, Designated::Type(t)),
+        Designated::Procedure(procedure) => {
+            field(&scope.types, at, name, Designated::Procedure(procedure))
+        }
+        Designated::Nested(procedure) => {
+            field(&scope.types, at, name, Designated::Nested(procedure))
+        }
+        Designated::Standard(standard) => {
+            field(&scope.types, at, name, Designated::Standard(standard))
+        }
+    }
+}
+
+/// A name of a module, or a field of a record.
+pub fn field_at(
+    alloc: Global,
+    scope: &Scope<Fault>,
+    at: Pos,
+    name: &Ident,
+    from: Sought<Designated>,
+) -> Result<Sought<Designated>, AllocError>
+    ensures { IfOk result (λ d. d ≡ field_at least scope.now at name.now from) }
+{
+    match of_sort(at, 40, from) {
+        Err(fault) => Ok(plain(Err(fault))),
+        Ok(from) => Ok(plain(field_of(alloc, scope, at, name, from)?)),
+    }
+}
+
+/// An element of an array.
+pub fn index_at(
+    alloc: Global,
+    types: &Types,
+    at: Pos,
+    from: Sought<Designated>,
+    other_at: Pos,
+    index: Elaborated<Computed>,
+) -> Result<Sought<Designated>, AllocError>
+    ensures { IfOk result (λ d. d ≡ index_at least types.now at from other_at index) }
+{
+    let array = match of_sort(at, 40, from) {
+        Err(fault) => Err(fault),
+        Ok(from) => indices(types, at, from),
+    };
+    Ok(plain(indexed(alloc, types, array, other_at, index)?))
+}
+
+fn type_in(designated: Designated) -> Option<TypeNo>
+    ensures { result ≡ type_in designated }
+{
+    match designated {
+        Designated::Type(t) => Some(t),
+        Designated::Value(value) => {
+            drop(value);
+            None
+        }
+        Designated::Variable(_, _) => None,
+        Designated::Open(_, _) => None,
+        Designated::Procedure(_) => None,
+        Designated::Nested(_) => None,
+        Designated::Standard(_) => None,
+        Designated::Module(_) => None,
+    }
+}
+
+/// The type that stands at a place, if it is one.
+pub fn type_of(at: Pos, designated: Sought<Designated>) -> Elaborated<Option<TypeNo>>
+    ensures { result ≡ type_of least at designated }
+{
+    match of_sort(at, 33, designated) {
+        Err(fault) => Err(fault),
+        Ok(designated) => Ok(type_in(designated)),
+    }
+}
+
+/// The formals of a procedure.
+pub fn formals_of(signature: Option<&Signature>) -> &[Formal]
+    ensures { result.now ≡ formals_of (option_copied signature.entry) }
+{
+    match signature {
+        None => &[],
+        Some(signature) => signature.formals.as_slice(),
+    }
+}
+
+/// What stands at a place, for a formal. For a VAR formal it counts that a procedure is no variable.
+fn passed_for(formal: Formal, at: Pos, designated: Sought<Designated>) -> Elaborated<Designated>
+    ensures { result ≡ passed_for least formal at designated }
+{
+    if formal.is_var {
+        of_sort(at, 44, designated)
+    } else {
+        of_heading(designated)
+    }
+}
+
+/// An argument at a place, for a formal.
+pub fn argument_by(
+    types: &Types,
+    formal: Option<Formal>,
+    at: Pos,
+    designated: Sought<Designated>,
+) -> Elaborated<Argument>
+    ensures { result ≡ argument_by least types.now formal at designated }
+{
+    match formal {
+        None => reported(at, 42),
+        Some(formal) => match passed_for(formal, at, designated) {
+            Err(fault) => Err(fault),
+            Ok(designated) => actual(types, formal, at, designated),
+        },
+    }
+}
+
+/// What a call of a function gives.
+pub fn call_given(
+    alloc: Global,
+    types: &Types,
+    t: TypeNo,
+    callee: Callee,
+    arguments: Elaborated<Items<Argument>>,
+) -> Result<Elaborated<Computed>, AllocError>
+    ensures { IfOk result (λ v. v ≡ call_given least types.now t callee arguments) }
+{
+    match arguments {
+        Err(fault) => Ok(Err(fault)),
+        Ok(arguments) => {
+            let call = Boxed::new(alloc, call_by(callee, arguments))?;
+            Ok(Ok(given(types, t, TypedExpr::Call(t, call))))
+        }
+    }
+}
+
+/// An argument that names a type.
+pub fn type_at(
+    types: &Types,
+    at: Pos,
+    designated: Sought<Designated>,
+) -> Elaborated<(TypeNo, Scalar)>
+    ensures { result ≡ (of_sort least at 33 designated ▷ type_named least types.now at) }
+{
+    match of_sort(at, 33, designated) {
+        Err(fault) => Err(fault),
+        Ok(designated) => type_named(types, at, designated),
+    }
+}
+
+/// HIGH of an argument.
+pub fn high_at(at: Pos, designated: Sought<Designated>) -> Elaborated<Computed>
+    ensures { result ≡ (of_sort least at 43 designated ▷ high_of least at) }
+{
+    match of_sort(at, 43, designated) {
+        Err(fault) => Err(fault),
+        Ok(designated) => high_of(at, designated),
+    }
+}
+
+/// A standard function of an argument.
+pub fn unary_of(
+    alloc: Global,
+    standard: Standard,
+    function: Unary,
+    at: Pos,
+    value: Elaborated<Computed>,
+) -> Result<Elaborated<Computed>, AllocError>
+    ensures { IfOk result (λ v. v ≡ (value ▷ unary_at least standard function at)) }
+{
+    match value {
+        Err(fault) => Ok(Err(fault)),
+        Ok(value) => unary_at(alloc, standard, function, at, value),
+    }
+}
+
+/// What is broken in what stands at a place.
+pub fn looked(designated: Sought<Designated>) -> Elaborated<()>
+    ensures { result ≡ (of_heading designated ▷ λ d. Ok tt) }
+{
+    match of_heading(designated) {
+        Err(fault) => Err(fault),
+        Ok(designated) => {
+            drop(designated);
+            Ok(())
+        }
+    }
+}
+
+/// A relation between two constant expressions that have these values.
+pub fn related_parts(
+    first: &Expr,
+    left: Elaborated<Value>,
+    operator: &Operator<RelOp>,
+    second: &Expr,
+    right: Elaborated<Value>,
+) -> Elaborated<Denoted>
+    ensures { result ≡ constants.related least operator.now (part least first.now).at left
+        (part least second.now).at right }
+{
+    check_const::related(operator, place_of(first), left, place_of(second), right)
+}

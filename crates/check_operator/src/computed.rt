@@ -1,0 +1,157 @@
+//! What names stand for in bodies, and what is taken as a value.
+
+ghost use Rattle.std.specs.Prelude.{◌≡◌, IfOk};
+ghost use Rattle.check_scope.specs.Elaborated.{least};
+ghost use Rattle.check_operator.specs.Values.{slot_of, local_by, opened_by, nested_by, designated_by, given, loaded, taken};
+
+use crate::class::{Class, class_of};
+use check_scope::{Elaborated, reported};
+use m2_tree::Pos;
+use std::alloc::{AllocError, Global};
+use typed_tree::{
+    Component, LocalKind, LocalProcedure, LocalVariable, Meaning, NestedProcedure, OpenedField,
+    Place, Procedure, Root, Slot, Standard, TypeNo, TypedExpr, Types, Value, behind, rooted,
+};
+
+/// The value of an expression.
+#[derive(Drop)]
+pub enum Computed {
+    Constant(Value),
+    /// A scalar of this type, which computes in this base.
+    Scalar(TypeNo, TypeNo, TypedExpr),
+    /// A BITSET.
+    Set(TypedExpr),
+    /// A value of this procedure type.
+    Routine(TypeNo, TypedExpr),
+    /// A procedure that is named.
+    Procedure(Procedure),
+    /// An array or a record of this type.
+    Whole(TypeNo, Place),
+    /// An open array, which nothing takes as a value.
+    Untaken,
+}
+
+/// What an expression or a designator of a body stands for.
+#[derive(Drop)]
+pub enum Designated {
+    Value(Computed),
+    /// A variable of this type, or a component of one.
+    Variable(TypeNo, Place),
+    /// A formal ARRAY OF these elements.
+    Open(TypeNo, Slot),
+    Type(TypeNo),
+    Procedure(Procedure),
+    Nested(LocalProcedure),
+    Standard(Standard),
+    /// A module, by the place of its table.
+    Module(usize),
+}
+
+/// A local variable, seen from so many procedures deep.
+pub fn slot_of(level: usize, variable: LocalVariable) -> Slot
+    ensures { result ≡ slot_of level variable }
+{
+    Slot {
+        up: level.saturating_sub(variable.level),
+        number: variable.number,
+    }
+}
+
+fn local_by(alloc: Global, level: usize, variable: LocalVariable) -> Designated
+    ensures { result ≡ local_by level variable variable.kind }
+{
+    let slot = slot_of(level, variable);
+    match variable.kind {
+        LocalKind::Variable => Designated::Variable(variable.of, rooted(alloc, Root::Local(slot))),
+        LocalKind::Value => Designated::Variable(variable.of, rooted(alloc, Root::Local(slot))),
+        LocalKind::Alias => Designated::Variable(variable.of, rooted(alloc, Root::Alias(slot))),
+        LocalKind::Open => Designated::Open(variable.of, slot),
+    }
+}
+
+fn opened_by(alloc: Global, field: OpenedField) -> Result<Designated, AllocError>
+    ensures { IfOk result (λ d. d ≡ opened_by field) }
+{
+    let record = rooted(alloc, Root::With(field.with));
+    let place = behind(record, Component::Field(field.whole, field.number))?;
+    Ok(Designated::Variable(field.of, place))
+}
+
+fn nested_by(level: usize, procedure: NestedProcedure) -> LocalProcedure
+    ensures { result ≡ nested_by level procedure }
+{
+    LocalProcedure {
+        up: level.saturating_sub(procedure.level),
+        number: procedure.number,
+        heading: procedure.heading,
+    }
+}
+
+/// What a name stands for, so many procedures deep. A procedure whose heading was not met yet is not declared yet: 30.
+pub fn designated_by(
+    alloc: Global,
+    level: usize,
+    at: Pos,
+    meaning: Meaning,
+) -> Result<Elaborated<Designated>, AllocError>
+    ensures { IfOk result (λ d. d ≡ designated_by least level at meaning) }
+{
+    match meaning {
+        Meaning::Constant(value) => Ok(Ok(Designated::Value(Computed::Constant(value)))),
+        Meaning::Type(t, _) => Ok(Ok(Designated::Type(t))),
+        Meaning::Variable(variable) => {
+            let place = rooted(alloc, Root::Global(variable));
+            Ok(Ok(Designated::Variable(variable.of, place)))
+        }
+        Meaning::Local(variable) => Ok(Ok(local_by(alloc, level, variable))),
+        Meaning::Field(field) => Ok(Ok(opened_by(alloc, field)?)),
+        Meaning::Procedure(procedure) => Ok(Ok(Designated::Procedure(procedure))),
+        Meaning::LocalProcedure(procedure) => {
+            Ok(Ok(Designated::Nested(nested_by(level, procedure))))
+        }
+        Meaning::Ahead => Ok(reported(at, 30)),
+        Meaning::Standard(standard) => Ok(Ok(Designated::Standard(standard))),
+        Meaning::Module(place) => Ok(Ok(Designated::Module(place))),
+    }
+}
+
+/// What a function of this result type gives.
+pub fn given(types: &Types, t: TypeNo, e: TypedExpr) -> Computed
+    ensures { result ≡ given types.now t e }
+{
+    match class_of(types, t) {
+        Class::Scalar(scalar) => Computed::Scalar(t, scalar.base, e),
+        Class::Set => Computed::Set(e),
+        Class::Procedure => Computed::Routine(t, e),
+        Class::Whole => Computed::Untaken,
+    }
+}
+
+/// What a variable of this type holds.
+pub fn loaded(types: &Types, t: TypeNo, place: Place) -> Computed
+    ensures { result ≡ loaded types.now t place }
+{
+    match class_of(types, t) {
+        Class::Scalar(scalar) => Computed::Scalar(t, scalar.base, TypedExpr::Load(t, place)),
+        Class::Set => Computed::Set(TypedExpr::Load(t, place)),
+        Class::Procedure => Computed::Routine(t, TypedExpr::Load(t, place)),
+        Class::Whole => Computed::Whole(t, place),
+    }
+}
+
+/// What stands at a place, taken as a value. A type and a module are none: 40. A standard procedure and a procedure
+/// of a procedure are none: 53.
+pub fn taken(types: &Types, at: Pos, designated: Designated) -> Elaborated<Computed>
+    ensures { result ≡ taken least types.now at designated }
+{
+    match designated {
+        Designated::Value(value) => Ok(value),
+        Designated::Variable(t, place) => Ok(loaded(types, t, place)),
+        Designated::Open(_, _) => Ok(Computed::Untaken),
+        Designated::Type(_) => reported(at, 40),
+        Designated::Procedure(procedure) => Ok(Computed::Procedure(procedure)),
+        Designated::Nested(_) => reported(at, 53),
+        Designated::Standard(_) => reported(at, 53),
+        Designated::Module(_) => reported(at, 40),
+    }
+}

@@ -1,0 +1,511 @@
+//! What operators make of values.
+
+ghost use Rattle.std.specs.Prelude.{◌≡◌, Ok, IfOk};
+ghost use Rattle.check_scope.specs.Elaborated.{least, ◌▷◌};
+ghost use Rattle.check_const_ops.specs.Common.{common};
+ghost use Rattle.check_operator.specs.Sides.{sort_of};
+ghost use Rattle.check_operator.specs.Operations.{relation_step, step_of, relation_set_step, set_step_of, equality_of, is_in, built, fitting_of, divisor_of, fitting_both, stepped, on_amounts, element_fits, member, set_built, on_sets, on_procedures, with_scalar, set_in, with_set, partner_of, routine_of, with_partner, between, folded, by_known, operated, combined};
+
+use crate::agree::headings_agree;
+use crate::computed::Computed;
+use crate::pieces::{boxed, of_value, truth_of};
+use crate::side::{Amount, Side, known_of, or_cardinal, run_of, side_of, sort_of};
+use check_const_ops::{BinaryOp, Operand, binary, common, divisor, fitting, is_number, takes};
+use check_scope::{Elaborated, beside, both, reported};
+use m2_tree::{Pos, RelOp};
+use std::alloc::{AllocError, Global};
+use typed_tree::{
+    Arithmetic, Comparison, Inclusion, Link, Procedure, SetOperator, TypeNo, TypedExpr, Types,
+    are_same, linked,
+};
+
+/// What an operator does with scalars.
+#[derive(Clone, Copy)]
+pub enum Step {
+    Arithmetic(Arithmetic),
+    And,
+    Or,
+    Compare(Comparison),
+}
+
+/// What an operator does with sets.
+#[derive(Clone, Copy)]
+pub enum SetStep {
+    Combine(SetOperator),
+    Compare(Comparison),
+    Include(Inclusion),
+}
+
+fn relation_step(relation: RelOp) -> Option<Step>
+    ensures { result ≡ relation_step relation }
+{
+    match relation {
+        RelOp::Equal => Some(Step::Compare(Comparison::Equal)),
+        RelOp::Unequal => Some(Step::Compare(Comparison::Unequal)),
+        RelOp::Less => Some(Step::Compare(Comparison::Less)),
+        RelOp::AtMost => Some(Step::Compare(Comparison::AtMost)),
+        RelOp::Greater => Some(Step::Compare(Comparison::Greater)),
+        RelOp::AtLeast => Some(Step::Compare(Comparison::AtLeast)),
+        RelOp::In => None,
+    }
+}
+
+fn step_of(op: BinaryOp) -> Option<Step>
+    ensures { result ≡ step_of op }
+{
+    match op {
+        BinaryOp::Plus => Some(Step::Arithmetic(Arithmetic::Add)),
+        BinaryOp::Minus => Some(Step::Arithmetic(Arithmetic::Subtract)),
+        BinaryOp::Times => Some(Step::Arithmetic(Arithmetic::Multiply)),
+        BinaryOp::Over => None,
+        BinaryOp::Div => Some(Step::Arithmetic(Arithmetic::Divide)),
+        BinaryOp::Mod => Some(Step::Arithmetic(Arithmetic::Remainder)),
+        BinaryOp::And => Some(Step::And),
+        BinaryOp::Or => Some(Step::Or),
+        BinaryOp::Relation(relation) => relation_step(relation),
+    }
+}
+
+fn relation_set_step(relation: RelOp) -> Option<SetStep>
+    ensures { result ≡ relation_set_step relation }
+{
+    match relation {
+        RelOp::Equal => Some(SetStep::Compare(Comparison::Equal)),
+        RelOp::Unequal => Some(SetStep::Compare(Comparison::Unequal)),
+        RelOp::AtMost => Some(SetStep::Include(Inclusion::Within)),
+        RelOp::AtLeast => Some(SetStep::Include(Inclusion::Around)),
+        RelOp::Less | RelOp::Greater | RelOp::In => None,
+    }
+}
+
+fn set_step_of(op: BinaryOp) -> Option<SetStep>
+    ensures { result ≡ set_step_of op }
+{
+    match op {
+        BinaryOp::Plus => Some(SetStep::Combine(SetOperator::Union)),
+        BinaryOp::Minus => Some(SetStep::Combine(SetOperator::Difference)),
+        BinaryOp::Times => Some(SetStep::Combine(SetOperator::Intersection)),
+        BinaryOp::Over => Some(SetStep::Combine(SetOperator::SymmetricDifference)),
+        BinaryOp::Div | BinaryOp::Mod | BinaryOp::And | BinaryOp::Or => None,
+        BinaryOp::Relation(relation) => relation_set_step(relation),
+    }
+}
+
+/// The relation that an operator is, if procedures have it.
+fn equality_of(op: BinaryOp) -> Option<Comparison>
+    ensures { result ≡ equality_of op }
+{
+    match op {
+        BinaryOp::Relation(RelOp::Equal) => Some(Comparison::Equal),
+        BinaryOp::Relation(RelOp::Unequal) => Some(Comparison::Unequal),
+        BinaryOp::Relation(_)
+        | BinaryOp::Plus
+        | BinaryOp::Minus
+        | BinaryOp::Times
+        | BinaryOp::Over
+        | BinaryOp::Div
+        | BinaryOp::Mod
+        | BinaryOp::And
+        | BinaryOp::Or => None,
+    }
+}
+
+fn is_in(op: BinaryOp) -> bool
+    ensures { result ≡ is_in op }
+{
+    match op {
+        BinaryOp::Relation(RelOp::In) => true,
+        BinaryOp::Relation(_)
+        | BinaryOp::Plus
+        | BinaryOp::Minus
+        | BinaryOp::Times
+        | BinaryOp::Over
+        | BinaryOp::Div
+        | BinaryOp::Mod
+        | BinaryOp::And
+        | BinaryOp::Or => false,
+    }
+}
+
+/// The result of a step on two scalars of this base type.
+fn built(
+    alloc: Global,
+    step: Step,
+    t: TypeNo,
+    x: TypedExpr,
+    y: TypedExpr,
+) -> Result<Computed, AllocError>
+    ensures { IfOk result (λ v. v ≡ built t x y step) }
+{
+    match step {
+        Step::Arithmetic(arithmetic) => {
+            let e = linked(alloc, x, Link::Arithmetic(arithmetic, t, y))?;
+            Ok(Computed::Scalar(t, t, e))
+        }
+        Step::And => Ok(truth_of(linked(alloc, x, Link::And(y))?)),
+        Step::Or => Ok(truth_of(linked(alloc, x, Link::Or(y))?)),
+        Step::Compare(comparison) => {
+            let (first, second) = boxed(alloc, x, y)?;
+            Ok(truth_of(TypedExpr::Compare(comparison, first, second)))
+        }
+    }
+}
+
+fn fitting_of(sort: Option<TypeNo>, at: Pos, a: &Amount) -> Elaborated<()>
+    ensures { result ≡ fitting_of least sort at a.now }
+{
+    match a {
+        Amount::Known(a) => fitting(sort, at, *a),
+        Amount::Run(_, _) => Ok(()),
+    }
+}
+
+fn divisor_of(op: BinaryOp, spot: Pos, b: &Amount) -> Elaborated<()>
+    ensures { result ≡ divisor_of least op spot b.now }
+{
+    match b {
+        Amount::Known(b) => divisor(op, spot, b.number),
+        Amount::Run(_, _) => Ok(()),
+    }
+}
+
+fn fitting_both(
+    op: BinaryOp,
+    spot: Pos,
+    sort: Option<TypeNo>,
+    at: Pos,
+    a: &Amount,
+    other_at: Pos,
+    b: &Amount,
+) -> Elaborated<()>
+    ensures { result ≡ fitting_both least op spot sort at a.now other_at b.now }
+{
+    if !takes(op, sort) {
+        return reported(spot, 40);
+    }
+    let fit = beside(fitting_of(sort, at, a), fitting_of(sort, other_at, b));
+    beside(divisor_of(op, spot, b), fit)
+}
+
+fn stepped(
+    alloc: Global,
+    spot: Pos,
+    sort: Option<TypeNo>,
+    a: Amount,
+    b: Amount,
+    step: Option<Step>,
+) -> Result<Elaborated<Computed>, AllocError>
+    ensures { IfOk result (λ v. v ≡ stepped least spot sort a b step) }
+{
+    match step {
+        None => Ok(reported(spot, 40)),
+        Some(step) => {
+            let t = or_cardinal(sort);
+            Ok(Ok(built(alloc, step, t, run_of(t, a), run_of(t, b))?))
+        }
+    }
+}
+
+/// An operator between two scalars.
+fn on_amounts(
+    alloc: Global,
+    op: BinaryOp,
+    spot: Pos,
+    at: Pos,
+    a: Amount,
+    other_at: Pos,
+    b: Amount,
+) -> Result<Elaborated<Computed>, AllocError>
+    ensures { IfOk result
+        (λ v. v ≡ on_amounts least op spot at a other_at b (common (sort_of a) (sort_of b))) }
+{
+    match common(sort_of(&a), sort_of(&b)) {
+        None => Ok(reported(spot, 40)),
+        Some(sort) => match fitting_both(op, spot, sort, at, &a, other_at, &b) {
+            Err(fault) => Ok(Err(fault)),
+            Ok(()) => stepped(alloc, spot, sort, a, b, step_of(op)),
+        },
+    }
+}
+
+/// The rule that a constant element is from 0 to 31.
+pub fn element_fits(at: Pos, a: &Amount) -> Elaborated<()>
+    ensures { result ≡ element_fits least at a.now }
+{
+    match a {
+        Amount::Known(a) => {
+            if !(0 <= a.number && a.number <= 31) {
+                return reported(at, 52);
+            }
+            Ok(())
+        }
+        Amount::Run(_, _) => Ok(()),
+    }
+}
+
+/// IN between a scalar and a set.
+fn member(
+    alloc: Global,
+    op: BinaryOp,
+    spot: Pos,
+    at: Pos,
+    a: Amount,
+    set: TypedExpr,
+) -> Result<Elaborated<Computed>, AllocError>
+    ensures { IfOk result (λ v. v ≡ member least op spot at a set) }
+{
+    let sort = sort_of(&a);
+    if !(is_in(op) && is_number(sort)) {
+        return Ok(reported(spot, 40));
+    }
+    match element_fits(at, &a) {
+        Err(fault) => Ok(Err(fault)),
+        Ok(()) => {
+            let (element, whole) = boxed(alloc, run_of(or_cardinal(sort), a), set)?;
+            Ok(Ok(truth_of(TypedExpr::In(element, whole))))
+        }
+    }
+}
+
+fn set_built(
+    alloc: Global,
+    step: SetStep,
+    x: TypedExpr,
+    y: TypedExpr,
+) -> Result<Computed, AllocError>
+    ensures { IfOk result (λ v. v ≡ set_built x y step) }
+{
+    match step {
+        SetStep::Combine(operator) => {
+            Ok(Computed::Set(linked(alloc, x, Link::Combine(operator, y))?))
+        }
+        SetStep::Compare(comparison) => {
+            let (first, second) = boxed(alloc, x, y)?;
+            Ok(truth_of(TypedExpr::Compare(comparison, first, second)))
+        }
+        SetStep::Include(inclusion) => {
+            let (first, second) = boxed(alloc, x, y)?;
+            Ok(truth_of(TypedExpr::Include(inclusion, first, second)))
+        }
+    }
+}
+
+/// An operator between two sets.
+fn on_sets(
+    alloc: Global,
+    spot: Pos,
+    x: TypedExpr,
+    y: TypedExpr,
+    step: Option<SetStep>,
+) -> Result<Elaborated<Computed>, AllocError>
+    ensures { IfOk result (λ v. v ≡ on_sets least spot x y step) }
+{
+    match step {
+        None => Ok(reported(spot, 40)),
+        Some(step) => Ok(Ok(set_built(alloc, step, x, y)?)),
+    }
+}
+
+/// An operator between two values of procedure types, of which it is known whether they go together.
+fn on_procedures(
+    alloc: Global,
+    spot: Pos,
+    fit: bool,
+    x: TypedExpr,
+    y: TypedExpr,
+    comparison: Option<Comparison>,
+) -> Result<Elaborated<Computed>, AllocError>
+    ensures { IfOk result (λ v. v ≡ on_procedures least spot fit x y comparison) }
+{
+    match comparison {
+        None => Ok(reported(spot, 40)),
+        Some(comparison) => {
+            if !fit {
+                return Ok(reported(spot, 40));
+            }
+            let (first, second) = boxed(alloc, x, y)?;
+            Ok(Ok(truth_of(TypedExpr::Compare(comparison, first, second))))
+        }
+    }
+}
+
+fn with_scalar(
+    alloc: Global,
+    op: BinaryOp,
+    spot: Pos,
+    at: Pos,
+    a: Amount,
+    other_at: Pos,
+    y: Option<Side>,
+) -> Result<Elaborated<Computed>, AllocError>
+    ensures { IfOk result (λ v. v ≡ with_scalar least op spot at a other_at y) }
+{
+    match y {
+        None => Ok(reported(spot, 40)),
+        Some(Side::Scalar(b)) => on_amounts(alloc, op, spot, at, a, other_at, b),
+        Some(Side::Set(set)) => member(alloc, op, spot, at, a, set),
+        Some(Side::Routine(_, _)) => Ok(reported(spot, 40)),
+        Some(Side::Procedure(_)) => Ok(reported(spot, 40)),
+    }
+}
+
+/// A set, if the value is one.
+fn set_in(y: Option<Side>) -> Option<TypedExpr>
+    ensures { result ≡ set_in y }
+{
+    match y {
+        None => None,
+        Some(Side::Scalar(_)) => None,
+        Some(Side::Set(set)) => Some(set),
+        Some(Side::Routine(_, _)) => None,
+        Some(Side::Procedure(_)) => None,
+    }
+}
+
+fn with_set(
+    alloc: Global,
+    op: BinaryOp,
+    spot: Pos,
+    x: TypedExpr,
+    y: Option<TypedExpr>,
+) -> Result<Elaborated<Computed>, AllocError>
+    ensures { IfOk result (λ v. v ≡ with_set least op spot x y) }
+{
+    match y {
+        None => Ok(reported(spot, 40)),
+        Some(set) => on_sets(alloc, spot, x, set, set_step_of(op)),
+    }
+}
+
+/// What stands beside a value of this procedure type, and whether the two go together.
+fn partner_of(types: &Types, t: TypeNo, y: Option<Side>) -> Option<(bool, TypedExpr)>
+    ensures { result ≡ partner_of types.now t y }
+{
+    match y {
+        None => None,
+        Some(Side::Scalar(_)) => None,
+        Some(Side::Set(_)) => None,
+        Some(Side::Routine(u, e)) => Some((are_same(t, u), e)),
+        Some(Side::Procedure(procedure)) => Some((
+            headings_agree(types, t, procedure.heading),
+            TypedExpr::Procedure(procedure),
+        )),
+    }
+}
+
+/// What stands beside a procedure that is named, and whether the two go together.
+fn routine_of(types: &Types, procedure: Procedure, y: Option<Side>) -> Option<(bool, TypedExpr)>
+    ensures { result ≡ routine_of types.now procedure y }
+{
+    match y {
+        None => None,
+        Some(Side::Scalar(_)) => None,
+        Some(Side::Set(_)) => None,
+        Some(Side::Routine(t, e)) => Some((headings_agree(types, t, procedure.heading), e)),
+        Some(Side::Procedure(_)) => None,
+    }
+}
+
+fn with_partner(
+    alloc: Global,
+    spot: Pos,
+    x: TypedExpr,
+    comparison: Option<Comparison>,
+    partner: Option<(bool, TypedExpr)>,
+) -> Result<Elaborated<Computed>, AllocError>
+    ensures { IfOk result (λ v. v ≡ with_partner least spot x comparison partner) }
+{
+    match partner {
+        None => Ok(reported(spot, 40)),
+        Some((fit, y)) => on_procedures(alloc, spot, fit, x, y, comparison),
+    }
+}
+
+/// An operator between two values, of which one is no constant.
+fn between(
+    alloc: Global,
+    types: &Types,
+    op: BinaryOp,
+    spot: Pos,
+    at: Pos,
+    x: Option<Side>,
+    other_at: Pos,
+    y: Option<Side>,
+) -> Result<Elaborated<Computed>, AllocError>
+    ensures { IfOk result (λ v. v ≡ between least types.now op spot at x other_at y) }
+{
+    match x {
+        None => Ok(reported(spot, 40)),
+        Some(Side::Scalar(a)) => with_scalar(alloc, op, spot, at, a, other_at, y),
+        Some(Side::Set(e)) => with_set(alloc, op, spot, e, set_in(y)),
+        Some(Side::Routine(t, e)) => {
+            with_partner(alloc, spot, e, equality_of(op), partner_of(types, t, y))
+        }
+        Some(Side::Procedure(procedure)) => {
+            let e = TypedExpr::Procedure(procedure);
+            with_partner(
+                alloc,
+                spot,
+                e,
+                equality_of(op),
+                routine_of(types, procedure, y),
+            )
+        }
+    }
+}
+
+fn folded(
+    op: BinaryOp,
+    spot: Pos,
+    at: Pos,
+    a: Operand,
+    other_at: Pos,
+    b: Operand,
+) -> Elaborated<Computed>
+    ensures { result ≡ folded least op spot at a other_at b }
+{
+    of_value(binary(op, spot, at, Some(a), other_at, Some(b)))
+}
+
+/// An operator at a place, between two values at theirs.
+fn operated(
+    alloc: Global,
+    types: &Types,
+    op: BinaryOp,
+    spot: Pos,
+    at: Pos,
+    x: Computed,
+    other_at: Pos,
+    y: Computed,
+) -> Result<Elaborated<Computed>, AllocError>
+    ensures { IfOk result (λ v. v ≡ operated least types.now op spot at x other_at y) }
+{
+    match known_of(&x) {
+        None => between(alloc, types, op, spot, at, side_of(x), other_at, side_of(y)),
+        Some(a) => match known_of(&y) {
+            None => between(alloc, types, op, spot, at, side_of(x), other_at, side_of(y)),
+            Some(b) => Ok(folded(op, spot, at, a, other_at, b)),
+        },
+    }
+}
+
+/// An operator at a place, between two parts at theirs. What the operator does not take is 40 at the operator. A divisor
+/// that is a constant below 1, and a result of constants that is out of range, are 52 there, and a number that the other
+/// operand's type does not have is 52 at the number.
+pub fn combined(
+    alloc: Global,
+    types: &Types,
+    op: BinaryOp,
+    spot: Pos,
+    at: Pos,
+    x: Elaborated<Computed>,
+    other_at: Pos,
+    y: Elaborated<Computed>,
+) -> Result<Elaborated<Computed>, AllocError>
+    ensures { IfOk result (λ v. v ≡ combined least types.now op spot at x other_at y) }
+{
+    match both(x, y) {
+        Err(fault) => Ok(Err(fault)),
+        Ok((a, b)) => operated(alloc, types, op, spot, at, a, other_at, b),
+    }
+}

@@ -1,0 +1,242 @@
+//! What places take.
+
+ghost use Rattle.std.specs.Prelude.{◌≡◌, length, IfOk};
+ghost use Rattle.check_scope.specs.Elaborated.{least};
+ghost use Rattle.check_operator.specs.Suits.{bases_suit, sort_suits, known_suited, run_suited, scalar_suited, set_suited, procedure_suited, value_suited, text_within, text_fits_in, text_fits, text_suited, whole_suited, of_expr, suited};
+
+use crate::agree::headings_agree;
+use crate::class::{Class, array_of, class_of};
+use crate::computed::Computed;
+use crate::side::{Amount, Side, side_of};
+use check_const_ops::Ordinal;
+use check_scope::{Elaborated, reported};
+use m2_tree::{Pos, Quoted};
+use typed_tree::{
+    CHAR, Place, Scalar, Shared, TypeNo, TypedExpr, Types, Value, are_same, is_numeric, scalar_of,
+};
+
+/// A value as a place takes it.
+#[derive(Drop)]
+pub enum Accepted {
+    /// A value of a scalar type, of BITSET or of a procedure type.
+    Value(TypedExpr),
+    /// An array or a record.
+    Whole(Place),
+    /// A string for an array of CHAR.
+    Text(Shared<Quoted>),
+}
+
+/// Whether two bases are one, or INTEGER and CARDINAL.
+pub fn bases_suit(asked: TypeNo, base: TypeNo) -> bool
+    ensures { result ≡ bases_suit asked base }
+{
+    are_same(asked, base) || (is_numeric(asked) && is_numeric(base))
+}
+
+/// Whether a constant suits this base: a number without a type suits INTEGER and CARDINAL.
+pub fn sort_suits(asked: TypeNo, sort: Option<TypeNo>) -> bool
+    ensures { result ≡ sort_suits asked sort }
+{
+    match sort {
+        None => is_numeric(asked),
+        Some(base) => bases_suit(asked, base),
+    }
+}
+
+fn known_suited(
+    number: u32,
+    t: TypeNo,
+    scalar: Scalar,
+    at: Pos,
+    a: Ordinal,
+) -> Elaborated<TypedExpr>
+    ensures { result ≡ known_suited least number t scalar at a }
+{
+    if !sort_suits(scalar.base, a.sort) {
+        return reported(at, number);
+    }
+    if !(scalar.low <= a.number && a.number <= scalar.high) {
+        return reported(at, 52);
+    }
+    Ok(TypedExpr::Constant(t, a.number))
+}
+
+fn run_suited(
+    number: u32,
+    scalar: Scalar,
+    at: Pos,
+    base: TypeNo,
+    e: TypedExpr,
+) -> Elaborated<TypedExpr>
+    ensures { result ≡ run_suited least number scalar at base e }
+{
+    if !bases_suit(scalar.base, base) {
+        return reported(at, number);
+    }
+    Ok(e)
+}
+
+fn scalar_suited(
+    number: u32,
+    t: TypeNo,
+    scalar: Scalar,
+    at: Pos,
+    x: Option<Side>,
+) -> Elaborated<TypedExpr>
+    ensures { result ≡ scalar_suited least number t scalar at x }
+{
+    match x {
+        None => reported(at, number),
+        Some(Side::Scalar(Amount::Known(a))) => known_suited(number, t, scalar, at, a),
+        Some(Side::Scalar(Amount::Run(base, e))) => run_suited(number, scalar, at, base, e),
+        Some(Side::Set(_)) => reported(at, number),
+        Some(Side::Routine(_, _)) => reported(at, number),
+        Some(Side::Procedure(_)) => reported(at, number),
+    }
+}
+
+fn set_suited(number: u32, at: Pos, x: Option<Side>) -> Elaborated<TypedExpr>
+    ensures { result ≡ set_suited least number at x }
+{
+    match x {
+        None => reported(at, number),
+        Some(Side::Scalar(_)) => reported(at, number),
+        Some(Side::Set(e)) => Ok(e),
+        Some(Side::Routine(_, _)) => reported(at, number),
+        Some(Side::Procedure(_)) => reported(at, number),
+    }
+}
+
+fn procedure_suited(
+    number: u32,
+    types: &Types,
+    t: TypeNo,
+    at: Pos,
+    x: Option<Side>,
+) -> Elaborated<TypedExpr>
+    ensures { result ≡ procedure_suited least number types.now t at x }
+{
+    match x {
+        None => reported(at, number),
+        Some(Side::Scalar(_)) => reported(at, number),
+        Some(Side::Set(_)) => reported(at, number),
+        Some(Side::Routine(u, e)) => {
+            if !are_same(u, t) {
+                return reported(at, number);
+            }
+            Ok(e)
+        }
+        Some(Side::Procedure(procedure)) => {
+            if !headings_agree(types, t, procedure.heading) {
+                return reported(at, number);
+            }
+            Ok(TypedExpr::Procedure(procedure))
+        }
+    }
+}
+
+/// A value for a place of this type, which is no array and no record. One that is not assignment compatible breaks the
+/// rule of this number, and a constant out of range is 52, both at the value.
+pub fn value_suited(
+    number: u32,
+    types: &Types,
+    t: TypeNo,
+    at: Pos,
+    x: Computed,
+) -> Elaborated<TypedExpr>
+    ensures { result ≡ value_suited least number types.now t at x }
+{
+    match class_of(types, t) {
+        Class::Scalar(scalar) => scalar_suited(number, t, scalar, at, side_of(x)),
+        Class::Set => set_suited(number, at, side_of(x)),
+        Class::Procedure => procedure_suited(number, types, t, at, side_of(x)),
+        Class::Whole => reported(at, number),
+    }
+}
+
+fn text_within(length: usize, index: Option<Scalar>) -> bool
+    ensures { result ≡ text_within length index }
+{
+    match index {
+        None => false,
+        Some(index) => {
+            let distance = index.high.abs_diff(index.low);
+            !(distance < (length as u64).saturating_sub(1))
+        }
+    }
+}
+
+fn text_fits_in(types: &Types, length: usize, array: Option<(TypeNo, TypeNo)>) -> bool
+    ensures { result ≡ text_fits_in types.now length array }
+{
+    match array {
+        None => false,
+        Some((index, element)) => {
+            are_same(element, CHAR) && text_within(length, scalar_of(types, index))
+        }
+    }
+}
+
+/// Whether a type is an array of CHAR with at least so many elements.
+pub fn text_fits(types: &Types, t: TypeNo, length: usize) -> bool
+    ensures { result ≡ text_fits types.now t length }
+{
+    text_fits_in(types, length, array_of(types, t))
+}
+
+fn text_suited(number: u32, types: &Types, t: TypeNo, at: Pos, value: Value) -> Elaborated<Accepted>
+    ensures { result ≡ text_suited least number types.now t at value }
+{
+    match value {
+        Value::Number(_) => reported(at, number),
+        Value::Scalar(_) => reported(at, number),
+        Value::Set(_) => reported(at, number),
+        Value::Text(text) => {
+            if !text_fits(types, t, text.get().as_bytes().len()) {
+                return reported(at, number);
+            }
+            Ok(Accepted::Text(text))
+        }
+    }
+}
+
+fn whole_suited(number: u32, types: &Types, t: TypeNo, at: Pos, x: Computed) -> Elaborated<Accepted>
+    ensures { result ≡ whole_suited least number types.now t at x }
+{
+    match x {
+        Computed::Constant(value) => text_suited(number, types, t, at, value),
+        Computed::Whole(u, place) => {
+            if !are_same(u, t) {
+                return reported(at, number);
+            }
+            Ok(Accepted::Whole(place))
+        }
+        Computed::Scalar(_, _, _) => reported(at, number),
+        Computed::Set(_) => reported(at, number),
+        Computed::Routine(_, _) => reported(at, number),
+        Computed::Procedure(_) => reported(at, number),
+        Computed::Untaken => reported(at, number),
+    }
+}
+
+fn of_expr(e: Elaborated<TypedExpr>) -> Elaborated<Accepted>
+    ensures { result ≡ of_expr e }
+{
+    match e {
+        Err(fault) => Err(fault),
+        Ok(e) => Ok(Accepted::Value(e)),
+    }
+}
+
+/// A value for a place of this type. One that is not assignment compatible breaks the rule of this number, and a constant
+/// out of range is 52, both at the value.
+pub fn suited(number: u32, types: &Types, t: TypeNo, at: Pos, x: Computed) -> Elaborated<Accepted>
+    ensures { result ≡ suited least number types.now t at x }
+{
+    match class_of(types, t) {
+        Class::Scalar(_) => of_expr(value_suited(number, types, t, at, x)),
+        Class::Set => of_expr(value_suited(number, types, t, at, x)),
+        Class::Procedure => of_expr(value_suited(number, types, t, at, x)),
+        Class::Whole => whole_suited(number, types, t, at, x),
+    }
+}

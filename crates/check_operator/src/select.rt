@@ -1,0 +1,188 @@
+//! Components of variables.
+
+ghost use Rattle.std.specs.Prelude.{◌≡◌, IfOk};
+ghost use Rattle.std.specs.Option.{option_copied};
+ghost use Rattle.check_scope.specs.Elaborated.{least};
+ghost use Rattle.check_operator.specs.Selection.{numbered_field, field_named, record_field, component, field, array_indexed, indices, asked, picked, with_index, indexed};
+
+use crate::class::array_of;
+use crate::computed::{Computed, Designated};
+use crate::places::value_suited;
+use check_scope::{Elaborated, both, fields_of, reported};
+use m2_tree::{Ident, Pos};
+use std::alloc::{AllocError, Global};
+use typed_tree::{
+    CARDINAL, Component, Dictionary, Place, Root, Slot, TypeNo, TypedExpr, Types, behind, rooted,
+};
+
+/// The number and the type of a field.
+fn numbered_field(fields: &Dictionary<TypeNo>, name: &[u8]) -> Option<(usize, TypeNo)>
+    ensures { result ≡ numbered_field name.now fields.now }
+{
+    let number = fields.place(name)?;
+    let (_, of) = fields.get(number)?;
+    Some((number, *of))
+}
+
+fn field_named(at: Pos, found: Option<(usize, TypeNo)>) -> Elaborated<(usize, TypeNo)>
+    ensures { result ≡ field_named least at found }
+{
+    match found {
+        None => reported(at, 30),
+        Some(found) => Ok(found),
+    }
+}
+
+fn record_field(
+    at: Pos,
+    name: &Ident,
+    fields: Option<&Dictionary<TypeNo>>,
+) -> Elaborated<(usize, TypeNo)>
+    ensures { result ≡ record_field least at name.now (option_copied fields.entry) }
+{
+    match fields {
+        None => reported(at, 40),
+        Some(fields) => field_named(name.pos, numbered_field(fields, name.name.as_bytes())),
+    }
+}
+
+fn component(
+    types: &Types,
+    at: Pos,
+    name: &Ident,
+    t: TypeNo,
+    place: Place,
+) -> Result<Elaborated<Designated>, AllocError>
+    ensures { IfOk result (λ d. d ≡ component least types.now at name.now t place) }
+{
+    match record_field(at, name, fields_of(types, t)) {
+        Err(fault) => Ok(Err(fault)),
+        Ok((number, of)) => {
+            let place = behind(place, Component::Field(t, number))?;
+            Ok(Ok(Designated::Variable(of, place)))
+        }
+    }
+}
+
+/// A field of what stands before a point: 40 at the point where that is no record, and 30 at a name that it lacks.
+pub fn field(
+    types: &Types,
+    at: Pos,
+    name: &Ident,
+    from: Designated,
+) -> Result<Elaborated<Designated>, AllocError>
+    ensures { IfOk result (λ d. d ≡ field least types.now at name.now from) }
+{
+    match from {
+        Designated::Variable(t, place) => component(types, at, name, t, place),
+        Designated::Value(value) => {
+            drop(value);
+            Ok(reported(at, 40))
+        }
+        Designated::Open(_, _) => Ok(reported(at, 40)),
+        Designated::Type(_) => Ok(reported(at, 40)),
+        Designated::Procedure(_) => Ok(reported(at, 40)),
+        Designated::Nested(_) => Ok(reported(at, 40)),
+        Designated::Standard(_) => Ok(reported(at, 40)),
+        Designated::Module(_) => Ok(reported(at, 40)),
+    }
+}
+
+/// What takes an index.
+#[derive(Drop)]
+pub enum Subscripted {
+    /// An array: its type, the types of its index and its elements, and where it stands.
+    Array(TypeNo, TypeNo, TypeNo, Place),
+    /// A formal ARRAY OF these elements.
+    Open(TypeNo, Slot),
+}
+
+fn array_indexed(
+    at: Pos,
+    t: TypeNo,
+    place: Place,
+    array: Option<(TypeNo, TypeNo)>,
+) -> Elaborated<Subscripted>
+    ensures { result ≡ array_indexed least at t place array }
+{
+    match array {
+        None => reported(at, 40),
+        Some((index, element)) => Ok(Subscripted::Array(t, index, element, place)),
+    }
+}
+
+/// What stands before a bracket: 40 at the bracket where that is no array.
+pub fn indices(types: &Types, at: Pos, from: Designated) -> Elaborated<Subscripted>
+    ensures { result ≡ indices least types.now at from }
+{
+    match from {
+        Designated::Variable(t, place) => array_indexed(at, t, place, array_of(types, t)),
+        Designated::Open(t, slot) => Ok(Subscripted::Open(t, slot)),
+        Designated::Value(value) => {
+            drop(value);
+            reported(at, 40)
+        }
+        Designated::Type(_) => reported(at, 40),
+        Designated::Procedure(_) => reported(at, 40),
+        Designated::Nested(_) => reported(at, 40),
+        Designated::Standard(_) => reported(at, 40),
+        Designated::Module(_) => reported(at, 40),
+    }
+}
+
+fn asked(array: &Subscripted) -> TypeNo
+    ensures { result ≡ asked array.now }
+{
+    match array {
+        Subscripted::Array(_, index, _, _) => *index,
+        Subscripted::Open(_, _) => CARDINAL,
+    }
+}
+
+fn picked(alloc: Global, array: Subscripted, index: TypedExpr) -> Result<Designated, AllocError>
+    ensures { IfOk result (λ d. d ≡ picked index array) }
+{
+    match array {
+        Subscripted::Array(t, _, element, place) => {
+            let place = behind(place, Component::Element(t, index))?;
+            Ok(Designated::Variable(element, place))
+        }
+        Subscripted::Open(t, slot) => {
+            let whole = rooted(alloc, Root::Open(slot));
+            let place = behind(whole, Component::OpenElement(slot, t, index))?;
+            Ok(Designated::Variable(t, place))
+        }
+    }
+}
+
+fn with_index(
+    alloc: Global,
+    types: &Types,
+    at: Pos,
+    array: Subscripted,
+    index: Computed,
+) -> Result<Elaborated<Designated>, AllocError>
+    ensures { IfOk result (λ d. d ≡ with_index least types.now at array index) }
+{
+    match value_suited(41, types, asked(&array), at, index) {
+        Err(fault) => Ok(Err(fault)),
+        Ok(e) => Ok(Ok(picked(alloc, array, e)?)),
+    }
+}
+
+/// An element of an array, by an index at a place. An index that is not assignment compatible is 41, and a constant one
+/// that the array does not have is 52, both at the index.
+pub fn indexed(
+    alloc: Global,
+    types: &Types,
+    array: Elaborated<Subscripted>,
+    at: Pos,
+    index: Elaborated<Computed>,
+) -> Result<Elaborated<Designated>, AllocError>
+    ensures { IfOk result (λ d. d ≡ indexed least types.now array at index) }
+{
+    match both(array, index) {
+        Err(fault) => Ok(Err(fault)),
+        Ok((array, index)) => with_index(alloc, types, at, array, index),
+    }
+}

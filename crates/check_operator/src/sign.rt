@@ -1,0 +1,120 @@
+//! Signs and NOT.
+
+ghost use Rattle.std.specs.Prelude.{◌≡◌, Ok, IfOk};
+ghost use Rattle.check_scope.specs.Elaborated.{least, ◌▷◌};
+ghost use Rattle.check_operator.specs.Signs.{signed_scalar, signed_value, signed, negated_scalar, negated_value, negated};
+
+use crate::computed::Computed;
+use crate::pieces::{of_value, truth_of};
+use check_scope::{Elaborated, reported};
+use m2_tree::{Boxed, Pos, Sign};
+use std::alloc::{AllocError, Global};
+use typed_tree::{BOOLEAN, TypeNo, TypedExpr, are_same, is_integer, is_numeric};
+
+fn signed_scalar(
+    alloc: Global,
+    sign: Sign,
+    spot: Pos,
+    base: TypeNo,
+    e: TypedExpr,
+) -> Result<Elaborated<Computed>, AllocError>
+    ensures { IfOk result (λ v. v ≡ signed_scalar least sign spot base e) }
+{
+    match sign {
+        Sign::Plus => {
+            if !is_numeric(base) {
+                return Ok(reported(spot, 40));
+            }
+            let operand = Boxed::new(alloc, e)?;
+            Ok(Ok(Computed::Scalar(base, base, TypedExpr::Plus(base, operand))))
+        }
+        Sign::Minus => {
+            if !is_integer(base) {
+                return Ok(reported(spot, 40));
+            }
+            let operand = Boxed::new(alloc, e)?;
+            Ok(Ok(Computed::Scalar(base, base, TypedExpr::Negate(operand))))
+        }
+    }
+}
+
+fn signed_value(
+    alloc: Global,
+    sign: Sign,
+    spot: Pos,
+    value: Computed,
+) -> Result<Elaborated<Computed>, AllocError>
+    ensures { IfOk result (λ v. v ≡ signed_value least sign spot value) }
+{
+    match value {
+        Computed::Constant(value) => Ok(of_value(check_const_ops::signed(sign, spot, Ok(value)))),
+        Computed::Scalar(_, base, e) => signed_scalar(alloc, sign, spot, base, e),
+        Computed::Set(_) => Ok(reported(spot, 40)),
+        Computed::Routine(_, _) => Ok(reported(spot, 40)),
+        Computed::Procedure(_) => Ok(reported(spot, 40)),
+        Computed::Whole(_, _) => Ok(reported(spot, 40)),
+        Computed::Untaken => Ok(reported(spot, 40)),
+    }
+}
+
+/// A sign at a place, before a term: 40 where it does not take the term.
+pub fn signed(
+    alloc: Global,
+    sign: Sign,
+    spot: Pos,
+    x: Elaborated<Computed>,
+) -> Result<Elaborated<Computed>, AllocError>
+    ensures { IfOk result (λ v. v ≡ signed least sign spot x) }
+{
+    match x {
+        Err(fault) => Ok(Err(fault)),
+        Ok(value) => signed_value(alloc, sign, spot, value),
+    }
+}
+
+fn negated_scalar(
+    alloc: Global,
+    spot: Pos,
+    base: TypeNo,
+    e: TypedExpr,
+) -> Result<Elaborated<Computed>, AllocError>
+    ensures { IfOk result (λ v. v ≡ negated_scalar least spot base e) }
+{
+    if !are_same(base, BOOLEAN) {
+        return Ok(reported(spot, 40));
+    }
+    let operand = Boxed::new(alloc, e)?;
+    Ok(Ok(truth_of(TypedExpr::Not(operand))))
+}
+
+fn negated_value(
+    alloc: Global,
+    spot: Pos,
+    value: Computed,
+) -> Result<Elaborated<Computed>, AllocError>
+    ensures { IfOk result (λ v. v ≡ negated_value least spot value) }
+{
+    match value {
+        Computed::Constant(value) => Ok(of_value(check_const_ops::negated(spot, Ok(value)))),
+        Computed::Scalar(_, base, e) => negated_scalar(alloc, spot, base, e),
+        Computed::Set(_) => Ok(reported(spot, 40)),
+        Computed::Routine(_, _) => Ok(reported(spot, 40)),
+        Computed::Procedure(_) => Ok(reported(spot, 40)),
+        Computed::Whole(_, _) => Ok(reported(spot, 40)),
+        Computed::Untaken => Ok(reported(spot, 40)),
+    }
+}
+
+/// NOT at a place: 40 where its operand is no BOOLEAN.
+pub fn negated(
+    alloc: Global,
+    spot: Pos,
+    x: Elaborated<Computed>,
+) -> Result<Elaborated<Computed>, AllocError>
+    ensures { IfOk result (λ v. v ≡ negated least spot x) }
+{
+    match x {
+        Err(fault) => Ok(Err(fault)),
+        Ok(value) => negated_value(alloc, spot, value),
+    }
+}

@@ -1,0 +1,83 @@
+-- What a part of a module means, or which rules are broken in it.
+use Rattle.std.specs.Prelude.{ℕ, Bool, cond, ◌&&◌, ◌||◌, ◌==◌, nat_lt, List, [], ◌∷◌, ◌++◌, Result, Ok, Err}
+use Rattle.m2_tree.specs.declared.pos.Pos.{Pos}
+use Rattle.check_scope.specs.declared.fault.Fault.{Fault}
+use Rattle.check_scope.specs.declared.meaningless.Meaningless.{Meaningless}
+use Rattle.check_scope.specs.declared.meaningless.Meaningless.TheVariants.{Broken, Headless}
+
+-- how broken rules are gathered
+pub record Gathers : Type 1 where
+  pub Reported : Type 0
+  pub one : Fault → Reported
+  pub join : Reported → Reported → Reported
+
+-- all of them
+abbrev pub every : Gathers
+every = record { Reported = List Fault; one = λ f. f ∷ []; join = λ fs gs. fs ++ gs }
+
+-- by place, and then by number
+abbrev pub is_less : Fault → Fault → Bool
+is_less f g = nat_lt f.pos.line g.pos.line || (f.pos.line == g.pos.line && (nat_lt f.pos.col g.pos.col || (f.pos.col == g.pos.col && nat_lt f.number g.number)))
+
+abbrev pub lesser : Fault → Fault → Fault
+lesser f g = cond (is_less g f) g f
+
+-- the least of them
+abbrev pub least : Gathers
+least = record { Reported = Fault; one = λ f. f; join = lesser }
+
+-- A part means something, or rules are broken in it. The use of a name in whose declaration rules are broken repeats these.
+abbrev pub reported : (g : Gathers) {A : Type 0} → Pos → ℕ → Result A g.Reported
+reported g pos number = Err (g.one (record { pos = pos; number = number }))
+
+abbrev pub reported_where : (g : Gathers) {A : Type 0} → Bool → Pos → ℕ → Result A g.Reported → Result A g.Reported
+reported_where g broken pos number otherwise = cond broken (reported g pos number) otherwise
+
+-- what looks at a meaning is silent where there is none
+infixl 10 ◌▷◌
+abbrev pub ◌▷◌ : {A B T : Type 0} → Result A T → (A → Result B T) → Result B T
+(Ok x) ▷ f = f x
+(Err e) ▷ f = Err e
+
+-- two parts that stand beside one another
+abbrev pub both : (g : Gathers) {A B : Type 0} → Result A g.Reported → Result B g.Reported → Result (A × B) g.Reported
+both g (Ok a) (Ok b) = Ok (a, b)
+both g (Ok a) (Err e) = Err e
+both g (Err e) (Ok b) = Err e
+both g (Err e) (Err f) = Err (g.join e f)
+
+-- the same, where only what is reported counts
+abbrev pub beside : (g : Gathers) → Result (Unit {0}) g.Reported → Result (Unit {0}) g.Reported → Result (Unit {0}) g.Reported
+beside g a b = both g a b ▷ λ p. Ok tt
+
+-- ---- what stands behind a part is looked at, also if the part has no meaning
+
+abbrev pub refusal_beside : (g : Gathers) {A : Type 0} → g.Reported → Result (Unit {0}) g.Reported → Result A g.Reported
+refusal_beside g e (Ok fine) = Err e
+refusal_beside g e (Err f) = Err (g.join e f)
+
+abbrev pub reported_beside : (g : Gathers) {A : Type 0} → Pos → ℕ → Result (Unit {0}) g.Reported → Result A g.Reported
+reported_beside g pos number rest = refusal_beside g (g.one (record { pos = pos; number = number })) rest
+
+abbrev pub ahead : (g : Gathers) {A B : Type 0} → Result A g.Reported → Result (Unit {0}) g.Reported → (A → Result B g.Reported) → Result B g.Reported
+ahead g (Ok x) rest f = f x
+ahead g (Err e) rest f = refusal_beside g e rest
+
+-- ---- names of procedures in whose headings rules are broken
+
+-- a rule that looks at what sort of thing a name is speaks of such a procedure too
+abbrev pub of_sort : (g : Gathers) {A : Type 0} → Pos → ℕ → Result A (Meaningless g.Reported) → Result A g.Reported
+of_sort g pos number (Ok x) = Ok x
+of_sort g pos number (Err (Broken e)) = Err e
+of_sort g pos number (Err (Headless e)) = reported g pos number
+
+-- if the heading counts, its own refusals are repeated
+abbrev pub of_heading : {A T : Type 0} → Result A (Meaningless T) → Result A T
+of_heading (Ok x) = Ok x
+of_heading (Err (Broken e)) = Err e
+of_heading (Err (Headless e)) = Err e
+
+-- what is no such procedure
+abbrev pub plain : {A T : Type 0} → Result A T → Result A (Meaningless T)
+plain (Ok x) = Ok x
+plain (Err e) = Err (Broken e)

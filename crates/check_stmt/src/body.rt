@@ -1,0 +1,391 @@
+//! What statements of bodies mean.
+
+ghost use Rattle.std.specs.Prelude.{◌≡◌, None, Ok, IfOk, OnOk};
+ghost use Rattle.check_scope.specs.Elaborated.{least, ahead};
+ghost use Rattle.check_expr.specs.Meanings.{meant, head};
+ghost use Rattle.check_stmt_parts.specs.Lists.{standing, chosen, base_in, cased, repeated_while, repeated_until, looped, within, reported_in};
+ghost use Rattle.check_stmt_parts.specs.Simple.{meant_if, in_loop, condition, selected, record_of, opened_type, opened, opened_if};
+ghost use Rattle.check_stmt_parts.specs.Control.{course_of, repeated_for};
+ghost use Rattle.check_stmt.specs.Statements.{stmt, rest, arm, statements, arms};
+
+use check_scope::{Elaborated, Fault, Scope, refusal_beside};
+use check_stmt_parts::{
+    Around, Ranges, armed, assignment, base_in, called, cased, chosen, chosen_else, close,
+    condition, course_of, exited, in_loop, labels_in, looped, open, opened_type, record_of,
+    repeated_for, repeated_until, repeated_while, reported_in, returned, selected, standing,
+    with_next, within,
+};
+use m2_tree::{Arm, Boxed, Designator, Expr, Ident, Items, Rest, Stmt};
+use std::alloc::{AllocError, Global};
+use typed_tree::{TypeNo, TypedArm, TypedExpr, TypedStmt};
+
+/// Elaborates statements, one after another.
+#[cycle(body)]
+pub fn statements(
+    alloc: Global,
+    scope: &mut Scope<Fault>,
+    around: &Around<Fault>,
+    body: &[Stmt],
+) -> Result<Elaborated<Items<TypedStmt>>, AllocError>
+    ensures stays { OnOk result (scope.new ≡ scope.old) }
+    ensures means { IfOk result (λ j. j ≡ statements least scope.old around.now body.now) }
+{
+    let mut done = Ok(Items::new(alloc));
+    for written in body {
+        let elaborated = statement(alloc, scope, around, written)?;
+        done = with_next(done, elaborated)?;
+    }
+    Ok(done)
+}
+
+/// Elaborates a statement.
+#[cycle(body)]
+#[tactic(auto, using(crate::proofs::Variants::variants))]
+fn statement(
+    alloc: Global,
+    scope: &mut Scope<Fault>,
+    around: &Around<Fault>,
+    written: &Stmt,
+) -> Result<Elaborated<TypedStmt>, AllocError>
+    ensures stays { OnOk result (scope.new ≡ scope.old) }
+    ensures means { IfOk result (λ j. j ≡ stmt least written.now scope.old around.now) }
+{
+    match written {
+        Stmt::Assign(designator, e) => assignment(alloc, scope, designator, e),
+        Stmt::Call(designator, args) => called(alloc, scope, designator, args),
+        Stmt::If(e, body, further) => {
+            let first = tested(alloc, scope, around, body.as_slice(), e)?;
+            if_rest(alloc, scope, around, further.get(), first)
+        }
+        Stmt::Case(e, all, otherwise) => match otherwise {
+            None => case_alone(alloc, scope, around, all.as_slice(), e),
+            Some(body) => {
+                let first = case_arms(alloc, scope, around, all.as_slice(), e)?;
+                case_else(alloc, scope, around, body.as_slice(), first)
+            }
+        },
+        Stmt::While(e, body) => while_of(alloc, scope, around, body.as_slice(), e),
+        Stmt::Repeat(body, e) => repeat_of(alloc, scope, around, body.as_slice(), e),
+        Stmt::Loop(body) => loop_of(alloc, scope, around, body.as_slice()),
+        Stmt::Exit(at) => Ok(exited(*at, around)),
+        Stmt::Return(at, e) => returned(alloc, scope, *at, around.gives, e),
+        Stmt::For(name, start, limit, by, body) => {
+            for_of(
+                alloc,
+                scope,
+                around,
+                body.as_slice(),
+                name,
+                start.get(),
+                limit.get(),
+                by,
+            )
+        }
+        Stmt::With(whole, body) => with_of(alloc, scope, around, body.as_slice(), whole),
+    }
+}
+
+/// Elaborates a condition, and the statements that depend on it.
+#[cycle(body)]
+fn tested(
+    alloc: Global,
+    scope: &mut Scope<Fault>,
+    around: &Around<Fault>,
+    body: &[Stmt],
+    e: &Expr,
+) -> Result<(Elaborated<TypedExpr>, Elaborated<Items<TypedStmt>>), AllocError>
+    ensures stays { OnOk result (scope.new ≡ scope.old) }
+    ensures means { IfOk result
+        (λ p. p ≡ (
+          condition least scope.old (meant least e.now),
+          statements least scope.old around.now body.now,
+        )) }
+{
+    let condition = condition(alloc, scope, e)?;
+    let body = statements(alloc, scope, around, body)?;
+    Ok((condition, body))
+}
+
+/// Elaborates what follows the first part of an IF.
+#[cycle(body)]
+fn if_rest(
+    alloc: Global,
+    scope: &mut Scope<Fault>,
+    around: &Around<Fault>,
+    written: &Rest,
+    first: (Elaborated<TypedExpr>, Elaborated<Items<TypedStmt>>),
+) -> Result<Elaborated<TypedStmt>, AllocError>
+    ensures stays { OnOk result (scope.new ≡ scope.old) }
+    ensures means { IfOk result
+        (λ j. j ≡ chosen least first.0 first.1 (rest least written.now scope.old around.now)) }
+{
+    let further = rest(alloc, scope, around, written)?;
+    let (condition, body) = first;
+    Ok(chosen(condition, body, further))
+}
+
+/// Elaborates the selector and the arms of a CASE.
+#[cycle(body)]
+fn case_arms(
+    alloc: Global,
+    scope: &mut Scope<Fault>,
+    around: &Around<Fault>,
+    all: &[Arm],
+    selector: &Expr,
+) -> Result<(Elaborated<(TypeNo, TypedExpr)>, Elaborated<Items<TypedArm>>), AllocError>
+    ensures stays { OnOk result (scope.new ≡ scope.old) }
+    ensures means { let s = selected least scope.old (meant least selector.now) in
+        IfOk result (λ p. p ≡ (s, arms least scope.old around.now (base_in s) all.now)) }
+{
+    let first = selected(alloc, scope, selector)?;
+    let done = arms(alloc, scope, around, all, base_in(&first))?;
+    Ok((first, done))
+}
+
+/// Elaborates a CASE without an ELSE.
+#[cycle(body)]
+fn case_alone(
+    alloc: Global,
+    scope: &mut Scope<Fault>,
+    around: &Around<Fault>,
+    all: &[Arm],
+    selector: &Expr,
+) -> Result<Elaborated<TypedStmt>, AllocError>
+    ensures stays { OnOk result (scope.new ≡ scope.old) }
+    ensures means { let s = selected least scope.old (meant least selector.now) in
+        IfOk result (λ j. j ≡ cased least s (arms least scope.old around.now (base_in s) all.now)
+        (Ok None)) }
+{
+    let (selector, done) = case_arms(alloc, scope, around, all, selector)?;
+    Ok(cased(selector, done, Ok(None)))
+}
+
+/// Elaborates the ELSE of a CASE.
+#[cycle(body)]
+fn case_else(
+    alloc: Global,
+    scope: &mut Scope<Fault>,
+    around: &Around<Fault>,
+    body: &[Stmt],
+    first: (Elaborated<(TypeNo, TypedExpr)>, Elaborated<Items<TypedArm>>),
+) -> Result<Elaborated<TypedStmt>, AllocError>
+    ensures stays { OnOk result (scope.new ≡ scope.old) }
+    ensures means { IfOk result (λ j. j ≡ cased least first.0 first.1
+        (standing (statements least scope.old around.now body.now))) }
+{
+    let body = statements(alloc, scope, around, body)?;
+    let (selector, done) = first;
+    Ok(cased(selector, done, standing(body)))
+}
+
+/// Elaborates a WHILE.
+#[cycle(body)]
+fn while_of(
+    alloc: Global,
+    scope: &mut Scope<Fault>,
+    around: &Around<Fault>,
+    body: &[Stmt],
+    e: &Expr,
+) -> Result<Elaborated<TypedStmt>, AllocError>
+    ensures stays { OnOk result (scope.new ≡ scope.old) }
+    ensures means { IfOk result (λ j. j ≡ repeated_while least
+        (condition least scope.old (meant least e.now))
+        (statements least scope.old around.now body.now)) }
+{
+    let (condition, body) = tested(alloc, scope, around, body, e)?;
+    Ok(repeated_while(condition, body))
+}
+
+/// Elaborates a REPEAT.
+#[cycle(body)]
+fn repeat_of(
+    alloc: Global,
+    scope: &mut Scope<Fault>,
+    around: &Around<Fault>,
+    body: &[Stmt],
+    e: &Expr,
+) -> Result<Elaborated<TypedStmt>, AllocError>
+    ensures stays { OnOk result (scope.new ≡ scope.old) }
+    ensures means { IfOk result (λ j. j ≡ repeated_until least
+        (statements least scope.old around.now body.now)
+        (condition least scope.old (meant least e.now))) }
+{
+    let (condition, body) = tested(alloc, scope, around, body, e)?;
+    Ok(repeated_until(body, condition))
+}
+
+/// Elaborates a LOOP.
+#[cycle(body)]
+fn loop_of(
+    alloc: Global,
+    scope: &mut Scope<Fault>,
+    around: &Around<Fault>,
+    body: &[Stmt],
+) -> Result<Elaborated<TypedStmt>, AllocError>
+    ensures stays { OnOk result (scope.new ≡ scope.old) }
+    ensures means { IfOk result
+        (λ j. j ≡ looped (statements least scope.old (in_loop around.now) body.now)) }
+{
+    let inside = in_loop(around);
+    let body = statements(alloc, scope, &inside, body)?;
+    Ok(looped(body))
+}
+
+/// Elaborates a FOR.
+#[cycle(body)]
+fn for_of(
+    alloc: Global,
+    scope: &mut Scope<Fault>,
+    around: &Around<Fault>,
+    body: &[Stmt],
+    name: &Ident,
+    start: &Expr,
+    limit: &Expr,
+    by: &Option<Boxed<Expr>>,
+) -> Result<Elaborated<TypedStmt>, AllocError>
+    ensures stays { OnOk result (scope.new ≡ scope.old) }
+    ensures means { IfOk result (λ j. j ≡ repeated_for least
+        (course_of least scope.old name.now (meant least start.now) (meant least limit.now)
+        (meant_if least by.now)) (statements least scope.old around.now body.now)) }
+{
+    let course = course_of(alloc, scope, name, start, limit, by)?;
+    let body = statements(alloc, scope, around, body)?;
+    Ok(repeated_for(course, body))
+}
+
+/// Elaborates a WITH. Its statements are looked at, also if there is no record.
+#[cycle(body)]
+fn with_of(
+    alloc: Global,
+    scope: &mut Scope<Fault>,
+    around: &Around<Fault>,
+    body: &[Stmt],
+    whole: &Designator,
+) -> Result<Elaborated<TypedStmt>, AllocError>
+    ensures stays { OnOk result (scope.new ≡ scope.old) }
+    ensures means { IfOk result (λ j. j ≡ ahead least (record_of least scope.old (head least whole.now))
+        (reported_in (statements least (opened_if scope.old (opened_type least scope.old whole.now))
+        around.now body.now))
+        (λ r. within r.1 (statements least (opened scope.old r.0) around.now body.now))) }
+{
+    match record_of(alloc, scope, whole)? {
+        Err(fault) => {
+            let t = opened_type(alloc, scope, whole)?;
+            let rest = opened_if_body(alloc, scope, around, body, t)?;
+            Ok(refusal_beside(fault, reported_in(rest)))
+        }
+        Ok((t, place)) => {
+            let body = opened_body(alloc, scope, around, body, t)?;
+            Ok(within(place, body))
+        }
+    }
+}
+
+/// Elaborates statements in which the fields of a record of this type stand for themselves, if there is one.
+#[cycle(body)]
+fn opened_if_body(
+    alloc: Global,
+    scope: &mut Scope<Fault>,
+    around: &Around<Fault>,
+    body: &[Stmt],
+    t: Option<TypeNo>,
+) -> Result<Elaborated<Items<TypedStmt>>, AllocError>
+    ensures stays { OnOk result (scope.new ≡ scope.old) }
+    ensures means { IfOk result
+        (λ j. j ≡ statements least (opened_if scope.old t) around.now body.now) }
+{
+    match t {
+        None => statements(alloc, scope, around, body),
+        Some(t) => opened_body(alloc, scope, around, body, t),
+    }
+}
+
+/// Elaborates statements in which the fields of a record of this type stand for themselves.
+#[cycle(body)]
+#[tactic(auto, using(check_stmt_parts::proofs::Closing::closed_opened))]
+fn opened_body(
+    alloc: Global,
+    scope: &mut Scope<Fault>,
+    around: &Around<Fault>,
+    body: &[Stmt],
+    t: TypeNo,
+) -> Result<Elaborated<Items<TypedStmt>>, AllocError>
+    ensures stays { OnOk result (scope.new ≡ scope.old) }
+    ensures means { IfOk result
+        (λ j. j ≡ statements least (opened scope.old t) around.now body.now) }
+{
+    open(scope, t)?;
+    let elaborated = statements(alloc, scope, around, body)?;
+    close(scope);
+    Ok(elaborated)
+}
+
+/// Elaborates what follows a part of an IF.
+#[cycle(body)]
+#[tactic(auto, using(crate::proofs::Variants::variants))]
+fn rest(
+    alloc: Global,
+    scope: &mut Scope<Fault>,
+    around: &Around<Fault>,
+    written: &Rest,
+) -> Result<Elaborated<Option<Items<TypedStmt>>>, AllocError>
+    ensures stays { OnOk result (scope.new ≡ scope.old) }
+    ensures means { IfOk result (λ j. j ≡ rest least written.now scope.old around.now) }
+{
+    match written {
+        Rest::Elsif(e, body, further) => {
+            let first = tested(alloc, scope, around, body.as_slice(), e)?;
+            let step = if_rest(alloc, scope, around, further.get(), first)?;
+            chosen_else(alloc, step)
+        }
+        Rest::Else(otherwise) => match otherwise {
+            None => Ok(Ok(None)),
+            Some(body) => {
+                let body = statements(alloc, scope, around, body.as_slice())?;
+                Ok(standing(body))
+            }
+        },
+    }
+}
+
+/// Elaborates the arms of a CASE whose selector has this base type, if it has a meaning. No two of their labels have a
+/// value in common.
+#[cycle(body)]
+fn arms(
+    alloc: Global,
+    scope: &mut Scope<Fault>,
+    around: &Around<Fault>,
+    all: &[Arm],
+    base: Option<TypeNo>,
+) -> Result<Elaborated<Items<TypedArm>>, AllocError>
+    ensures stays { OnOk result (scope.new ≡ scope.old) }
+    ensures means { IfOk result (λ j. j ≡ arms least scope.old around.now base all.now) }
+{
+    let mut ranges = Ranges::new(alloc);
+    let mut done = Ok(Items::new(alloc));
+    for written in all {
+        let elaborated = arm(alloc, scope, around, written, base, &mut ranges)?;
+        done = with_next(done, elaborated)?;
+    }
+    Ok(done)
+}
+
+/// Elaborates an arm of a CASE, and takes in the values of its labels.
+#[cycle(body)]
+#[tactic(auto, using(crate::proofs::Variants::arm_is))]
+fn arm(
+    alloc: Global,
+    scope: &mut Scope<Fault>,
+    around: &Around<Fault>,
+    written: &Arm,
+    base: Option<TypeNo>,
+    ranges: &mut Ranges,
+) -> Result<Elaborated<TypedArm>, AllocError>
+    ensures stays { OnOk result (scope.new ≡ scope.old) }
+    ensures means { IfOk result
+        (λ j. (ranges.new, j) ≡ arm least written.now scope.old around.now base ranges.old) }
+{
+    let labels = labels_in(alloc, scope, base, ranges, written.labels.as_slice())?;
+    let body = statements(alloc, scope, around, written.body.as_slice())?;
+    Ok(armed(labels, body))
+}

@@ -1,0 +1,5 @@
+pub mod Lists
+pub mod Simple
+pub mod Labels
+pub mod Control
+pub mod Ranges

@@ -1,0 +1,38 @@
+//! What stands around a statement.
+
+ghost use Rattle.std.specs.Prelude.{◌≡◌};
+ghost use Rattle.check_scope.specs.Elaborated.{least};
+ghost use Rattle.check_stmt_parts.specs.Simple.{in_loop, exited};
+
+use check_scope::{Elaborated, Fault, reported};
+use m2_tree::Pos;
+use typed_tree::{TypeNo, TypedStmt};
+
+/// What stands around a statement.
+#[derive(Clone, Copy)]
+pub struct Around<T> {
+    /// The type of the result, where the body is one of a function.
+    pub gives: Option<Result<TypeNo, T>>,
+    /// Whether a LOOP of the body stands around it.
+    pub in_loop: bool,
+}
+
+/// The same, inside a LOOP.
+pub fn in_loop(around: &Around<Fault>) -> Around<Fault>
+    ensures { result ≡ in_loop around.now }
+{
+    Around {
+        gives: around.gives,
+        in_loop: true,
+    }
+}
+
+/// EXIT: 45 where no LOOP stands around it.
+pub fn exited(at: Pos, around: &Around<Fault>) -> Elaborated<TypedStmt>
+    ensures { result ≡ exited least at around.now }
+{
+    if !around.in_loop {
+        return reported(at, 45);
+    }
+    Ok(TypedStmt::Exit)
+}

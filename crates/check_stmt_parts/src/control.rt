@@ -1,0 +1,328 @@
+//! The control variable of a FOR, and from where to where it goes.
+
+ghost use Rattle.std.specs.Prelude.{◌≡◌, IfOk, Some};
+ghost use Rattle.check_scope.specs.Elaborated.{least};
+ghost use Rattle.check_operator.specs.declared.side.Side.TheVariants as side;
+ghost use Rattle.check_expr.specs.Meanings.{meant, value_of};
+ghost use Rattle.check_stmt_parts.specs.Simple.{meant_if};
+ghost use Rattle.check_stmt_parts.specs.Control.{controlled, is_own, control_by, control_of, start_at, limit_number, limit_by, limit_at, is_zero, step_number, step_by, step_of, type_of, base_of, course, course_of, repeated_for};
+
+use check_const_ops::{Ordinal, fits, whole_number};
+use check_expr::{constant_of, place_of, value_of};
+use check_operator::{
+    Amount, Class, Computed, Side, bases_suit, class_of, side_of, slot_of, sort_suits, value_suited,
+};
+use check_scope::{Elaborated, Fault, Scope, both, looked_up, of_sort, reported};
+use m2_tree::{Boxed, Expr, Ident, Items, Pos};
+use std::alloc::{AllocError, Global};
+use typed_tree::{
+    LocalKind, Meaning, Place, Root, TypeNo, TypedExpr, TypedStmt, Types, Value, rooted,
+};
+
+/// The control variable of a FOR.
+#[derive(Drop)]
+pub struct Control {
+    pub of: TypeNo,
+    /// What its type computes in.
+    pub base: TypeNo,
+    pub place: Place,
+}
+
+/// What stands before the DO of a FOR.
+#[derive(Drop)]
+pub struct Course {
+    pub control: Control,
+    pub start: TypedExpr,
+    pub limit: TypedExpr,
+    /// The step.
+    pub by: i64,
+}
+
+fn controlled(types: &Types, at: Pos, t: TypeNo, place: Place) -> Elaborated<Control>
+    ensures { result ≡ controlled least types.now at t place }
+{
+    match class_of(types, t) {
+        Class::Scalar(scalar) => Ok(Control {
+            of: t,
+            base: scalar.base,
+            place,
+        }),
+        Class::Set => reported(at, 47),
+        Class::Procedure => reported(at, 47),
+        Class::Whole => reported(at, 47),
+    }
+}
+
+fn is_own(kind: LocalKind) -> bool
+    ensures { result ≡ is_own kind }
+{
+    match kind {
+        LocalKind::Variable => true,
+        LocalKind::Value | LocalKind::Alias | LocalKind::Open => false,
+    }
+}
+
+fn control_by(alloc: Global, scope: &Scope<Fault>, at: Pos, meaning: Meaning) -> Elaborated<Control>
+    ensures { result ≡ control_by least scope.now at meaning }
+{
+    match meaning {
+        Meaning::Variable(variable) => {
+            if variable.home != scope.types.home {
+                return reported(at, 47);
+            }
+            let place = rooted(alloc, Root::Global(variable));
+            controlled(&scope.types, at, variable.of, place)
+        }
+        Meaning::Local(variable) => {
+            if !(is_own(variable.kind) && variable.level == scope.level) {
+                return reported(at, 47);
+            }
+            let slot = slot_of(scope.level, variable);
+            let place = rooted(alloc, Root::Local(slot));
+            controlled(&scope.types, at, variable.of, place)
+        }
+        Meaning::Ahead => reported(at, 30),
+        Meaning::Constant(_) => reported(at, 47),
+        Meaning::Type(_, _) => reported(at, 47),
+        Meaning::Field(_) => reported(at, 47),
+        Meaning::Procedure(_) => reported(at, 47),
+        Meaning::LocalProcedure(_) => reported(at, 47),
+        Meaning::Standard(_) => reported(at, 47),
+        Meaning::Module(_) => reported(at, 47),
+    }
+}
+
+fn control_of(
+    alloc: Global,
+    scope: &Scope<Fault>,
+    name: &Ident,
+) -> Result<Elaborated<Control>, AllocError>
+    ensures { IfOk result (λ j. j ≡ control_of least scope.now name.now) }
+{
+    match of_sort(name.pos, 47, looked_up(scope, name)?) {
+        Err(fault) => Ok(Err(fault)),
+        Ok(meaning) => Ok(control_by(alloc, scope, name.pos, meaning)),
+    }
+}
+
+fn start_at(
+    types: &Types,
+    at: Pos,
+    t: Elaborated<TypeNo>,
+    value: Elaborated<Computed>,
+) -> Elaborated<TypedExpr>
+    ensures { result ≡ start_at least types.now at t value }
+{
+    match both(t, value) {
+        Err(fault) => Err(fault),
+        Ok((t, value)) => value_suited(41, types, t, at, value),
+    }
+}
+
+fn limit_number(base: TypeNo, at: Pos, n: i64, sort: Option<TypeNo>) -> Elaborated<TypedExpr>
+    ensures { result ≡ limit_number least base at n sort }
+{
+    match sort {
+        None => {
+            if !fits(Some(base), n) {
+                return reported(at, 52);
+            }
+            Ok(TypedExpr::Constant(base, n))
+        }
+        Some(t) => Ok(TypedExpr::Constant(t, n)),
+    }
+}
+
+fn limit_amount(base: TypeNo, at: Pos, a: Amount) -> Elaborated<TypedExpr>
+    ensures { result ≡ limit_by least base at (Some (side.Scalar a)) }
+{
+    match a {
+        Amount::Known(a) => {
+            if !sort_suits(base, a.sort) {
+                return reported(at, 41);
+            }
+            limit_number(base, at, a.number, a.sort)
+        }
+        Amount::Run(other, e) => {
+            if !bases_suit(base, other) {
+                return reported(at, 41);
+            }
+            Ok(e)
+        }
+    }
+}
+
+fn limit_by(base: TypeNo, at: Pos, limit: Option<Side>) -> Elaborated<TypedExpr>
+    ensures { result ≡ limit_by least base at limit }
+{
+    match limit {
+        None => reported(at, 41),
+        Some(Side::Scalar(a)) => limit_amount(base, at, a),
+        Some(Side::Set(_)) => reported(at, 41),
+        Some(Side::Routine(_, _)) => reported(at, 41),
+        Some(Side::Procedure(_)) => reported(at, 41),
+    }
+}
+
+fn limit_at(at: Pos, base: Elaborated<TypeNo>, value: Elaborated<Computed>) -> Elaborated<TypedExpr>
+    ensures { result ≡ limit_at least at base value }
+{
+    match both(base, value) {
+        Err(fault) => Err(fault),
+        Ok((base, value)) => limit_by(base, at, side_of(value)),
+    }
+}
+
+fn is_zero(n: i64) -> bool
+    ensures { result ≡ is_zero n }
+{
+    !(n < 0 || 0 < n)
+}
+
+fn step_number(at: Pos, number: Option<Ordinal>) -> Elaborated<i64>
+    ensures { result ≡ step_number least at number }
+{
+    match number {
+        None => reported(at, 40),
+        Some(a) => {
+            if is_zero(a.number) {
+                return reported(at, 48);
+            }
+            Ok(a.number)
+        }
+    }
+}
+
+fn step_by(at: Pos, value: &Value) -> Elaborated<i64>
+    ensures { result ≡ step_by least at value.now }
+{
+    step_number(at, whole_number(value))
+}
+
+/// The step: a constant, or else 1.
+fn step_of(
+    alloc: Global,
+    scope: &Scope<Fault>,
+    by: &Option<Boxed<Expr>>,
+) -> Result<Elaborated<i64>, AllocError>
+    ensures { IfOk result (λ j. j ≡ step_of least scope.now (meant_if least by.now)) }
+{
+    match by {
+        None => Ok(Ok(1)),
+        Some(by) => {
+            let by = by.get();
+            match constant_of(alloc, scope, by)? {
+                Err(fault) => Ok(Err(fault)),
+                Ok(value) => Ok(step_by(place_of(by), &value)),
+            }
+        }
+    }
+}
+
+fn type_of(control: &Elaborated<Control>) -> Elaborated<TypeNo>
+    ensures { result ≡ type_of control.now }
+{
+    match control {
+        Err(fault) => Err(*fault),
+        Ok(control) => Ok(control.of),
+    }
+}
+
+fn base_of(control: &Elaborated<Control>) -> Elaborated<TypeNo>
+    ensures { result ≡ base_of control.now }
+{
+    match control {
+        Err(fault) => Err(*fault),
+        Ok(control) => Ok(control.base),
+    }
+}
+
+fn joined(
+    control: Elaborated<Control>,
+    start: Elaborated<TypedExpr>,
+    limit: Elaborated<TypedExpr>,
+    by: Elaborated<i64>,
+) -> Elaborated<Course>
+    ensures { result ≡ course least control start limit by }
+{
+    match both(both(control, start), both(limit, by)) {
+        Err(fault) => Err(fault),
+        Ok(((control, start), (limit, by))) => Ok(Course {
+            control,
+            start,
+            limit,
+            by,
+        }),
+    }
+}
+
+/// The start of a FOR.
+fn start_of(
+    alloc: Global,
+    scope: &Scope<Fault>,
+    control: &Elaborated<Control>,
+    e: &Expr,
+) -> Result<Elaborated<TypedExpr>, AllocError>
+    ensures { IfOk result (λ j. j ≡ start_at least scope.now.types (meant least e.now).fixed.at
+        (type_of control.now) (value_of least scope.now (meant least e.now))) }
+{
+    let value = value_of(alloc, scope, e)?;
+    Ok(start_at(&scope.types, place_of(e), type_of(control), value))
+}
+
+/// The limit of a FOR.
+fn limit_of(
+    alloc: Global,
+    scope: &Scope<Fault>,
+    control: &Elaborated<Control>,
+    e: &Expr,
+) -> Result<Elaborated<TypedExpr>, AllocError>
+    ensures { IfOk result (λ j. j ≡ limit_at least (meant least e.now).fixed.at
+        (base_of control.now) (value_of least scope.now (meant least e.now))) }
+{
+    let value = value_of(alloc, scope, e)?;
+    Ok(limit_at(place_of(e), base_of(control), value))
+}
+
+/// What stands before the DO of a FOR. The control variable is a scalar variable of the module, or of the procedure
+/// itself: else 47. The start is assignment compatible with it, and the limit has a type that goes with its own: else
+/// 41. The step is a constant whole number, else 34 or 40, and not zero: else 48. A number out of range is 52.
+pub fn course_of(
+    alloc: Global,
+    scope: &Scope<Fault>,
+    name: &Ident,
+    start: &Expr,
+    limit: &Expr,
+    by: &Option<Boxed<Expr>>,
+) -> Result<Elaborated<Course>, AllocError>
+    ensures { IfOk result (λ j. j ≡ course_of least scope.now name.now (meant least start.now)
+        (meant least limit.now) (meant_if least by.now)) }
+{
+    let control = control_of(alloc, scope, name)?;
+    let start = start_of(alloc, scope, &control, start)?;
+    let limit = limit_of(alloc, scope, &control, limit)?;
+    let by = step_of(alloc, scope, by)?;
+    Ok(joined(control, start, limit, by))
+}
+
+/// FOR.
+pub fn repeated_for(
+    course: Elaborated<Course>,
+    body: Elaborated<Items<TypedStmt>>,
+) -> Elaborated<TypedStmt>
+    ensures { result ≡ repeated_for least course body }
+{
+    match both(course, body) {
+        Err(fault) => Err(fault),
+        Ok((course, body)) => {
+            let Course {
+                control,
+                start,
+                limit,
+                by,
+            } = course;
+            let Control { of, base: _, place } = control;
+            Ok(TypedStmt::For(place, of, start, limit, by, body))
+        }
+    }
+}

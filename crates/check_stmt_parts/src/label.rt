@@ -1,0 +1,344 @@
+//! Labels of CASE.
+
+ghost use Rattle.std.specs.Prelude.{◌≡◌, IfOk, Some, Ok};
+ghost use Rattle.check_scope.specs.Elaborated.{least, ◌▷◌};
+ghost use Rattle.check_expr.specs.Meanings.{meant};
+ghost use Rattle.check_const_ops.specs.Common.{common};
+ghost use Rattle.check_operator.specs.Classes.{class_at};
+ghost use Rattle.check_stmt_parts.specs.Labels.{ordinal_in, of_type, no_constant, suits_selector, value_bound, variable_bound, bound_by, bound_in, bound_of, is_of_base, number_fits, suits_base, bound_suits, single, ordered_if, are_ordered, spanned, label_between, item_label, with_new, with_label, with_item, labels_in};
+
+use crate::Ranges;
+use crate::lists::with_next;
+use check_const_ops::{Operand, Ordinal, common, fits, operand_of};
+use check_expr::{place_of, stands_for};
+use check_operator::{Class, Computed, Designated, class_of};
+use check_scope::{Elaborated, Fault, Meaningless, Scope, Sought, beside, both, reported};
+use m2_tree::{Expr, Item, Items, Pos};
+use std::alloc::{AllocError, Global};
+use typed_tree::{Label, TypeNo, Types, are_same, is_numeric};
+
+fn ordinal_in(at: Pos, operand: Option<Operand>) -> Elaborated<Ordinal>
+    ensures { result ≡ ordinal_in least at operand }
+{
+    match operand {
+        None => reported(at, 40),
+        Some(Operand::Set(_)) => reported(at, 40),
+        Some(Operand::Scalar(a)) => Ok(a),
+    }
+}
+
+fn of_type(alike: bool, at: Pos) -> Elaborated<()>
+    ensures { result ≡ of_type least alike at }
+{
+    if !alike {
+        return reported(at, 40);
+    }
+    Ok(())
+}
+
+/// A bound that is no constant: 49 at the label, and 40 at the bound where it has another base type than the selector.
+fn no_constant(alike: bool, label: Pos, at: Pos) -> Elaborated<Ordinal>
+    ensures { result ≡ no_constant least alike label at }
+{
+    let unknown: Elaborated<Ordinal> = reported(label, 49);
+    match both(of_type(alike, at), unknown) {
+        Err(fault) => Err(fault),
+        Ok(((), a)) => Ok(a),
+    }
+}
+
+fn suits_selector(base: Option<TypeNo>, other: TypeNo) -> bool
+    ensures { result ≡ suits_selector base other }
+{
+    match base {
+        None => true,
+        Some(base) => are_same(other, base),
+    }
+}
+
+fn value_bound(base: Option<TypeNo>, label: Pos, at: Pos, value: Computed) -> Elaborated<Ordinal>
+    ensures { result ≡ value_bound least base label at value }
+{
+    match value {
+        Computed::Constant(value) => ordinal_in(at, operand_of(&value)),
+        Computed::Scalar(_, other, _) => no_constant(suits_selector(base, other), label, at),
+        Computed::Set(_) => no_constant(false, label, at),
+        Computed::Routine(_, _) => no_constant(false, label, at),
+        Computed::Procedure(_) => no_constant(false, label, at),
+        Computed::Whole(_, _) => no_constant(false, label, at),
+        Computed::Untaken => no_constant(false, label, at),
+    }
+}
+
+fn variable_bound(base: Option<TypeNo>, label: Pos, at: Pos, class: Class) -> Elaborated<Ordinal>
+    ensures { result ≡ variable_bound least base label at class }
+{
+    match class {
+        Class::Scalar(scalar) => no_constant(suits_selector(base, scalar.base), label, at),
+        Class::Set => no_constant(false, label, at),
+        Class::Procedure => no_constant(false, label, at),
+        Class::Whole => no_constant(false, label, at),
+    }
+}
+
+fn bound_by(
+    types: &Types,
+    base: Option<TypeNo>,
+    label: Pos,
+    at: Pos,
+    designated: Designated,
+) -> Elaborated<Ordinal>
+    ensures { result ≡ bound_by least types.now base label at designated }
+{
+    match designated {
+        Designated::Value(value) => value_bound(base, label, at, value),
+        Designated::Variable(t, _) => variable_bound(base, label, at, class_of(types, t)),
+        Designated::Open(_, _) => no_constant(false, label, at),
+        Designated::Type(_) => no_constant(false, label, at),
+        Designated::Procedure(_) => no_constant(false, label, at),
+        Designated::Nested(_) => reported(at, 53),
+        Designated::Standard(_) => reported(at, 53),
+        Designated::Module(_) => no_constant(false, label, at),
+    }
+}
+
+/// What stands at a bound. A procedure is no constant, whatever its heading.
+fn bound_in(
+    types: &Types,
+    base: Option<TypeNo>,
+    label: Pos,
+    at: Pos,
+    sought: Sought<Designated>,
+) -> Elaborated<Ordinal>
+    ensures { result ≡ bound_in least types.now base label at sought }
+{
+    match sought {
+        Ok(designated) => bound_by(types, base, label, at, designated),
+        Err(Meaningless::Broken(fault)) => Err(fault),
+        Err(Meaningless::Headless(_)) => no_constant(false, label, at),
+    }
+}
+
+/// A bound of a label at a place.
+fn bound_of(
+    alloc: Global,
+    scope: &Scope<Fault>,
+    base: Option<TypeNo>,
+    label: Pos,
+    e: &Expr,
+) -> Result<Elaborated<Ordinal>, AllocError>
+    ensures { IfOk result (λ j. j ≡ bound_of least scope.now base label (meant least e.now)) }
+{
+    let sought = stands_for(alloc, scope, e)?;
+    Ok(bound_in(&scope.types, base, label, place_of(e), sought))
+}
+
+fn is_of_base(base: TypeNo, sort: Option<TypeNo>) -> bool
+    ensures { result ≡ is_of_base base sort }
+{
+    match sort {
+        None => is_numeric(base),
+        Some(t) => are_same(t, base),
+    }
+}
+
+fn number_fits(base: TypeNo, at: Pos, a: Ordinal) -> Elaborated<()>
+    ensures { result ≡ number_fits least base at a a.sort }
+{
+    match a.sort {
+        None => {
+            if !fits(Some(base), a.number) {
+                return reported(at, 52);
+            }
+            Ok(())
+        }
+        Some(_) => Ok(()),
+    }
+}
+
+fn suits_base(base: Option<TypeNo>, at: Pos, a: Ordinal) -> Elaborated<()>
+    ensures { result ≡ suits_base least base at a }
+{
+    match base {
+        None => Ok(()),
+        Some(base) => {
+            if !is_of_base(base, a.sort) {
+                return reported(at, 40);
+            }
+            number_fits(base, at, a)
+        }
+    }
+}
+
+/// The rule that a bound is one of the base type.
+fn bound_suits(base: Option<TypeNo>, at: Pos, bound: Elaborated<Ordinal>) -> Elaborated<()>
+    ensures { result ≡ bound_suits least base at bound }
+{
+    match bound {
+        Err(fault) => Err(fault),
+        Ok(a) => suits_base(base, at, a),
+    }
+}
+
+/// A label of one value.
+fn single(base: Option<TypeNo>, at: Pos, bound: Elaborated<Ordinal>) -> Elaborated<Label>
+    ensures { result ≡ single least base at bound }
+{
+    match both(bound, bound_suits(base, at, bound)) {
+        Err(fault) => Err(fault),
+        Ok((a, ())) => Ok(Label {
+            low: a.number,
+            high: a.number,
+        }),
+    }
+}
+
+fn ordered_if(at: Pos, low: Ordinal, high: Ordinal) -> Elaborated<()>
+    ensures { result ≡ ordered_if least at low high (common low.sort high.sort) }
+{
+    match common(low.sort, high.sort) {
+        None => Ok(()),
+        Some(_) => {
+            if high.number < low.number {
+                return reported(at, 35);
+            }
+            Ok(())
+        }
+    }
+}
+
+/// The rule that the bounds of a range are in order.
+fn are_ordered(at: Pos, low: Elaborated<Ordinal>, high: Elaborated<Ordinal>) -> Elaborated<()>
+    ensures { result ≡ are_ordered least at low high }
+{
+    match both(low, high) {
+        Err(fault) => Err(fault),
+        Ok((a, b)) => ordered_if(at, a, b),
+    }
+}
+
+/// A label of a range of values.
+fn spanned(
+    base: Option<TypeNo>,
+    at: Pos,
+    low: Elaborated<Ordinal>,
+    high_at: Pos,
+    high: Elaborated<Ordinal>,
+) -> Elaborated<Label>
+    ensures { result ≡ spanned least base at low high_at high }
+{
+    let suit = beside(bound_suits(base, at, low), bound_suits(base, high_at, high));
+    let fine = beside(suit, are_ordered(at, low, high));
+    match both(both(low, high), fine) {
+        Err(fault) => Err(fault),
+        Ok(((a, b), ())) => Ok(Label {
+            low: a.number,
+            high: b.number,
+        }),
+    }
+}
+
+/// A label that goes from one expression to another.
+#[tactic(auto, using(crate::proofs::Spans::range_is))]
+fn range_from(
+    alloc: Global,
+    scope: &Scope<Fault>,
+    base: Option<TypeNo>,
+    low: &Expr,
+    high: &Expr,
+) -> Result<Elaborated<Label>, AllocError>
+    ensures { IfOk result (λ j. j ≡ label_between least scope.now base (meant least low.now)
+        (Some (meant least high.now))) }
+{
+    let at = place_of(low);
+    let high_at = place_of(high);
+    let first = bound_of(alloc, scope, base, at, low)?;
+    let last = bound_of(alloc, scope, base, at, high)?;
+    Ok(spanned(base, at, first, high_at, last))
+}
+
+/// What an item of a list of labels stands for.
+fn label_of(
+    alloc: Global,
+    scope: &Scope<Fault>,
+    base: Option<TypeNo>,
+    item: &Item,
+) -> Result<Elaborated<Label>, AllocError>
+    ensures { IfOk result (λ j. j ≡ item_label least scope.now base item.now) }
+{
+    match &item.high {
+        None => {
+            let at = place_of(&item.low);
+            let bound = bound_of(alloc, scope, base, at, &item.low)?;
+            Ok(single(base, at, bound))
+        }
+        Some(high) => range_from(alloc, scope, base, &item.low, high),
+    }
+}
+
+/// Takes a label in: 49 where another has a value of it.
+fn with_new(
+    at: Pos,
+    ranges: &mut Ranges,
+    done: Elaborated<Items<Label>>,
+    label: Label,
+) -> Result<Elaborated<Items<Label>>, AllocError>
+    ensures { IfOk result (λ j. (ranges.new, j) ≡ with_new least at (ranges.old, done) label) }
+{
+    let next = if ranges.take(label.low, label.high)? {
+        Ok(label)
+    } else {
+        reported(at, 49)
+    };
+    with_next(done, next)
+}
+
+fn with_label(
+    at: Pos,
+    ranges: &mut Ranges,
+    done: Elaborated<Items<Label>>,
+    label: Elaborated<Label>,
+) -> Result<Elaborated<Items<Label>>, AllocError>
+    ensures { IfOk result (λ j. (ranges.new, j) ≡ with_label least at (ranges.old, done) label) }
+{
+    match label {
+        Err(fault) => with_next(done, Err(fault)),
+        Ok(label) => with_new(at, ranges, done, label),
+    }
+}
+
+fn with_item(
+    alloc: Global,
+    scope: &Scope<Fault>,
+    base: Option<TypeNo>,
+    ranges: &mut Ranges,
+    done: Elaborated<Items<Label>>,
+    item: &Item,
+) -> Result<Elaborated<Items<Label>>, AllocError>
+    ensures { IfOk result
+        (λ j. (ranges.new, j) ≡ with_item least scope.now base (ranges.old, done) item.now) }
+{
+    let label = label_of(alloc, scope, base, item)?;
+    with_label(place_of(&item.low), ranges, done, label)
+}
+
+/// The labels of an arm, with the values of the labels of the arms before it. A bound is a constant: else 49 at the label.
+/// A standard procedure, and one in a procedure, is 53. If the selector has a meaning, a bound has its base type: else 40,
+/// and 52 if it is out of range. A range whose bounds are not in order is
+/// 35, and a label with a value of another is 49.
+pub fn labels_in(
+    alloc: Global,
+    scope: &Scope<Fault>,
+    base: Option<TypeNo>,
+    ranges: &mut Ranges,
+    items: &[Item],
+) -> Result<Elaborated<Items<Label>>, AllocError>
+    ensures { IfOk result
+        (λ j. (ranges.new, j) ≡ labels_in least scope.now base ranges.old items.now) }
+{
+    let mut labels = Ok(Items::new(alloc));
+    for item in items {
+        labels = with_item(alloc, scope, base, ranges, labels, item)?;
+    }
+    Ok(labels)
+}

@@ -1,0 +1,23 @@
+//! The steps of checking the statements of bodies: each elaborates one form of a statement, of parts that are known.
+//!
+//! The values of labels: ranges of whole numbers, no two of which have a value in common.
+#![tactic(auto)]
+
+mod around;
+mod control;
+mod label;
+mod lists;
+mod opened;
+mod ranges;
+mod simple;
+
+pub use around::{Around, exited, in_loop};
+pub use control::{Control, Course, course_of, repeated_for};
+pub use label::labels_in;
+pub use lists::{
+    armed, base_in, cased, chosen, chosen_else, looped, repeated_until, repeated_while,
+    reported_in, standing, with_next, within,
+};
+pub use opened::opened_type;
+pub use ranges::Ranges;
+pub use simple::{assignment, called, close, condition, open, record_of, returned, selected};

@@ -1,0 +1,216 @@
+//! Statements without others inside, and the parts of statements that stand before others.
+
+ghost use Rattle.std.specs.Prelude.{◌≡◌, IfOk, OnOk, map};
+ghost use Rattle.std.specs.Option.{is_some};
+ghost use Rattle.check_scope.specs.Elaborated.{least};
+ghost use Rattle.check_scope.specs.Scopes.{fields_at};
+ghost use Rattle.check_expr.specs.Meanings.{meant, head};
+ghost use Rattle.check_expr.specs.Effects.{done_by};
+ghost use Rattle.check_stmt_parts.specs.Simple.{meant_if, given_back, returned, condition, assignment, or_none, selector_amount, selector_of, selected, record_by, record_of, opened, closed};
+
+use check_call::{assigned, target_at, untyped};
+use check_expr::{designated, done_by, first_of, place_of, value_of};
+use check_operator::{Amount, Computed, Designated, Side, side_of, value_suited};
+use check_scope::{
+    Elaborated, Fault, OpenedRecord, Scope, both, fields_of, of_sort, reported, reported_beside,
+};
+use m2_tree::{Designator, Expr, Items, Pos};
+use std::alloc::{AllocError, Global};
+use typed_tree::{BOOLEAN, Place, TypeNo, TypedExpr, TypedStmt, Types};
+
+fn given_back(
+    types: &Types,
+    t: Elaborated<TypeNo>,
+    at: Pos,
+    value: Elaborated<Computed>,
+) -> Elaborated<TypedStmt>
+    ensures { result ≡ given_back least types.now t at value }
+{
+    match both(t, value) {
+        Err(fault) => Err(fault),
+        Ok((t, value)) => match value_suited(41, types, t, at, value) {
+            Err(fault) => Err(fault),
+            Ok(e) => Ok(TypedStmt::Give(t, e)),
+        },
+    }
+}
+
+/// RETURN at a place. A value in a body that gives none, and none in a function, are 46. A value that is not assignment
+/// compatible with the type of the result is 41, and a constant out of range is 52.
+pub fn returned(
+    alloc: Global,
+    scope: &Scope<Fault>,
+    at: Pos,
+    gives: Option<Elaborated<TypeNo>>,
+    value: &Option<Expr>,
+) -> Result<Elaborated<TypedStmt>, AllocError>
+    ensures { IfOk result
+        (λ j. j ≡ returned least scope.now at gives (meant_if least value.now)) }
+{
+    match gives {
+        None => match value {
+            None => Ok(Ok(TypedStmt::Return)),
+            Some(e) => match value_of(alloc, scope, e)? {
+                Err(fault) => Ok(reported_beside(at, 46, Err(fault))),
+                Ok(value) => {
+                    drop(value);
+                    Ok(reported(at, 46))
+                }
+            },
+        },
+        Some(t) => match value {
+            None => Ok(reported(at, 46)),
+            Some(e) => {
+                let value = value_of(alloc, scope, e)?;
+                Ok(given_back(&scope.types, t, place_of(e), value))
+            }
+        },
+    }
+}
+
+/// A condition: 40 where it is no BOOLEAN.
+pub fn condition(
+    alloc: Global,
+    scope: &Scope<Fault>,
+    e: &Expr,
+) -> Result<Elaborated<TypedExpr>, AllocError>
+    ensures { IfOk result (λ j. j ≡ condition least scope.now (meant least e.now)) }
+{
+    match value_of(alloc, scope, e)? {
+        Err(fault) => Ok(Err(fault)),
+        Ok(value) => Ok(value_suited(40, &scope.types, BOOLEAN, place_of(e), value)),
+    }
+}
+
+/// An assignment. What is no variable is 40, what is not assignment compatible is 41, and a constant out of range is 52.
+pub fn assignment(
+    alloc: Global,
+    scope: &Scope<Fault>,
+    designator: &Designator,
+    e: &Expr,
+) -> Result<Elaborated<TypedStmt>, AllocError>
+    ensures { IfOk result
+        (λ j. j ≡ assignment least scope.now (head least designator.now) (meant least e.now)) }
+{
+    let target = target_at(first_of(designator), designated(alloc, scope, designator)?);
+    let value = value_of(alloc, scope, e)?;
+    Ok(assigned(&scope.types, target, place_of(e), value))
+}
+
+/// A call as a statement. Where there are no brackets there are no arguments.
+pub fn called(
+    alloc: Global,
+    scope: &Scope<Fault>,
+    designator: &Designator,
+    args: &Option<Items<Expr>>,
+) -> Result<Elaborated<TypedStmt>, AllocError>
+    ensures { IfOk result (λ j. j ≡ done_by least scope.now (head least designator.now)
+        (map (meant least) (or_none args.now))) }
+{
+    match args {
+        None => done_by(alloc, scope, designator, &[]),
+        Some(args) => done_by(alloc, scope, designator, args.as_slice()),
+    }
+}
+
+fn selector_amount(a: Amount) -> (TypeNo, TypedExpr)
+    ensures { result ≡ selector_amount a }
+{
+    match a {
+        Amount::Known(a) => {
+            let t = untyped(a);
+            (t, TypedExpr::Constant(t, a.number))
+        }
+        Amount::Run(base, e) => (base, e),
+    }
+}
+
+fn selector_of(at: Pos, side: Option<Side>) -> Elaborated<(TypeNo, TypedExpr)>
+    ensures { result ≡ selector_of least at side }
+{
+    match side {
+        None => reported(at, 40),
+        Some(Side::Scalar(a)) => Ok(selector_amount(a)),
+        Some(Side::Set(_)) => reported(at, 40),
+        Some(Side::Routine(_, _)) => reported(at, 40),
+        Some(Side::Procedure(_)) => reported(at, 40),
+    }
+}
+
+/// The selector of a CASE with its base type: 40 where it is no scalar.
+pub fn selected(
+    alloc: Global,
+    scope: &Scope<Fault>,
+    e: &Expr,
+) -> Result<Elaborated<(TypeNo, TypedExpr)>, AllocError>
+    ensures { IfOk result (λ j. j ≡ selected least scope.now (meant least e.now)) }
+{
+    match value_of(alloc, scope, e)? {
+        Err(fault) => Ok(Err(fault)),
+        Ok(value) => Ok(selector_of(place_of(e), side_of(value))),
+    }
+}
+
+/// Whether a type is a record type.
+pub fn is_record(types: &Types, t: TypeNo) -> bool
+    ensures { result ≡ is_some (fields_at types.now t) }
+{
+    match fields_of(types, t) {
+        None => false,
+        Some(_) => true,
+    }
+}
+
+fn record_by(types: &Types, at: Pos, designated: Designated) -> Elaborated<(TypeNo, Place)>
+    ensures { result ≡ record_by least types.now at designated }
+{
+    match designated {
+        Designated::Variable(t, place) => {
+            if !is_record(types, t) {
+                return reported(at, 40);
+            }
+            Ok((t, place))
+        }
+        Designated::Value(value) => {
+            drop(value);
+            reported(at, 40)
+        }
+        Designated::Open(_, _) => reported(at, 40),
+        Designated::Type(_) => reported(at, 40),
+        Designated::Procedure(_) => reported(at, 40),
+        Designated::Nested(_) => reported(at, 40),
+        Designated::Standard(_) => reported(at, 40),
+        Designated::Module(_) => reported(at, 40),
+    }
+}
+
+/// The record of a WITH with its type: 40 where it is no variable of a record type.
+pub fn record_of(
+    alloc: Global,
+    scope: &Scope<Fault>,
+    designator: &Designator,
+) -> Result<Elaborated<(TypeNo, Place)>, AllocError>
+    ensures { IfOk result (λ j. j ≡ record_of least scope.now (head least designator.now)) }
+{
+    let at = first_of(designator);
+    match of_sort(at, 40, designated(alloc, scope, designator)?) {
+        Err(fault) => Ok(Err(fault)),
+        Ok(designated) => Ok(record_by(&scope.types, at, designated)),
+    }
+}
+
+/// Puts the fields of a record of this type before all other names.
+pub fn open(scope: &mut Scope<Fault>, t: TypeNo) -> Result<(), AllocError>
+    ensures { OnOk result (scope.new ≡ opened scope.old t) }
+{
+    let number = scope.withs.len();
+    scope.withs.push(OpenedRecord { number, of: t })
+}
+
+/// Takes back what was opened last.
+#[tactic(auto, using(crate::proofs::Closing::front_push))]
+pub fn close(scope: &mut Scope<Fault>)
+    ensures { scope.new ≡ closed scope.old }
+{
+    let _last = scope.withs.pop();
+}

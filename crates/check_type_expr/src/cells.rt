@@ -1,0 +1,72 @@
+//! How many scalar cells types have.
+
+ghost use Rattle.std.specs.Prelude.{◌≡◌};
+ghost use Rattle.check_scope.specs.Elaborated.{least};
+ghost use Rattle.check_type_expr.specs.Cells.{counted, count_of, count_at, plus, array_cells, is_index};
+
+use check_scope::{Elaborated, reported};
+use m2_tree::Pos;
+use typed_tree::{Scalar, TypeNo, Types, is_numeric, scalar_of};
+
+/// The most scalar cells that a type may have.
+pub const MAX_CELLS: u32 = 131_072;
+
+/// How many values a scalar type has, counted up to one more than the most cells.
+fn count_of(scalar: Option<Scalar>) -> u32
+    ensures { result ≡ count_of scalar }
+{
+    match scalar {
+        None => 0,
+        Some(s) => {
+            if s.high < s.low {
+                return 0;
+            }
+            let distance = s.high.abs_diff(s.low);
+            if distance > 131_072 {
+                131_073
+            } else {
+                distance as u32 + 1
+            }
+        }
+    }
+}
+
+/// How many values a scalar type has, counted up to one more than the most cells.
+pub fn count_at(types: &Types, t: TypeNo) -> u32
+    ensures { result ≡ count_at types.now t }
+{
+    count_of(scalar_of(types, t))
+}
+
+/// Two numbers of cells together, counted up to one more than the most.
+pub fn plus(a: u32, b: u32) -> u32
+    ensures { result ≡ plus a b }
+{
+    let sum = u64::from(a) + u64::from(b);
+    if sum > 131_072 { 131_073 } else { sum as u32 }
+}
+
+/// The cells of an array of so many elements.
+pub fn array_cells(at: Pos, count: u32, cells: u32) -> Elaborated<u32>
+    ensures { result ≡ array_cells least at count cells }
+{
+    match u64::from(count).checked_mul(u64::from(cells)) {
+        None => reported(at, 38),
+        Some(all) => {
+            if all > 131_072 {
+                return reported(at, 38);
+            }
+            Ok(all as u32)
+        }
+    }
+}
+
+/// Whether a type can stand as an index: a scalar, but not INTEGER or CARDINAL as a whole.
+pub fn is_index(types: &Types, t: TypeNo) -> bool
+    ensures { result ≡ is_index types.now t }
+{
+    match scalar_of(types, t) {
+        None => false,
+        Some(_) => !is_numeric(t),
+    }
+}

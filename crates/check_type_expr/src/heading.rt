@@ -1,0 +1,201 @@
+//! Headings of procedures, and procedure types.
+
+ghost use Rattle.std.specs.Prelude.{◌≡◌, [], Ok, IfOk};
+ghost use Rattle.std.specs.List.{fold};
+ghost use Rattle.check_scope.specs.Elaborated.{least};
+ghost use Rattle.check_type_expr.specs.Headings.{formal_of, result_in, result_of, joined_formal, with_parameter, repeated, joined_formals, with_section, procedure_made, heading_of, with_names as with_section_names, names_of, procedure_type};
+
+use crate::field::{Fields, no_fields, with_names};
+use crate::named::{first_of, named_type};
+use check_scope::{Elaborated, Fault, Scope, both, reported};
+use m2_tree::{FormalType, Heading, Ident, Items, Parameter, Pos, Qualified, Section};
+use std::alloc::{AllocError, Global};
+use typed_tree::{Formal, INTEGER, Made, Shape, Signature, TypeNo, Types, is_result};
+
+/// A formal, from what stands before its names and its type.
+pub fn formal_of(
+    scope: &Scope<Fault>,
+    is_var: bool,
+    of: &FormalType,
+) -> Result<Elaborated<Formal>, AllocError>
+    ensures { IfOk result (λ f. f ≡ formal_of least scope.now is_var of.now) }
+{
+    match named_type(scope, &of.of)? {
+        Err(fault) => Ok(Err(fault)),
+        Ok(t) => Ok(Ok(Formal {
+            is_var,
+            is_open: of.is_open,
+            of: t,
+        })),
+    }
+}
+
+fn result_in(types: &Types, at: Pos, t: TypeNo) -> Elaborated<Option<TypeNo>>
+    ensures { result ≡ result_in least types.now at t }
+{
+    if !is_result(types, t) {
+        return reported(at, 33);
+    }
+    Ok(Some(t))
+}
+
+/// What a procedure gives, if it gives something.
+pub fn result_of(
+    scope: &Scope<Fault>,
+    of: &Option<Qualified>,
+) -> Result<Elaborated<Option<TypeNo>>, AllocError>
+    ensures { IfOk result (λ t. t ≡ result_of least scope.now of.now) }
+{
+    match of {
+        None => Ok(Ok(None)),
+        Some(q) => match named_type(scope, q)? {
+            Err(fault) => Ok(Err(fault)),
+            Ok(t) => Ok(result_in(&scope.types, first_of(q), t)),
+        },
+    }
+}
+
+fn joined_formal(
+    formals: Elaborated<Items<Formal>>,
+    formal: Elaborated<Formal>,
+) -> Result<Elaborated<Items<Formal>>, AllocError>
+    ensures { IfOk result (λ fs. fs ≡ joined_formal least formals formal) }
+{
+    match both(formals, formal) {
+        Err(fault) => Ok(Err(fault)),
+        Ok((mut all, one)) => {
+            all.push(one)?;
+            Ok(Ok(all))
+        }
+    }
+}
+
+fn parameters(
+    alloc: Global,
+    scope: &Scope<Fault>,
+    list: &[Parameter],
+) -> Result<Elaborated<Items<Formal>>, AllocError>
+    ensures { IfOk result (λ fs. fs ≡ fold (with_parameter least scope.now) (Ok []) list.now) }
+{
+    let mut formals = Ok(Items::new(alloc));
+    for parameter in list {
+        let formal = formal_of(scope, parameter.is_var, &parameter.of)?;
+        formals = joined_formal(formals, formal)?;
+    }
+    Ok(formals)
+}
+
+fn repeated(alloc: Global, formal: Formal, names: &[Ident]) -> Result<Items<Formal>, AllocError>
+    ensures { IfOk result (λ fs. fs ≡ repeated formal names.now) }
+{
+    let mut formals = Items::new(alloc);
+    for _name in names {
+        formals.push(formal)?;
+    }
+    Ok(formals)
+}
+
+fn joined_formals(
+    alloc: Global,
+    formals: Elaborated<Items<Formal>>,
+    formal: Elaborated<Formal>,
+    names: &[Ident],
+) -> Result<Elaborated<Items<Formal>>, AllocError>
+    ensures { IfOk result (λ fs. fs ≡ joined_formals least formals formal names.now) }
+{
+    match both(formals, formal) {
+        Err(fault) => Ok(Err(fault)),
+        Ok((mut all, one)) => {
+            all.append(repeated(alloc, one, names)?)?;
+            Ok(Ok(all))
+        }
+    }
+}
+
+/// One more section of formals.
+fn with_section(
+    alloc: Global,
+    scope: &Scope<Fault>,
+    formals: Elaborated<Items<Formal>>,
+    section: &Section,
+) -> Result<Elaborated<Items<Formal>>, AllocError>
+    ensures { IfOk result (λ fs. fs ≡ with_section least scope.now formals section.now) }
+{
+    let formal = formal_of(scope, section.is_var, &section.of)?;
+    joined_formals(alloc, formals, formal, section.names.as_slice())
+}
+
+fn sections(
+    alloc: Global,
+    scope: &Scope<Fault>,
+    list: &[Section],
+) -> Result<Elaborated<Items<Formal>>, AllocError>
+    ensures { IfOk result (λ fs. fs ≡ fold (with_section least scope.now) (Ok []) list.now) }
+{
+    let mut formals = Ok(Items::new(alloc));
+    for section in list {
+        formals = with_section(alloc, scope, formals, section)?;
+    }
+    Ok(formals)
+}
+
+fn procedure_made(
+    formals: Elaborated<Items<Formal>>,
+    of: Elaborated<Option<TypeNo>>,
+) -> Elaborated<Made>
+    ensures { result ≡ procedure_made least formals of }
+{
+    match both(formals, of) {
+        Err(fault) => Err(fault),
+        Ok((formals, result)) => Ok(Made {
+            shape: Shape::Procedure(Signature { formals, result }),
+            cells: 1,
+        }),
+    }
+}
+
+/// The type of a procedure with this heading, whatever the names of its formals.
+pub fn heading_of(
+    alloc: Global,
+    scope: &Scope<Fault>,
+    heading: &Heading,
+) -> Result<Elaborated<Made>, AllocError>
+    ensures { IfOk result (λ m. m ≡ heading_of least scope.now heading.now) }
+{
+    let formals = sections(alloc, scope, heading.formals.as_slice())?;
+    let of = result_of(scope, &heading.result)?;
+    Ok(procedure_made(formals, of))
+}
+
+/// What is reported of the names of formals: 31 at a name that stands there twice.
+pub fn names_of(alloc: Global, heading: &Heading) -> Result<Elaborated<()>, AllocError>
+    ensures { IfOk result (λ j. j ≡ names_of least heading.now) }
+{
+    let mut fields = no_fields(alloc);
+    let mut done = Ok(());
+    for section in heading.formals.as_slice() {
+        done = with_names(
+            alloc,
+            &mut fields,
+            done,
+            section.names.as_slice(),
+            INTEGER,
+            0,
+        )?;
+    }
+    Ok(done)
+}
+
+/// A procedure type.
+pub fn procedure_type(
+    alloc: Global,
+    scope: &Scope<Fault>,
+    list: &[Parameter],
+    of: &Option<Qualified>,
+) -> Result<Elaborated<Made>, AllocError>
+    ensures { IfOk result (λ m. m ≡ procedure_type least scope.now list.now of.now) }
+{
+    let formals = parameters(alloc, scope, list)?;
+    let result = result_of(scope, of)?;
+    Ok(procedure_made(formals, result))
+}

@@ -1,0 +1,403 @@
+//! The types that type expressions make.
+
+ghost use Rattle.std.specs.Prelude.{◌≡◌, Ok, IfOk, length};
+ghost use Rattle.std.specs.List.{fold};
+ghost use Rattle.check_scope.specs.Elaborated.{least, ◌▷◌};
+ghost use Rattle.check_expr.specs.Meanings.{part};
+ghost use Rattle.check_type_expr.specs.Made.{with_made, scalar_made, too_many, enumeration_constant, enumeration_scalar, enumerated, enumeration, scalar_in, scalar_named, bound_at, subrange, simple_place, subrange_place, simple_type, index_in, array_in, array_of, index_type, array_made, field_type, nothing_of, record_in, record_of, type_of, with_field_list, field_list};
+
+use crate::cells::{array_cells, count_at, is_index};
+use crate::field::{Fields, no_fields, with_names};
+use crate::heading::procedure_type;
+use crate::named::{first_of, named_type};
+use crate::subrange::{bound_of, under, unnamed};
+use check_const_ops::Ordinal;
+use check_expr::{constant_of, place_of};
+use check_scope::{Elaborated, Fault, Scope, beside, both, declare, reported};
+use m2_tree::{Expr, Field, Ident, Pos, Qualified, Simple, TypeExpr};
+use std::alloc::{AllocError, Global};
+use typed_tree::{
+    Home, INTEGER, Made, Meaning, Scalar, ScalarValue, Shape, TypeNo, Types, Value, cells_of,
+    scalar_of,
+};
+
+/// Makes a type.
+pub fn with_made(
+    scope: &mut Scope<Fault>,
+    made: Elaborated<Made>,
+) -> Result<Elaborated<TypeNo>, AllocError>
+    ensures { IfOk result (λ t. (scope.new, t) ≡ with_made scope.old made) }
+{
+    match made {
+        Err(fault) => Ok(Err(fault)),
+        Ok(made) => {
+            let t = TypeNo {
+                home: Home::Module(scope.types.home),
+                number: scope.types.own.len(),
+            };
+            scope.types.own.push(made)?;
+            Ok(Ok(t))
+        }
+    }
+}
+
+fn scalar_made(scalar: Elaborated<Scalar>) -> Elaborated<Made>
+    ensures { result ≡ scalar_made scalar }
+{
+    match scalar {
+        Err(fault) => Err(fault),
+        Ok(scalar) => Ok(Made {
+            shape: Shape::Scalar(scalar),
+            cells: 1,
+        }),
+    }
+}
+
+// ---- enumerations
+
+/// The 257th constant.
+fn too_many(names: &[Ident]) -> Elaborated<()>
+    ensures { result ≡ too_many least names.now }
+{
+    match names.get(256) {
+        None => Ok(()),
+        Some(name) => reported(name.pos, 37),
+    }
+}
+
+fn enumeration_constant(t: TypeNo, number: i64) -> Meaning
+    ensures { result ≡ enumeration_constant t number }
+{
+    Meaning::Constant(Value::Scalar(ScalarValue {
+        of: t,
+        base: t,
+        number,
+    }))
+}
+
+fn enumerated(
+    alloc: Global,
+    scope: &mut Scope<Fault>,
+    t: TypeNo,
+    before: Elaborated<()>,
+    names: &[Ident],
+) -> Result<Elaborated<()>, AllocError>
+    ensures { IfOk result (λ j. (scope.new, length names.now, j) ≡ enumerated least t scope.old before names.now) }
+{
+    let mut elaborated = before;
+    for (number, name) in names.iter().enumerate() {
+        let constant = enumeration_constant(t, number as i64);
+        let one = declare(alloc, scope, name, Ok(constant))?;
+        elaborated = beside(elaborated, one);
+    }
+    Ok(elaborated)
+}
+
+fn of_type(elaborated: Elaborated<()>, t: TypeNo) -> Elaborated<TypeNo>
+    ensures { result ≡ elaborated ▷ λ fine. Ok t }
+{
+    match elaborated {
+        Err(fault) => Err(fault),
+        Ok(()) => Ok(t),
+    }
+}
+
+fn enumeration_scalar(t: TypeNo, names: &[Ident]) -> Made
+    ensures { result ≡ enumeration_scalar t names.now }
+{
+    Made {
+        shape: Shape::Scalar(Scalar {
+            base: t,
+            low: 0,
+            high: names.len() as i64 - 1,
+        }),
+        cells: 1,
+    }
+}
+
+fn enumeration(
+    alloc: Global,
+    scope: &mut Scope<Fault>,
+    names: &[Ident],
+) -> Result<Elaborated<TypeNo>, AllocError>
+    ensures { IfOk result (λ t. (scope.new, t) ≡ enumeration least scope.old names.now) }
+{
+    let t = TypeNo {
+        home: Home::Module(scope.types.home),
+        number: scope.types.own.len(),
+    };
+    scope.types.own.push(enumeration_scalar(t, names))?;
+    let elaborated = enumerated(alloc, scope, t, too_many(names), names)?;
+    Ok(of_type(elaborated, t))
+}
+
+// ---- subranges
+
+fn scalar_in(types: &Types, at: Pos, t: Elaborated<TypeNo>) -> Elaborated<Scalar>
+    ensures { result ≡ scalar_in least types.now at t }
+{
+    match t {
+        Err(fault) => Err(fault),
+        Ok(t) => match scalar_of(types, t) {
+            None => reported(at, 33),
+            Some(scalar) => Ok(scalar),
+        },
+    }
+}
+
+/// The scalar type of a subrange's name.
+fn scalar_named(scope: &Scope<Fault>, q: &Qualified) -> Result<Elaborated<Scalar>, AllocError>
+    ensures { IfOk result (λ s. s ≡ scalar_named least scope.now q.now) }
+{
+    let t = named_type(scope, q)?;
+    Ok(scalar_in(&scope.types, first_of(q), t))
+}
+
+fn bound_at(
+    alloc: Global,
+    scope: &Scope<Fault>,
+    e: &Expr,
+) -> Result<Elaborated<Ordinal>, AllocError>
+    ensures { IfOk result (λ a. a ≡ bound_at least scope.now (part least e.now)) }
+{
+    let value = constant_of(alloc, scope, e)?;
+    Ok(bound_of(place_of(e), value))
+}
+
+fn subrange(
+    alloc: Global,
+    scope: &Scope<Fault>,
+    of: &Option<Qualified>,
+    low: &Expr,
+    high: &Expr,
+) -> Result<Elaborated<Scalar>, AllocError>
+    ensures { IfOk result (λ s. s ≡ subrange least scope.now of.now (part least low.now) (part least high.now)) }
+{
+    let first = bound_at(alloc, scope, low)?;
+    let last = bound_at(alloc, scope, high)?;
+    match of {
+        None => Ok(unnamed(place_of(low), first, place_of(high), last)),
+        Some(q) => {
+            let base = scalar_named(scope, q)?;
+            Ok(under(base, place_of(low), first, place_of(high), last))
+        }
+    }
+}
+
+// ---- simple types
+
+fn simple_place(t: &Simple) -> Pos
+    ensures { result ≡ simple_place t.now }
+{
+    match t {
+        Simple::Named(q) => first_of(q),
+        Simple::Enumeration(at, _) => *at,
+        Simple::Subrange(of, at, _, _) => subrange_place(of, *at),
+    }
+}
+
+fn subrange_place(of: &Option<Qualified>, at: Pos) -> Pos
+    ensures { result ≡ subrange_place of.now at }
+{
+    match of {
+        None => at,
+        Some(q) => first_of(q),
+    }
+}
+
+fn simple_type(
+    alloc: Global,
+    scope: &mut Scope<Fault>,
+    t: &Simple,
+) -> Result<Elaborated<TypeNo>, AllocError>
+    ensures { IfOk result (λ j. (scope.new, j) ≡ simple_type least scope.old t.now) }
+{
+    match t {
+        Simple::Named(q) => named_type(scope, q),
+        Simple::Enumeration(_, names) => enumeration(alloc, scope, names.as_slice()),
+        Simple::Subrange(of, _, low, high) => {
+            let scalar = subrange(alloc, scope, of, low.get(), high.get())?;
+            with_made(scope, scalar_made(scalar))
+        }
+    }
+}
+
+// ---- arrays
+
+fn index_in(types: &Types, at: Pos, t: Elaborated<TypeNo>) -> Elaborated<TypeNo>
+    ensures { result ≡ index_in least types.now at t }
+{
+    match t {
+        Err(fault) => Err(fault),
+        Ok(t) => {
+            if !is_index(types, t) {
+                return reported(at, 36);
+            }
+            Ok(t)
+        }
+    }
+}
+
+fn array_in(types: &Types, at: Pos, index: TypeNo, element: TypeNo) -> Elaborated<Made>
+    ensures { result ≡ array_in least types.now at index element }
+{
+    match array_cells(at, count_at(types, index), cells_of(types, element)) {
+        Err(fault) => Err(fault),
+        Ok(cells) => Ok(Made {
+            shape: Shape::Array(index, element),
+            cells,
+        }),
+    }
+}
+
+fn array_of(
+    types: &Types,
+    at: Pos,
+    index: Elaborated<TypeNo>,
+    element: Elaborated<TypeNo>,
+) -> Elaborated<Made>
+    ensures { result ≡ array_of least types.now at index element }
+{
+    match both(index, element) {
+        Err(fault) => Err(fault),
+        Ok((i, e)) => array_in(types, at, i, e),
+    }
+}
+
+/// The type of an index.
+fn index_type(
+    alloc: Global,
+    scope: &mut Scope<Fault>,
+    t: &Simple,
+) -> Result<Elaborated<TypeNo>, AllocError>
+    ensures { IfOk result (λ j. (scope.new, j) ≡ index_type least scope.old t.now) }
+{
+    let i = simple_type(alloc, scope, t)?;
+    Ok(index_in(&scope.types, simple_place(t), i))
+}
+
+fn array_made(
+    scope: &mut Scope<Fault>,
+    at: Pos,
+    index: Elaborated<TypeNo>,
+    element: Elaborated<TypeNo>,
+) -> Result<Elaborated<TypeNo>, AllocError>
+    ensures { IfOk result (λ j. (scope.new, j) ≡ array_made least at scope.old index element) }
+{
+    let made = array_of(&scope.types, at, index, element);
+    with_made(scope, made)
+}
+
+// ---- records
+
+/// The type of a field. One whose type is broken stands for its name alone.
+fn field_type(t: Elaborated<TypeNo>) -> TypeNo
+    ensures { result ≡ field_type t }
+{
+    match t {
+        Err(_) => INTEGER,
+        Ok(t) => t,
+    }
+}
+
+/// What is reported of a part.
+pub fn nothing_of(t: Elaborated<TypeNo>) -> Elaborated<()>
+    ensures { result ≡ nothing_of t }
+{
+    match t {
+        Err(fault) => Err(fault),
+        Ok(_) => Ok(()),
+    }
+}
+
+fn record_in(at: Pos, fields: Fields) -> Elaborated<Made>
+    ensures { result ≡ record_in least at fields }
+{
+    if fields.cells > 131_072 {
+        return reported(at, 38);
+    }
+    Ok(Made {
+        shape: Shape::Record(fields.names),
+        cells: fields.cells,
+    })
+}
+
+fn record_of(at: Pos, fields: Fields, elaborated: Elaborated<()>) -> Elaborated<Made>
+    ensures { result ≡ record_of least at fields elaborated }
+{
+    match elaborated {
+        Err(fault) => Err(fault),
+        Ok(()) => record_in(at, fields),
+    }
+}
+
+// ---- type expressions
+
+/// The type that a type expression makes.
+#[cycle(types)]
+#[tactic(auto, using(crate::proofs::Making::types))]
+pub fn type_of(
+    alloc: Global,
+    scope: &mut Scope<Fault>,
+    t: &TypeExpr,
+) -> Result<Elaborated<TypeNo>, AllocError>
+    ensures { IfOk result (λ j. (scope.new, j) ≡ type_of least t.now scope.old) }
+{
+    match t {
+        TypeExpr::Simple(simple) => simple_type(alloc, scope, simple),
+        TypeExpr::Array(at, index, of) => {
+            let i = index_type(alloc, scope, index)?;
+            let e = type_of(alloc, scope, of.get())?;
+            array_made(scope, *at, i, e)
+        }
+        TypeExpr::Record(at, list) => {
+            let mut fields = no_fields(alloc);
+            let elaborated = fields_of(alloc, scope, &mut fields, list.as_slice())?;
+            with_made(scope, record_of(*at, fields, elaborated))
+        }
+        TypeExpr::Procedure(_, formals, result) => {
+            let made = procedure_type(alloc, scope, formals.as_slice(), result)?;
+            with_made(scope, made)
+        }
+    }
+}
+
+#[cycle(types)]
+fn fields_of(
+    alloc: Global,
+    scope: &mut Scope<Fault>,
+    fields: &mut Fields,
+    list: &[Field],
+) -> Result<Elaborated<()>, AllocError>
+    ensures { IfOk result (λ j. (scope.new, fields.new, j) ≡ fold with_field_list (scope.old, fields.old, Ok tt) list.now) }
+{
+    let mut elaborated = Ok(());
+    for field in list {
+        elaborated = field_list(alloc, scope, fields, elaborated, field)?;
+    }
+    Ok(elaborated)
+}
+
+#[cycle(types)]
+#[tactic(auto, using(crate::proofs::Making::types))]
+fn field_list(
+    alloc: Global,
+    scope: &mut Scope<Fault>,
+    fields: &mut Fields,
+    before: Elaborated<()>,
+    field: &Field,
+) -> Result<Elaborated<()>, AllocError>
+    ensures { IfOk result (λ j. (scope.new, fields.new, j) ≡ field_list least field.now (scope.old, fields.old, before)) }
+{
+    let t = type_of(alloc, scope, &field.of)?;
+    let of = field_type(t);
+    let cells = cells_of(&scope.types, of);
+    with_names(
+        alloc,
+        fields,
+        beside(before, nothing_of(t)),
+        field.names.as_slice(),
+        of,
+        cells,
+    )
+}

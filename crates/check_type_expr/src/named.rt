@@ -1,0 +1,85 @@
+//! Names of types.
+
+ghost use Rattle.std.specs.Prelude.{◌≡◌, IfOk};
+ghost use Rattle.check_scope.specs.Elaborated.{least, ◌▷◌};
+ghost use Rattle.check_type_expr.specs.Named.{first_of, type_meant, in_module, of_module, named_type};
+
+use check_const::member;
+use check_scope::{Elaborated, Fault, Scope, looked_up, of_sort, reported};
+use m2_tree::{Ident, Pos, Qualified};
+use std::alloc::AllocError;
+use typed_tree::{Meaning, TypeNo};
+
+/// The place of a name's first token.
+pub fn first_of(q: &Qualified) -> Pos
+    ensures { result ≡ first_of q.now }
+{
+    match &q.module {
+        None => q.name.pos,
+        Some(name) => name.pos,
+    }
+}
+
+fn type_meant(at: Pos, meaning: Meaning) -> Elaborated<TypeNo>
+    ensures { result ≡ type_meant least at meaning }
+{
+    match meaning {
+        Meaning::Type(t, _) => Ok(t),
+        Meaning::Constant(_) => reported(at, 33),
+        Meaning::Variable(_) => reported(at, 33),
+        Meaning::Local(_) => reported(at, 33),
+        Meaning::Field(_) => reported(at, 33),
+        Meaning::Procedure(_) => reported(at, 33),
+        Meaning::LocalProcedure(_) => reported(at, 33),
+        Meaning::Ahead => reported(at, 33),
+        Meaning::Standard(_) => reported(at, 33),
+        Meaning::Module(_) => reported(at, 33),
+    }
+}
+
+fn type_by(at: Pos, meaning: Elaborated<Meaning>) -> Elaborated<TypeNo>
+    ensures { result ≡ meaning ▷ type_meant least at }
+{
+    match meaning {
+        Err(fault) => Err(fault),
+        Ok(meaning) => type_meant(at, meaning),
+    }
+}
+
+fn in_module(
+    scope: &Scope<Fault>,
+    at: Pos,
+    name: &Ident,
+    meaning: Meaning,
+) -> Result<Elaborated<TypeNo>, AllocError>
+    ensures { IfOk result (λ t. t ≡ in_module least scope.now at name.now meaning) }
+{
+    match meaning {
+        Meaning::Module(place) => Ok(type_by(at, member(scope, place, name)?)),
+        Meaning::Type(_, _) => Ok(reported(at, 33)),
+        Meaning::Constant(_) => Ok(reported(at, 33)),
+        Meaning::Variable(_) => Ok(reported(at, 33)),
+        Meaning::Local(_) => Ok(reported(at, 33)),
+        Meaning::Field(_) => Ok(reported(at, 33)),
+        Meaning::Procedure(_) => Ok(reported(at, 33)),
+        Meaning::LocalProcedure(_) => Ok(reported(at, 33)),
+        Meaning::Ahead => Ok(reported(at, 33)),
+        Meaning::Standard(_) => Ok(reported(at, 33)),
+    }
+}
+
+/// The type of this name.
+pub fn named_type(scope: &Scope<Fault>, q: &Qualified) -> Result<Elaborated<TypeNo>, AllocError>
+    ensures { IfOk result (λ t. t ≡ named_type least scope.now q.now) }
+{
+    match &q.module {
+        None => Ok(type_by(
+            q.name.pos,
+            of_sort(q.name.pos, 33, looked_up(scope, &q.name)?),
+        )),
+        Some(home) => match of_sort(home.pos, 33, looked_up(scope, home)?) {
+            Err(fault) => Ok(Err(fault)),
+            Ok(meaning) => in_module(scope, home.pos, &q.name, meaning),
+        },
+    }
+}

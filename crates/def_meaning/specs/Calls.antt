@@ -1,0 +1,142 @@
+-- What calls do: an activation of its own for each, with copies of what is passed by value.
+use Rattle.std.specs.Prelude.{ℕ, zero, suc, ◌+◌, ◌-◌, ◌*◌, ℤ, pos, Bool, true, false, nat_lt, List, [], ◌∷◌, ◌++◌, map, length, Option, Some, None, if◌then◌else◌}
+use Rattle.typed_tree.specs.declared.types.TypeNo.{TypeNo}
+use Rattle.typed_tree.specs.declared.shape.Formal.{Formal}
+use Rattle.typed_tree.specs.declared.shape.Shape.{Shape}
+use Rattle.typed_tree.specs.declared.shape.Shape.TheVariants as shape
+use Rattle.typed_tree.specs.declared.shape.Made.{Made}
+use Rattle.typed_tree.specs.declared.known_types.Types.{Types}
+use Rattle.typed_tree.specs.declared.statement.TypedStmt.{TypedStmt}
+use Rattle.typed_tree.specs.declared.typed_module.Routine.{Routine}
+use Rattle.typed_tree.specs.Known.{made_at}
+use Rattle.m2_layout.specs.Sizes.{size}
+use Rattle.m2_layout.specs.Shapes.{tree}
+use Rattle.m2_layout.specs.Frames.{formals_of, frame}
+use Rattle.m2_layout.specs.Texts.{passed}
+use Rattle.def_meaning.specs.Store.{Location, Store, assigned, copied, placed, fresh}
+use Rattle.def_meaning.specs.Answer.{State, Answer, Gave, Ended, Running, Outcome, Went, Left, Came, Stopped, Unfinished, no_return, empty_procedure, storage_fault}
+use Rattle.def_meaning.specs.Around.{Modules, Around, Named, At, Elements, Callee, Passed, Number, Variable, Array, Text}
+use Rattle.def_meaning.specs.Expressions.{Asks}
+use Rattle.def_meaning.specs.Statements.{character, in_turn, does}
+
+-- ---- formals
+
+-- how formals begin: their names, the number of the next instance, and the store
+pub record Entered : Type 0 where
+  pub names : List Named
+  pub next : ℕ
+  pub store : Store
+
+-- variable v of an activation; its component 0 is what is kept for the call itself
+abbrev pub variable_at : (activation v : ℕ) → Location
+variable_at activation v = activation ∷ suc v ∷ []
+
+abbrev pub named_also : Entered → Named → Store → Entered
+named_also e name store = record e { names = e.names ++ name ∷ []; store = store }
+
+-- the copy of an open array is an instance of its own
+abbrev pub copied_also : Entered → (high : ℕ) → Store → Entered
+copied_also e high store = record { names = e.names ++ Elements (e.next ∷ []) high ∷ []; next = suc e.next; store = store }
+
+-- a number or a copy is the formal's own, a VAR formal is another name of the variable
+abbrev pub with_passed : (is_var : Bool) → (activation : ℕ) → Entered → Passed → Entered
+with_passed is_var activation e (Number v) = named_also e (At (variable_at activation (length e.names))) (assigned (variable_at activation (length e.names)) v e.store)
+with_passed true activation e (Variable l) = named_also e (At l) e.store
+with_passed false activation e (Variable l) = named_also e (At (variable_at activation (length e.names))) (copied (variable_at activation (length e.names)) l e.store)
+with_passed true activation e (Array l high) = named_also e (Elements l high) e.store
+with_passed false activation e (Array l high) = copied_also e high (copied (e.next ∷ []) l e.store)
+with_passed is_var activation e (Text text) = copied_also e (length (passed text) - 1) (placed (e.next ∷ []) (character text) e.store)
+
+abbrev pub with_all : (activation : ℕ) → List Formal → List Passed → Entered → Entered
+with_all activation [] vs e = e
+with_all activation (f ∷ fs) [] e = e
+with_all activation (f ∷ fs) (v ∷ vs) e = with_all activation fs vs (with_passed f.is_var activation e v)
+
+-- ---- storage
+
+-- the bytes of the copy of an open array
+abbrev pub copy_size : Types → Formal → Passed → ℕ
+copy_size types f (Number v) = 0
+copy_size types f (Variable l) = 0
+copy_size types f (Array l high) = if f.is_var then 0 else suc high * size (tree types f.of)
+copy_size types f (Text text) = length (passed text) * size (tree types f.of)
+
+abbrev pub copies_size : Types → List Formal → List Passed → ℕ
+copies_size types [] vs = 0
+copies_size types (f ∷ fs) [] = 0
+copies_size types (f ∷ fs) (v ∷ vs) = copy_size types f v + copies_size types fs vs
+
+abbrev pub needed : Types → Routine → List Passed → ℕ
+needed types r vs = size (frame types r) + copies_size types (formals_of types r.heading) vs
+
+-- ---- the body
+
+abbrev pub is_there : {A : Type 0} → Option A → Bool
+is_there None = false
+is_there (Some t) = true
+
+abbrev pub gives_result : Shape → Bool
+gives_result (shape.Procedure h) = is_there h.result
+gives_result (shape.Scalar s) = false
+gives_result shape.Set = false
+gives_result (shape.Array i e) = false
+gives_result (shape.Record fs) = false
+gives_result (shape.Open e) = false
+
+abbrev pub is_function_made : Option Made → Bool
+is_function_made None = false
+is_function_made (Some m) = gives_result m.shape
+
+abbrev pub is_function : Types → Routine → Bool
+is_function types r = is_function_made (made_at types r.heading)
+
+-- a function that comes to its end is a fault
+abbrev pub at_end : Bool → State → Answer ℤ
+at_end true st = Ended no_return st.out
+at_end false st = Gave (pos 0) st
+
+abbrev pub result : Bool → Outcome → Answer ℤ
+result function (Went st) = at_end function st
+result function (Left st) = at_end function st
+result function (Came v st) = Gave v st
+result function (Stopped k out) = Ended k out
+result function (Unfinished out) = Running out
+
+-- the names of the variables that stand behind the formals
+abbrev pub variables_from : (activation v : ℕ) → List TypeNo → List Named
+variables_from activation v [] = []
+variables_from activation v (t ∷ ts) = At (variable_at activation v) ∷ variables_from activation (suc v) ts
+
+abbrev pub entered : Types → Routine → (activation : ℕ) → List Passed → Store → Entered
+entered types r activation vs store =
+    with_all activation (formals_of types r.heading) vs (record { names = []; next = suc activation; store = placed (activation ∷ []) (fresh (frame types r)) store })
+
+-- the body's names are the formals and then the variables
+abbrev pub around_of : Callee → (activation : ℕ) → Entered → (left : ℕ) → Around
+around_of c activation e left = record {
+  place = c.place;
+  types = c.types;
+  frames = (e.names ++ variables_from activation (length e.names) c.routine.variables) ∷ c.frames;
+  withs = [];
+  next = e.next;
+  left = left;
+}
+
+module _ (p : Modules) (n : ℕ) where
+  abbrev pub body_does : Asks → List TypedStmt → Around → State → Outcome
+  body_does ask body a st = in_turn (map (does p ask n) body) a st
+
+  abbrev pub runs_in : Asks → Callee → (activation : ℕ) → Entered → (left : ℕ) → State → Answer ℤ
+  runs_in ask c activation e left st = result (is_function c.types c.routine) (body_does ask c.routine.body (around_of c activation e left) (record st { store = e.store }))
+
+  -- a call whose frame and copies do not fit into the free storage is a fault
+  abbrev pub runs : Asks → Callee → List Passed → (next left : ℕ) → State → Answer ℤ
+  runs ask c vs next left st =
+      if nat_lt left (needed c.types c.routine vs) then Ended storage_fault st.out
+      else runs_in ask c next (entered c.types c.routine next vs st.store) (left - needed c.types c.routine vs) st
+
+  -- calls nest at most d deep
+  unfoldable pub calling : (d : ℕ) → Asks
+  calling zero c vs next left st = Running st.out
+  calling (suc d) None vs next left st = Ended empty_procedure st.out
+  calling (suc d) (Some c) vs next left st = runs (calling d) c vs next left st

@@ -1,0 +1,51 @@
+-- The run of a program: the bodies of its modules in start order, on fresh variables.
+use Rattle.std.specs.Prelude.{ℕ, suc, ◌+◌, ◌-◌, ◌*◌, [], ◌∷◌, length, map}
+use Rattle.typed_tree.specs.declared.typed_module.TypedModule.{TypedModule}
+use Rattle.m2_layout.specs.Types.{row, frame_of}
+use Rattle.m2_layout.specs.Sizes.{size}
+use Rattle.m2_layout.specs.Frames.{module_row}
+use Rattle.m2_layout.specs.Texts.{module_texts, characters}
+use Rattle.def_meaning.specs.Store.{fresh}
+use Rattle.def_meaning.specs.Answer.{State, Outcome, Went, Left, Came, Stopped, Unfinished}
+use Rattle.def_meaning.specs.Around.{Modules, Around}
+use Rattle.def_meaning.specs.Calls.{body_does, calling}
+
+-- ---- storage
+
+-- the bytes of the variables and the texts of all modules
+abbrev pub data_size : Modules → ℕ
+data_size [] = 0
+data_size (m ∷ ms) = size (module_row m) + characters (module_texts m) + data_size ms
+
+-- the storage of calls: what the pages leave, of which each body takes a frame while it runs
+abbrev pub storage : Modules → (pages : ℕ) → ℕ
+storage p pages = pages * 65536 - data_size p
+
+abbrev pub body_frame : ℕ
+body_frame = size (frame_of [])
+
+-- ---- runs
+
+abbrev pub first_state : Modules → State
+first_state p = record { store = fresh (row (map module_row p)); out = [] }
+
+-- what stands around the body of a module. The instance behind those of the modules is the body's frame.
+abbrev pub around_body : Modules → (place : ℕ) → TypedModule → (left : ℕ) → Around
+around_body p place m left = record { place = place; types = m.types; frames = []; withs = []; next = suc (length p); left = left }
+
+-- a body that comes to its end or returns is followed by the next
+abbrev pub then_body : Outcome → (State → Outcome) → Outcome
+then_body (Went st) next = next st
+then_body (Left st) next = next st
+then_body (Came v st) next = next st
+then_body (Stopped k out) next = Stopped k out
+then_body (Unfinished out) next = Unfinished out
+
+-- after the last body the end is 0
+abbrev pub bodies : Modules → (n left place : ℕ) → Modules → State → Outcome
+bodies p n left place [] st = Stopped 0 st.out
+bodies p n left place (m ∷ ms) st = then_body (body_does p n (calling p n n) m.body (around_body p place m left) st) (bodies p n left (suc place) ms)
+
+-- The run of a program with the bound n: each loop makes at most n turns, and calls nest at most n deep.
+unfoldable pub run : Modules → (pages n : ℕ) → Outcome
+run p pages n = bodies p n (storage p pages - body_frame) 0 p (first_state p)

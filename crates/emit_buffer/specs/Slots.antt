@@ -1,0 +1,56 @@
+-- The addresses of components.
+use Rattle.std.specs.Prelude.{ℕ, zero, suc, Bool, false, List, [], ◌∷◌, slice_get, Option, Some, None}
+use Rattle.wasm_tree.specs.declared.instr.Instr.{Instr}
+use Rattle.wasm_tree.specs.declared.instr.Instr.TheVariants.{Call, I64Const}
+use Rattle.typed_tree.specs.declared.computed.Root.{Root}
+use Rattle.typed_tree.specs.declared.computed.Root.TheVariants as root
+use Rattle.typed_tree.specs.declared.types.TypeNo.{TypeNo}
+use Rattle.typed_tree.specs.declared.known_types.Types.{Types}
+use Rattle.typed_tree.specs.declared.typed_module.Routine.{Routine}
+use Rattle.m2_layout.specs.Sizes.{offset}
+use Rattle.m2_layout.specs.Shapes.{tree}
+use Rattle.m2_layout.specs.Frames.{formals_of}
+use Rattle.m2_layout.specs.declared.row.Row.{Row}
+use Rattle.typed_tree.specs.declared.shape.Formal.{Formal}
+use Rattle.emit_buffer.specs.Homes.{start_or}
+use Rattle.def_scheme.specs.Coded.{Setting, raised, check}
+use Rattle.def_scheme.specs.Exprs.{frame_at, scaled, global_code, slot_code, kept_address, open_address, with_code}
+use Rattle.emit_buffer.specs.Frames.{frames_of}
+
+abbrev pub behind_high : (bytes : ℕ) → List Instr
+behind_high n = I64Const 3 ∷ Call check ∷ scaled n
+
+abbrev pub field_code : Types → TypeNo → ℕ → List Instr
+field_code types t k = raised (offset (tree types t) (k ∷ []))
+
+abbrev pub root_code : Setting → Root → List Instr
+root_code s (root.Global v) = global_code s.home v
+root_code s (root.Local slot) = slot_code s slot []
+root_code s (root.Alias slot) = kept_address s slot []
+root_code s (root.Open slot) = open_address s slot
+root_code s (root.With k) = with_code (slice_get s.withs k)
+
+-- the offset of a cell of a slot in the frame so many procedures outwards
+abbrev pub slot_at : Types → List Routine → (up number : ℕ) → List ℕ → ℕ
+slot_at types rs up n path = offset (frame_at (slice_get (frames_of types rs) up)) (suc n ∷ path)
+
+-- the same from what is kept of frames; the frame of the body of a module has no variables
+abbrev pub slot_from : List Row → (up number : ℕ) → ℕ
+slot_from [] zero n = 16
+slot_from [] (suc up) n = 0
+slot_from (r ∷ rs) up n = start_or (slice_get (r ∷ rs) up) n
+
+abbrev pub open_in : Option Formal → Bool
+open_in None = false
+open_in (Some f) = f.is_open
+
+-- whether a slot of a procedure is an open array
+abbrev pub is_open : Types → Routine → ℕ → Bool
+is_open types r n = open_in (slice_get (formals_of types r.heading) n)
+
+abbrev pub open_of : Types → Option Routine → ℕ → Bool
+open_of types None n = false
+open_of types (Some r) n = is_open types r n
+
+abbrev pub open_at : Types → List Routine → (up number : ℕ) → Bool
+open_at types rs up n = open_of types (slice_get rs up) n

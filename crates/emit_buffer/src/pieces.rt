@@ -1,0 +1,95 @@
+//! Small pieces of code.
+
+ghost use Rattle.std.specs.Prelude.{◌≡◌, OnOk};
+ghost use Rattle.def_scheme.specs.Coded.{number, raised, relation, operation, wrapped, extended, is_zero, checked, fault};
+ghost use Rattle.def_scheme.specs.Exprs.{text_code, complement};
+ghost use Rattle.emit_buffer.specs.Drafts.{one, put};
+
+use crate::draft::Draft;
+use std::alloc::AllocError;
+use wasm_tree::{Numeric, Op, Operation, Relation};
+
+/// A number of 64 bits.
+pub fn number(n: i64, draft: &mut Draft) -> Result<(), AllocError>
+    ensures { OnOk result (draft.new ≡ one (number n) draft.old) }
+{
+    draft.push(Op::I64Const(n.cast_unsigned()))
+}
+
+/// The address so many bytes further.
+pub fn raised(bytes: u32, draft: &mut Draft) -> Result<(), AllocError>
+    ensures { OnOk result (draft.new ≡ put (raised bytes) draft.old) }
+{
+    draft.push(Op::I32Const(bytes))?;
+    draft.push(Op::Numeric(Numeric::I32Add))
+}
+
+/// How two numbers compare.
+pub fn relation(r: Relation, draft: &mut Draft) -> Result<(), AllocError>
+    ensures { OnOk result (draft.new ≡ one (relation r) draft.old) }
+{
+    draft.push(Op::Numeric(Numeric::I64Relation(r)))
+}
+
+/// What is made of two numbers.
+pub fn operation(o: Operation, draft: &mut Draft) -> Result<(), AllocError>
+    ensures { OnOk result (draft.new ≡ one (operation o) draft.old) }
+{
+    draft.push(Op::Numeric(Numeric::I64Operation(o)))
+}
+
+/// The low 32 bits of a number.
+pub fn wrapped(draft: &mut Draft) -> Result<(), AllocError>
+    ensures { OnOk result (draft.new ≡ one wrapped draft.old) }
+{
+    draft.push(Op::Numeric(Numeric::I32WrapI64))
+}
+
+/// A number of 32 bits as one of 64.
+pub fn extended(draft: &mut Draft) -> Result<(), AllocError>
+    ensures { OnOk result (draft.new ≡ one extended draft.old) }
+{
+    draft.push(Op::Numeric(Numeric::I64ExtendI32U))
+}
+
+/// Whether a number is 0.
+pub fn is_zero(draft: &mut Draft) -> Result<(), AllocError>
+    ensures { OnOk result (draft.new ≡ one is_zero draft.old) }
+{
+    draft.push(Op::Numeric(Numeric::I64Eqz))
+}
+
+/// Ends the run with a fault where the value is outside of these bounds.
+pub fn checked(low: i64, high: i64, fault: u64, draft: &mut Draft) -> Result<(), AllocError>
+    ensures { OnOk result (draft.new ≡ put (checked low high fault) draft.old) }
+{
+    number(low, draft)?;
+    number(high, draft)?;
+    draft.push(Op::I64Const(fault))?;
+    draft.push(Op::Call(4))
+}
+
+/// Ends the run with a fault.
+pub fn fault(k: u64, draft: &mut Draft) -> Result<(), AllocError>
+    ensures { OnOk result (draft.new ≡ put (fault k) draft.old) }
+{
+    draft.push(Op::I64Const(k))?;
+    draft.push(Op::Call(1))?;
+    draft.push(Op::Unreachable)
+}
+
+/// The elements that a set does not have.
+pub fn complement(draft: &mut Draft) -> Result<(), AllocError>
+    ensures { OnOk result (draft.new ≡ put complement draft.old) }
+{
+    draft.push(Op::I64Const(4_294_967_295))?;
+    operation(Operation::Xor, draft)
+}
+
+/// The address of a text.
+pub fn text(offset: u32, draft: &mut Draft) -> Result<(), AllocError>
+    ensures { OnOk result (draft.new ≡ put (text_code offset) draft.old) }
+{
+    draft.push(Op::GlobalGet(2))?;
+    raised(offset, draft)
+}

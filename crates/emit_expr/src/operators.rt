@@ -1,0 +1,280 @@
+//! Operators.
+
+ghost use Rattle.std.specs.Prelude.{◌≡◌, ◌∷◌, [], IfOk, OnOk, pos};
+ghost use Rattle.def_scheme.specs.Coded.{number_local, operation, relation, extended, checked};
+ghost use Rattle.def_scheme.specs.Cells.{in_type};
+ghost use Rattle.def_scheme.specs.Exprs.{relation_of, arithmetic_code, set_code, empty_code, ord_check, absolute_code};
+ghost use Rattle.emit_buffer.specs.Drafts.{one, put, place_of};
+ghost use Rattle.emit_buffer.specs.Frames.{meant};
+ghost use Rattle.emit_expr.specs.Operators.{ending_and, begun_or, kept_element, element_bit, negated_behind, around_behind, within_behind, odd_code, char_check, before_sign, negative, negative_or_same, with_absolute, at_most_25, before_letter, lifted, lifted_or_same, with_capital};
+
+use emit_buffer::{
+    Draft, Setting, base_of, checked, complement, extended, in_type, is_zero, operation, relation,
+};
+use std::alloc::AllocError;
+use typed_tree::{Arithmetic, Comparison, INTEGER, SetOperator, TypeNo, are_same};
+use wasm_tree::{EncodeError, Op, Operation, Relation, ValueType};
+
+fn relation_of(comparison: Comparison) -> Relation
+    ensures { result ≡ relation_of comparison }
+{
+    match comparison {
+        Comparison::Equal => Relation::Eq,
+        Comparison::Unequal => Relation::Ne,
+        Comparison::Less => Relation::LtS,
+        Comparison::AtMost => Relation::LeS,
+        Comparison::Greater => Relation::GtS,
+        Comparison::AtLeast => Relation::GeS,
+    }
+}
+
+/// How two numbers compare.
+pub fn compared(comparison: Comparison, draft: &mut Draft) -> Result<(), AllocError>
+    ensures { let code = relation (relation_of comparison) ∷ extended ∷ [] in
+        OnOk result (draft.new ≡ put code draft.old) }
+{
+    relation(relation_of(comparison), draft)?;
+    extended(draft)
+}
+
+/// An operation whose result is one of this type.
+fn computed(
+    setting: &Setting<'_>,
+    o: Operation,
+    t: TypeNo,
+    draft: &mut Draft,
+) -> Result<(), AllocError>
+    ensures { let code = operation o ∷ in_type setting.now.home.types t 2 in
+        OnOk result (draft.new ≡ put code draft.old) }
+{
+    operation(o, draft)?;
+    in_type(setting, t, 2, draft)
+}
+
+/// An operator on two numbers.
+pub fn arithmetic(
+    setting: &Setting<'_>,
+    o: Arithmetic,
+    t: TypeNo,
+    draft: &mut Draft,
+) -> Result<(), AllocError>
+    ensures { let code = arithmetic_code setting.now.home.types o t in
+        OnOk result (draft.new ≡ put code draft.old) }
+{
+    match o {
+        Arithmetic::Add => computed(setting, Operation::Add, t, draft),
+        Arithmetic::Subtract => computed(setting, Operation::Sub, t, draft),
+        Arithmetic::Multiply => computed(setting, Operation::Mul, t, draft),
+        Arithmetic::Divide => draft.push(Op::Call(5)),
+        Arithmetic::Remainder => draft.push(Op::Call(6)),
+    }
+}
+
+/// An operator on two sets.
+pub fn combined(o: SetOperator, draft: &mut Draft) -> Result<(), AllocError>
+    ensures { OnOk result (draft.new ≡ put (set_code o) draft.old) }
+{
+    match o {
+        SetOperator::Union => operation(Operation::Or, draft),
+        SetOperator::Intersection => operation(Operation::And, draft),
+        SetOperator::SymmetricDifference => operation(Operation::Xor, draft),
+        SetOperator::Difference => {
+            complement(draft)?;
+            operation(Operation::And, draft)
+        }
+    }
+}
+
+/// Whether a number is 0, as a number.
+pub fn empty(draft: &mut Draft) -> Result<(), AllocError>
+    ensures { OnOk result (draft.new ≡ put empty_code draft.old) }
+{
+    is_zero(draft)?;
+    extended(draft)
+}
+
+/// Whether the second set holds the first.
+pub fn within_behind(draft: &mut Draft) -> Result<(), AllocError>
+    ensures { OnOk result (draft.new ≡ put within_behind draft.old) }
+{
+    complement(draft)?;
+    around_behind(draft)
+}
+
+/// Whether the first set, as its complement, holds the second.
+pub fn around_behind(draft: &mut Draft) -> Result<(), AllocError>
+    ensures { OnOk result (draft.new ≡ put around_behind draft.old) }
+{
+    operation(Operation::And, draft)?;
+    empty(draft)
+}
+
+/// The negative of a number, behind 0 and the number.
+pub fn negated_behind(setting: &Setting<'_>, draft: &mut Draft) -> Result<(), AllocError>
+    ensures { let code = negated_behind setting.now.home.types in
+        OnOk result (draft.new ≡ put code draft.old) }
+{
+    computed(setting, Operation::Sub, INTEGER, draft)
+}
+
+/// Whether a number is odd.
+pub fn odd(draft: &mut Draft) -> Result<(), AllocError>
+    ensures { OnOk result (draft.new ≡ put odd_code draft.old) }
+{
+    draft.push(Op::I64Const(1))?;
+    operation(Operation::And, draft)
+}
+
+/// A number as a character.
+pub fn char_check(draft: &mut Draft) -> Result<(), AllocError>
+    ensures { OnOk result (draft.new ≡ put char_check draft.old) }
+{
+    checked(0, 255, 1, draft)
+}
+
+/// The ordinal number of a value of this type.
+pub fn ord_check(setting: &Setting<'_>, t: TypeNo, draft: &mut Draft) -> Result<(), AllocError>
+    ensures { OnOk result (draft.new ≡ put (ord_check setting.now.home.types t) draft.old) }
+{
+    if are_same(base_of(&setting.home().module_body().types, t), INTEGER) {
+        return checked(0, 2_147_483_647, 1, draft);
+    }
+    Ok(())
+}
+
+/// Ends an `if` whose first side is the second operand of AND.
+pub fn end_and(at: usize, draft: &mut Draft) -> Result<(), EncodeError>
+    ensures { OnOk result (draft.new ≡ ending_and at draft.old) }
+{
+    let middle = draft.place();
+    draft.push(Op::I64Const(0))?;
+    draft.close_if_else(at, middle, Some(ValueType::I64))
+}
+
+/// Begins an `if` whose second side is the second operand of OR, and answers its place and that of its second side.
+pub fn begin_or(draft: &mut Draft) -> Result<(usize, usize), AllocError>
+    ensures at { IfOk result (λ x. x.0 ≡ place_of draft.old) }
+    ensures middle { IfOk result (λ x. x.1 ≡ place_of (begun_or draft.old)) }
+    ensures begun { OnOk result (draft.new ≡ begun_or draft.old) }
+{
+    let at = draft.open()?;
+    draft.push(Op::I64Const(1))?;
+    let middle = draft.place();
+    Ok((at, middle))
+}
+
+/// Keeps an element that is in a BITSET.
+pub fn keep_element(setting: &Setting<'_>, draft: &mut Draft) -> Result<u32, EncodeError>
+    ensures local { let k = (put (checked (pos 0) (pos 31) 1) draft.old).counts.numbers in
+        IfOk result (λ t. t ≡ number_local (meant setting.now) k) }
+    ensures kept { OnOk result (draft.new ≡ kept_element (meant setting.now) draft.old) }
+{
+    checked(0, 31, 1, draft)?;
+    let t = draft.next_number(setting)?;
+    draft.push(Op::LocalSet(t))?;
+    Ok(t)
+}
+
+/// Whether the kept element is in a set.
+pub fn element_bit(t: u32, draft: &mut Draft) -> Result<(), AllocError>
+    ensures { OnOk result (draft.new ≡ put (element_bit t) draft.old) }
+{
+    draft.push(Op::LocalGet(t))?;
+    operation(Operation::ShrU, draft)?;
+    draft.push(Op::I64Const(1))?;
+    operation(Operation::And, draft)
+}
+
+fn before_sign(t: u32, draft: &mut Draft) -> Result<(), AllocError>
+    ensures { OnOk result (draft.new ≡ put (before_sign t) draft.old) }
+{
+    draft.push(Op::LocalSet(t))?;
+    draft.push(Op::LocalGet(t))?;
+    draft.push(Op::I64Const(0))?;
+    relation(Relation::LtS, draft)
+}
+
+fn negative(t: u32, draft: &mut Draft) -> Result<(), AllocError>
+    ensures { OnOk result (draft.new ≡ put (negative t) draft.old) }
+{
+    draft.push(Op::I64Const(0))?;
+    draft.push(Op::LocalGet(t))?;
+    operation(Operation::Sub, draft)
+}
+
+/// An `if` whose second side is the number itself.
+#[tactic(auto, using(crate::proofs::Sides::negative_is))]
+fn negative_or_same(t: u32, draft: &mut Draft) -> Result<(), EncodeError>
+    ensures { OnOk result (draft.new ≡ one (negative_or_same t) draft.old) }
+{
+    let at = draft.open()?;
+    negative(t, draft)?;
+    let middle = draft.place();
+    draft.push(Op::LocalGet(t))?;
+    draft.close_if_else(at, middle, Some(ValueType::I64))
+}
+
+fn absolute_of(t: u32, draft: &mut Draft) -> Result<(), EncodeError>
+    ensures { OnOk result (draft.new ≡ put (absolute_code t) draft.old) }
+{
+    before_sign(t, draft)?;
+    negative_or_same(t, draft)?;
+    checked(0, 2_147_483_647, 2, draft)?;
+    Ok(())
+}
+
+/// The absolute value of a number of this type.
+pub fn absolute(setting: &Setting<'_>, t: TypeNo, draft: &mut Draft) -> Result<(), EncodeError>
+    ensures { OnOk result (draft.new ≡ with_absolute (meant setting.now) t draft.old) }
+{
+    if are_same(t, INTEGER) {
+        let local = draft.next_number(setting)?;
+        return absolute_of(local, draft);
+    }
+    Ok(())
+}
+
+fn before_letter(t: u32, draft: &mut Draft) -> Result<(), AllocError>
+    ensures { OnOk result (draft.new ≡ put (before_letter t) draft.old) }
+{
+    draft.push(Op::LocalSet(t))?;
+    draft.push(Op::LocalGet(t))?;
+    draft.push(Op::I64Const(97))?;
+    operation(Operation::Sub, draft)?;
+    at_most_25(draft)
+}
+
+fn at_most_25(draft: &mut Draft) -> Result<(), AllocError>
+    ensures { OnOk result (draft.new ≡ put at_most_25 draft.old) }
+{
+    draft.push(Op::I64Const(25))?;
+    relation(Relation::LeU, draft)
+}
+
+fn lifted(t: u32, draft: &mut Draft) -> Result<(), AllocError>
+    ensures { OnOk result (draft.new ≡ put (lifted t) draft.old) }
+{
+    draft.push(Op::LocalGet(t))?;
+    draft.push(Op::I64Const(32))?;
+    operation(Operation::Sub, draft)
+}
+
+#[tactic(auto, using(crate::proofs::Sides::lifted_is))]
+fn lifted_or_same(t: u32, draft: &mut Draft) -> Result<(), EncodeError>
+    ensures { OnOk result (draft.new ≡ one (lifted_or_same t) draft.old) }
+{
+    let at = draft.open()?;
+    lifted(t, draft)?;
+    let middle = draft.place();
+    draft.push(Op::LocalGet(t))?;
+    draft.close_if_else(at, middle, Some(ValueType::I64))
+}
+
+/// The capital letter.
+pub fn capital(setting: &Setting<'_>, draft: &mut Draft) -> Result<(), EncodeError>
+    ensures { OnOk result (draft.new ≡ with_capital (meant setting.now) draft.old) }
+{
+    let local = draft.next_number(setting)?;
+    before_letter(local, draft)?;
+    lifted_or_same(local, draft)
+}

@@ -1,0 +1,233 @@
+//! The addresses of variables and of their components.
+
+ghost use Rattle.std.specs.Prelude.{◌≡◌, ◌+◌, ◌*◌, ◌∷◌, [], IfOk, OnOk, slice_get};
+ghost use Rattle.std.specs.Option.{option_copied};
+ghost use Rattle.m2_layout.specs.Sizes.{size, offset};
+ghost use Rattle.m2_layout.specs.Shapes.{tree};
+ghost use Rattle.def_scheme.specs.Exprs.{outwards, frame_code, slot_path, slot_code, kept_address, open_address, high_code, global_code, with_code, index_made, index_of, scaled, from_lower, element_code, open_element_code, base_global};
+ghost use Rattle.def_scheme.specs.Cells.{load_scalar, word};
+ghost use Rattle.emit_buffer.specs.Drafts.{put};
+ghost use Rattle.emit_buffer.specs.Frames.{meant};
+ghost use Rattle.emit_buffer.specs.Slots.{behind_high, field_code, root_code};
+
+use emit_buffer::{Draft, Home, Setting, in_range, operation, raised, shifted, wrapped};
+use emit_tables::is_own;
+use std::alloc::AllocError;
+use typed_tree::{Made, Root, Scalar, Shape, Slot, TypeNo, Types, Variable, made_of, scalar_of};
+use wasm_tree::{EncodeError, Load, Numeric, Op, Operation, plus, small};
+
+/// The global with the place of a module's variables.
+fn base_global(home: &Home<'_>, number: u32) -> Result<u32, EncodeError>
+    ensures { IfOk result (λ g. g ≡ base_global home.now number) }
+{
+    if is_own(home.module_body(), number) {
+        return Ok(1);
+    }
+    twice(4, home.place(number))
+}
+
+/// The number behind so many pairs.
+pub fn twice(first: u32, pairs: usize) -> Result<u32, EncodeError>
+    ensures { IfOk result (λ n. n ≡ first + 2 * pairs) }
+{
+    let n = small(pairs)?;
+    plus(first, plus(n, n)?)
+}
+
+/// A variable of a module.
+pub fn global_code(setting: &Setting<'_>, v: Variable, draft: &mut Draft) -> Result<(), EncodeError>
+    ensures { OnOk result (draft.new ≡ put (global_code setting.now.home v) draft.old) }
+{
+    let home = setting.home();
+    let global = base_global(home, v.home)?;
+    let offset = home.variable_offset(v)?;
+    draft.push(Op::GlobalGet(global))?;
+    raised(offset, draft)?;
+    Ok(())
+}
+
+/// So many frames outwards.
+#[tactic(auto, using(crate::proofs::Outwards::outwards_more))]
+fn outwards(up: usize, draft: &mut Draft) -> Result<(), AllocError>
+    ensures { OnOk result (draft.new ≡ put (outwards up) draft.old) }
+{
+    for _k in 0..up {
+        draft.push(Op::Load(Load::I64))?;
+        wrapped(draft)?;
+    }
+    Ok(())
+}
+
+/// The frame so many procedures outwards.
+pub fn frame_code(up: usize, draft: &mut Draft) -> Result<(), AllocError>
+    ensures { OnOk result (draft.new ≡ put (frame_code up) draft.old) }
+{
+    draft.push(Op::LocalGet(0))?;
+    outwards(up, draft)
+}
+
+/// A formal or a variable of a procedure.
+#[tactic(auto, using(emit_buffer::proofs::Emitted::put_append))]
+pub fn slot_code(setting: &Setting<'_>, slot: Slot, draft: &mut Draft) -> Result<(), EncodeError>
+    ensures { OnOk result (draft.new ≡ put (slot_code (meant setting.now) slot []) draft.old) }
+{
+    let offset = setting.slot_offset(slot)?;
+    frame_code(slot.up, draft)?;
+    raised(offset, draft)?;
+    Ok(())
+}
+
+fn word(draft: &mut Draft) -> Result<(), AllocError>
+    ensures { OnOk result (draft.new ≡ put (load_scalar word) draft.old) }
+{
+    draft.push(Op::Load(Load::I64From32U))
+}
+
+/// What a VAR formal stands for.
+#[tactic(auto, using(emit_buffer::proofs::Emitted::put_append))]
+pub fn alias_code(setting: &Setting<'_>, slot: Slot, draft: &mut Draft) -> Result<(), EncodeError>
+    ensures { OnOk result (draft.new ≡ put (kept_address (meant setting.now) slot []) draft.old) }
+{
+    slot_code(setting, slot, draft)?;
+    word(draft)?;
+    wrapped(draft)?;
+    Ok(())
+}
+
+/// The elements of a formal ARRAY OF.
+#[tactic(auto, using(emit_buffer::proofs::Slots::first_cell))]
+pub fn open_address(setting: &Setting<'_>, slot: Slot, draft: &mut Draft) -> Result<(), EncodeError>
+    ensures { OnOk result (draft.new ≡ put (open_address (meant setting.now) slot) draft.old) }
+{
+    alias_code(setting, slot, draft)
+}
+
+/// The greatest index of a formal ARRAY OF.
+#[tactic(auto, using(emit_buffer::proofs::Emitted::put_append))]
+pub fn high_code(setting: &Setting<'_>, slot: Slot, draft: &mut Draft) -> Result<(), EncodeError>
+    ensures { OnOk result (draft.new ≡ put (high_code (meant setting.now) slot) draft.old) }
+{
+    let offset = setting.high_offset(slot)?;
+    frame_code(slot.up, draft)?;
+    raised(offset, draft)?;
+    word(draft)?;
+    Ok(())
+}
+
+/// The record of a WITH.
+pub fn with_code(local: Option<&u32>, draft: &mut Draft) -> Result<(), AllocError>
+    ensures { OnOk result (draft.new ≡ put (with_code (option_copied local.entry)) draft.old) }
+{
+    match local {
+        None => Ok(()),
+        Some(local) => draft.push(Op::LocalGet(*local)),
+    }
+}
+
+fn index_made(types: &Types, made: Option<&Made>) -> Option<Scalar>
+    ensures { result ≡ index_made types.now (option_copied made.entry) }
+{
+    match made {
+        None => None,
+        Some(made) => match &made.shape {
+            Shape::Array(index, _) => scalar_of(types, *index),
+            Shape::Scalar(_)
+            | Shape::Set
+            | Shape::Record(_)
+            | Shape::Procedure(_)
+            | Shape::Open(_) => None,
+        },
+    }
+}
+
+/// The index of an array type.
+pub fn index_of(types: &Types, t: TypeNo) -> Option<Scalar>
+    ensures { result ≡ index_of types.now t }
+{
+    index_made(types, made_of(types, t))
+}
+
+/// An element of so many bytes, behind the address of the array and the index from 0.
+fn scaled(bytes: u32, draft: &mut Draft) -> Result<(), AllocError>
+    ensures { OnOk result (draft.new ≡ put (scaled bytes) draft.old) }
+{
+    draft.push(Op::I64Const(u64::from(bytes)))?;
+    operation(Operation::Mul, draft)?;
+    wrapped(draft)?;
+    draft.push(Op::Numeric(Numeric::I32Add))
+}
+
+fn from_lower(index: Option<Scalar>, draft: &mut Draft) -> Result<(), AllocError>
+    ensures { OnOk result (draft.new ≡ put (from_lower index) draft.old) }
+{
+    match index {
+        None => Ok(()),
+        Some(scalar) => shifted(scalar.low, Operation::Sub, draft),
+    }
+}
+
+/// An element of an array, behind its address and the index.
+#[tactic(auto, using(emit_buffer::proofs::Emitted::put_append, emit_buffer::proofs::Slots::element_is))]
+pub fn element_code(setting: &Setting<'_>, t: TypeNo, draft: &mut Draft) -> Result<(), EncodeError>
+    ensures { OnOk result (draft.new ≡ put (element_code setting.now.home.types t) draft.old) }
+{
+    let home = setting.home();
+    let index = index_of(&home.module_body().types, t);
+    let bytes = home.element_size(t)?;
+    in_range(index, 3, draft)?;
+    from_lower(index, draft)?;
+    scaled(bytes, draft)?;
+    Ok(())
+}
+
+fn behind_high(bytes: u32, draft: &mut Draft) -> Result<(), AllocError>
+    ensures { OnOk result (draft.new ≡ put (behind_high bytes) draft.old) }
+{
+    draft.push(Op::I64Const(3))?;
+    draft.push(Op::Call(4))?;
+    scaled(bytes, draft)
+}
+
+/// An element of a formal ARRAY OF, behind its address and the index.
+#[tactic(auto, using(emit_buffer::proofs::Emitted::put_append))]
+pub fn open_element_code(
+    setting: &Setting<'_>,
+    slot: Slot,
+    t: TypeNo,
+    draft: &mut Draft,
+) -> Result<(), EncodeError>
+    ensures { OnOk result (draft.new ≡ put (open_element_code (meant setting.now) slot t) draft.old) }
+{
+    let bytes = setting.home().size(t)?;
+    draft.push(Op::I64Const(0))?;
+    high_code(setting, slot, draft)?;
+    behind_high(bytes, draft)?;
+    Ok(())
+}
+
+/// A field, behind the address of the record.
+pub fn field_code(
+    setting: &Setting<'_>,
+    t: TypeNo,
+    number: usize,
+    draft: &mut Draft,
+) -> Result<(), EncodeError>
+    ensures { OnOk result (draft.new ≡ put (field_code setting.now.home.types t number) draft.old) }
+{
+    let offset = setting.home().offset(t, number)?;
+    raised(offset, draft)?;
+    Ok(())
+}
+
+/// What a variable's name stands for.
+pub fn root_code(setting: &Setting<'_>, root: Root, draft: &mut Draft) -> Result<(), EncodeError>
+    ensures { OnOk result (draft.new ≡ put (root_code (meant setting.now) root) draft.old) }
+{
+    match root {
+        Root::Global(v) => global_code(setting, v, draft),
+        Root::Local(slot) => slot_code(setting, slot, draft),
+        Root::Alias(slot) => alias_code(setting, slot, draft),
+        Root::Open(slot) => open_address(setting, slot, draft),
+        Root::With(k) => Ok(with_code(setting.withs().get(k), draft)?),
+    }
+}

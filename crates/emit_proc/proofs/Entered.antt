@@ -1,0 +1,126 @@
+-- The prologue of a procedure.
+use Rattle.std.proofs.Common.{◌≡◌, ℕ, zero, suc, ◌+◌, ◌-◌, ◌*◌, Bool, true, false, List, [], ◌∷◌, ◌++◌, length, Some, None, refl, sym, ap, ◌∙◌, append_assoc, arith}
+use Rattle.std.specs.Prelude.{slice_set, Result, Ok, Err, OnOk, if◌then◌else◌}
+use Rattle.typed_tree.specs.declared.known_types.Types.{Types}
+use Rattle.typed_tree.specs.declared.shape.Formal.{Formal}
+use Rattle.m2_layout.specs.Shapes.{tree}
+use Rattle.std.proofs.lemmas.List.{length-append}
+use Rattle.wasm_tree.specs.declared.code.Op.{Op}
+use Rattle.wasm_tree.specs.declared.code.Op.TheVariants as op
+use Rattle.wasm_tree.specs.declared.instr.Instr.{Instr, Instr-F, map-Instr, fold_out-Instr}
+use Rattle.wasm_tree.specs.declared.instr.Instr.TheVariants as instr
+use Rattle.wasm_tree.specs.declared.instr.Instr.TheVariants.{outs-If, LocalGet, I32Const, Call}
+use Rattle.wasm_tree.specs.Code.{flat_step, flat_one, flat}
+use Rattle.wasm_tree.proofs.Flat.{joined_is}
+use Rattle.m2_layout.specs.Types.{Ty, Cell, Hidden, Array, Nothing, Field}
+use Rattle.m2_layout.specs.Sizes.{size, offset}
+use Rattle.m2_layout.specs.Extents.{kind_of_tree}
+use Rattle.m2_layout.specs.declared.kind.Kind.{Kind}
+use Rattle.def_scheme.specs.Coded.{fault, raised, wrapped, extended, copy}
+use Rattle.def_scheme.specs.Cells.{store_tree}
+use Rattle.def_scheme.specs.Functions.{value_kept, word_kept, open_copied, formal_kept}
+use Rattle.emit_buffer.specs.Drafts.{Drafted, with_ops, one, put, opened, place_of, closed_if}
+use Rattle.emit_proc.specs.Kept.{copy_begun, copy_made}
+use Rattle.emit_buffer.proofs.Emitted.{put_is}
+
+-- an if with one side
+if_flat : (is : List Instr) → flat_one (instr.If None is None) ≡ op.If None (length (flat is)) ∷ flat is
+unfolding flat_one
+if_flat is =
+    fold_out-Instr (List Op) flat_step (instr.If None is None)
+    ∙ ap (λ (y : Instr-F Instr). flat_step (map-Instr Instr (List Op) flat_one y)) (outs-If None is None)
+    ∙ ap (λ (r : List Op). op.If None (length r) ∷ r) (joined_is is)
+
+set_behind : (old more : List Op) (x y : Op) → slice_set (old ++ x ∷ more) (length old) y ≡ old ++ y ∷ more
+set_behind [] more x y = refl
+set_behind (o ∷ old) more x y = ap (λ (r : List Op). o ∷ r) (set_behind old more x y)
+
+so_many : (old more : List Op) (x : Op) → length (old ++ x ∷ more) - length old - 1 ≡ length more
+so_many old more x = omega (arith, length-append old (x ∷ more))
+
+held : (is : List Instr) (d : Drafted) → closed_if (place_of d) None (with_ops (flat is) (opened d)) ≡ one (instr.If None is None) d
+unfolding closed_if opened one
+held is d =
+    ap (λ (ops : List Op). record { ops = ops; counts = d.counts })
+    (ap (λ (ops : List Op). slice_set ops (length d.ops) (op.If None (length ops - length d.ops - 1))) (append_assoc d.ops (op.Unreachable ∷ []) (flat is))
+    ∙ ap (λ (n : ℕ). slice_set (d.ops ++ op.Unreachable ∷ flat is) (length d.ops) (op.If None n)) (so_many d.ops (flat is) op.Unreachable)
+    ∙ set_behind d.ops (flat is) op.Unreachable (op.If None (length (flat is)))
+    ∙ ap (λ (ops : List Op). d.ops ++ ops) (sym (if_flat is)))
+
+pub limit_is : (is : List Instr) (d : Drafted) → closed_if (place_of d) None (put is (opened d)) ≡ one (instr.If None is None) d
+limit_is is d = ap (λ (e : Drafted). closed_if (place_of d) None e) (put_is is (opened d)) ∙ held is d
+
+pub limit_fault : (d : Drafted) → closed_if (place_of d) None (put (fault 8) (opened d)) ≡ one (instr.If None (fault 8) None) d
+limit_fault d = limit_is (fault 8) d
+
+-- the first cell of an open array stands where the formal does
+nil : (t : Ty) → offset t [] ≡ 0
+unfolding offset
+nil (Cell c) = refl
+nil (Hidden n) = refl
+nil (Array n t) = refl
+nil Nothing = refl
+nil (Field t others) = refl
+
+cell : (t : Ty) → offset t (0 ∷ []) ≡ 0
+unfolding offset
+cell (Cell c) = refl
+cell (Hidden n) = refl
+cell (Array n t) = let e : offset t [] ≡ 0 = nil t in omega (arith, e)
+cell Nothing = refl
+cell (Field t others) = nil t
+
+pub first_cell : (t : Ty) (v : ℕ) → offset t (v ∷ 0 ∷ []) ≡ offset t (v ∷ [])
+unfolding offset
+first_cell (Cell c) v = refl
+first_cell (Hidden n) v = refl
+first_cell (Array n t) v = ap (λ (k : ℕ). v * size t + k) (cell t ∙ sym (nil t))
+first_cell Nothing v = refl
+first_cell (Field t others) zero = cell t ∙ sym (nil t)
+first_cell (Field t others) (suc v) = ap (λ (k : ℕ). size t + k) (first_cell others v)
+
+-- ---- value formals
+
+abbrev kept_at : Ty → (v : ℕ) → List Instr → List Instr
+kept_at f v value = LocalGet 0 ∷ (raised (offset f (suc v ∷ [])) ++ value)
+
+pub scalar_value : (f t : Ty) (v x : ℕ) (k : Kind) → kind_of_tree t ≡ Some k → value_kept f v x t ≡ LocalGet 0 ∷ (raised (offset f (suc v ∷ [])) ++ (LocalGet x ∷ store_tree t))
+scalar_value f (Cell c) v x k h = refl
+scalar_value f (Hidden n) v x k h = absurd cc
+scalar_value f (Array n t) v x k h = absurd cc
+scalar_value f Nothing v x k h = absurd cc
+scalar_value f (Field t others) v x k h = absurd cc
+
+pub whole_value : (f t : Ty) (v x : ℕ) → kind_of_tree t ≡ None → value_kept f v x t ≡ LocalGet 0 ∷ (raised (offset f (suc v ∷ [])) ++ (LocalGet x ∷ wrapped ∷ I32Const (size t) ∷ Call copy ∷ []))
+whole_value f (Cell c) v x h = absurd cc
+whole_value f (Hidden n) v x h = refl
+whole_value f (Array n t) v x h = refl
+whole_value f Nothing v x h = refl
+whole_value f (Field t others) v x h = refl
+
+-- ---- open arrays
+
+abbrev cells : Ty → (v p x : ℕ) → List Instr
+cells f v p x = word_kept f v (0 ∷ []) (LocalGet p ∷ extended ∷ []) ++ word_kept f v (1 ∷ []) (LocalGet (suc x) ∷ [])
+
+pub open_is : (top p : ℕ) (f : Ty) (v x element : ℕ) (d : Drafted)
+    → put (open_copied top p f v x element) d ≡ put (word_kept f v (0 ∷ []) (LocalGet p ∷ extended ∷ []) ++ word_kept f v (1 ∷ []) (LocalGet (suc x) ∷ [])) (put (copy_made p x element) (put (copy_begun top p x element) d))
+open_is top p f v x element d = refl
+
+chosen : (is_open var : Bool) (a b c : List Instr) → is_open ≡ true → var ≡ false → (if is_open then (if var then a else b) else c) ≡ b
+chosen true true a b c h k = absurd cc
+chosen true false a b c h k = refl
+chosen false var a b c h k = absurd cc
+
+-- a value formal ARRAY OF
+pub open_formal : (types : Types) (top p : ℕ) (f : Ty) (v x : ℕ) (a : Formal) (element : ℕ) (d : Drafted) → a.is_open ≡ true → a.is_var ≡ false → element ≡ size (tree types a.of)
+    → put (open_copied top p f v x element) d ≡ put (formal_kept types top p f v x a) d
+open_formal types top p f v x a element d h k e =
+    ap (λ (n : ℕ). put (open_copied top p f v x n) d) e
+    ∙ ap (λ (code : List Instr). put code d)
+    (sym (chosen a.is_open a.is_var (word_kept f v (0 ∷ []) (LocalGet x ∷ []) ++ word_kept f v (1 ∷ []) (LocalGet (suc x) ∷ [])) (open_copied top p f v x (size (tree types a.of)))
+    (if a.is_var then word_kept f v [] (LocalGet x ∷ []) else value_kept f v x (tree types a.of)) h k))
+
+pub on_ok : {T E : Type 0} {P Q : Type 0} (r : Result T E) → (P → Q) → OnOk r P → OnOk r Q
+on_ok (Ok x) f h = f h
+on_ok (Err e) f h = tt

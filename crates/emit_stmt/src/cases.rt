@@ -1,0 +1,209 @@
+//! The arms of a CASE.
+
+ghost use Rattle.std.specs.Prelude.{◌≡◌, ◌+◌, ◌∷◌, ◌++◌, [], ℕ, None, true, false, IfOk, OnOk, MatchOption, length, map};
+ghost use Rattle.std.specs.List.{flat_map};
+ghost use Rattle.wasm_tree.specs.declared.code.Op.TheVariants as op;
+ghost use Rattle.wasm_tree.specs.declared.instr.Instr.TheVariants.{Br, BrTable};
+ghost use Rattle.emit_buffer.specs.Frames.{meant};
+ghost use Rattle.emit_buffer.specs.Drafts.{one, put, with_ops, opened, place_of, closed_block};
+ghost use Rattle.def_scheme.specs.Steps.{label_code, tests_code, from_least};
+ghost use Rattle.emit_stmt.specs.Written.{selected, selected_local, arm_begun, labels_in, targets_in, beyond, dispatch_to, opened_times, table_begun};
+
+use crate::control::open_turns;
+use crate::plan::{Plan, targets};
+use crate::simple::keep_number;
+use emit_buffer::{Draft, Setting, number, operation, relation, wrapped};
+use emit_expr::value_code;
+use std::alloc::{AllocError, Global};
+use typed_tree::{Label, TypedArm, TypedExpr};
+use wasm_tree::{EncodeError, Op, Operation, Relation, plus, small};
+
+/// The selector of a CASE, kept in a local.
+pub fn selected(setting: &Setting<'_>, e: &TypedExpr, draft: &mut Draft) -> Result<u32, EncodeError>
+    ensures local { let s = meant setting.now in
+        IfOk result (λ t. t ≡ selected_local s e.now draft.old) }
+    ensures kept { let s = meant setting.now in
+        OnOk result (draft.new ≡ selected s e.now draft.old) }
+{
+    value_code(setting, e, draft)?;
+    keep_number(setting, draft)
+}
+
+/// Leaves a block where the selector is one of the values of a label.
+fn label_code(t: u32, label: Label, draft: &mut Draft) -> Result<(), EncodeError>
+    ensures { OnOk result (draft.new ≡ put (label_code t label) draft.old) }
+{
+    let Some(width) = label.high.checked_sub(label.low) else {
+        return Err(EncodeError::NoEncoding);
+    };
+    draft.push(Op::LocalGet(t))?;
+    number(label.low, draft)?;
+    operation(Operation::Sub, draft)?;
+    number(width, draft)?;
+    relation(Relation::LeU, draft)?;
+    draft.push(Op::BrIf(0))?;
+    Ok(())
+}
+
+/// Leaves a block where the selector is a value of the labels of an arm.
+#[tactic(auto, using(emit_buffer::proofs::Emitted::put_append))]
+fn labels_code(t: u32, labels: &[Label], draft: &mut Draft) -> Result<(), EncodeError>
+    ensures { OnOk result (draft.new ≡ put (flat_map (label_code t) labels.now) draft.old) }
+{
+    for label in labels {
+        label_code(t, *label, draft)?;
+    }
+    Ok(())
+}
+
+/// Leaves a block where the selector is a value of the labels of an arm, and else goes to the next arm.
+#[tactic(auto, using(emit_buffer::proofs::Emitted::put_append))]
+fn tests_code(t: u32, labels: &[Label], draft: &mut Draft) -> Result<(), EncodeError>
+    ensures { OnOk result (draft.new ≡ put (tests_code t labels.now) draft.old) }
+{
+    labels_code(t, labels, draft)?;
+    draft.push(Op::Br(1))?;
+    Ok(())
+}
+
+/// Begins an arm with its tests, and answers its place.
+pub fn arm_begun(t: u32, arm: &TypedArm, draft: &mut Draft) -> Result<usize, EncodeError>
+    ensures place { IfOk result (λ at. at ≡ place_of draft.old) }
+    ensures begun { OnOk result (draft.new ≡ arm_begun t draft.old arm.now) }
+{
+    let place = draft.open()?;
+    let tests = draft.open()?;
+    tests_code(t, arm.labels.as_slice(), draft)?;
+    draft.close_block(tests, None)?;
+    Ok(place)
+}
+
+/// Ends an arm.
+pub fn arm_ended(place: usize, draft: &mut Draft) -> Result<(), EncodeError>
+    ensures { OnOk result (draft.new ≡ closed_block place None (put (Br 1 ∷ []) draft.old)) }
+{
+    draft.push(Op::Br(1))?;
+    draft.close_block(place, None)
+}
+
+/// Ends the block behind which an arm stands, with so many arms behind it.
+pub fn jump_begun(place: usize, left: usize, draft: &mut Draft) -> Result<(), EncodeError>
+    ensures { OnOk result (draft.new ≡ closed_block (place + left) None draft.old) }
+{
+    match place.checked_add(left) {
+        None => Err(EncodeError::NoEncoding),
+        Some(at) => draft.close_block(at, None),
+    }
+}
+
+/// So many and these, in 32 bits.
+pub fn more(left: usize, labels: u32) -> Result<u32, EncodeError>
+    ensures { IfOk result (λ n. n ≡ left + labels) }
+{
+    plus(small(left)?, labels)
+}
+
+/// Begins so many blocks.
+fn open_times(count: usize, draft: &mut Draft) -> Result<(), AllocError>
+    ensures { OnOk result (draft.new ≡ opened_times count draft.old) }
+{
+    for _number in 0..count {
+        draft.open()?;
+    }
+    Ok(())
+}
+
+/// The selector less the least value.
+fn from_least(t: u32, least: i64, draft: &mut Draft) -> Result<(), AllocError>
+    ensures { OnOk result (draft.new ≡ put (from_least t least) draft.old) }
+{
+    draft.push(Op::LocalGet(t))?;
+    number(least, draft)?;
+    operation(Operation::Sub, draft)
+}
+
+fn branches(targets: &[u32], draft: &mut Draft) -> Result<(), AllocError>
+    ensures { OnOk result (draft.new ≡ with_ops (map (λ l. op.Br l) targets.now) draft.old) }
+{
+    for target in targets {
+        draft.push_op(Op::Br(*target))?;
+    }
+    Ok(())
+}
+
+/// A branch by a table.
+#[tactic(auto, using(crate::proofs::Cased::table_flat))]
+fn table_code(targets: &[u32], last: u32, draft: &mut Draft) -> Result<(), EncodeError>
+    ensures { OnOk result (draft.new ≡ one (BrTable targets.now last) draft.old) }
+{
+    draft.push_op(Op::BrTable(small(targets.len())?, last))?;
+    branches(targets, draft)?;
+    Ok(())
+}
+
+/// Branches to what is done else where the selector is beyond the greatest value.
+fn beyond(t: u32, plan: Plan, last: u32, draft: &mut Draft) -> Result<(), AllocError>
+    ensures { OnOk result (draft.new ≡ put (beyond t plan.least plan.span last) draft.old) }
+{
+    from_least(t, plan.least, draft)?;
+    draft.push(Op::I64Const(plan.span.saturating_sub(1) as u64))?;
+    relation(Relation::GtU, draft)?;
+    draft.push(Op::BrIf(last))
+}
+
+/// Branches to the arm of the selector.
+#[tactic(auto, using(emit_buffer::proofs::Emitted::put_append))]
+fn dispatch(
+    t: u32,
+    plan: Plan,
+    targets: &[u32],
+    last: u32,
+    draft: &mut Draft,
+) -> Result<(), EncodeError>
+    ensures { OnOk result
+        (draft.new ≡ put (dispatch_to t plan.least plan.span targets.now last) draft.old) }
+{
+    beyond(t, plan, last, draft)?;
+    from_least(t, plan.least, draft)?;
+    wrapped(draft)?;
+    table_code(targets, last, draft)
+}
+
+/// The places where blocks of a table begin: that behind which stands what is done else, and the first of the arms.
+#[derive(Clone, Copy, PartialEq, Eq)]
+pub struct Begun {
+    pub rest: usize,
+    pub first: usize,
+}
+
+/// Begins the blocks of a table: one for the whole, one for what is done else, and one for each arm.
+fn blocks_begun(count: usize, draft: &mut Draft) -> Result<Begun, AllocError>
+    ensures rest { IfOk result (λ x. x.rest ≡ place_of (opened draft.old)) }
+    ensures first { IfOk result (λ x. x.first ≡ place_of (opened (opened draft.old))) }
+    ensures begun { OnOk result (draft.new ≡ opened_times count (opened (opened draft.old))) }
+{
+    let rest = open_turns(draft)?.turn;
+    let first = draft.place();
+    open_times(count, draft)?;
+    Ok(Begun { rest, first })
+}
+
+/// Begins a CASE by a table, up to its first arm.
+pub fn table_begun(
+    alloc: Global,
+    t: u32,
+    arms: &[TypedArm],
+    plan: Plan,
+    draft: &mut Draft,
+) -> Result<Begun, EncodeError>
+    ensures rest { IfOk result (λ x. x.rest ≡ place_of (opened draft.old)) }
+    ensures first { IfOk result (λ x. x.first ≡ place_of (opened (opened draft.old))) }
+    ensures begun { OnOk result
+        (draft.new ≡ table_begun t plan.least plan.span arms.now draft.old) }
+{
+    let targets = targets(alloc, arms, plan)?;
+    let last = small(arms.len())?;
+    let begun = blocks_begun(arms.len(), draft)?;
+    dispatch(t, plan, targets.as_slice(), last, draft)?;
+    Ok(begun)
+}

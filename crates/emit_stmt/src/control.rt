@@ -1,0 +1,258 @@
+//! What stands before and behind the statements in other statements.
+
+ghost use Rattle.std.specs.Prelude.{◌≡◌, ◌∷◌, ◌++◌, [], IfOk, OnOk, None};
+ghost use Rattle.wasm_tree.specs.declared.instr.Instr.TheVariants.{Br, BrIf};
+ghost use Rattle.emit_buffer.specs.Frames.{meant};
+ghost use Rattle.emit_buffer.specs.Drafts.{one, put, opened, place_of, closed_block, closed_loop};
+ghost use Rattle.emit_expr.specs.Values.{with_value, with_place};
+ghost use Rattle.def_scheme.specs.Cells.{loaded};
+ghost use Rattle.def_scheme.specs.Coded.{is_zero, wrapped, address_local};
+ghost use Rattle.def_scheme.specs.Steps.{passes};
+ghost use Rattle.emit_stmt.specs.Written.{address_kept, for_local, for_begun, for_tested, for_passed, for_next, for_turned};
+
+use crate::simple::{keep_address, keep_number};
+use emit_buffer::{
+    Draft, Setting, in_type, is_zero, load, number, operation, relation, store, wrapped,
+};
+use emit_expr::{place_code, taken_code, value_code};
+use std::alloc::AllocError;
+use typed_tree::{Place, TypeNo, TypedExpr};
+use wasm_tree::{EncodeError, Op, Operation, Relation};
+
+/// A block with a loop in it, by their places.
+#[derive(Clone, Copy, PartialEq, Eq)]
+pub struct Turns {
+    pub block: usize,
+    pub turn: usize,
+}
+
+/// Begins a loop in a block.
+pub fn open_turns(draft: &mut Draft) -> Result<Turns, AllocError>
+    ensures block { IfOk result (λ x. x.block ≡ place_of draft.old) }
+    ensures turn { IfOk result (λ x. x.turn ≡ place_of (opened draft.old)) }
+    ensures opened { OnOk result (draft.new ≡ opened (opened draft.old)) }
+{
+    let block = draft.open()?;
+    let turn = draft.open()?;
+    Ok(Turns { block, turn })
+}
+
+/// Ends a loop in a block, both by their places.
+fn close_turns(turns: Turns, draft: &mut Draft) -> Result<(), EncodeError>
+    ensures { let inner = closed_loop turns.turn None draft.old in
+        OnOk result (draft.new ≡ closed_block turns.block None inner) }
+{
+    draft.close_loop(turns.turn, None)?;
+    draft.close_block(turns.block, None)
+}
+
+/// Begins the loop again, and ends both.
+pub fn turn_again(turns: Turns, draft: &mut Draft) -> Result<(), EncodeError>
+    ensures { let inner = closed_loop turns.turn None (one (Br 0) draft.old) in
+        OnOk result (draft.new ≡ closed_block turns.block None inner) }
+{
+    draft.push(Op::Br(0))?;
+    close_turns(turns, draft)
+}
+
+/// The condition of a loop: where it does not hold, the block of this label is left.
+pub fn unless(
+    setting: &Setting<'_>,
+    e: &TypedExpr,
+    label: u32,
+    draft: &mut Draft,
+) -> Result<(), EncodeError>
+    ensures { let value = with_value (meant setting.now) e.now draft.old in
+        OnOk result (draft.new ≡ one (BrIf label) (one is_zero value)) }
+{
+    value_code(setting, e, draft)?;
+    is_zero(draft)?;
+    draft.push(Op::BrIf(label))?;
+    Ok(())
+}
+
+/// The condition of an IF.
+pub fn condition(setting: &Setting<'_>, e: &TypedExpr, draft: &mut Draft) -> Result<(), EncodeError>
+    ensures { let value = with_value (meant setting.now) e.now draft.old in
+        OnOk result (draft.new ≡ one wrapped value) }
+{
+    value_code(setting, e, draft)?;
+    wrapped(draft)?;
+    Ok(())
+}
+
+/// The record of a WITH, kept in a local.
+pub fn record_kept(
+    setting: &Setting<'_>,
+    place: &Place,
+    draft: &mut Draft,
+) -> Result<u32, EncodeError>
+    ensures local { let d = with_place (meant setting.now) place.now draft.old in
+        IfOk result (λ w. w ≡ address_local (meant setting.now) d.counts.addresses) }
+    ensures kept { let d = with_place (meant setting.now) place.now draft.old in
+        OnOk result (draft.new ≡ address_kept (meant setting.now) d) }
+{
+    place_code(setting, place, draft)?;
+    keep_address(setting, draft)
+}
+
+fn passes(by: i64) -> Relation
+    ensures { result ≡ passes by }
+{
+    if by < 0 { Relation::LtS } else { Relation::GtS }
+}
+
+/// What a variable holds.
+fn held(
+    setting: &Setting<'_>,
+    place: &Place,
+    t: TypeNo,
+    draft: &mut Draft,
+) -> Result<(), EncodeError>
+    ensures { let d = with_place (meant setting.now) place.now draft.old in
+        OnOk result (draft.new ≡ put (loaded setting.now.home.types t) d) }
+{
+    place_code(setting, place, draft)?;
+    load(setting, t, draft)?;
+    Ok(())
+}
+
+/// Stores the start of a FOR, and answers the local that keeps its limit.
+pub fn for_begun(
+    setting: &Setting<'_>,
+    place: &Place,
+    t: TypeNo,
+    start: &TypedExpr,
+    limit: &TypedExpr,
+    draft: &mut Draft,
+) -> Result<u32, EncodeError>
+    ensures local { let s = meant setting.now in
+        IfOk result (λ n. n ≡ for_local s place.now t start.now limit.now draft.old) }
+    ensures begun { let s = meant setting.now in
+        OnOk result (draft.new ≡ for_begun s place.now t start.now limit.now draft.old) }
+{
+    place_code(setting, place, draft)?;
+    taken_code(setting, t, start, draft)?;
+    value_code(setting, limit, draft)?;
+    let n = keep_number(setting, draft)?;
+    store(setting, t, draft)?;
+    Ok(n)
+}
+
+/// The test before the first turn of a FOR.
+fn for_tested(
+    setting: &Setting<'_>,
+    place: &Place,
+    t: TypeNo,
+    by: i64,
+    n: u32,
+    draft: &mut Draft,
+) -> Result<(), EncodeError>
+    ensures { let s = meant setting.now in
+        OnOk result (draft.new ≡ for_tested s place.now t by n draft.old) }
+{
+    held(setting, place, t, draft)?;
+    draft.push(Op::LocalGet(n))?;
+    relation(passes(by), draft)?;
+    draft.push(Op::BrIf(0))?;
+    Ok(())
+}
+
+/// The test behind a turn of a FOR.
+fn for_passed(
+    setting: &Setting<'_>,
+    place: &Place,
+    t: TypeNo,
+    by: i64,
+    n: u32,
+    draft: &mut Draft,
+) -> Result<(), EncodeError>
+    ensures { let s = meant setting.now in
+        OnOk result (draft.new ≡ for_passed s place.now t by n draft.old) }
+{
+    held(setting, place, t, draft)?;
+    number(by, draft)?;
+    operation(Operation::Add, draft)?;
+    draft.push(Op::LocalGet(n))?;
+    relation(passes(by), draft)?;
+    draft.push(Op::BrIf(1))?;
+    Ok(())
+}
+
+/// The next turn of a FOR.
+#[tactic(auto, using(emit_buffer::proofs::Emitted::put_append))]
+fn for_next(
+    setting: &Setting<'_>,
+    place: &Place,
+    t: TypeNo,
+    by: i64,
+    draft: &mut Draft,
+) -> Result<(), EncodeError>
+    ensures { let s = meant setting.now in
+        OnOk result (draft.new ≡ for_next s place.now t by draft.old) }
+{
+    place_code(setting, place, draft)?;
+    held(setting, place, t, draft)?;
+    number(by, draft)?;
+    operation(Operation::Add, draft)?;
+    in_type(setting, t, 1, draft)?;
+    store(setting, t, draft)?;
+    draft.push(Op::Br(0))?;
+    Ok(())
+}
+
+/// What stands behind the statements of a FOR.
+fn for_turned(
+    setting: &Setting<'_>,
+    place: &Place,
+    t: TypeNo,
+    by: i64,
+    n: u32,
+    draft: &mut Draft,
+) -> Result<(), EncodeError>
+    ensures { let s = meant setting.now in
+        OnOk result (draft.new ≡ for_turned s place.now t by n draft.old) }
+{
+    for_passed(setting, place, t, by, n, draft)?;
+    for_next(setting, place, t, by, draft)
+}
+
+/// Begins the block and the loop of a FOR, with the test before the first turn between the two.
+pub fn for_opened(
+    setting: &Setting<'_>,
+    place: &Place,
+    t: TypeNo,
+    by: i64,
+    n: u32,
+    draft: &mut Draft,
+) -> Result<Turns, EncodeError>
+    ensures block { IfOk result (λ x. x.block ≡ place_of draft.old) }
+    ensures turn { let s = meant setting.now in
+        let tested = for_tested s place.now t by n (opened draft.old) in
+        IfOk result (λ x. x.turn ≡ place_of tested) }
+    ensures begun { let s = meant setting.now in
+        OnOk result (draft.new ≡ opened (for_tested s place.now t by n (opened draft.old))) }
+{
+    let block = draft.open()?;
+    for_tested(setting, place, t, by, n, draft)?;
+    let turn = draft.open()?;
+    Ok(Turns { block, turn })
+}
+
+/// Ends the turns of a FOR.
+pub fn for_ended(
+    setting: &Setting<'_>,
+    place: &Place,
+    t: TypeNo,
+    by: i64,
+    n: u32,
+    turns: Turns,
+    draft: &mut Draft,
+) -> Result<(), EncodeError>
+    ensures { let s = meant setting.now in
+        let inner = closed_loop turns.turn None (for_turned s place.now t by n draft.old) in
+        OnOk result (draft.new ≡ closed_block turns.block None inner) }
+{
+    for_turned(setting, place, t, by, n, draft)?;
+    close_turns(turns, draft)
+}

@@ -1,0 +1,287 @@
+//! Statements that hold no others.
+
+ghost use Rattle.std.specs.Prelude.{◌≡◌, ◌∷◌, [], ◌-◌, IfOk, OnOk, length};
+ghost use Rattle.typed_tree.specs.declared.statement.TypedStmt.TheVariants as stmt;
+ghost use Rattle.emit_buffer.specs.Frames.{meant};
+ghost use Rattle.emit_buffer.specs.Drafts.{put};
+ghost use Rattle.def_scheme.specs.Coded.{number_local, address_local};
+ghost use Rattle.def_scheme.specs.Steps.{read_again, changed, change_operation, member_operation, with_member, text_copied};
+ghost use Rattle.emit_stmt.specs.Written.{with_step, address_kept, number_kept};
+
+use emit_buffer::{
+    Draft, Setting, check_changed, checked, complement, fault, load, operation, raised, size_in,
+    store, text,
+};
+use emit_expr::{call_code, place_code, taken_code, value_code};
+use std::alloc::AllocError;
+use typed_tree::{BITSET, CHAR, Call, Change, Membership, Place, TypeNo, TypedExpr};
+use wasm_tree::{EncodeError, Op, Operation, small};
+
+/// An assignment of a scalar.
+#[tactic(auto, using(crate::proofs::Stepped::step_Assign))]
+pub fn assign(
+    setting: &Setting<'_>,
+    place: &Place,
+    t: TypeNo,
+    e: &TypedExpr,
+    draft: &mut Draft,
+) -> Result<(), EncodeError>
+    ensures { OnOk result
+        (draft.new ≡ with_step (meant setting.now) draft.old (stmt.Assign place.now t e.now)) }
+{
+    place_code(setting, place, draft)?;
+    taken_code(setting, t, e, draft)?;
+    store(setting, t, draft)?;
+    Ok(())
+}
+
+/// An assignment of an array or a record.
+#[tactic(auto, using(crate::proofs::Stepped::step_Copy))]
+pub fn copy(
+    setting: &Setting<'_>,
+    to: &Place,
+    from: &Place,
+    t: TypeNo,
+    draft: &mut Draft,
+) -> Result<(), EncodeError>
+    ensures { OnOk result
+        (draft.new ≡ with_step (meant setting.now) draft.old (stmt.Copy to.now from.now t)) }
+{
+    place_code(setting, to, draft)?;
+    place_code(setting, from, draft)?;
+    draft.push(Op::I32Const(size_in(setting, t)?))?;
+    draft.push(Op::Call(2))?;
+    Ok(())
+}
+
+/// The call of a procedure.
+#[tactic(auto, using(crate::proofs::Stepped::step_Call))]
+pub fn call(setting: &Setting<'_>, call: &Call, draft: &mut Draft) -> Result<(), EncodeError>
+    ensures { OnOk result (draft.new ≡ with_step (meant setting.now) draft.old (stmt.Call call.now)) }
+{
+    call_code(setting, call, draft)
+}
+
+/// The output of a character.
+#[tactic(auto, using(crate::proofs::Stepped::step_Put))]
+pub fn print(setting: &Setting<'_>, e: &TypedExpr, draft: &mut Draft) -> Result<(), EncodeError>
+    ensures { OnOk result (draft.new ≡ with_step (meant setting.now) draft.old (stmt.Put e.now)) }
+{
+    taken_code(setting, CHAR, e, draft)?;
+    draft.push(Op::Call(0))?;
+    Ok(())
+}
+
+#[tactic(auto, using(crate::proofs::Stepped::step_Halt))]
+pub fn halt(setting: &Setting<'_>, draft: &mut Draft) -> Result<(), AllocError>
+    ensures { OnOk result (draft.new ≡ with_step (meant setting.now) draft.old stmt.Halt) }
+{
+    fault(9, draft)
+}
+
+#[tactic(auto, using(crate::proofs::Stepped::step_Exit))]
+pub fn exit(setting: &Setting<'_>, draft: &mut Draft) -> Result<(), AllocError>
+    ensures { OnOk result (draft.new ≡ with_step (meant setting.now) draft.old stmt.Exit) }
+{
+    draft.push(Op::Br(setting.exit()))
+}
+
+#[tactic(auto, using(crate::proofs::Stepped::step_Return))]
+pub fn leave(setting: &Setting<'_>, draft: &mut Draft) -> Result<(), AllocError>
+    ensures { OnOk result (draft.new ≡ with_step (meant setting.now) draft.old stmt.Return) }
+{
+    draft.push(Op::Return)
+}
+
+/// The RETURN of a function.
+#[tactic(auto, using(crate::proofs::Stepped::step_Give))]
+pub fn give(
+    setting: &Setting<'_>,
+    t: TypeNo,
+    e: &TypedExpr,
+    draft: &mut Draft,
+) -> Result<(), EncodeError>
+    ensures { OnOk result (draft.new ≡ with_step (meant setting.now) draft.old (stmt.Give t e.now)) }
+{
+    taken_code(setting, t, e, draft)?;
+    draft.push(Op::Return)?;
+    Ok(())
+}
+
+/// Keeps an address in a fresh local, and answers which.
+pub fn keep_address(setting: &Setting<'_>, draft: &mut Draft) -> Result<u32, EncodeError>
+    ensures local { let k = draft.old.counts.addresses in
+        IfOk result (λ w. w ≡ address_local (meant setting.now) k) }
+    ensures kept { OnOk result (draft.new ≡ address_kept (meant setting.now) draft.old) }
+{
+    let w = draft.next_address(setting)?;
+    draft.push(Op::LocalSet(w))?;
+    Ok(w)
+}
+
+/// Keeps a number in a fresh local, and answers which.
+pub fn keep_number(setting: &Setting<'_>, draft: &mut Draft) -> Result<u32, EncodeError>
+    ensures local { let k = draft.old.counts.numbers in
+        IfOk result (λ n. n ≡ number_local (meant setting.now) k) }
+    ensures kept { OnOk result (draft.new ≡ number_kept (meant setting.now) draft.old) }
+{
+    let n = draft.next_number(setting)?;
+    draft.push(Op::LocalSet(n))?;
+    Ok(n)
+}
+
+/// The value at an address that was kept, behind that address.
+fn read_again(setting: &Setting<'_>, w: u32, t: TypeNo, draft: &mut Draft) -> Result<(), AllocError>
+    ensures { let code = read_again w setting.now.home.types t in
+        OnOk result (draft.new ≡ put code draft.old) }
+{
+    draft.push(Op::LocalGet(w))?;
+    draft.push(Op::LocalGet(w))?;
+    load(setting, t, draft)
+}
+
+fn change_operation(change: Change, draft: &mut Draft) -> Result<(), AllocError>
+    ensures { OnOk result (draft.new ≡ put (change_operation change ∷ []) draft.old) }
+{
+    match change {
+        Change::Increase => operation(Operation::Add, draft),
+        Change::Decrease => operation(Operation::Sub, draft),
+    }
+}
+
+/// The result of INC or DEC, checked and stored.
+#[tactic(auto, using(emit_buffer::proofs::Emitted::put_append))]
+fn changed(
+    setting: &Setting<'_>,
+    change: Change,
+    w: u32,
+    n: u32,
+    t: TypeNo,
+    draft: &mut Draft,
+) -> Result<(), AllocError>
+    ensures { let code = changed change w n setting.now.home.types t in
+        OnOk result (draft.new ≡ put code draft.old) }
+{
+    read_again(setting, w, t, draft)?;
+    draft.push(Op::LocalGet(n))?;
+    change_operation(change, draft)?;
+    check_changed(setting, t, draft)?;
+    store(setting, t, draft)
+}
+
+/// INC or DEC.
+#[tactic(auto, using(crate::proofs::Stepped::step_Change))]
+pub fn change(
+    setting: &Setting<'_>,
+    change: Change,
+    place: &Place,
+    t: TypeNo,
+    e: &TypedExpr,
+    draft: &mut Draft,
+) -> Result<(), EncodeError>
+    ensures { OnOk result
+        (draft.new ≡ with_step (meant setting.now) draft.old (stmt.Change change place.now t e.now)) }
+{
+    place_code(setting, place, draft)?;
+    let w = keep_address(setting, draft)?;
+    value_code(setting, e, draft)?;
+    let n = keep_number(setting, draft)?;
+    changed(setting, change, w, n, t, draft)?;
+    Ok(())
+}
+
+fn member_operation(membership: Membership, draft: &mut Draft) -> Result<(), AllocError>
+    ensures { OnOk result (draft.new ≡ put (member_operation membership) draft.old) }
+{
+    match membership {
+        Membership::Include => operation(Operation::Or, draft),
+        Membership::Exclude => {
+            complement(draft)?;
+            operation(Operation::And, draft)
+        }
+    }
+}
+
+/// The set with or without the element, stored.
+#[tactic(auto, using(emit_buffer::proofs::Emitted::put_append))]
+fn with_member(
+    setting: &Setting<'_>,
+    membership: Membership,
+    w: u32,
+    n: u32,
+    draft: &mut Draft,
+) -> Result<(), AllocError>
+    ensures { let code = with_member membership w n setting.now.home.types in
+        OnOk result (draft.new ≡ put code draft.old) }
+{
+    read_again(setting, w, BITSET, draft)?;
+    draft.push(Op::I64Const(1))?;
+    draft.push(Op::LocalGet(n))?;
+    operation(Operation::Shl, draft)?;
+    member_operation(membership, draft)?;
+    store(setting, BITSET, draft)
+}
+
+/// INCL or EXCL.
+#[tactic(auto, using(crate::proofs::Stepped::step_Membership))]
+pub fn membership(
+    setting: &Setting<'_>,
+    membership: Membership,
+    place: &Place,
+    e: &TypedExpr,
+    draft: &mut Draft,
+) -> Result<(), EncodeError>
+    ensures { OnOk result
+        (draft.new ≡ with_step (meant setting.now) draft.old (stmt.Membership membership place.now e.now)) }
+{
+    place_code(setting, place, draft)?;
+    let w = keep_address(setting, draft)?;
+    value_code(setting, e, draft)?;
+    checked(0, 31, 1, draft)?;
+    let n = keep_number(setting, draft)?;
+    with_member(setting, membership, w, n, draft)?;
+    Ok(())
+}
+
+/// The rest of an array behind the characters of a string.
+fn rest_of(size: u32, text: &[u8]) -> Result<u32, EncodeError>
+    ensures { IfOk result (λ n. n ≡ size - length text.now) }
+{
+    let bytes = small(text.len())?;
+    Ok(size.saturating_sub(bytes))
+}
+
+/// The copy of a text to an address that was kept, and zeros up to the end of the array.
+#[tactic(auto, using(emit_buffer::proofs::Emitted::put_append))]
+fn text_copied(at: u32, bytes: u32, rest: u32, w: u32, draft: &mut Draft) -> Result<(), AllocError>
+    ensures { OnOk result (draft.new ≡ put (text_copied at bytes rest w) draft.old) }
+{
+    text(at, draft)?;
+    draft.push(Op::I32Const(bytes))?;
+    draft.push(Op::Call(2))?;
+    draft.push(Op::LocalGet(w))?;
+    raised(bytes, draft)?;
+    draft.push(Op::I32Const(rest))?;
+    draft.push(Op::Call(3))
+}
+
+/// An assignment of a string.
+#[tactic(auto, using(crate::proofs::Stepped::step_CopyText))]
+pub fn copy_text(
+    setting: &Setting<'_>,
+    place: &Place,
+    t: TypeNo,
+    characters: &[u8],
+    draft: &mut Draft,
+) -> Result<(), EncodeError>
+    ensures { OnOk result (draft.new
+        ≡ with_step (meant setting.now) draft.old (stmt.CopyText place.now t characters.now)) }
+{
+    place_code(setting, place, draft)?;
+    let w = draft.next_address(setting)?;
+    draft.push(Op::LocalTee(w))?;
+    let at = draft.next_text(characters.len())?;
+    let rest = rest_of(size_in(setting, t)?, characters)?;
+    text_copied(at, small(characters.len())?, rest, w, draft)?;
+    Ok(())
+}

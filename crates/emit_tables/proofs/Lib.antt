@@ -1,0 +1,9 @@
+pub mod Variants
+pub mod Bodies
+pub mod Marking
+pub mod Ordered
+pub mod Formals
+pub mod Places
+pub mod TextVariants
+pub mod TextBodies
+pub mod Begins

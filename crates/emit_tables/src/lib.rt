@@ -1,0 +1,31 @@
+//! The types of functions that a module needs: those of its procedures, and of its calls through the table. One pass over
+//! the typed tree marks them by the number of their arguments, and one pass over the marks lists and numbers them.
+//!
+//! - `specs/Seen` says what a `Signature` stands for in the definitions of `def_scheme`.
+//! - `specs/Marked` has the marks, `specs/Needed` the types that parts of a module need.
+//! - `specs/Tables` has the list and the numbers that are made of the marks, `specs/Numbered` the look-up of a number.
+//!
+//! The strings that a module keeps: their characters in text order, and where those of each procedure begin.
+//!
+//! - `specs/Written` has the characters of the parts of a body, `specs/Offsets` what is gathered of a module (`AreTexts`).
+#![tactic(auto)]
+
+mod body;
+mod characters;
+mod expr;
+mod exprs;
+mod heading;
+mod marks;
+mod offsets;
+mod signature;
+mod signatures;
+mod steps;
+mod table;
+mod texts;
+
+pub use characters::Characters;
+pub use heading::{arguments_in, has_result, is_own, numbers_of};
+pub use offsets::Offsets;
+pub use signature::Signature;
+pub use signatures::{Signatures, signatures_of};
+pub use texts::{ModuleTexts, module_texts};

@@ -1,0 +1,91 @@
+//! Where the texts of each procedure begin.
+
+ghost use Rattle.std.specs.Prelude.{◌≡◌, ◌<◌, None, length, replicate, slice_get, IfOk, OnSome};
+ghost use Rattle.emit_tables.specs.Offsets.{noted, noted_which, or_else, noted_or, no_offsets};
+
+use m2_tree::Items;
+use std::alloc::{AllocError, Global};
+use typed_tree::{TypedModule, Which};
+
+/// Where the texts of procedures begin, as far as it is known.
+#[derive(Drop)]
+pub struct Offsets {
+    pub procedures: Items<Option<u32>>,
+    pub locals: Items<Option<u32>>,
+}
+
+/// A table in which nothing is known.
+fn empty_table(alloc: Global, length: usize) -> Result<Items<Option<u32>>, AllocError>
+    ensures { IfOk result (λ table. table ≡ replicate length None) }
+{
+    let mut table = Items::new(alloc);
+    for _ in 0..length {
+        table.push(None)?;
+    }
+    Ok(table)
+}
+
+/// What a table has at a number, if it reaches so far.
+fn entry(table: &Items<Option<u32>>, number: usize) -> Option<Option<u32>>
+    ensures value { result ≡ slice_get table.now number }
+    ensures within { OnSome result (number < length table.now) }
+{
+    table.get(number).copied()
+}
+
+/// Notes where the texts of a procedure begin, where it is not known yet.
+fn note(table: &mut Items<Option<u32>>, number: usize, at: u32)
+    ensures { table.new ≡ noted table.old number at }
+{
+    match entry(table, number) {
+        None => {}
+        Some(known) => match known {
+            Some(_) => {}
+            None => table.set(number, Some(at)),
+        },
+    }
+}
+
+fn or_else(found: Option<Option<u32>>, at: u32) -> u32
+    ensures { result ≡ or_else found at }
+{
+    match found {
+        None => at,
+        Some(known) => match known {
+            None => at,
+            Some(begin) => begin,
+        },
+    }
+}
+
+impl Offsets {
+    /// Nothing is known of the procedures of a module.
+    pub fn new(alloc: Global, module_body: &TypedModule) -> Result<Offsets, AllocError>
+        ensures { IfOk result (λ x. x ≡ no_offsets module_body.now) }
+    {
+        Ok(Offsets {
+            procedures: empty_table(alloc, module_body.procedures.len())?,
+            locals: empty_table(alloc, module_body.locals.len())?,
+        })
+    }
+
+    /// Notes where the texts of a procedure begin, where it is not known yet.
+    pub fn note(&mut self, which: Which, at: u32)
+        ensures { self.new ≡ noted_which self.old which at }
+    {
+        match which {
+            Which::Module(number) => note(&mut self.procedures, number, at),
+            Which::Local(number) => note(&mut self.locals, number, at),
+        }
+    }
+
+    /// Where the texts of a procedure begin, and where it is not known, this number.
+    pub fn noted_or(&self, which: Which, at: u32) -> u32
+        ensures { result ≡ noted_or self.now which at }
+    {
+        match which {
+            Which::Module(number) => or_else(entry(&self.procedures, number), at),
+            Which::Local(number) => or_else(entry(&self.locals, number), at),
+        }
+    }
+}

@@ -1,0 +1,64 @@
+//! The list of the types of functions that are marked, and their numbers.
+
+ghost use Rattle.std.specs.Prelude.{◌≡◌, ◌+◌, ◌++◌, IfOk, OnOk};
+ghost use Rattle.emit_tables.specs.Tables.{entered, number_behind, with_mark, table_of};
+
+use crate::marks::Mark;
+use crate::signature::{Numbers, Signature};
+use m2_tree::Items;
+use std::alloc::Global;
+use wasm_tree::{EncodeError, plus, small};
+
+/// Types of functions in order, and their numbers by how many arguments they have.
+#[derive(Drop)]
+pub struct Table {
+    pub list: Items<Signature>,
+    pub numbers: Items<Numbers>,
+}
+
+/// Enters a type if it is wanted, and answers its number.
+fn entered(
+    list: &mut Items<Signature>,
+    wanted: bool,
+    arguments: usize,
+    has_result: bool,
+) -> Result<u32, EncodeError>
+    ensures number { IfOk result (λ n. n ≡ number_behind wanted list.old) }
+    ensures list { OnOk result (list.new ≡ list.old ++ entered wanted arguments has_result) }
+{
+    if !wanted {
+        return Ok(6);
+    }
+    let number = plus(6, small(list.len())?)?;
+    list.push(Signature {
+        arguments,
+        has_result,
+    })?;
+    Ok(number)
+}
+
+/// Enters the types with one more argument.
+fn with_mark(table: &mut Table, mark: Mark) -> Result<(), EncodeError>
+    ensures { OnOk result (table.new ≡ with_mark table.old mark) }
+{
+    let arguments = table.numbers.len();
+    let wanted = mark.without && arguments != 0;
+    let without = entered(&mut table.list, wanted, arguments, false)?;
+    let giving = entered(&mut table.list, mark.giving, arguments, true)?;
+    table.numbers.push(Numbers { without, giving })?;
+    Ok(())
+}
+
+/// The types that are marked. The only error is that memory ran out, or that they are too many.
+pub fn table_of(alloc: Global, marks: &[Mark]) -> Result<Table, EncodeError>
+    ensures { IfOk result (λ t. t ≡ table_of marks.now) }
+{
+    let mut table = Table {
+        list: Items::new(alloc),
+        numbers: Items::new(alloc),
+    };
+    for mark in marks {
+        with_mark(&mut table, *mark)?;
+    }
+    Ok(table)
+}

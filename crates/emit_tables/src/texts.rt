@@ -1,0 +1,91 @@
+//! The characters of the strings that a module keeps, and where those of each procedure begin.
+
+ghost use Rattle.std.specs.Prelude.{◌≡◌, IfOk, OnOk};
+ghost use Rattle.emit_tables.specs.Offsets.{nothing_yet, with_which, gathered, offset_in, AreTexts};
+
+use crate::body::{push_body, push_which};
+use crate::characters::Characters;
+use crate::offsets::Offsets;
+use std::alloc::Global;
+use typed_tree::{TypedModule, Which};
+use wasm_tree::{EncodeError, small};
+
+/// The characters of the texts of some procedures, and where those of each begin.
+#[derive(Drop)]
+pub struct Gathering {
+    pub characters: Characters,
+    pub offsets: Offsets,
+}
+
+/// The texts of a module.
+#[derive(Drop)]
+pub struct ModuleTexts {
+    /// Their characters, one after another.
+    pub characters: Characters,
+    pub offsets: Offsets,
+    /// Where the texts of the module's own body begin.
+    pub body: u32,
+}
+
+impl ModuleTexts {
+    /// Where the texts of a procedure begin.
+    pub fn offset_of(&self, which: Which) -> u32
+        ensures { result ≡ offset_in self.now which }
+    {
+        self.offsets.noted_or(which, self.body)
+    }
+}
+
+/// The texts of one more procedure.
+fn gather_which(
+    gathering: &mut Gathering,
+    module_body: &TypedModule,
+    which: Which,
+) -> Result<(), EncodeError>
+    ensures { OnOk result (gathering.new ≡ with_which module_body.now gathering.old which) }
+{
+    let at = small(gathering.characters.len())?;
+    gathering.offsets.note(which, at);
+    push_which(&mut gathering.characters, module_body, which)?;
+    Ok(())
+}
+
+/// The texts of all procedures.
+fn gathered(
+    alloc: Global,
+    module_body: &TypedModule,
+    capacity: usize,
+) -> Result<Gathering, EncodeError>
+    ensures { IfOk result (λ x. x ≡ gathered module_body.now) }
+{
+    let mut gathering = Gathering {
+        characters: Characters::with_capacity(alloc, capacity)?,
+        offsets: Offsets::new(alloc, module_body)?,
+    };
+    for which in module_body.order.as_slice() {
+        gather_which(&mut gathering, module_body, *which)?;
+    }
+    Ok(gathering)
+}
+
+/// The texts of a module. There is room for so many characters from the start. The only error is that memory ran out,
+/// or that a number of the module has no encoding.
+pub fn module_texts(
+    alloc: Global,
+    module_body: &TypedModule,
+    capacity: usize,
+) -> Result<ModuleTexts, EncodeError>
+    ensures { IfOk result (AreTexts module_body.now) }
+{
+    let Gathering {
+        mut characters,
+        offsets,
+    } = gathered(alloc, module_body, capacity)?;
+    let body = small(characters.len())?;
+    push_body(&mut characters, module_body.body.as_slice())?;
+    Ok(ModuleTexts {
+        characters,
+        offsets,
+        body,
+    })
+}

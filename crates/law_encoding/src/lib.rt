@@ -1,0 +1,55 @@
+//! Laws alone: why the modules of what the checker accepts have an encoding. There is no code here but what names the laws.
+//!
+//! - `specs/Sizes` says how large trees are, and `specs/TypedSizes` how large typed trees are. `specs/Counted` says the same of
+//!   what the checker makes of expressions, and `specs/Small` says what is proved.
+//! - `proofs/Variants` has the sizes of trees by their variants, and `proofs/Weights` the induction over the grammar: a tree is
+//!   no larger than its tokens. `proofs/Texts` counts the tokens of a text.
+//! - `proofs/Typed` has the sizes of typed trees by their variants. `proofs/Operators` and `proofs/Calls` have a lemma for each
+//!   definition of `check_operator` and `check_call`, and `proofs/Meanings` those of `check_expr`, with the induction over expressions.
+//! - `proofs/Effects` and `proofs/Steps` have a lemma for each definition of assignments, calls and `check_stmt_parts`, and
+//!   `proofs/Statements` the induction over statements.
+//! - `proofs/Counts` and `proofs/StepCounts` count the locals that the code of expressions and statements takes,
+//!   and `proofs/TableCalls` and `proofs/TableSteps` the calls through the table.
+//! - `proofs/Blocks` has the bodies of procedures, with the induction over blocks, and whole modules, and `proofs/Bounded` the
+//!   bound of all texts.
+#![tactic(auto)]
+
+ghost use Rattle.law_encoding.specs.Small.{TreesAreSmall, TextsAreSmall, ExpressionsAreSmall, DesignatorsAreSmall, StatementsAreSmall, ModulesAreSmall, BodiesAreSmall, LocalsAreFew, TableCallsAreFew};
+ghost use Rattle.check_scope.specs.Elaborated.{least, every};
+
+/// Trees are no larger than their texts.
+pub fn size_laws()
+    // The tree of tokens is no larger than these,
+    ensures trees { TreesAreSmall }
+    // and the tree of a text no larger than the text.
+    ensures texts { TextsAreSmall }
+{}
+
+/// What the checker makes of expressions and statements is no larger than these.
+pub fn typed_size_laws()
+    // That is so where the least broken rule is kept,
+    ensures least { ExpressionsAreSmall least × DesignatorsAreSmall least × StatementsAreSmall least }
+    // and where all of them are.
+    ensures every { ExpressionsAreSmall every × DesignatorsAreSmall every × StatementsAreSmall every }
+{}
+
+/// The bodies of a module that the checker accepts are no larger than its tree.
+pub fn module_size_laws()
+    // That is so where the least broken rule is kept,
+    ensures least { ModulesAreSmall least }
+    // and where all of them are.
+    ensures every { ModulesAreSmall every }
+    // Each text that is not too long has bodies of a bounded size.
+    ensures least_texts { BodiesAreSmall least }
+    ensures every_texts { BodiesAreSmall every }
+{}
+
+/// The code of statements takes no more locals than they count.
+pub fn local_laws()
+    ensures { LocalsAreFew }
+{}
+
+/// Statements call through the table no more often than they count.
+pub fn table_call_laws()
+    ensures { TableCallsAreFew }
+{}

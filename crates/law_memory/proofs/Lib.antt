@@ -1,0 +1,12 @@
+pub mod Places
+pub mod Keeps
+pub mod Procedures
+pub mod Cells
+pub mod Worlds
+pub mod Frames
+pub mod Assigns
+pub mod Helpers
+pub mod Divides
+pub mod Rounding
+pub mod Bodies
+pub mod Example

@@ -1,0 +1,58 @@
+-- What the compiled code does with the cell of a scalar: its numbers stand there lowest byte first.
+use Rattle.std.specs.Prelude.{◌-◌, ℤ, option_map, ℕ, zero, suc, ◌+◌, ◌*◌, ◌%◌, ◌^◌, List, Option}
+use Rattle.std.specs.Int.{w64, cast_unsigned}
+use Rattle.wasm_tree.specs.declared.instr.Load.{Load}
+use Rattle.wasm_tree.specs.declared.instr.Load.TheVariants as load
+use Rattle.wasm_tree.specs.declared.instr.StoreWidth.TheVariants as width
+use Rattle.wasm_tree.specs.Numbers.{load_size, loaded, stored}
+use Rattle.wasm_tree.specs.Machine.{bytes_at, pasted}
+use Rattle.law_effect.specs.Bytes.{byte}
+use Rattle.m2_layout.specs.Types.{Scalar, Natural, Integer, Between, Callable}
+use Rattle.m2_layout.specs.Sizes.{Room, One, Two, Four, room_of}
+
+-- the number in k bytes from place a on
+unfoldable pub number : (k a : ℕ) → List ℕ → ℕ
+number zero a m = 0
+number (suc k) a m = byte a m + 256 * number k (a + 1) m
+
+-- the bytes that a number is stored as in this room
+abbrev pub stored_in : Room → ℕ → List ℕ
+stored_in One n = stored width.One n
+stored_in Two n = stored width.Two n
+stored_in Four n = stored width.Four n
+
+-- the operand that stands for a number
+abbrev pub word : ℤ → ℕ
+word v = cast_unsigned w64 v
+
+abbrev pub unsigned_load : Room → Load
+unsigned_load One = load.I64From8U
+unsigned_load Two = load.I64From16U
+unsigned_load Four = load.I64From32U
+
+abbrev pub load_of : Scalar → Load
+load_of (Natural g) = unsigned_load (room_of (Natural g))
+load_of Integer = load.I64From32S
+load_of (Between l g) = unsigned_load (room_of (Between l g))
+load_of (Callable h) = unsigned_load (room_of (Callable h))
+
+-- the lower bound is added behind the load and taken off before the store
+abbrev pub raised : Scalar → ℕ → ℕ
+raised (Natural g) n = n
+raised Integer n = n
+raised (Between l g) n = (n + word l) % 2 ^ 64
+raised (Callable h) n = n
+
+abbrev pub lowered : Scalar → ℕ → ℕ
+lowered (Natural g) n = n
+lowered Integer n = n
+lowered (Between l g) n = (n + (2 ^ 64 - word l)) % 2 ^ 64
+lowered (Callable h) n = n
+
+-- the operand that is loaded from place a, if it is there
+abbrev pub fetched : Scalar → ℕ → List ℕ → Option ℕ
+fetched c a m = option_map (λ bytes. raised c (loaded (load_of c) bytes)) (bytes_at (load_size (load_of c)) a m)
+
+-- the memory with this operand stored at place a
+abbrev pub put : Scalar → ℕ → ℕ → List ℕ → List ℕ
+put c a n m = pasted m a (stored_in (room_of c) (lowered c n))

@@ -1,0 +1,4 @@
+pub mod WellFormed
+pub mod Valid
+pub mod Linked
+pub mod Ranges

@@ -1,0 +1,232 @@
+-- Whole bodies: what the declarations of a block carry on stays in the bodies of its procedures.
+use Rattle.std.proofs.Common.{◌≡◌, ℕ, ◌==◌, Bool, true, false, cond, List, [], ◌∷◌, ◌++◌, length, Option, Some, None, Result, refl, sym, ap, subst, ◌∙◌}
+use Rattle.std.specs.Prelude.{map, slice_get}
+use Rattle.std.specs.List.{AllByRecursion, fold}
+use Rattle.std.specs.Option.{unwrap_or}
+use Rattle.m2_tree.specs.declared.stmt.Stmt.{Stmt}
+use Rattle.m2_tree.specs.declared.decl.Heading.{Heading}
+use Rattle.m2_tree.specs.declared.decl.Module.{Module}
+use Rattle.m2_tree.specs.declared.decl.Contents.{Contents}
+use Rattle.m2_tree.specs.declared.decl.Contents.TheVariants as contents
+use Rattle.m2_tree.specs.declared.decl.Decl.{Decl, Decl-F, out-Decl, roll-Decl, out-roll-Decl, map-Decl, fold_out-Decl, ind-Decl}
+use Rattle.m2_tree.specs.declared.decl.Decl.TheOpen as layer
+use Rattle.m2_tree.specs.declared.decl.Block.{Block, Block-F, out-Block, roll-Block, out-roll-Block, map-Block, fold_out-Block}
+use Rattle.typed_tree.specs.declared.shape.Made.{Made}
+use Rattle.typed_tree.specs.declared.shape.Shape.{Shape}
+use Rattle.typed_tree.specs.declared.shape.Shape.TheVariants as shape
+use Rattle.typed_tree.specs.declared.table.ModuleTypes.{ModuleTypes}
+use Rattle.typed_tree.specs.declared.table.Table.{Table}
+use Rattle.typed_tree.specs.declared.known_types.Types.{Types}
+use Rattle.typed_tree.specs.declared.typed_module.TypedModule.{TypedModule}
+use Rattle.typed_tree.specs.declared.typed_module.Which.{Which}
+use Rattle.typed_tree.specs.declared.types.TypeNo.{TypeNo}
+use Rattle.check_scope.specs.Elaborated.{Gathers}
+use Rattle.check_scope.specs.Scopes.{State}
+use Rattle.check_scope.specs.declared.scope.Scope.{Scope}
+use Rattle.m2_types.specs.Predeclared.{console, others_of, first_scope}
+use Rattle.m2_types.specs.Importing.{numbered_modules}
+use Rattle.check_block.specs.Nesting.{procedure_ends}
+use Rattle.check_block.specs.Naming.{marked_layer, marked_decl, with_marks}
+use Rattle.check_block.specs.Declarations.{Course, Declared, decl_layer, with_decl, all_declared, declared_block, declared_module}
+use Rattle.m2_check.specs.Own.{shape_copy, made_copy, types_made_in, implementation_scope}
+use Rattle.m2_check.specs.declared.procedure.Walk.{Walk}
+use Rattle.m2_check.specs.Elaborating.{Elaborates}
+use Rattle.m2_check.specs.Inside.{which_of, begun_procedure}
+use Rattle.m2_check.specs.Bodies.{ChecksBlock, Steps, marked_by, declared_by, checked_by, with_body, begun_from, procedure_checked, steps_layer, block_layer, steps, checks_block, checks_decl}
+use Rattle.m2_check.specs.Checked.{walked, of_body, of_contents, checked}
+use Rattle.law_well_formed.specs.Formed.{Holds, fine}
+use Rattle.law_well_formed.proofs.Basics.{then_holds, reported_holds, any_holds}
+use Rattle.law_programs.specs.Carried.{ShapeIndexed, AllIndexed, TypesIndexed, TablesElsewhere, ReachedIndexed, TablesIndexed, implementation_types, BodyBegins}
+use Rattle.law_programs.proofs.Declaring.{block_carries, module_carries_on}
+use Rattle.law_programs.proofs.Reaching.{table_reach, tables_indexed}
+
+module _ (g : Gathers) (elaborates : Elaborates g.Reported) (ends : List ℕ) where
+  -- the types of a walk
+  abbrev WalkIndexed : Walk g.Reported → Type 0
+  WalkIndexed w = TypesIndexed w.scope.types
+
+  abbrev CheckIndexed : (ℕ → Walk g.Reported → Walk g.Reported) → Type 0
+  CheckIndexed f = (seen : ℕ) (w : Walk g.Reported) → WalkIndexed w → WalkIndexed (f seen w)
+
+  abbrev StepIndexed : Steps g.Reported → Type 0
+  StepIndexed x = (around : Option Which) → CheckIndexed (checked_by x around)
+
+  abbrev BlockIndexed : ChecksBlock g.Reported → Type 0
+  BlockIndexed block = (around : Option Which) (returns : Option (Result TypeNo g.Reported)) (w : Walk g.Reported) → WalkIndexed w → WalkIndexed (block around returns w).0
+
+  -- ---- procedures
+
+  procedure_indexed : (h : Heading) (block : ChecksBlock g.Reported) → BlockIndexed block → (around : Option Which) → CheckIndexed (procedure_checked g elaborates ends h block around)
+  procedure_indexed h block f around seen w p = let b = begun_procedure g w seen h in f (which_of b.1.procedure) b.1.returns b.0 p
+
+  bodies_indexed : {X : Type 0} (checks : X → ℕ → Walk g.Reported → Walk g.Reported) (seen : List ℕ) (xs : List X) → AllByRecursion (λ x. CheckIndexed (checks x)) xs → (st : Walk g.Reported × ℕ) → WalkIndexed st.0 → WalkIndexed (fold (with_body checks seen) st xs).0
+  bodies_indexed checks seen [] h st p = p
+  bodies_indexed checks seen (x ∷ xs) h st p = bodies_indexed checks seen xs h.1 (with_body checks seen st x) (h.0 (unwrap_or (slice_get seen st.1) 0) st.0 p)
+
+  -- ---- steps as declarations
+
+  abbrev steps_of : Decl → Steps g.Reported
+  steps_of = steps g elaborates ends
+
+  abbrev block_of : Block → ChecksBlock g.Reported
+  block_of = checks_block g elaborates ends
+
+  abbrev opened : Decl-F Decl Block → Decl-F (Steps g.Reported) (ChecksBlock g.Reported)
+  opened x = map-Decl Decl Block (Steps g.Reported) (ChecksBlock g.Reported) steps_of block_of x
+
+  abbrev opened_block : Block-F Decl Block → Block-F (Steps g.Reported) (ChecksBlock g.Reported)
+  opened_block x = map-Block Decl Block (Steps g.Reported) (ChecksBlock g.Reported) steps_of block_of x
+
+  at : (e : Decl) (x : Decl-F Decl Block) → out-Decl e ≡ x → steps_of e ≡ steps_layer g elaborates ends (opened x)
+  unfolding steps checks_block
+  at e x h = fold_out-Decl (Steps g.Reported) (ChecksBlock g.Reported) (steps_layer g elaborates ends) (block_layer g elaborates ends) e ∙ ap (λ (y : Decl-F Decl Block). steps_layer g elaborates ends (opened y)) h
+
+  at_block : (e : Block) (x : Block-F Decl Block) → out-Block e ≡ x → block_of e ≡ block_layer g elaborates ends (opened_block x)
+  unfolding steps checks_block
+  at_block e x h = fold_out-Block (Steps g.Reported) (ChecksBlock g.Reported) (steps_layer g elaborates ends) (block_layer g elaborates ends) e ∙ ap (λ (y : Block-F Decl Block). block_layer g elaborates ends (opened_block y)) h
+
+  layer_marks : (s : Scope g.Reported) (x : Decl-F Decl Block) → marked_layer s (opened x) ≡ marked_layer s x
+  layer_marks s (layer.Constants cs) = refl
+  layer_marks s (layer.Types ts) = refl
+  layer_marks s (layer.Variables vs) = refl
+  layer_marks s (layer.Procedure h b) = refl
+
+  layer_declares : (c : Course g.Reported) (x : Decl-F Decl Block) → decl_layer g ends c (opened x) ≡ decl_layer g ends c x
+  layer_declares c (layer.Constants cs) = refl
+  layer_declares c (layer.Types ts) = refl
+  layer_declares c (layer.Variables vs) = refl
+  layer_declares c (layer.Procedure h b) = refl
+
+  step_marks : (s : Scope g.Reported) (d : Decl) → marked_by s (steps_of d) ≡ marked_decl s d
+  step_marks s d = ap (λ (x : Steps g.Reported). x.marks s) (at d (out-Decl d) refl) ∙ layer_marks s (out-Decl d)
+
+  step_declares : (c : Course g.Reported) (d : Decl) → declared_by c (steps_of d) ≡ with_decl g ends c d
+  step_declares c d = ap (λ (x : Steps g.Reported). x.declares c) (at d (out-Decl d) refl) ∙ layer_declares c (out-Decl d)
+
+  all_marks : (ds : List Decl) (st : Scope g.Reported × List ℕ) → fold (with_marks marked_by) st (map steps_of ds) ≡ fold (with_marks marked_decl) st ds
+  all_marks [] st = refl
+  all_marks (d ∷ ds) st =
+      ap (λ (s : Scope g.Reported). fold (with_marks marked_by) (s, st.1 ++ length st.0.own ∷ []) (map steps_of ds)) (step_marks st.0 d) ∙ all_marks ds (with_marks marked_decl st d)
+
+  all_declares : (ds : List Decl) (c : Course g.Reported) → fold declared_by c (map steps_of ds) ≡ fold (with_decl g ends) c ds
+  all_declares [] c = refl
+  all_declares (d ∷ ds) c = ap (λ (k : Course g.Reported). fold declared_by k (map steps_of ds)) (step_declares c d) ∙ all_declares ds (with_decl g ends c d)
+
+  abbrev behind : Result (Unit {0}) g.Reported → ℕ → List (Steps g.Reported) → Scope g.Reported × List ℕ → Declared g.Reported
+  behind so first xs m = let c = fold declared_by (m.0, so, first) xs in (c.0, c.1, m.1)
+
+  -- the steps of a block declare what its declarations do
+  pub declared_same : (ds : List Decl) (st : State (Unit {0}) g.Reported) (first : ℕ) → all_declared marked_by declared_by st first (map steps_of ds) ≡ declared_block g ends st first ds
+  declared_same ds st first =
+      let m : Scope g.Reported × List ℕ = fold (with_marks marked_decl) (st.0, []) ds in
+      ap (behind st.1 first (map steps_of ds)) (all_marks ds (st.0, [])) ∙ ap (λ (c : Course g.Reported). (c.0, c.1, m.1)) (all_declares ds (m.0, st.1, first))
+
+  -- ---- blocks, by induction
+
+  abbrev PD : Decl → Type 0
+  PD d = StepIndexed (steps_of d)
+
+  abbrev PB : Block → Type 0
+  PB b = BlockIndexed (block_of b)
+
+  abbrev SD : Type 0
+  SD = (d : Decl) × PD d
+
+  abbrev SB : Type 0
+  SB = (b : Block) × PB b
+
+  abbrev bare : Decl-F SD SB → Decl-F Decl Block
+  bare x = map-Decl SD SB Decl Block (λ e. e.0) (λ e. e.0) x
+
+  abbrev bare_block : Block-F SD SB → Block-F Decl Block
+  bare_block x = map-Block SD SB Decl Block (λ e. e.0) (λ e. e.0) x
+
+  abbrev decls_of : List SD → List Decl
+  decls_of xs = map (λ (x : SD). x.0) xs
+
+  all_steps : (xs : List SD) (around : Option Which) → AllByRecursion (λ x. CheckIndexed (checked_by x around)) (map steps_of (decls_of xs))
+  all_steps [] around = tt
+  all_steps (x ∷ xs) around = (x.1 around, all_steps xs around)
+
+  block_indexed : (xs : List SD) (body : Option (List Stmt)) → BlockIndexed (block_layer g elaborates ends (record { decls = map steps_of (decls_of xs); body = body }))
+  block_indexed xs body around returns w p =
+      let first : ℕ = length w.bodies.locals in
+      let is : all_declared marked_by declared_by (w.scope, w.so_far) first (map steps_of (decls_of xs)) ≡ declared_block g ends (w.scope, w.so_far) first (decls_of xs) = declared_same (decls_of xs) (w.scope, w.so_far) first in
+      let start : WalkIndexed (begun_from (all_declared marked_by declared_by (w.scope, w.so_far) first (map steps_of (decls_of xs))) w.bodies)
+      = subst (λ (d : Declared g.Reported). WalkIndexed (begun_from d w.bodies)) (sym is) (let c = block_carries g ends (w.scope, w.so_far) first (decls_of xs) in c.indexed p) in
+      bodies_indexed (λ (x : Steps g.Reported). checked_by x around) (all_declared marked_by declared_by (w.scope, w.so_far) first (map steps_of (decls_of xs))).2 (map steps_of (decls_of xs)) (all_steps xs around)
+      (begun_from (all_declared marked_by declared_by (w.scope, w.so_far) first (map steps_of (decls_of xs))) w.bodies, 0) start
+
+  step_at : (y : Decl-F SD SB) → StepIndexed (steps_layer g elaborates ends (opened (bare y)))
+  step_at (layer.Constants cs) = λ around seen w p. p
+  step_at (layer.Types ts) = λ around seen w p. p
+  step_at (layer.Variables vs) = λ around seen w p. p
+  step_at (layer.Procedure h b) = λ around seen w p. procedure_indexed h (block_of b.0) b.1 around seen w p
+
+  step_decl : (x : Decl-F Decl Block) (y : Decl-F SD SB) → bare y ≡ x → PD (roll-Decl x)
+  step_decl x y q = subst StepIndexed (sym (at (roll-Decl x) (bare y) (out-roll-Decl x ∙ sym q))) (step_at y)
+
+  step_block : (x : Block-F Decl Block) (y : Block-F SD SB) → bare_block y ≡ x → PB (roll-Block x)
+  step_block x y q = subst BlockIndexed (sym (at_block (roll-Block x) (bare_block y) (out-roll-Block x ∙ sym q))) (block_indexed y.decls y.body)
+
+  decl_indexed : (d : Decl) → PD d
+  decl_indexed = ind-Decl PD PB step_decl step_block
+
+  -- ---- modules
+
+  all_decls : (ds : List Decl) (around : Option Which) → AllByRecursion (λ d. CheckIndexed (checks_decl g elaborates ends d around)) ds
+  all_decls [] around = tt
+  all_decls (d ∷ ds) around = (decl_indexed d around, all_decls ds around)
+
+  walked_indexed : (modules : List (List ℕ × ℕ)) (s : Scope g.Reported) (m : Module) (b : Block) → TablesElsewhere s.types.home s.tables → TypesIndexed s.types → WalkIndexed (walked g elaborates modules ends s m b).0
+  walked_indexed modules s m b e p =
+      let ds : List Decl = (out-Block b).decls in
+      let d : Declared g.Reported = declared_module g modules ends s m ds in
+      bodies_indexed (λ (x : Decl). checks_decl g elaborates ends x None) d.2 ds (all_decls ds None) (_, 0) (let c = module_carries_on g modules ends s m ds e in c.indexed p)
+
+module _ (g : Gathers) (elaborates : Elaborates g.Reported) where
+  abbrev ModuleIndexed : TypedModule → Type 0
+  ModuleIndexed t = TypesIndexed t.types
+
+  body_indexed : (s : Scope g.Reported) (own : Option Table) (m : Module) (b : Block) → TablesElsewhere s.types.home s.tables → TypesIndexed s.types → Holds ModuleIndexed (of_body g elaborates s own m b)
+  body_indexed s own m b e p = then_holds (any_holds _) (λ x k. fine _ (walked_indexed g elaborates (procedure_ends (out-Block b).decls) (numbered_modules s.tables).0 s m b e p))
+
+  contents_indexed : (number : ℕ) (m : Module) (own : Option Table) (ts : List Table) (c : Contents) → BodyBegins number own ts c → Holds ModuleIndexed (of_contents g elaborates number m own ts c)
+  contents_indexed number m own ts (contents.Definition ds) p = reported_holds g m.name.pos 24
+  contents_indexed number m None ts (contents.Implementation b) p = reported_holds g m.name.pos 24
+  contents_indexed number m (Some t) ts (contents.Implementation b) p = body_indexed (implementation_scope t ts) (Some t) m b p.1 p.0
+  contents_indexed number m own ts (contents.Program b) p = body_indexed (first_scope number ts) None m b p.1 p.0
+
+  pub checked_indexed : (number : ℕ) (m : Module) (own : Option Table) (ts : List Table) → BodyBegins number own (ts ++ console ∷ []) m.contents → Holds ModuleIndexed (checked g elaborates number m own ts)
+  checked_indexed number m own ts p = contents_indexed number m own (ts ++ console ∷ []) m.contents p
+
+-- ---- where an implementation begins
+
+module _ (types : Types) where
+  copy_indexed : (s : Shape) → ShapeIndexed types s → ShapeIndexed types (shape_copy s)
+  copy_indexed (shape.Array i e) p = p
+  copy_indexed (shape.Scalar r) p = tt
+  copy_indexed shape.Set p = tt
+  copy_indexed (shape.Record fs) p = tt
+  copy_indexed (shape.Procedure h) p = tt
+  copy_indexed (shape.Open e) p = tt
+
+  copies_indexed : (ms : List Made) → AllIndexed types ms → AllIndexed types (map made_copy ms)
+  copies_indexed [] p = tt
+  copies_indexed (m ∷ ms) p = (copy_indexed m.shape p.0, copies_indexed ms p.1)
+
+  made_in_by : (b : Bool) (xs ys : List Made) → AllIndexed types xs → AllIndexed types ys → AllIndexed types (cond b xs ys)
+  made_in_by true xs ys p q = p
+  made_in_by false xs ys p q = q
+
+  made_in_indexed : (home : ℕ) (ms : List ModuleTypes) → ReachedIndexed types ms → AllIndexed types (types_made_in home ms)
+  made_in_indexed home [] p = tt
+  made_in_indexed home (m ∷ ms) p = made_in_by (m.number == home) m.made (types_made_in home ms) p.0 (made_in_indexed home ms p.1)
+
+pub implementation_indexed : (own : Table) (tables : List Table) → ReachedIndexed (implementation_types own tables) own.reached → TablesIndexed (implementation_types own tables) tables → TypesIndexed (implementation_types own tables)
+implementation_indexed own tables p q =
+    let types : Types = implementation_types own tables in
+    record {
+      own = copies_indexed types (types_made_in own.number own.reached) (made_in_indexed types own.number own.reached p);
+      others = table_reach types own.reached (others_of tables) p (tables_indexed types tables q);
+    }

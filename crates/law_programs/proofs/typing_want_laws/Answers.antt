@@ -1,0 +1,17 @@
+use Rattle.check_scope.specs.Elaborated.{least, every}
+use Rattle.law_programs.specs.TypingWants.{placed}
+use Rattle.law_programs.proofs.Orders.{bodies_ordered}
+use Rattle.law_programs.proofs.Provided.{bodies_provided, module_typed}
+use Rattle.law_programs.proofs.typing_want_laws.Goals as goal
+
+pub returns-clause-least : goal.returns-clause-least
+returns-clause-least c = bodies_ordered least
+
+pub returns-clause-every : goal.returns-clause-every
+returns-clause-every c = bodies_ordered every
+
+pub returns-clause-provided : goal.returns-clause-provided
+returns-clause-provided c = λ z ordered bytes. bodies_provided z ordered bytes
+
+pub returns-clause-modules : goal.returns-clause-modules
+returns-clause-modules c = λ p pages place m opens typed ordered bytes. module_typed p pages place m opens typed (bodies_provided (placed p pages place m opens) ordered bytes)

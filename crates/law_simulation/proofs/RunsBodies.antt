@@ -1,0 +1,169 @@
+-- The whole run, body by body, and what follows from it for the machine.
+use Rattle.std.proofs.Common.{◌≡◌, ℕ, zero, suc, ◌+◌, ◌-◌, Bool, List, [], ◌∷◌, Option, Some, None, if◌then◌else◌, refl, sym, ap, subst, ◌∙◌, arith}
+use Rattle.wasm_tree.specs.declared.module.WModule.{WModule}
+use Rattle.wasm_tree.specs.declared.store.Value.{Value}
+use Rattle.wasm_tree.specs.declared.store.Value.TheVariants.{I32}
+use Rattle.wasm_tree.specs.Machine.{Config, Going, Over, Trapped, Progress, Typed, entered}
+use Rattle.wasm_tree.specs.Machine as machine
+use Rattle.law_effect.specs.Effect.{State as Target, store_of, Effect, FellThrough, Branched, Returned, Ended, Traps, StillRunning, Calling, back, effect, calling, nested, then_run}
+use Rattle.law_effect.specs.Laws.{Reaches, GoesOn, RunLeads, comes, shown, IsOver}
+use Rattle.law_effect.proofs.Follows.{nested_runs}
+use Rattle.law_effect.proofs.Whole.{nested_only, nested_prints}
+use Rattle.m2_layout.specs.Types.{row}
+use Rattle.m2_layout.specs.Sizes.{size}
+use Rattle.def_meaning.specs.Answer.{State as Source, Outcome, Went, Left, Came, Stopped, Unfinished}
+use Rattle.def_meaning.specs.Around.{Modules}
+use Rattle.def_meaning.specs.Runs.{storage, body_frame, bodies, first_state, then_body}
+use Rattle.def_meaning.specs.Runs as runs
+use Rattle.law_memory.specs.Bodies.{BodyAt, bodies_do, run_typed}
+use Rattle.law_memory.proofs.Bodies.{bodies_called}
+use Rattle.law_simulation.specs.Behaves.{printed}
+use Rattle.law_simulation.specs.Bodies.{Ground, IsHeld, BodyEnds, statements_do, AllDo, BodiesBehave}
+
+-- ---- the run of the bodies is that of the program
+
+-- a run ends as the program does, or still runs as it does
+abbrev RunSame : Effect → Outcome → Type 0
+RunSame r (Went s) = ⊥
+RunSame r (Left s) = ⊥
+RunSame r (Came v s) = ⊥
+RunSame r (Stopped k out) = comes 0 r ≡ Some (Over k, out)
+RunSame r (Unfinished out) = r ≡ StillRunning out
+
+module _ (p : Modules) (pages n : ℕ) (g : Ground) (calls : Calling) where
+  abbrev left : ℕ
+  left = storage p pages - body_frame
+
+  abbrev top : ℕ
+  top = size (row g.base)
+
+  abbrev From : ℕ → Modules → List BodyAt → Type 0
+  From place ms bs = (s : Source) (st : Target) → IsHeld g s st.bytes → st.out ≡ s.out → RunSame (bodies_do calls top bs st []) (bodies p n left place ms s)
+
+  next_bodies : (place : ℕ) (ms : Modules) (bs : List BodyAt) → From place ms bs → (locals : List Value) (r : Effect) (o : Outcome) → BodyEnds g locals [] r o
+      → RunSame (then_run r (bodies_do calls top bs)) (then_body o (bodies p n left place ms))
+  next_bodies place ms bs rest locals r (Went s) h =
+      subst (λ (e : Effect). RunSame (then_run e (bodies_do calls top bs)) (bodies p n left place ms s)) (sym h.run) (rest s (record { locals = locals; bytes = h.bytes; out = s.out }) h.held refl)
+  next_bodies place ms bs rest locals r (Left s) h =
+      subst (λ (e : Effect). RunSame (then_run e (bodies_do calls top bs)) (bodies p n left place ms s)) (sym h.run) (rest s (record { locals = locals; bytes = h.bytes; out = s.out }) h.held refl)
+  next_bodies place ms bs rest locals r (Came v s) h =
+      subst (λ (e : Effect). RunSame (then_run e (bodies_do calls top bs)) (bodies p n left place ms s)) (sym h.run) (rest s (record { locals = locals; bytes = h.bytes; out = s.out }) h.held refl)
+  next_bodies place ms bs rest locals r (Stopped k out) h = ap (λ (e : Effect). comes 0 (then_run e (bodies_do calls top bs))) h
+  next_bodies place ms bs rest locals r (Unfinished out) h = ap (λ (e : Effect). then_run e (bodies_do calls top bs)) h
+
+  bodies_same : (place : ℕ) (ms : Modules) (bs : List BodyAt) → AllDo g calls (statements_do p pages n) place ms bs → From place ms bs
+  bodies_same place [] [] all s st held out = ap (λ (o : List ℕ). Some (Over 0, o)) out
+  bodies_same place [] (b ∷ bs) all s st held out = absurd all
+  bodies_same place (m ∷ ms) [] all s st held out = absurd all
+  bodies_same place (m ∷ ms) (b ∷ bs) all s st held out =
+      next_bodies (suc place) ms bs (bodies_same (suc place) ms bs all.1) st.locals (back 0 st.locals [] (calls b.own b.function b.typed (I32 top ∷ []) st.bytes st.out)) (statements_do p pages n place m s)
+      (subst (λ (o : List ℕ). BodyEnds g st.locals [] (back 0 st.locals [] (calls b.own b.function b.typed (I32 top ∷ []) st.bytes o)) (statements_do p pages n place m s)) (sym out) (all.0 s st.bytes held st.locals []))
+
+-- ---- what follows
+
+-- a run that comes to an end reaches it
+module _ (modules : List WModule) (least : ℕ) (c : Config) (k : ℕ) (out : List ℕ) where
+  abbrev Comes : Type 0
+  Comes = (m : ℕ) × (machine.run modules m c ≡ (Over k, out))
+
+  abbrev first_of : Option Progress → Progress
+  first_of None = (Trapped, [])
+  first_of (Some x) = x
+
+  arrives : (d : Config) (last : List ℕ) → Reaches modules c [] d last → ◌≡◌ {A = Option Progress} (Some (d, last)) (Some (Over k, out)) → Comes
+  arrives d last r e = (r.count, r.path ∙ ap first_of e)
+
+  comes_there : (e : Effect) → RunLeads modules least 0 c e → comes 0 e ≡ Some (Over k, out) → Comes
+  comes_there (FellThrough st stack) r e = arrives _ st.out r e
+  comes_there (Branched zero st stack) r e = arrives _ st.out r e
+  comes_there (Branched (suc l) st stack) r e = arrives Trapped st.out r e
+  comes_there (Returned st stack) r e = arrives _ st.out r e
+  comes_there (Ended j last) r e = arrives (Over j) last r e
+  comes_there (Traps last) r e = arrives Trapped last r e
+  comes_there (StillRunning last) r e = absurd (cc e)
+
+abbrev second_of : Option Progress → List ℕ
+second_of None = []
+second_of (Some x) = x.1
+
+shown_is : (e : Effect) (k : ℕ) (out : List ℕ) → comes 0 e ≡ Some (Over k, out) → shown e ≡ out
+shown_is (FellThrough st stack) k out h = ap second_of h
+shown_is (Branched zero st stack) k out h = ap second_of h
+shown_is (Branched (suc l) st stack) k out h = ap second_of h
+shown_is (Returned st stack) k out h = ap second_of h
+shown_is (Ended j last) k out h = ap second_of h
+shown_is (Traps last) k out h = ap second_of h
+shown_is (StillRunning last) k out h = absurd (cc h)
+
+same_shown : (e : Effect) (o : Outcome) → RunSame e o → shown e ≡ printed o
+same_shown e (Went s) h = absurd h
+same_shown e (Left s) h = absurd h
+same_shown e (Came v s) h = absurd h
+same_shown e (Stopped k out) h = shown_is e k out h
+same_shown e (Unfinished out) h = ap shown h
+
+running_comes : (e : Effect) (out : List ℕ) (x : Progress) → e ≡ StillRunning out → comes 0 e ≡ Some x → ⊥
+running_comes e out x is h = none_some (sym (ap (comes 0) is) ∙ h)
+  where
+    none_some : ◌≡◌ {A = Option Progress} None (Some x) → ⊥
+    none_some h = cc h
+
+-- where the machine is over, so is the program
+ended_is : (e : Effect) (o : Outcome) → RunSame e o → (d : Config) (out : List ℕ) → comes 0 e ≡ Some (d, out) → (k : ℕ) × (d ≡ Over k) × (o ≡ Stopped k out)
+ended_is e (Went s) h d out is = absurd h
+ended_is e (Left s) h d out is = absurd h
+ended_is e (Came v s) h d out is = absurd h
+ended_is e (Stopped k last) h d out is =
+    let same : ◌≡◌ {A = Option Progress} (Some (d, out)) (Some (Over k, last)) = sym is ∙ h in
+    (k, ap (λ (x : Option Progress). (of x).0) same, ap (Stopped k) (sym (ap (λ (x : Option Progress). (of x).1) same)))
+  where
+    of : Option Progress → Progress
+    of None = (Trapped, [])
+    of (Some x) = x
+ended_is e (Unfinished last) h d out is = absurd (running_comes e last (d, out) h is)
+
+unfinished_is : (e : Effect) (o : Outcome) (out : List ℕ) → RunSame e o → o ≡ Unfinished out → e ≡ StillRunning out
+unfinished_is e o out h is = subst (RunSame e) is h
+
+stopped_is : (e : Effect) (o : Outcome) (k : ℕ) (out : List ℕ) → RunSame e o → o ≡ Stopped k out → comes 0 e ≡ Some (Over k, out)
+stopped_is e o k out h is = subst (RunSame e) is h
+
+-- what a run leads to does not depend on how its effect is written
+goes_still : (modules : List WModule) (least : ℕ) (c : Config) (e : Effect) (out : List ℕ) → RunLeads modules least 0 c e → e ≡ StillRunning out → GoesOn modules least c [] out
+goes_still modules least c e out r is = subst (RunLeads modules least 0 c) is r
+
+pub bodies_behave : BodiesBehave
+unfolding runs.run nested
+bodies_behave p pages g modules fx serves extra m f index type bs none there all bytes held = record {
+  ends = λ n k out is. comes_there modules n c k out (does n) (leads n) (stopped_is (does n) (runs.run p pages n) k out (same n) is);
+  goes_on = λ still j over. let s = still j in running_comes (does j) s.0 _ (unfinished_is (does j) (runs.run p pages j) s.0 (same j) s.1) (only j (machine.run modules j c).0 (machine.run modules j c).1 over refl);
+  only = λ j d out over is. let e = ended_is (does j) (runs.run p pages j) (same j) d out (only j d out over is) in (j, e.0, e.1, e.2);
+  prints = λ j. let b = nested_prints modules fx serves extra (suc j) m f none t bytes j (omega arith) in (j, b.0, sym (same_shown (does j) (runs.run p pages j) (same j)) ∙ b.1);
+  prints_also = λ n out is. let w = goes_still modules n c (does n) out (leads n) (unfinished_is (does n) (runs.run p pages n) out (same n) is) in (w.count, w.enough, ap (λ (x : Progress). x.1) w.path);
+}
+  where
+    t : Typed
+    t = run_typed index (size (row g.base)) type bs
+
+    c : Config
+    c = Going (store_of fx bytes) (entered m t []) []
+
+    does : ℕ → Effect
+    does n = nested modules fx serves extra n (suc (suc n)) m f t [] bytes []
+
+    begin : Target
+    begin = record { locals = []; bytes = bytes; out = [] }
+
+    does_is : (n : ℕ) → does n ≡ bodies_do (nested modules fx serves extra n (suc n)) (size (row g.base)) bs begin []
+    does_is n =
+        ap (λ (b : Bool). if b then calling modules fx extra n (suc (suc n)) m f t [] bytes [] else effect modules fx (n + extra m f) (nested modules fx serves extra n (suc n)) m t.function.body.code begin []) none
+        ∙ bodies_called modules fx (n + extra m f) (nested modules fx serves extra n (suc n)) m (size (row g.base)) type bs there begin []
+
+    same : (n : ℕ) → RunSame (does n) (runs.run p pages n)
+    same n = subst (λ (e : Effect). RunSame e (runs.run p pages n)) (sym (does_is n)) (bodies_same p pages n g (nested modules fx serves extra n (suc n)) 0 p bs (all n) (first_state p) begin held refl)
+
+    leads : (n : ℕ) → RunLeads modules n 0 c (does n)
+    leads n = nested_runs modules fx serves extra n (suc n) m f (omega arith) none t bytes
+
+    only : (j : ℕ) (d : Config) (out : List ℕ) → IsOver d → machine.run modules j c ≡ (d, out) → comes 0 (does j) ≡ Some (d, out)
+    only j d out over is = nested_only modules fx serves extra (suc j) m f none t bytes j (omega arith) d out over is

@@ -1,0 +1,266 @@
+-- The bodies of procedures keep what a scope knows of types.
+use Rattle.std.proofs.Common.{◌≡◌, ℕ, ◌+◌, Bool, true, false, ◌&&◌, List, [], ◌∷◌, ◌++◌, length, Option, Some, None, Result, refl, sym, ap, subst, ◌∙◌}
+use Rattle.std.specs.Prelude.{map, slice_get}
+use Rattle.std.specs.List.{AllByRecursion, fold, list_all}
+use Rattle.std.specs.Option.{unwrap_or}
+use Rattle.m2_tree.specs.declared.stmt.Stmt.{Stmt}
+use Rattle.m2_tree.specs.declared.decl.Heading.{Heading}
+use Rattle.m2_tree.specs.declared.decl.Module.{Module}
+use Rattle.m2_tree.specs.declared.decl.Contents.{Contents}
+use Rattle.m2_tree.specs.declared.decl.Contents.TheVariants as contents
+use Rattle.m2_tree.specs.declared.decl.Decl.{Decl, Decl-F, out-Decl, roll-Decl, out-roll-Decl, map-Decl, fold_out-Decl, ind-Decl}
+use Rattle.m2_tree.specs.declared.decl.Decl.TheOpen as layer
+use Rattle.m2_tree.specs.declared.decl.Block.{Block, Block-F, out-Block, roll-Block, out-roll-Block, map-Block, fold_out-Block}
+use Rattle.typed_tree.specs.declared.shape.Made.{Made}
+use Rattle.typed_tree.specs.declared.table.Table.{Table}
+use Rattle.typed_tree.specs.declared.known_types.Types.{Types}
+use Rattle.typed_tree.specs.declared.typed_module.TypedModule.{TypedModule}
+use Rattle.typed_tree.specs.declared.typed_module.Which.{Which}
+use Rattle.typed_tree.specs.declared.types.TypeNo.{TypeNo}
+use Rattle.check_scope.specs.Elaborated.{Gathers}
+use Rattle.check_scope.specs.Scopes.{State}
+use Rattle.check_scope.specs.declared.scope.Scope.{Scope}
+use Rattle.m2_types.specs.Predeclared.{console, first_scope}
+use Rattle.m2_types.specs.Importing.{numbered_modules}
+use Rattle.check_block.specs.Nesting.{procedure_ends}
+use Rattle.check_block.specs.Naming.{marked_layer, marked_decl, with_marks}
+use Rattle.check_block.specs.Declarations.{Course, Declared, decl_layer, with_decl, all_declared, declared_block, declared_module}
+use Rattle.m2_check.specs.Own.{implementation_scope}
+use Rattle.m2_check.specs.declared.procedure.Walk.{Walk}
+use Rattle.m2_check.specs.Elaborating.{Elaborates}
+use Rattle.m2_check.specs.Inside.{which_of, begun_procedure, reported_in}
+use Rattle.m2_check.specs.Bodies.{ChecksBlock, Steps, marked_by, declared_by, checked_by, with_body, begun_from, procedure_checked, steps_layer, block_layer, steps, checks_block, checks_decl}
+use Rattle.m2_check.specs.Checked.{walked, of_body, of_implementation, of_contents, checked}
+use Rattle.law_well_formed.specs.Formed.{Holds, fine, broken}
+use Rattle.law_well_formed.proofs.Basics.{then_holds, holds_weaker, both_holds, any_holds, reported_holds}
+use Rattle.law_modules.specs.Ranges.{AreRanged}
+use Rattle.law_well_formed.specs.FormedRanges.{itself, fits_decl, fits_decl_layer, ScopeRanged, first_types}
+use Rattle.law_well_formed.proofs.RangesTypes.{both_left, both_right}
+use Rattle.law_well_formed.proofs.RangesMade.{beside_then, const_holds}
+use Rattle.law_well_formed.proofs.RangesBlocks.{block_ranged, module_ranged, entered_ranged, left_ranged}
+use Rattle.law_well_formed.specs.Ordered.{AreOrdered}
+use Rattle.law_well_formed.specs.FormedOrder.{ScopeOrdered}
+use Rattle.law_well_formed.proofs.OrderBlocks.{block_ordered, module_ordered, entered_ordered, left_ordered}
+use Rattle.law_well_formed.specs.FormedKnown.{fits_within_layer, fits_block_layer, fits_within, fits_block, fits_contents, TableFormed, TablesFormed, OwnFormed}
+use Rattle.law_well_formed.proofs.Gathered.{each_more}
+use Rattle.law_well_formed.proofs.KnownBegins.{ScopeFormed, console_formed, first_formed, begun_types, implementation_formed}
+
+and_both : (a b : Bool) → a ≡ true → b ≡ true → (a && b) ≡ true
+and_both true b h k = k
+and_both false b h k = absurd cc
+
+then_two : {A T : Type 0} {base : Types} {s : Scope T} {r : Result A T} → Holds (λ x. ScopeRanged s) r → Holds (λ x. ScopeOrdered base s) r → Holds (λ x. ScopeFormed base s) r
+then_two (fine x a) (fine _ b) = fine x (record { ranged = a; ordered = b })
+then_two (broken e) b = broken e
+
+module _ (g : Gathers) (elaborates : Elaborates g.Reported) (ends : List ℕ) (base : Types) where
+  -- the scope of a walk, where no rule is broken
+  abbrev WalkFormed : Walk g.Reported → Type 0
+  WalkFormed w = Holds (λ x. ScopeFormed base w.scope) w.so_far
+
+  abbrev CheckFormed : (ℕ → Walk g.Reported → Walk g.Reported) → Type 0
+  CheckFormed f = (seen : ℕ) (w : Walk g.Reported) → WalkFormed w → WalkFormed (f seen w)
+
+  abbrev StepFormed : Steps g.Reported → Type 0
+  StepFormed x = (around : Option Which) → CheckFormed (checked_by x around)
+
+  abbrev BlockFormed : ChecksBlock g.Reported → Type 0
+  BlockFormed block = (around : Option Which) (returns : Option (Result TypeNo g.Reported)) (w : Walk g.Reported) → WalkFormed w → WalkFormed (block around returns w).0
+
+  -- ---- procedures
+
+  procedure_formed : (h : Heading) (block : ChecksBlock g.Reported) → BlockFormed block → (around : Option Which) → CheckFormed (procedure_checked g elaborates ends h block around)
+  procedure_formed h block f around seen w p =
+      let b = begun_procedure g w seen h in
+      let e = block (which_of b.1.procedure) b.1.returns b.0 in
+      beside_then g (reported_in e.1) (f (which_of b.1.procedure) b.1.returns b.0 (holds_weaker (λ x k. record { ranged = entered_ranged g w.scope seen h k.ranged; ordered = entered_ordered base g w.scope seen h k.ordered }) p)) (λ k.
+      const_holds (record { ranged = left_ranged b.1.outside e.0.scope k.ranged; ordered = left_ordered base b.1.outside e.0.scope k.ordered }) (reported_in e.1))
+
+  bodies_formed : {X : Type 0} (checks : X → ℕ → Walk g.Reported → Walk g.Reported) (seen : List ℕ) (xs : List X) → AllByRecursion (λ x. CheckFormed (checks x)) xs → (st : Walk g.Reported × ℕ) → WalkFormed st.0 → WalkFormed (fold (with_body checks seen) st xs).0
+  bodies_formed checks seen [] h st p = p
+  bodies_formed checks seen (x ∷ xs) h st p = bodies_formed checks seen xs h.1 (with_body checks seen st x) (h.0 (unwrap_or (slice_get seen st.1) 0) st.0 p)
+
+  -- ---- steps as declarations
+
+  abbrev steps_of : Decl → Steps g.Reported
+  steps_of = steps g elaborates ends
+
+  abbrev block_of : Block → ChecksBlock g.Reported
+  block_of = checks_block g elaborates ends
+
+  abbrev opened : Decl-F Decl Block → Decl-F (Steps g.Reported) (ChecksBlock g.Reported)
+  opened x = map-Decl Decl Block (Steps g.Reported) (ChecksBlock g.Reported) steps_of block_of x
+
+  abbrev opened_block : Block-F Decl Block → Block-F (Steps g.Reported) (ChecksBlock g.Reported)
+  opened_block x = map-Block Decl Block (Steps g.Reported) (ChecksBlock g.Reported) steps_of block_of x
+
+  at : (e : Decl) (x : Decl-F Decl Block) → out-Decl e ≡ x → steps_of e ≡ steps_layer g elaborates ends (opened x)
+  unfolding steps checks_block
+  at e x h = fold_out-Decl (Steps g.Reported) (ChecksBlock g.Reported) (steps_layer g elaborates ends) (block_layer g elaborates ends) e ∙ ap (λ (y : Decl-F Decl Block). steps_layer g elaborates ends (opened y)) h
+
+  at_block : (e : Block) (x : Block-F Decl Block) → out-Block e ≡ x → block_of e ≡ block_layer g elaborates ends (opened_block x)
+  unfolding steps checks_block
+  at_block e x h = fold_out-Block (Steps g.Reported) (ChecksBlock g.Reported) (steps_layer g elaborates ends) (block_layer g elaborates ends) e ∙ ap (λ (y : Block-F Decl Block). block_layer g elaborates ends (opened_block y)) h
+
+  layer_marks : (s : Scope g.Reported) (x : Decl-F Decl Block) → marked_layer s (opened x) ≡ marked_layer s x
+  layer_marks s (layer.Constants cs) = refl
+  layer_marks s (layer.Types ts) = refl
+  layer_marks s (layer.Variables vs) = refl
+  layer_marks s (layer.Procedure h b) = refl
+
+  layer_declares : (c : Course g.Reported) (x : Decl-F Decl Block) → decl_layer g ends c (opened x) ≡ decl_layer g ends c x
+  layer_declares c (layer.Constants cs) = refl
+  layer_declares c (layer.Types ts) = refl
+  layer_declares c (layer.Variables vs) = refl
+  layer_declares c (layer.Procedure h b) = refl
+
+  step_marks : (s : Scope g.Reported) (d : Decl) → marked_by s (steps_of d) ≡ marked_decl s d
+  step_marks s d = ap (λ (x : Steps g.Reported). x.marks s) (at d (out-Decl d) refl) ∙ layer_marks s (out-Decl d)
+
+  step_declares : (c : Course g.Reported) (d : Decl) → declared_by c (steps_of d) ≡ with_decl g ends c d
+  step_declares c d = ap (λ (x : Steps g.Reported). x.declares c) (at d (out-Decl d) refl) ∙ layer_declares c (out-Decl d)
+
+  all_marks : (ds : List Decl) (st : Scope g.Reported × List ℕ) → fold (with_marks marked_by) st (map steps_of ds) ≡ fold (with_marks marked_decl) st ds
+  all_marks [] st = refl
+  all_marks (d ∷ ds) st =
+      ap (λ (s : Scope g.Reported). fold (with_marks marked_by) (s, st.1 ++ length st.0.own ∷ []) (map steps_of ds)) (step_marks st.0 d) ∙ all_marks ds (with_marks marked_decl st d)
+
+  all_declares : (ds : List Decl) (c : Course g.Reported) → fold declared_by c (map steps_of ds) ≡ fold (with_decl g ends) c ds
+  all_declares [] c = refl
+  all_declares (d ∷ ds) c = ap (λ (k : Course g.Reported). fold declared_by k (map steps_of ds)) (step_declares c d) ∙ all_declares ds (with_decl g ends c d)
+
+  abbrev behind : Result (Unit {0}) g.Reported → ℕ → List (Steps g.Reported) → Scope g.Reported × List ℕ → Declared g.Reported
+  behind so first xs m = let c = fold declared_by (m.0, so, first) xs in (c.0, c.1, m.1)
+
+  declared_same : (ds : List Decl) (st : State (Unit {0}) g.Reported) (first : ℕ) → all_declared marked_by declared_by st first (map steps_of ds) ≡ declared_block g ends st first ds
+  declared_same ds st first =
+      let m : Scope g.Reported × List ℕ = fold (with_marks marked_decl) (st.0, []) ds in
+      ap (behind st.1 first (map steps_of ds)) (all_marks ds (st.0, [])) ∙ ap (λ (c : Course g.Reported). (c.0, c.1, m.1)) (all_declares ds (m.0, st.1, first))
+
+  -- ---- trees
+
+  abbrev elaborated : Decl-F Decl Block → Decl-F Bool Bool
+  elaborated x = map-Decl Decl Block Bool Bool fits_within fits_block x
+
+  abbrev elaborated_block : Block-F Decl Block → Block-F Bool Bool
+  elaborated_block x = map-Block Decl Block Bool Bool fits_within fits_block x
+
+  fits_at : (e : Decl) (x : Decl-F Decl Block) → out-Decl e ≡ x → fits_within e ≡ fits_within_layer (elaborated x)
+  unfolding fits_within fits_block
+  fits_at e x h = fold_out-Decl Bool Bool fits_within_layer fits_block_layer e ∙ ap (λ (y : Decl-F Decl Block). fits_within_layer (elaborated y)) h
+
+  fits_at_block : (e : Block) (x : Block-F Decl Block) → out-Block e ≡ x → fits_block e ≡ fits_block_layer (elaborated_block x)
+  unfolding fits_within fits_block
+  fits_at_block e x h = fold_out-Block Bool Bool fits_within_layer fits_block_layer e ∙ ap (λ (y : Block-F Decl Block). fits_block_layer (elaborated_block y)) h
+
+  layer_fits : (x : Decl-F Decl Block) → fits_within_layer (elaborated x) ≡ true → fits_decl_layer x ≡ true
+  layer_fits (layer.Constants cs) e = e
+  layer_fits (layer.Types ts) e = e
+  layer_fits (layer.Variables vs) e = e
+  layer_fits (layer.Procedure h b) e = refl
+
+  decl_fits : (d : Decl) → fits_within d ≡ true → fits_decl d ≡ true
+  decl_fits d e = layer_fits (out-Decl d) (sym (fits_at d (out-Decl d) refl) ∙ e)
+
+  decls_fit : (ds : List Decl) → list_all itself (map fits_within ds) ≡ true → list_all fits_decl ds ≡ true
+  decls_fit [] e = refl
+  decls_fit (d ∷ ds) e =
+      and_both (fits_decl d) (list_all fits_decl ds) (decl_fits d (both_left (fits_within d) (list_all itself (map fits_within ds)) e)) (decls_fit ds (both_right (fits_within d) (list_all itself (map fits_within ds)) e))
+
+  -- ---- blocks, by induction
+
+  abbrev PD : Decl → Type 0
+  PD d = fits_within d ≡ true → StepFormed (steps_of d)
+
+  abbrev PB : Block → Type 0
+  PB b = fits_block b ≡ true → BlockFormed (block_of b)
+
+  abbrev SD : Type 0
+  SD = (d : Decl) × PD d
+
+  abbrev SB : Type 0
+  SB = (b : Block) × PB b
+
+  abbrev bare : Decl-F SD SB → Decl-F Decl Block
+  bare x = map-Decl SD SB Decl Block (λ e. e.0) (λ e. e.0) x
+
+  abbrev bare_block : Block-F SD SB → Block-F Decl Block
+  bare_block x = map-Block SD SB Decl Block (λ e. e.0) (λ e. e.0) x
+
+  abbrev decls_of : List SD → List Decl
+  decls_of xs = map (λ (x : SD). x.0) xs
+
+  declared_formed : (ds : List Decl) → list_all itself (map fits_within ds) ≡ true → (st : State (Unit {0}) g.Reported) (first : ℕ) → Holds (λ x. ScopeFormed base st.0) st.1
+      → Holds (λ x. ScopeFormed base (declared_block g ends st first ds).0) (declared_block g ends st first ds).1
+  declared_formed ds e st first p =
+      then_two (block_ranged g ends st first ds (decls_fit ds e) (holds_weaker (λ x k. k.ranged) p)) (block_ordered base g ends st first ds (holds_weaker (λ x k. k.ordered) p))
+
+  all_steps : (xs : List SD) → list_all itself (map fits_within (decls_of xs)) ≡ true → (around : Option Which) → AllByRecursion (λ x. CheckFormed (checked_by x around)) (map steps_of (decls_of xs))
+  all_steps [] e around = tt
+  all_steps (x ∷ xs) e around =
+      (x.1 (both_left (fits_within x.0) (list_all itself (map fits_within (decls_of xs))) e) around, all_steps xs (both_right (fits_within x.0) (list_all itself (map fits_within (decls_of xs))) e) around)
+
+  block_formed : (xs : List SD) (body : Option (List Stmt)) → list_all itself (map fits_within (decls_of xs)) ≡ true → BlockFormed (block_layer g elaborates ends (record { decls = map steps_of (decls_of xs); body = body }))
+  block_formed xs body e around returns w p =
+      let first : ℕ = length w.bodies.locals in
+      let is : all_declared marked_by declared_by (w.scope, w.so_far) first (map steps_of (decls_of xs)) ≡ declared_block g ends (w.scope, w.so_far) first (decls_of xs) = declared_same (decls_of xs) (w.scope, w.so_far) first in
+      let start : WalkFormed (begun_from (all_declared marked_by declared_by (w.scope, w.so_far) first (map steps_of (decls_of xs))) w.bodies)
+      = subst (λ (d : Declared g.Reported). WalkFormed (begun_from d w.bodies)) (sym is) (declared_formed (decls_of xs) e (w.scope, w.so_far) first p) in
+      bodies_formed (λ (x : Steps g.Reported). checked_by x around) (all_declared marked_by declared_by (w.scope, w.so_far) first (map steps_of (decls_of xs))).2 (map steps_of (decls_of xs)) (all_steps xs e around)
+      (begun_from (all_declared marked_by declared_by (w.scope, w.so_far) first (map steps_of (decls_of xs))) w.bodies, 0) start
+
+  step_at : (y : Decl-F SD SB) → fits_within_layer (elaborated (bare y)) ≡ true → StepFormed (steps_layer g elaborates ends (opened (bare y)))
+  step_at (layer.Constants cs) e = λ around seen w p. p
+  step_at (layer.Types ts) e = λ around seen w p. p
+  step_at (layer.Variables vs) e = λ around seen w p. p
+  step_at (layer.Procedure h b) e = λ around seen w p. procedure_formed h (block_of b.0) (b.1 e) around seen w p
+
+  step_decl : (x : Decl-F Decl Block) (y : Decl-F SD SB) → bare y ≡ x → PD (roll-Decl x)
+  step_decl x y q =
+      let is : out-Decl (roll-Decl x) ≡ bare y = out-roll-Decl x ∙ sym q in λ e.
+      subst StepFormed (sym (at (roll-Decl x) (bare y) is)) (step_at y (sym (fits_at (roll-Decl x) (bare y) is) ∙ e))
+
+  step_block : (x : Block-F Decl Block) (y : Block-F SD SB) → bare_block y ≡ x → PB (roll-Block x)
+  step_block x y q =
+      let is : out-Block (roll-Block x) ≡ bare_block y = out-roll-Block x ∙ sym q in λ e.
+      subst BlockFormed (sym (at_block (roll-Block x) (bare_block y) is)) (block_formed y.decls y.body (sym (fits_at_block (roll-Block x) (bare_block y) is) ∙ e))
+
+  decl_formed : (d : Decl) → PD d
+  decl_formed = ind-Decl PD PB step_decl step_block
+
+  -- ---- modules
+
+  all_decls : (ds : List Decl) → list_all itself (map fits_within ds) ≡ true → (around : Option Which) → AllByRecursion (λ d. CheckFormed (checks_decl g elaborates ends d around)) ds
+  all_decls [] e around = tt
+  all_decls (d ∷ ds) e around =
+      (decl_formed d (both_left (fits_within d) (list_all itself (map fits_within ds)) e) around, all_decls ds (both_right (fits_within d) (list_all itself (map fits_within ds)) e) around)
+
+  pub walked_formed : (modules : List (List ℕ × ℕ)) (s : Scope g.Reported) (m : Module) (b : Block) → fits_block b ≡ true → ScopeFormed base s → WalkFormed (walked g elaborates modules ends s m b).0
+  walked_formed modules s m b e h =
+      let ds : List Decl = (out-Block b).decls in
+      let fit : list_all itself (map fits_within ds) ≡ true = sym (fits_at_block b (out-Block b) refl) ∙ e in
+      let d : Declared g.Reported = declared_module g modules ends s m ds in
+      bodies_formed (λ (x : Decl). checks_decl g elaborates ends x None) d.2 ds (all_decls ds fit None) (_, 0) (then_two (module_ranged g modules ends s m ds (decls_fit ds fit) h.ranged) (module_ordered base g modules ends s m ds h.ordered))
+
+module _ (g : Gathers) (elaborates : Elaborates g.Reported) where
+  abbrev TypesFormed : TypedModule → Type 0
+  TypesFormed t = AreRanged t.types × AreOrdered t.types
+
+  body_formed : (base : Types) (s : Scope g.Reported) (own : Option Table) (m : Module) (b : Block) → fits_block b ≡ true → ScopeFormed base s → Holds TypesFormed (of_body g elaborates s own m b)
+  body_formed base s own m b e h =
+      let ends : List ℕ = procedure_ends (out-Block b).decls in
+      let w = walked g elaborates (numbered_modules s.tables).0 ends s m b in
+      then_holds (both_holds g (walked_formed g elaborates ends base (numbered_modules s.tables).0 s m b e h) (any_holds w.1)) (λ x k. fine _ (k.0.ranged.types, k.0.ordered.types))
+
+  module _ (types_of : ℕ → List Made) (number : ℕ) (m : Module) where
+    own_formed : (own : Option Table) (ts : List Table) (b : Block) → fits_block b ≡ true → OwnFormed types_of number own → TablesFormed types_of number ts → Holds TypesFormed (of_implementation g elaborates m own ts b)
+    own_formed None ts b e o p = reported_holds g m.name.pos 24
+    own_formed (Some t) ts b e o p = body_formed (begun_types types_of number t ts o.0 o.1 p) (implementation_scope t ts) (Some t) m b e (implementation_formed types_of number t ts o.0 o.1 p)
+
+    contents_formed : (own : Option Table) (ts : List Table) (c : Contents) → fits_contents c ≡ true → OwnFormed types_of number own → TablesFormed types_of number ts → Holds TypesFormed (of_contents g elaborates number m own ts c)
+    contents_formed own ts (contents.Definition ds) e o p = reported_holds g m.name.pos 24
+    contents_formed own ts (contents.Implementation b) e o p = own_formed own ts b e o p
+    contents_formed own ts (contents.Program b) e o p = body_formed (first_types number ts) (first_scope number ts) None m b e (first_formed types_of number ts p)
+
+    pub checked_formed : (own : Option Table) (ts : List Table) → fits_contents m.contents ≡ true → OwnFormed types_of number own → TablesFormed types_of number ts → Holds TypesFormed (checked g elaborates number m own ts)
+    checked_formed own ts e o p = contents_formed own (ts ++ console ∷ []) m.contents e o (each_more (TableFormed types_of number) ts console p (console_formed types_of number))

@@ -1,0 +1,306 @@
+-- Marks, imports, whole blocks, and the way into procedures and back keep types in order.
+use Rattle.std.proofs.Common.{◌≡◌, ℕ, zero, suc, Bool, true, false, cond, List, [], ◌∷◌, ◌++◌, length, Option, Some, None, Result, Ok, Err, refl, sym, ap, subst, ◌∙◌}
+use Rattle.std.specs.Prelude.{map, take, drop, slice_get}
+use Rattle.std.specs.List.{fold}
+use Rattle.std.specs.Option.{is_some}
+use Rattle.m2_tree.specs.declared.pos.Pos.{Pos}
+use Rattle.m2_tree.specs.declared.name.Ident.{Ident}
+use Rattle.m2_tree.specs.declared.decl.Constant.{Constant}
+use Rattle.m2_tree.specs.declared.decl.TypeDecl.{TypeDecl}
+use Rattle.m2_tree.specs.declared.decl.Variables.{Variables}
+use Rattle.m2_tree.specs.declared.decl.Section.{Section}
+use Rattle.m2_tree.specs.declared.decl.Heading.{Heading}
+use Rattle.m2_tree.specs.declared.decl.Import.{Import}
+use Rattle.m2_tree.specs.declared.decl.Module.{Module}
+use Rattle.m2_tree.specs.declared.decl.Def.{Def}
+use Rattle.m2_tree.specs.declared.decl.Def.TheVariants as def
+use Rattle.m2_tree.specs.declared.decl.Decl.{Decl, Decl-F, out-Decl}
+use Rattle.m2_tree.specs.declared.decl.Decl.TheOpen as dlayer
+use Rattle.m2_tree.specs.declared.decl.Simple.{Simple}
+use Rattle.m2_tree.specs.declared.decl.Simple.TheVariants as simple
+use Rattle.m2_tree.specs.declared.decl.TypeExpr.{TypeExpr, TypeExpr-F, out-TypeExpr, roll-TypeExpr, out-roll-TypeExpr, map-TypeExpr, fold_out-TypeExpr, ind-TypeExpr}
+use Rattle.m2_tree.specs.declared.decl.TypeExpr.TheOpen as layer
+use Rattle.m2_tree.specs.declared.decl.Field.{Field, Field-F, out-Field, roll-Field, out-roll-Field, map-Field, fold_out-Field}
+use Rattle.typed_tree.specs.declared.shape.Formal.{Formal}
+use Rattle.typed_tree.specs.declared.meaning.Meaning.{Meaning}
+use Rattle.typed_tree.specs.declared.meaning.Meaning.TheVariants as meaning
+use Rattle.typed_tree.specs.declared.table.Table.{Table}
+use Rattle.typed_tree.specs.declared.known_types.Types.{Types}
+use Rattle.law_well_formed.specs.Ordered.{is_known}
+use Rattle.typed_tree.specs.Names.{found, entered, place_of}
+use Rattle.check_scope.specs.Elaborated.{Gathers, reported}
+use Rattle.check_scope.specs.Scopes.{State, is_free, with_known, is_again, imported}
+use Rattle.check_scope.specs.declared.known.Known.{Known}
+use Rattle.check_scope.specs.declared.known.Known.TheVariants.{Later, Ahead, Declared}
+use Rattle.check_scope.specs.declared.known.Origin.{Origin}
+use Rattle.check_scope.specs.declared.known.Origin.TheVariants.{Here, Export}
+use Rattle.check_scope.specs.declared.known.Origin.TheVariants as origin
+use Rattle.check_scope.specs.declared.scope.Block.{Block}
+use Rattle.check_scope.specs.declared.scope.Scope.{Scope}
+use Rattle.check_type_expr.specs.Headings.{formal_of}
+use Rattle.m2_types.specs.Marking.{Marks, marked_later, marked_simple, then_marks, marked_in, marked_field, marked_constant, marked_type, marked_variables, marked_def}
+use Rattle.m2_types.specs.Marking as marking
+use Rattle.m2_types.specs.Importing.{module_named, with_module_as, with_module_name, with_entry, brings_in, reported_of_taken, unless_taken, from_place, with_from, exports_of, from_module, with_imports, with_import}
+use Rattle.m2_types.specs.Declare.{with_def}
+use Rattle.m2_types.specs.Compiled.{declared_in}
+use Rattle.check_block.specs.Naming.{marked_layer, marked_decl, with_marks, all_marked}
+use Rattle.check_block.specs.Declarations.{Course, with_decl, declared_block, declared_module}
+use Rattle.check_block.specs.declared.inner.Outside.{Outside}
+use Rattle.check_block.specs.Inner.{inwards, formal_meaning, Formals, with_formal, with_section, entered_procedure, split_last, popped, left_procedure}
+use Rattle.law_well_formed.specs.Formed.{Holds, fine, broken}
+use Rattle.law_well_formed.proofs.Basics.{then_holds, holds_weaker}
+use Rattle.law_well_formed.proofs.RangesMade.{beside_then, const_holds}
+use Rattle.law_well_formed.specs.FormedOrder.{MeaningOrdered, KnownOrdered, NamesOrdered, BlocksOrdered, ExportsOrdered, TablesOrdered, ScopeOrdered, StateOrdered}
+use Rattle.law_well_formed.proofs.Named.{names_more, known_ordered, marked_ordered}
+use Rattle.law_well_formed.proofs.OrderMade.{formal_ordered}
+use Rattle.law_well_formed.proofs.OrderDeclarations.{def_ordered, decl_ordered}
+
+module _ (base : Types) where
+  -- ---- marks
+
+  later_all : {T : Type 0} (names : List Ident) (s : Scope T) → ScopeOrdered base s → ScopeOrdered base (fold marked_later s names)
+  later_all [] s h = h
+  later_all (x ∷ xs) s h = later_all xs (marked_later s x) (marked_ordered base s x Later h tt)
+
+  simple_marks : {T : Type 0} (t : Simple) (s : Scope T) → ScopeOrdered base s → ScopeOrdered base (marked_simple t s)
+  simple_marks (simple.Named q) s h = h
+  simple_marks (simple.Enumeration at names) s h = later_all names s h
+  simple_marks (simple.Subrange o at low high) s h = h
+
+  module _ (T : Type 0) where
+    abbrev OrderedMarks : Marks T → Type 0
+    OrderedMarks f = (s : Scope T) → ScopeOrdered base s → ScopeOrdered base (f s)
+
+    abbrev PM : TypeExpr → Type 0
+    PM t = OrderedMarks (marked_in {T = T} t)
+
+    abbrev PMF : Field → Type 0
+    PMF t = OrderedMarks (marked_field {T = T} t)
+
+    abbrev SM : Type 0
+    SM = (t : TypeExpr) × PM t
+
+    abbrev SMF : Type 0
+    SMF = (t : Field) × PMF t
+
+    abbrev marks_opened : TypeExpr-F TypeExpr Field → TypeExpr-F (Marks T) (Marks T)
+    marks_opened x = map-TypeExpr TypeExpr Field (Marks T) (Marks T) marked_in marked_field x
+
+    abbrev marks_opened_field : Field-F TypeExpr Field → Field-F (Marks T) (Marks T)
+    marks_opened_field x = map-Field TypeExpr Field (Marks T) (Marks T) marked_in marked_field x
+
+    marks_at : (t : TypeExpr) (x : TypeExpr-F TypeExpr Field) → out-TypeExpr t ≡ x → marked_in {T = T} t ≡ marking.type_layer (marks_opened x)
+    unfolding marked_in marked_field
+    marks_at t x h = fold_out-TypeExpr (Marks T) (Marks T) marking.type_layer marking.field_layer t ∙ ap (λ (y : TypeExpr-F TypeExpr Field). marking.type_layer (marks_opened y)) h
+
+    marks_at_field : (f : Field) (x : Field-F TypeExpr Field) → out-Field f ≡ x → marked_field {T = T} f ≡ marking.field_layer (marks_opened_field x)
+    unfolding marked_in marked_field
+    marks_at_field f x h = fold_out-Field (Marks T) (Marks T) marking.type_layer marking.field_layer f ∙ ap (λ (y : Field-F TypeExpr Field). marking.field_layer (marks_opened_field y)) h
+
+    abbrev marks_bare : TypeExpr-F SM SMF → TypeExpr-F TypeExpr Field
+    marks_bare x = map-TypeExpr SM SMF TypeExpr Field (λ t. t.0) (λ f. f.0) x
+
+    abbrev marks_bare_field : Field-F SM SMF → Field-F TypeExpr Field
+    marks_bare_field x = map-Field SM SMF TypeExpr Field (λ t. t.0) (λ f. f.0) x
+
+    field_marks : (fs : List SMF) (s : Scope T) → ScopeOrdered base s → ScopeOrdered base (fold then_marks s (map (marked_field {T = T}) (map (λ (f : SMF). f.0) fs)))
+    field_marks [] s h = h
+    field_marks (f ∷ fs) s h = field_marks fs (marked_field f.0 s) (f.1 s h)
+
+    type_marks : (y : TypeExpr-F SM SMF) → OrderedMarks (marking.type_layer (marks_opened (marks_bare y)))
+    type_marks (layer.Simple t) = λ s h. simple_marks t s h
+    type_marks (layer.Array at index t) = λ s h. t.1 (marked_simple index s) (simple_marks index s h)
+    type_marks (layer.Record at fields) = λ s h. field_marks fields s h
+    type_marks (layer.Procedure at formals t) = λ s h. h
+
+    step_marks : (x : TypeExpr-F TypeExpr Field) (y : TypeExpr-F SM SMF) → marks_bare y ≡ x → PM (roll-TypeExpr x)
+    step_marks x y q = subst OrderedMarks (sym (marks_at (roll-TypeExpr x) (marks_bare y) (out-roll-TypeExpr x ∙ sym q))) (type_marks y)
+
+    step_marks_field : (x : Field-F TypeExpr Field) (y : Field-F SM SMF) → marks_bare_field y ≡ x → PMF (roll-Field x)
+    step_marks_field x y q = subst OrderedMarks (sym (marks_at_field (roll-Field x) (marks_bare_field y) (out-roll-Field x ∙ sym q))) y.of.1
+
+    marked_in_ordered : (t : TypeExpr) → PM t
+    marked_in_ordered = ind-TypeExpr PM PMF step_marks step_marks_field
+
+    constant_marks : (cs : List Constant) (s : Scope T) → ScopeOrdered base s → ScopeOrdered base (fold marked_constant s cs)
+    constant_marks [] s h = h
+    constant_marks (c ∷ cs) s h = constant_marks cs (marked_constant s c) (marked_ordered base s c.name Later h tt)
+
+    types_marks : (ts : List TypeDecl) (s : Scope T) → ScopeOrdered base s → ScopeOrdered base (fold marked_type s ts)
+    types_marks [] s h = h
+    types_marks (t ∷ ts) s h = types_marks ts (marked_type s t) (marked_in_ordered t.of _ (marked_ordered base s t.name Later h tt))
+
+    variables_marks : (vs : List Variables) (s : Scope T) → ScopeOrdered base s → ScopeOrdered base (fold marked_variables s vs)
+    variables_marks [] s h = h
+    variables_marks (v ∷ vs) s h = variables_marks vs (marked_variables s v) (marked_in_ordered v.of _ (later_all v.names s h))
+
+    def_marks : (d : Def) (s : Scope T) → ScopeOrdered base s → ScopeOrdered base (marked_def s d)
+    def_marks (def.Constants cs) s h = constant_marks cs s h
+    def_marks (def.Types ts) s h = types_marks ts s h
+    def_marks (def.Variables vs) s h = variables_marks vs s h
+    def_marks (def.Procedure x) s h = marked_ordered base s x.name Ahead h tt
+
+    defs_marks : (ds : List Def) (s : Scope T) → ScopeOrdered base s → ScopeOrdered base (fold marked_def s ds)
+    defs_marks [] s h = h
+    defs_marks (d ∷ ds) s h = defs_marks ds (marked_def s d) (def_marks d s h)
+
+    layer_marks : {A B : Type 0} (y : Decl-F A B) (s : Scope T) → ScopeOrdered base s → ScopeOrdered base (marked_layer s y)
+    layer_marks (dlayer.Constants cs) s h = constant_marks cs s h
+    layer_marks (dlayer.Types ts) s h = types_marks ts s h
+    layer_marks (dlayer.Variables vs) s h = variables_marks vs s h
+    layer_marks (dlayer.Procedure x b) s h = marked_ordered base s x.name Ahead h tt
+
+    decls_marks : (ds : List Decl) (st : Scope T × List ℕ) → ScopeOrdered base st.0 → ScopeOrdered base (fold (with_marks marked_decl) st ds).0
+    decls_marks [] st h = h
+    decls_marks (d ∷ ds) st h = decls_marks ds (with_marks marked_decl st d) (layer_marks (out-Decl d) st.0 h)
+
+  -- ---- imports
+
+  take_ordered : (types : Types) (n : ℕ) (es : List (List ℕ × Meaning)) → ExportsOrdered types es → ExportsOrdered types (take n es)
+  take_ordered types zero es p = tt
+  take_ordered types (suc n) [] p = tt
+  take_ordered types (suc n) (e ∷ es) p = (p.0, take_ordered types n es p.1)
+
+  drop_ordered : (types : Types) (n : ℕ) (es : List (List ℕ × Meaning)) → ExportsOrdered types es → ExportsOrdered types (drop n es)
+  drop_ordered types zero es p = p
+  drop_ordered types (suc n) [] p = tt
+  drop_ordered types (suc n) (e ∷ es) p = drop_ordered types n es p.1
+
+  exports_ordered : (types : Types) (ts : List Table) (k : ℕ) → TablesOrdered types ts → ExportsOrdered types (exports_of (slice_get ts k))
+  exports_ordered types [] k p = tt
+  exports_ordered types (t ∷ ts) zero p = p.0
+  exports_ordered types (t ∷ ts) (suc k) p = exports_ordered types ts k p.1
+
+  module _ (g : Gathers) where
+    -- a scope with these types
+    abbrev Within : Types → Scope g.Reported → Type 0
+    Within types s = ScopeOrdered base s × (s.types ≡ types)
+
+    free_within : (types : Types) (s : Scope g.Reported) (at : Pos) (name : List ℕ) (o : Origin) (m : Meaning) (b : Bool) → Within types s → MeaningOrdered types m
+        → Within types (cond {A = State (Unit {0}) g.Reported} b (with_known name (Declared o (Ok m)) s, Ok tt) (s, reported g at 31)).0
+    free_within types s at name o m true h p = (known_ordered base s name (Declared o (Ok m)) h.0 (fine m (subst (λ (t : Types). MeaningOrdered t m) (sym h.1) p)), h.1)
+    free_within types s at name o m false h p = h
+
+    again_within : (types : Types) (s : Scope g.Reported) (x : State (Unit {0}) g.Reported) (b : Bool) → Within types s → Within types x.0 → Within types (cond {A = State (Unit {0}) g.Reported} b (s, Ok tt) x).0
+    again_within types s x true h p = h
+    again_within types s x false h p = p
+
+    imported_within : (types : Types) (s : Scope g.Reported) (at : Pos) (name : List ℕ) (o : Origin) (m : Meaning) → Within types s → MeaningOrdered types m → Within types (imported g s at name o (Ok m)).0
+    imported_within types s at name o m h p = again_within types s _ (is_again (found name s.own) o) h (free_within types s at name o m (is_free (found name s.own)) h p)
+
+    module_as_ordered : (s : Scope g.Reported) (name : Ident) (r : Result ℕ g.Reported) → ScopeOrdered base s → ScopeOrdered base (with_module_as g s name r).0
+    module_as_ordered s name (Ok k) h = (imported_within s.types s name.pos name.name (origin.Module k) (meaning.Module k) (h, refl) tt).0
+    module_as_ordered s name (Err e) h = h
+
+    modules_ordered : (modules : List (List ℕ × ℕ)) (names : List Ident) (st : State (Unit {0}) g.Reported) → StateOrdered base st → StateOrdered base (fold (with_module_name g modules) st names)
+    modules_ordered modules [] st p = p
+    modules_ordered modules (x ∷ xs) st p =
+        modules_ordered modules xs (with_module_name g modules st x) (beside_then g (with_module_as g st.0 x (module_named g modules x)).1 p (λ h. const_holds (module_as_ordered st.0 x (module_named g modules x) h) _))
+
+    entries_within : (types : Types) (at : Pos) (k : ℕ) (es : List (List ℕ × Meaning)) (st : State (Unit {0}) g.Reported) → ExportsOrdered types es → Holds (λ x. Within types st.0) st.1
+        → Holds (λ x. Within types (fold (with_entry g at k) st es).0) (fold (with_entry g at k) st es).1
+    entries_within types at k [] st q p = p
+    entries_within types at k (e ∷ es) st q p =
+        entries_within types at k es (with_entry g at k st e) q.1 (beside_then g (imported g st.0 at e.0 (Export k) (Ok e.1)).1 p (λ h. const_holds (imported_within types st.0 at e.0 (Export k) e.1 h q.0) _))
+
+    taken_within : (types : Types) (s : Scope g.Reported) (at : Pos) (k : ℕ) (es : List (List ℕ × Meaning)) (i : ℕ) (o : Option (Result (Unit {0}) g.Reported)) → ExportsOrdered types es → Within types s
+        → Holds (λ x. Within types (unless_taken g s at k es i o).0) (unless_taken g s at k es i o).1
+    taken_within types s at k es i (Some j) q h = const_holds h j
+    taken_within types s at k es i None q h =
+        entries_within types at k (take (brings_in (slice_get es i)) (drop i es)) (s, Ok tt) (take_ordered types (brings_in (slice_get es i)) (drop i es) (drop_ordered types i es q)) (fine tt h)
+
+    place_within : (types : Types) (s : Scope g.Reported) (name : Ident) (k : ℕ) (es : List (List ℕ × Meaning)) (o : Option ℕ) → ExportsOrdered types es → Within types s
+        → Holds (λ x. Within types (from_place g s name k es o).0) (from_place g s name k es o).1
+    place_within types s name k es None q h = const_holds h _
+    place_within types s name k es (Some i) q h = taken_within types s name.pos k es i (reported_of_taken g name.pos k (found name.name s.own)) q h
+
+    abbrev WithExports : Types → List (List ℕ × Meaning) → Scope g.Reported → Type 0
+    WithExports types es s = Within types s × ExportsOrdered types es
+
+    from_within : (types : Types) (k : ℕ) (es : List (List ℕ × Meaning)) (names : List Ident) (st : State (Unit {0}) g.Reported) → Holds (λ x. WithExports types es st.0) st.1
+        → Holds (λ x. WithExports types es (fold (with_from g k es) st names).0) (fold (with_from g k es) st names).1
+    from_within types k es [] st p = p
+    from_within types k es (x ∷ xs) st p =
+        from_within types k es xs (with_from g k es st x) (beside_then g (from_place g st.0 x k es (place_of x.name es)).1 p (λ h. holds_weaker (λ u w. (w, h.1)) (place_within types st.0 x k es (place_of x.name es) h.1 h.0)))
+
+    from_module_ordered : (r : Result ℕ g.Reported) (st : State (Unit {0}) g.Reported) (names : List Ident) → StateOrdered base st → StateOrdered base (from_module g r st names)
+    from_module_ordered (Ok k) st names p =
+        holds_weaker (λ x w. w.0.0) (from_within st.0.types k (exports_of (slice_get st.0.tables k)) names st (holds_weaker (λ x h. ((h, refl), exports_ordered st.0.types st.0.tables k h.tables)) p))
+    from_module_ordered (Err e) st names p = beside_then g (Err e) p (λ h. broken e)
+
+    with_imports_ordered : (modules : List (List ℕ × ℕ)) (st : State (Unit {0}) g.Reported) (o : Option Ident) (names : List Ident) → StateOrdered base st → StateOrdered base (with_imports g modules st o names)
+    with_imports_ordered modules st None names p = modules_ordered modules names st p
+    with_imports_ordered modules st (Some m) names p = from_module_ordered (module_named g modules m) st names p
+
+    imports_ordered : (modules : List (List ℕ × ℕ)) (is : List Import) (st : State (Unit {0}) g.Reported) → StateOrdered base st → StateOrdered base (fold (with_import g modules) st is)
+    imports_ordered modules [] st p = p
+    imports_ordered modules (i ∷ is) st p = imports_ordered modules is (with_import g modules st i) (with_imports_ordered modules st i.from i.names p)
+
+    -- ---- blocks
+
+    decls_ordered : (ends : List ℕ) (ds : List Decl) (c : Course g.Reported) → StateOrdered base (c.0, c.1) → StateOrdered base (let n = fold (with_decl g ends) c ds in (n.0, n.1))
+    decls_ordered ends [] c p = p
+    decls_ordered ends (d ∷ ds) c p = decls_ordered ends ds (with_decl g ends c d) (decl_ordered base g ends c p (out-Decl d))
+
+    pub block_ordered : (ends : List ℕ) (st : State (Unit {0}) g.Reported) (first : ℕ) (ds : List Decl) → StateOrdered base st → StateOrdered base (let d = declared_block g ends st first ds in (d.0, d.1))
+    block_ordered ends st first ds p = decls_ordered ends ds ((all_marked marked_decl st.0 ds).0, st.1, first) (holds_weaker (λ x h. decls_marks g.Reported ds (st.0, []) h) p)
+
+    pub module_ordered : (modules : List (List ℕ × ℕ)) (ends : List ℕ) (s : Scope g.Reported) (m : Module) (ds : List Decl) → ScopeOrdered base s
+        → StateOrdered base (let d = declared_module g modules ends s m ds in (d.0, d.1))
+    module_ordered modules ends s m ds h =
+        beside_then g _ (block_ordered ends (fold (with_import g modules) (s, Ok tt) m.imports) 0 ds (imports_ordered modules m.imports (s, Ok tt) (fine tt h))) (λ k. const_holds k _)
+
+    defs_ordered : (ds : List Def) (st : State (Unit {0}) g.Reported) → StateOrdered base st → StateOrdered base (fold (with_def g) st ds)
+    defs_ordered [] st p = p
+    defs_ordered (d ∷ ds) st p = defs_ordered ds (with_def g st d) (def_ordered base g st p d)
+
+    pub definition_ordered : (m : Module) (modules : List (List ℕ × ℕ)) (s : Scope g.Reported) (ds : List Def) → ScopeOrdered base s → StateOrdered base (declared_in g m modules s ds)
+    definition_ordered m modules s ds h = defs_ordered ds (fold (with_import g modules) (fold marked_def s ds, Ok tt) m.imports) (imports_ordered modules m.imports (fold marked_def s ds, Ok tt) (fine tt (defs_marks g.Reported ds s h)))
+
+  -- ---- into a procedure, and back
+
+  blocks_more : {T : Type 0} (types : Types) (bs : List (Block T)) (b : Block T) → BlocksOrdered types bs → NamesOrdered types b.names → BlocksOrdered types (bs ++ b ∷ [])
+  blocks_more types [] b p q = (q, tt)
+  blocks_more types (x ∷ bs) b p q = (p.0, blocks_more types bs b p.1 q)
+
+  inwards_ordered : {T : Type 0} (s : Scope T) (seen : ℕ) → ScopeOrdered base s → ScopeOrdered base (inwards s seen)
+  inwards_ordered s seen h = record {
+    started = h.started;
+    types = h.types;
+    once = h.once;
+    names = tt;
+    outer = blocks_more s.types s.outer (record { names = s.own; seen = seen }) h.outer h.names;
+    tables = h.tables;
+  }
+
+  formal_by : {T : Type 0} (types : Types) (b : Bool) (name : List ℕ) (k : Known T) (ns : List (List ℕ × Known T)) → KnownOrdered types k → NamesOrdered types ns → NamesOrdered types (cond b ns (entered name k ns))
+  formal_by types true name k ns p h = h
+  formal_by types false name k ns p h = names_more types name k ns p h
+
+  names_formals : {T : Type 0} (types : Types) (level : ℕ) (f : Result Formal T) → Holds (λ x. is_known types x.of ≡ true) f → (names : List Ident) (fs : Formals T) → NamesOrdered types fs.0 → NamesOrdered types (fold (with_formal level f) fs names).0
+  names_formals types level f p [] fs h = h
+  names_formals types level f p (x ∷ xs) fs h =
+      names_formals types level f p xs (with_formal level f fs x)
+      (formal_by types (is_some (found x.name fs.0)) x.name (Declared Here (formal_meaning level (length fs.1) f)) fs.0
+      (then_holds p (λ u k. fine _ k)) h)
+
+  left_by : {T : Type 0} (types : Types) (bs : List (Block T)) → BlocksOrdered types bs → BlocksOrdered types (popped (split_last bs)).0 × NamesOrdered types (popped (split_last bs)).1
+  left_by types [] p = (tt, tt)
+  left_by types (b ∷ bs) p = last b (split_last bs) p.0 (left_by types bs p.1) where
+    last : {T : Type 0} (b : Block T) (o : Option (List (Block T) × Block T)) → NamesOrdered types b.names → BlocksOrdered types (popped o).0 × NamesOrdered types (popped o).1
+        → BlocksOrdered types (popped (elim o [ None ↦ Some ([], b) | Some p ↦ Some (b ∷ p.0, p.1) ])).0 × NamesOrdered types (popped (elim o [ None ↦ Some ([], b) | Some p ↦ Some (b ∷ p.0, p.1) ])).1
+    last b None p q = (tt, p)
+    last b (Some x) p q = ((p, q.0), q.1)
+
+  pub left_ordered : {T : Type 0} (o : Outside) (s : Scope T) → ScopeOrdered base s → ScopeOrdered base (left_procedure o s)
+  left_ordered o s h = let k = left_by s.types s.outer h.outer in record { started = h.started; types = h.types; once = h.once; names = k.1; outer = k.0; tables = h.tables }
+
+  module _ (g : Gathers) where
+    sections_formals : (s : Scope g.Reported) → ScopeOrdered base s → (xs : List Section) (fs : Formals g.Reported) → NamesOrdered s.types fs.0 → NamesOrdered s.types (fold (with_section g s) fs xs).0
+    sections_formals s p [] fs h = h
+    sections_formals s p (x ∷ xs) fs h = sections_formals s p xs (with_section g s fs x) (names_formals s.types s.level (formal_of g s x.is_var x.of) (formal_ordered g base s p x.is_var x.of) x.names fs h)
+
+    pub entered_ordered : (s : Scope g.Reported) (seen : ℕ) (h : Heading) → ScopeOrdered base s → ScopeOrdered base (entered_procedure g s seen h).0
+    entered_ordered s seen h p =
+        let k : ScopeOrdered base (inwards s seen) = inwards_ordered s seen p in
+        record { started = k.started; types = k.types; once = k.once; names = sections_formals (inwards s seen) k h.formals ([], []) tt; outer = k.outer; tables = k.tables }

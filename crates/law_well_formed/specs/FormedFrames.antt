@@ -1,0 +1,57 @@
+-- Where procedures stand, when their frames have room, and what the characters of texts are.
+use Rattle.std.specs.Prelude.{◌≡◌, ℕ, suc, ◌<◌, ◌^◌, true, All, List, Option, Some, None}
+use Rattle.wasm_binary.specs.Binary.{module_fits}
+use Rattle.m2_tree.specs.declared.decl.Module.{Module}
+use Rattle.typed_tree.specs.declared.table.Table.{Table}
+use Rattle.typed_tree.specs.declared.typed_module.Routine.{Routine}
+use Rattle.typed_tree.specs.declared.typed_module.Which.{Which}
+use Rattle.typed_tree.specs.declared.typed_module.TypedModule.{TypedModule}
+use Rattle.check_scope.specs.Elaborated.{Gathers}
+use Rattle.m2_layout.specs.Sizes.{size}
+use Rattle.m2_layout.specs.Frames.{frame}
+use Rattle.m2_layout.specs.Layouts.{too_large}
+use Rattle.m2_layout.specs.Texts.{module_texts}
+use Rattle.def_scheme.specs.Functions.{routine_of}
+use Rattle.def_scheme.specs.Modules.{all_characters, typed_module}
+use Rattle.m2_check.specs.Checks.{checked}
+use Rattle.law_well_formed.specs.Formed.{Holds}
+use Rattle.law_well_formed.specs.FormedModules.{AreFor}
+
+-- ---- frames
+
+-- a frame has less than two gigabytes
+abbrev pub HasRoom : TypedModule → Routine → Type 0
+HasRoom m r = size (frame m.types r) < 2 ^ 31
+
+pub record HaveRoom (m : TypedModule) : Type 0 where
+  pub procedures : All (HasRoom m) m.procedures
+  pub locals : All (HasRoom m) m.locals
+
+-- the build refuses what has none
+abbrev pub FramesHaveRoom : Type 0
+FramesHaveRoom = (m : TypedModule) → too_large m ≡ None → HaveRoom m
+
+-- ---- texts
+
+-- Where the module has an encoding, as each has that the build makes, the characters of its texts are bytes.
+abbrev pub TextsAreBytes : Type 0
+TextsAreBytes = (m : TypedModule) → module_fits (typed_module m) ≡ true → All (λ b. b < 256) (all_characters (module_texts m))
+
+-- ---- procedures
+
+-- it stands in a procedure that is there, one level below it
+pub record IsNested (m : TypedModule) (r : Routine) : Type 0 where
+  pub which : Which
+  pub routine : Routine
+  pub around : r.around ≡ Some which
+  pub there : routine_of m which ≡ Some routine
+  pub level : r.level ≡ suc routine.level
+
+-- the module's own procedures stand in none, and the others in procedures
+pub record AreNested (m : TypedModule) : Type 0 where
+  pub outermost : All (λ r. r.around ≡ None) m.procedures
+  pub inside : All (IsNested m) m.locals
+
+abbrev pub ModulesAreNested : Gathers → Type 0
+ModulesAreNested g = (number : ℕ) (m : Module) (own : Option Table) (tables : List Table)
+    → AreFor number own tables m.contents → Holds AreNested (checked g number m own tables)

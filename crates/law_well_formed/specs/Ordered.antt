@@ -1,0 +1,78 @@
+-- Types stand in order: a type names only types that stand before it.
+use Rattle.std.specs.Prelude.{◌≡◌, ℕ, Bool, true, List, [], ◌∷◌, ◌++◌, map, Option, Some, None, nat_eq}
+use Rattle.std.specs.List.{AllByRecursion}
+use Rattle.std.specs.Map.{lookup}
+use Rattle.std.specs.Option.{is_some}
+use Rattle.typed_tree.specs.declared.types.Home.{Home}
+use Rattle.typed_tree.specs.declared.types.Home.TheVariants.{Predeclared, Module}
+use Rattle.typed_tree.specs.declared.types.TypeNo.{TypeNo}
+use Rattle.typed_tree.specs.declared.shape.Shape.{Shape}
+use Rattle.typed_tree.specs.declared.shape.Shape.TheVariants as shape
+use Rattle.typed_tree.specs.declared.shape.Made.{Made}
+use Rattle.typed_tree.specs.declared.known_types.Types.{Types}
+use Rattle.typed_tree.specs.Known.{made_in, made_at}
+use Rattle.m2_layout.specs.Shapes.{shape_tree, known_trees, tree}
+
+-- ---- the types that a type names
+
+abbrev pub result_named : Option TypeNo → List TypeNo
+result_named None = []
+result_named (Some t) = t ∷ []
+
+-- a shape names these types; what a scalar type computes in is no part of it
+abbrev pub named_by : Shape → List TypeNo
+named_by (shape.Scalar s) = []
+named_by shape.Set = []
+named_by (shape.Array i e) = i ∷ e ∷ []
+named_by (shape.Record fs) = map (λ f. f.1) fs
+named_by (shape.Procedure p) = map (λ f. f.of) p.formals ++ result_named p.result
+named_by (shape.Open e) = e ∷ []
+
+-- ---- types that are known
+
+abbrev pub is_known_from : Types → Home → ℕ → Bool
+is_known_from types Predeclared n = true
+is_known_from types (Module home) n = is_some (made_in types home n)
+
+-- a type is predeclared, or it stands among these types
+abbrev pub is_known : Types → TypeNo → Bool
+is_known types t = is_known_from types t.home t.number
+
+abbrev pub AreKnown : Types → List TypeNo → Type 0
+AreKnown types ts = AllByRecursion (λ t. is_known types t ≡ true) ts
+
+-- ---- types in order
+
+-- Behind these types of a module, each further one names only types that stand before it: in the module, or in the others.
+abbrev pub AreOrderedFrom : (others : List (ℕ × List Made)) → (home : ℕ) → (before : List Made) → List Made → Type 0
+AreOrderedFrom others home before [] = Unit {0}
+AreOrderedFrom others home before (m ∷ ms) =
+    AreKnown (record { home = home; own = before; others = others }) (named_by m.shape) × AreOrderedFrom others home (before ++ m ∷ []) ms
+
+-- Behind these modules each further one has a number of its own, and its types name those that stand before.
+abbrev pub OthersOrdered : (before : List (ℕ × List Made)) → List (ℕ × List Made) → Type 0
+OthersOrdered before [] = Unit {0}
+OthersOrdered before (e ∷ es) =
+    (lookup (nat_eq e.0) before ≡ None) × (AreOrderedFrom before e.0 [] e.1 × OthersOrdered (before ++ e ∷ []) es)
+
+-- the types of an implementation begin with those that others know of its definition
+abbrev pub BeginsWith : (own : List Made) → Option (List Made) → Type 0
+BeginsWith own None = Unit {0}
+BeginsWith own (Some known) = (more : List Made) × (own ≡ known ++ more)
+
+-- All types that a module knows stand in order. Its own stand behind those of all others.
+pub record AreOrdered (types : Types) : Type 0 where
+  pub own : AreOrderedFrom types.others types.home [] types.own
+  pub others : OthersOrdered [] types.others
+  pub alike : BeginsWith types.own (lookup (nat_eq types.home) types.others)
+
+-- ---- what is proved of them
+
+-- The tree of a type that is made is by its shape, from the trees of all types that are known.
+abbrev pub TreesAreByShape : Type 0
+TreesAreByShape = (types : Types) → AreOrdered types → (t : TypeNo) (m : Made) → made_at types t ≡ Some m
+    → tree types t ≡ shape_tree types (known_trees types) t m.shape
+
+-- The types that a type names are known.
+abbrev pub NamedAreKnown : Type 0
+NamedAreKnown = (types : Types) → AreOrdered types → (t : TypeNo) (m : Made) → made_at types t ≡ Some m → AreKnown types (named_by m.shape)

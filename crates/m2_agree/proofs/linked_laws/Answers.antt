@@ -1,9 +1,0 @@
-use Rattle.m2_agree.proofs.Linked.{is_linked}
-use Rattle.m2_agree.proofs.LinkedPrograms.{typed_behave}
-use Rattle.m2_agree.proofs.linked_laws.Goals as goal
-
-pub returns-clause-modules : goal.returns-clause-modules
-returns-clause-modules c = λ p pages distinct few coherent place m there. is_linked p pages distinct few coherent place m there
-
-pub returns-clause-programs : goal.returns-clause-programs
-returns-clause-programs c = typed_behave

@@ -1,7 +1,0 @@
-use Rattle.std.proofs.Common.{false}
-use Rattle.m2_blocks.specs.Declarations.{or_awaited}
-use Rattle.m2_types.proofs.Walks.{walked}
-use Rattle.m2_blocks.proofs.declarations.lacks.Goals as goal
-
-pub loop-place-preserved : goal.loop-place-preserved
-loop-place-preserved c = walked or_awaited false c.args.own.now c.loop-place.place c.loop-place.found _ _ c.loop-place.invariant c.get.ensures c.or_awaited_if-found.ensures

@@ -1,6 +1,0 @@
-use Rattle.std.proofs.Common.{◌≡◌, take}
-use Rattle.m2_blocks.specs.Naming.{marked_decls}
-use Rattle.m2_blocks.proofs.naming.mark_decls.Given as goal
-
-abbrev pub invariant-loop-decl : goal.invariant-loop-decl
-invariant-loop-decl l = (l.scope, l.seen) ≡ marked_decls l.fn.scope (take l.decl-index l.decls)

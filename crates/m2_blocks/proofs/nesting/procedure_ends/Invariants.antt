@@ -1,6 +1,0 @@
-use Rattle.std.proofs.Common.{◌≡◌, take}
-use Rattle.m2_blocks.specs.Nesting.{procedure_ends}
-use Rattle.m2_blocks.proofs.nesting.procedure_ends.Given as goal
-
-abbrev pub invariant-loop-decl : goal.invariant-loop-decl
-invariant-loop-decl l = l.ends ≡ procedure_ends (take l.decl-index l.decls)

@@ -1,7 +1,0 @@
-pub mod Graph
-pub mod Laws
-pub mod Lists
-pub mod Refusal
-pub mod Rule
-pub mod Seats
-pub mod Steps

@@ -1,4 +1,0 @@
-pub mod Elaborating
-pub mod Inside
-pub mod Bodies
-pub mod Checked

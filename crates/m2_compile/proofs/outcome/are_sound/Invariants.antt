@@ -1,7 +1,0 @@
-use Rattle.std.proofs.Common.{◌≡◌, drop, map}
-use Rattle.std.specs.List.{list_all}
-use Rattle.m2_compile.specs.Compiling.{is_sound}
-use Rattle.m2_compile.proofs.outcome.are_sound.Given as goal
-
-abbrev pub invariant-loop-compiled : goal.invariant-loop-compiled
-invariant-loop-compiled l = list_all is_sound (map (λ c. c.now) (drop l.compiled-index l.needed)) ≡ list_all is_sound (map (λ c. c.now) l.needed)

@@ -1,7 +1,0 @@
-use Rattle.std.proofs.Common.{take, map}
-use Rattle.std.specs.String.{string_bytes}
-use Rattle.m2_execute.proofs.Missing.{NamedSoFar}
-use Rattle.m2_execute.proofs.load.modules_of.Given as goal
-
-abbrev pub invariant-loop-name : goal.invariant-loop-name
-invariant-loop-name g l = NamedSoFar (g.D.InDir.gives l.fn.dir) (g.D.InDir.gives l.dir) l.fn.first.items (map string_bytes (take l.name-index l.names)) l.modules.items

@@ -1,7 +1,0 @@
-use Rattle.std.proofs.Common.{◌≡◌, take}
-use Rattle.std.specs.List.{fold}
-use Rattle.m2_exprs.specs.Meanings.{constant_pick_in}
-use Rattle.m2_exprs.proofs.fixed.picked.Given as goal
-
-abbrev pub invariant-loop-selector : goal.invariant-loop-selector
-invariant-loop-selector l = l.denoted ≡ fold (constant_pick_in l.scope) l.fn.first (take l.selector-index l.selectors)

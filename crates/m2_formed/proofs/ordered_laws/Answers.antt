@@ -1,8 +1,0 @@
-use Rattle.m2_formed.proofs.Shaped.{tree_shaped, named_known}
-use Rattle.m2_formed.proofs.ordered_laws.Goals as goal
-
-pub returns-clause-trees : goal.returns-clause-trees
-returns-clause-trees c = tree_shaped
-
-pub returns-clause-named : goal.returns-clause-named
-returns-clause-named c = named_known

@@ -1,5 +1,0 @@
-use Rattle.m2_grammar.proofs.Exact.{at_most_one}
-use Rattle.m2_grammar.proofs.laws.one_tree.Goals as goal
-
-pub returns : goal.returns
-returns c ts m n = at_most_one ts m n

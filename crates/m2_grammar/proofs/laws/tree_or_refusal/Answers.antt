@@ -1,5 +1,0 @@
-use Rattle.m2_grammar.proofs.Exact.{never_both}
-use Rattle.m2_grammar.proofs.laws.tree_or_refusal.Goals as goal
-
-pub returns : goal.returns
-returns c ts m r = never_both ts m r

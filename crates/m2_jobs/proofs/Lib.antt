@@ -1,5 +1,0 @@
-pub mod Crossing
-pub mod CrossingModules
-pub mod Rounds
-pub mod Below
-pub mod Making

@@ -1,4 +1,0 @@
-pub mod Borrowed
-pub mod Jobs
-pub mod Encoded
-pub mod Made

@@ -1,3 +1,0 @@
-pub mod Stores
-mod Links
-pub mod Placed

@@ -1,8 +1,0 @@
-use Rattle.std.proofs.Common.{◌≡◌, take, Ok, []}
-use Rattle.std.specs.List.{fold}
-use Rattle.m2_scopes.specs.Elaborated.{least}
-use Rattle.m2_made.specs.Headings.{with_parameter}
-use Rattle.m2_made.proofs.heading.parameters.Given as goal
-
-abbrev pub invariant-loop-parameter : goal.invariant-loop-parameter
-invariant-loop-parameter l = l.formals ≡ fold (with_parameter least l.scope) (Ok []) (take l.parameter-index l.list)

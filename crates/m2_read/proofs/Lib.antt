@@ -1,3 +1,0 @@
-pub mod Once
-pub mod All
-pub mod Named

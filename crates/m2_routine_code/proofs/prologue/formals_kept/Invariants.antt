@@ -1,9 +1,0 @@
-use Rattle.std.proofs.Common.{◌≡◌, drop}
-use Rattle.m2_draft.specs.Frames.{meant}
-use Rattle.m2_draft.specs.Drafts.{put}
-use Rattle.m2_scheme.specs.Functions.{formals_kept}
-use Rattle.m2_routine_code.specs.Kept.{own}
-use Rattle.m2_routine_code.proofs.prologue.formals_kept.Given as goal
-
-abbrev pub invariant-loop-formal : goal.invariant-loop-formal
-invariant-loop-formal l = (l.v ≡ l.formal-index) × (put (formals_kept l.setting.home.types l.locals.top l.locals.copy (own (meant l.setting)) l.v l.x (drop l.formal-index l.formals)) l.draft ≡ put (formals_kept l.setting.home.types l.locals.top l.locals.copy (own (meant l.setting)) 0 l.first l.formals) l.initial.draft)

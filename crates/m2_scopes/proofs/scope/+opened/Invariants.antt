@@ -1,5 +1,0 @@
-use Rattle.std.proofs.Common.{length}
-use Rattle.m2_scopes.proofs.scope.+opened.Given as goal
-
-abbrev pub decreases-opened : goal.decreases-opened
-decreases-opened l = length l.withs.now

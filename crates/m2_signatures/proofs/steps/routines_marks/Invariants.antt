@@ -1,7 +1,0 @@
-use Rattle.std.proofs.Common.{◌≡◌, take}
-use Rattle.std.specs.List.{fold}
-use Rattle.m2_signatures.specs.Needed.{with_routine}
-use Rattle.m2_signatures.proofs.steps.routines_marks.Given as goal
-
-abbrev pub invariant-loop-routine : goal.invariant-loop-routine
-invariant-loop-routine l = l.marks.items ≡ fold (with_routine l.module_body) l.fn.marks.items (take l.routine-index l.routines)

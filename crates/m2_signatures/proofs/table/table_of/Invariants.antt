@@ -1,6 +1,0 @@
-use Rattle.std.proofs.Common.{◌≡◌, take}
-use Rattle.m2_signatures.specs.Tables.{table_of}
-use Rattle.m2_signatures.proofs.table.table_of.Given as goal
-
-abbrev pub invariant-loop-mark : goal.invariant-loop-mark
-invariant-loop-mark l = l.table ≡ table_of (take l.mark-index l.marks)

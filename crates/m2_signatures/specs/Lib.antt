@@ -1,5 +1,0 @@
-pub mod Seen
-pub mod Numbered
-pub mod Marked
-pub mod Needed
-pub mod Tables

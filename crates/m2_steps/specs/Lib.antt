@@ -1,4 +1,0 @@
-pub mod Lists
-pub mod Simple
-pub mod Labels
-pub mod Control

@@ -1,6 +1,0 @@
-use Rattle.std.proofs.Common.{◌≡◌}
-use Rattle.m2_steps_code.specs.Written.{opened_times}
-use Rattle.m2_steps_code.proofs.cases.open_times.Given as goal
-
-abbrev pub invariant-loop-number : goal.invariant-loop-number
-invariant-loop-number l = l.draft ≡ opened_times l._number l.initial.draft

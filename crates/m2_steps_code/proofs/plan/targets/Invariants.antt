@@ -1,6 +1,0 @@
-use Rattle.std.proofs.Common.{◌≡◌}
-use Rattle.m2_steps_code.specs.Written.{targets_in}
-use Rattle.m2_steps_code.proofs.plan.targets.Given as goal
-
-abbrev pub invariant-loop-distance : goal.invariant-loop-distance
-invariant-loop-distance l = l.targets.items ≡ targets_in l.arms l.plan.least l.distance

@@ -1,7 +1,0 @@
-use Rattle.std.proofs.Common.{◌≡◌, take}
-use Rattle.std.specs.List.{fold}
-use Rattle.m2_steps_code.specs.Plans.{with_label}
-use Rattle.m2_steps_code.proofs.plan.with_labels.Given as goal
-
-abbrev pub invariant-loop-label : goal.invariant-loop-label
-invariant-loop-label l = l.bounds ≡ fold with_label l.fn.before (take l.label-index l.labels)

@@ -1,3 +1,0 @@
-pub mod Variants
-pub mod Bodies
-pub mod Begins

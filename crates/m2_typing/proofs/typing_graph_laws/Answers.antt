@@ -1,5 +1,0 @@
-use Rattle.m2_typing.proofs.TypedModules.{are_typed}
-use Rattle.m2_typing.proofs.typing_graph_laws.Goals as goal
-
-pub returns : goal.returns
-returns c = λ fs files jobs starts graph each fit whole p b fits pages room most. are_typed fs files jobs starts graph each fit whole p b fits pages room most

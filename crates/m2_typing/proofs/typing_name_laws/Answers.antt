@@ -1,5 +1,0 @@
-use Rattle.m2_typing.proofs.NamesThere.{body_named}
-use Rattle.m2_typing.proofs.typing_name_laws.Goals as goal
-
-pub returns : goal.returns
-returns c = λ fs files jobs starts graph each fit p bodies pages place m there b. body_named fs files jobs starts graph each fit p bodies pages place m there b

@@ -1,7 +1,0 @@
-use Rattle.std.proofs.Common.{◌≡◌, map, take}
-use Rattle.m2_write.specs.Borrowed.{files_borrowed}
-use Rattle.m2_write.specs.Calls.{module_file}
-use Rattle.m2_write.proofs.saving.files_of.Given as goal
-
-abbrev pub invariant-loop-module : goal.invariant-loop-module
-invariant-loop-module l = files_borrowed l.files.items ≡ map module_file (take l.module-index l.modules)

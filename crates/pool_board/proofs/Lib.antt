@@ -1,0 +1,12 @@
+pub mod Weights
+pub mod Targets
+pub mod Consistent
+pub mod Keeps
+pub mod Rooms
+pub mod Seated
+pub mod Tallied
+pub mod Graphs
+pub mod Laws
+pub mod Marks
+pub mod Picks
+pub mod Resulting

@@ -1,0 +1,12 @@
+use Rattle.std.proofs.Common.{ap, ◌∙◌, arith}
+use Rattle.pool_board.specs.Rule.{counted}
+use Rattle.pool_board.proofs.Picks.{still_fresh}
+use Rattle.pool_board.proofs.worker.count_all.Goals as goal
+
+pub loop-edge-preserved : goal.loop-edge-preserved
+loop-edge-preserved c = record {
+  board_is = c.count_down.ensures.board ∙ c.loop-edge.invariant.board_is;
+  had_is = c.count_down.ensures.had ∙ c.loop-edge.invariant.had_is;
+  fresh = λ e l. let t = c.count_down.ensures.counts in
+      ap (counted c.args.job e) t.1 ∙ still_fresh c.args.job c.loop-edge.edge t.0 e c.loop-edge.seat.counts l (c.loop-edge.invariant.fresh e (omega arith));
+}

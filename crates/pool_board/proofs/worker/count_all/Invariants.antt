@@ -1,0 +1,10 @@
+use Rattle.std.proofs.Common.{◌≡◌, ℕ, ◌≤◌}
+use Rattle.pool_board.specs.Rule.{counted}
+use Rattle.pool_board.proofs.worker.count_all.Given as goal
+
+abbrev pub invariant-loop-edge : goal.invariant-loop-edge
+invariant-loop-edge l = record {
+  board_is : l.seat.board ≡ l.board.id;
+  had_is : l.seat.had ≡ l.initial.seat.had;
+  fresh : (e : ℕ) → l.edge ≤ e → counted l.job e l.seat.counts ≡ 0;
+}

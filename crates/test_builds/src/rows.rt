@@ -1,0 +1,120 @@
+//! Programs of several files, and what they print.
+
+use crate::gates::Always;
+use anyhow::{Result, bail};
+use m2c::{Options, Outcome, SourceFile, build};
+use memory_streams::{Folder, Screen};
+use run_directory::execute;
+use std::alloc::{AllocError, Global};
+use std::thread::Threads;
+
+/// More reductions than any of the programs makes.
+const STEPS: u64 = 1_000_000;
+
+/// Files with these names and texts.
+pub fn files_of(alloc: Global, texts: &[(&str, &str)]) -> Result<Vec<SourceFile>, AllocError> {
+    let mut files = Vec::new(alloc);
+    for text in texts {
+        files.push(SourceFile {
+            name: String::from_str(alloc, text.0)?,
+            bytes: Vec::from_slice(alloc, text.1.as_bytes())?,
+        })?;
+    }
+    Ok(files)
+}
+
+/// The status with which modules end, and what they print.
+pub fn executed(alloc: Global, link: &[u8], modules: &[(String, Vec<u8>)]) -> (u8, Vec<u8>) {
+    let mut folder = Folder { link, modules };
+    let mut out = Screen::new(alloc);
+    let mut err = Screen::new(alloc);
+    let status = execute(alloc, &mut folder, STEPS, &mut out, &mut err);
+    (status, out.bytes)
+}
+
+/// Builds files, and executes what is built. It is to end with status 0, with these bytes printed.
+fn check<R: Threads + Sync>(
+    rt: &R,
+    alloc: Global,
+    texts: &[(&str, &str)],
+    printed: &[u8],
+) -> Result<()> {
+    let files = files_of(alloc, texts)?;
+    let options = Options {
+        workers: 4,
+        pages: 1,
+    };
+    let outcome = build(rt, alloc, &files, options, &Always(true))?;
+    let Outcome::Built { link, modules } = outcome else {
+        bail!("the files are refused");
+    };
+    let (status, bytes) = executed(alloc, &link, &modules);
+    if status != 0 || bytes.as_slice() != printed {
+        let count = bytes.len();
+        bail!("status {status}, with {count} bytes printed");
+    }
+    Ok(())
+}
+
+/// P imports A, and the implementations of A and B import each other.
+pub fn imports_that_lead_to_one_another<R: Threads + Sync>(rt: &R, alloc: Global) -> Result<()> {
+    let texts = [
+        (
+            "P.mod",
+            "MODULE P; FROM Console IMPORT Put; IMPORT A; BEGIN Put('P') END P.",
+        ),
+        (
+            "A.mod",
+            "IMPLEMENTATION MODULE A; FROM Console IMPORT Put; IMPORT B; BEGIN Put('A') END A.",
+        ),
+        (
+            "B.mod",
+            "IMPLEMENTATION MODULE B; IMPORT A; FROM Console IMPORT Put; BEGIN Put('B') END B.",
+        ),
+        ("A.def", "DEFINITION MODULE A; END A."),
+        ("B.def", "DEFINITION MODULE B; END B."),
+    ];
+    check(rt, alloc, &texts, b"BAP")
+}
+
+/// Two modules import a third, whose body runs once; the definition's import comes before the body's.
+pub fn a_body_runs_once<R: Threads + Sync>(rt: &R, alloc: Global) -> Result<()> {
+    let texts = [
+        (
+            "P.mod",
+            "MODULE P; FROM Console IMPORT Put; IMPORT A, B; BEGIN Put('P') END P.",
+        ),
+        ("A.def", "DEFINITION MODULE A; IMPORT C; END A."),
+        (
+            "A.mod",
+            "IMPLEMENTATION MODULE A; FROM Console IMPORT Put; BEGIN Put('A') END A.",
+        ),
+        ("B.def", "DEFINITION MODULE B; END B."),
+        (
+            "B.mod",
+            "IMPLEMENTATION MODULE B; IMPORT C; FROM Console IMPORT Put; BEGIN Put('B') END B.",
+        ),
+        ("C.def", "DEFINITION MODULE C; END C."),
+        (
+            "C.mod",
+            "IMPLEMENTATION MODULE C; FROM Console IMPORT Put; BEGIN Put('C') END C.",
+        ),
+    ];
+    check(rt, alloc, &texts, b"CABP")
+}
+
+/// A module that nothing imports is compiled, and does not run.
+pub fn what_is_not_reached_is_not_run<R: Threads + Sync>(rt: &R, alloc: Global) -> Result<()> {
+    let texts = [
+        ("A.def", "DEFINITION MODULE A; END A."),
+        (
+            "A.mod",
+            "IMPLEMENTATION MODULE A; FROM Console IMPORT Put; BEGIN Put('A') END A.",
+        ),
+        (
+            "P.mod",
+            "MODULE P; FROM Console IMPORT Put; BEGIN Put('P') END P.",
+        ),
+    ];
+    check(rt, alloc, &texts, b"P")
+}

@@ -1,0 +1,68 @@
+//! A program's files with one byte changed.
+
+use crate::memory::Pair;
+use anyhow::{Result, bail};
+use memory_streams::Screen;
+use run_directory::execute;
+use std::alloc::Global;
+use std::fs;
+
+/// The most reductions of each program.
+const STEPS: u64 = 100_000;
+
+fn status_of(alloc: Global, link: &[u8], body: &[u8]) -> u8 {
+    let mut dir = Pair { link, body };
+    let mut out = Screen::new(alloc);
+    let mut err = Screen::new(alloc);
+    execute(alloc, &mut dir, STEPS, &mut out, &mut err)
+}
+
+/// Whether a byte at this place is changed by this mask: by all masks, or by every second one, in turn the odd and the even.
+fn is_taken(at: usize, mask: u8, is_whole: bool) -> bool {
+    is_whole || at % 2 == usize::from(mask % 2)
+}
+
+/// Each program of these files with a byte of the first one changed.
+fn check_file(
+    alloc: Global,
+    first: &[u8],
+    second: &[u8],
+    is_link: bool,
+    is_whole: bool,
+) -> Result<u64> {
+    let mut bytes = Vec::from_slice(alloc, first)?;
+    let mut count = 0u64;
+    for at in 0..first.len() {
+        for mask in 1..=255u8 {
+            if !is_taken(at, mask, is_whole) {
+                continue;
+            }
+            bytes[at] = first[at] ^ mask;
+            let status = if is_link {
+                status_of(alloc, &bytes, second)
+            } else {
+                status_of(alloc, second, &bytes)
+            };
+            if status > 4 {
+                bail!("status {status} with byte {at} changed by {mask}");
+            }
+            count = count.saturating_add(1);
+        }
+        bytes[at] = first[at];
+    }
+    Ok(count)
+}
+
+/// Executes the program of `hello` with each byte changed to each other one, or to every second, and answers how many programs
+/// these are.
+pub fn check_all(rt: &HostRuntime, is_whole: bool) -> Result<u64> {
+    let alloc = rt.alloc();
+    let link = fs::read(rt, "hello/link.wasm")?;
+    let body = fs::read(rt, "hello/M.wasm")?;
+    if status_of(alloc, &link, &body) != 0 {
+        bail!("the program does not end");
+    }
+    let links = check_file(alloc, &link, &body, true, is_whole)?;
+    let bodies = check_file(alloc, &body, &link, false, is_whole)?;
+    Ok(links.saturating_add(bodies))
+}

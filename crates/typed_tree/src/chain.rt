@@ -1,0 +1,38 @@
+//! Chains of operators, and components behind variables.
+
+ghost use Rattle.std.specs.Prelude.{IfOk, ◌≡◌};
+ghost use Rattle.typed_tree.specs.Chains.{behind, linked, rooted};
+
+use crate::computed::{Component, Link, Place, Root, TypedExpr};
+use m2_tree::Items;
+use std::alloc::{AllocError, Global};
+
+/// An operator and its second operand behind a first one. Where that is a chain, it gets one operator more. The only error
+/// is that memory ran out.
+pub fn linked(alloc: Global, first: TypedExpr, link: Link) -> Result<TypedExpr, AllocError>
+    ensures { IfOk result (λ e. e ≡ linked first link) }
+{
+    first.with_link(alloc, link)
+}
+
+/// The variable itself.
+pub fn rooted(alloc: Global, root: Root) -> Place
+    ensures { result ≡ rooted root }
+{
+    Place {
+        root,
+        components: Items::new(alloc),
+    }
+}
+
+/// A component of what stands at a place. The only error is that memory ran out.
+pub fn behind(place: Place, component: Component) -> Result<Place, AllocError>
+    ensures { IfOk result (λ d. d ≡ behind place component) }
+{
+    let Place {
+        root,
+        mut components,
+    } = place;
+    components.push(component)?;
+    Ok(Place { root, components })
+}

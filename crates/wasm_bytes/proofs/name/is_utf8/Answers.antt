@@ -1,5 +1,0 @@
-use Rattle.wasm_bytes.proofs.Utf8.{test_gives}
-use Rattle.wasm_bytes.proofs.name.is_utf8.Goals as goal
-
-pub returns : goal.returns
-returns c = test_gives _ _ c.args.text.now c.from_utf8.result c.from_utf8.ensures.cases _ c.is_ok.ensures.value

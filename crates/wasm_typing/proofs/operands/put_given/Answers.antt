@@ -1,6 +1,0 @@
-use Rattle.std.proofs.Common.{refl}
-use Rattle.wasm_typing.proofs.Stacks.{puts}
-use Rattle.wasm_typing.proofs.operands.put_given.Goals as goal
-
-pub returns-in_ok-push-in-Some : goal.returns-in_ok-push-in-Some
-returns-in_ok-push-in-Some c = rw c.in-Some.is (puts c.args.operands.now _ _ c.in_ok-push-in-Some.ensures.ok refl)

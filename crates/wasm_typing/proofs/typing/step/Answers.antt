@@ -1,6 +1,0 @@
-use Rattle.std.proofs.Common.{Option, subst}
-use Rattle.wasm_typing.specs.Typing.{Change, Steps, MayRule}
-use Rattle.wasm_typing.proofs.typing.step.Goals as goal
-
-pub returns-in-Some : goal.returns-in-Some
-returns-in-Some c = λ rest. subst (λ (o : Option Change). Steps c.affect.result (MayRule o) c.args.operands.now c.affect.new.operands) (c.in-Some.ensures rest) c.affect.ensures
