@@ -13,6 +13,7 @@ use check_scope::{Elaborated, Fault};
 use m2_check::check;
 use m2_emit::emit;
 use m2_layout::Layout;
+use m2_rule::Rule;
 use m2_tree::{Contents, Items, Module};
 use m2_types::compile_definition;
 use std::alloc::{AllocError, Global};
@@ -54,7 +55,10 @@ fn fitted(alloc: Global, typed: &TypedModule) -> Result<Compiled, EncodeError>
     ensures encoded { OnOk result (fit_encoded typed.now (too_large typed.now)) }
 {
     match Layout::of(alloc, typed)? {
-        Err(pos) => Ok(Compiled::Refused(Fault { pos, number: 60 })),
+        Err(pos) => Ok(Compiled::Refused(Fault {
+            pos,
+            number: Rule::LargeStorage.number(),
+        })),
         Ok(layout) => {
             let module = emit(alloc, typed, &layout)?;
             Ok(Compiled::Built(Shared::new(alloc, module)?))

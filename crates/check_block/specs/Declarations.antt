@@ -1,6 +1,7 @@
 -- The declarations of a block.
 use Rattle.std.specs.Prelude.{ℕ, ◌==◌, Bool, true, false, ◌||◌, cond, List, length, Result, Ok}
 use Rattle.std.specs.List.{fold}
+use Rattle.m2_rule.specs.declared.rule.Rule.TheVariants as rule
 use Rattle.m2_tree.specs.declared.pos.Pos.{Pos}
 use Rattle.m2_tree.specs.declared.name.Ident.{Ident}
 use Rattle.m2_tree.specs.declared.decl.Variables.{Variables}
@@ -92,7 +93,7 @@ abbrev pub lacks : {T : Type 0} → List (List ℕ × Known T) → Bool
 lacks own = fold or_awaited false own
 
 abbrev pub reported_of_lack : (g : Gathers) → Pos → Scope g.Reported → Result (Unit {0}) g.Reported
-reported_of_lack g at s = reported_where g (lacks s.own) at 51 (Ok tt)
+reported_of_lack g at s = reported_where g (lacks s.own) at rule.MissingProcedure (Ok tt)
 
 -- the imports of a module, and what its block declares
 abbrev pub declared_module : (g : Gathers) → (modules : List (List ℕ × ℕ)) → (ends : List ℕ) → Scope g.Reported → Module → List Decl → Declared g.Reported

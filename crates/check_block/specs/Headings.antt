@@ -1,5 +1,6 @@
 -- Headings of procedures in blocks.
 use Rattle.std.specs.Prelude.{ℕ, ◌==◌, not, cond, List, length, Option, Some, None, Result, Ok, Err}
+use Rattle.m2_rule.specs.declared.rule.Rule.TheVariants as rule
 use Rattle.m2_tree.specs.declared.pos.Pos.{Pos}
 use Rattle.m2_tree.specs.declared.decl.Heading.{Heading}
 use Rattle.typed_tree.specs.declared.types.TypeNo.{TypeNo}
@@ -79,7 +80,7 @@ with_new s name n made = let t = with_made s made in (new_procedure t.0 name n t
 -- ---- a procedure of the module's own definition: its heading is the definition's
 
 abbrev pub reported_of_other : (g : Gathers) → Types → Pos → Procedure → Made → Result (Unit {0}) g.Reported
-reported_of_other g types at p m = reported_where g (not (agree (signature_of (Some m)) (signature_of (made_at types p.heading)))) at 50 (Ok tt)
+reported_of_other g types at p m = reported_where g (not (agree (signature_of (Some m)) (signature_of (made_at types p.heading)))) at rule.OtherHeading (Ok tt)
 
 abbrev pub with_awaited : (g : Gathers) → Scope g.Reported → Heading → Procedure → Result Made g.Reported → State (Unit {0}) g.Reported
 with_awaited g s h p made = (headed h.name.name (Ok (meaning.Procedure p)) s, made ▷ reported_of_other g s.types h.name.pos p)
@@ -92,7 +93,7 @@ nothing_made m = m ▷ λ x. Ok tt
 abbrev pub headed_as : (g : Gathers) → Scope g.Reported → Heading → (number : ℕ) → Result Made g.Reported → Standing → State (Unit {0}) g.Reported
 headed_as g s h n made Free = with_new s h.name.name n made
 headed_as g s h n made (Awaited p) = with_awaited g s h p made
-headed_as g s h n made Taken = (s, beside g (nothing_made made) (reported g h.name.pos 31))
+headed_as g s h n made Taken = (s, beside g (nothing_made made) (reported g h.name.pos rule.DeclaredTwice))
 
 -- a heading in a block; the number is for a procedure in a procedure
 abbrev pub with_heading : (g : Gathers) → Scope g.Reported → (number : ℕ) → Heading → State (Unit {0}) g.Reported

@@ -13,6 +13,7 @@ use crate::heading::{Standing, standing_known, with_heading};
 use crate::naming::mark_decls;
 use check_scope::{Elaborated, Fault, Known, Scope, beside, finish, reported};
 use check_type_expr::{nothing_of, type_of};
+use m2_rule::Rule;
 use m2_tree::{Decl, Heading, Ident, Items, Module, Pos, Variables};
 use m2_types::{
     begin_all, declare_constants, declare_types, declare_variables, import_all, with_variable_type,
@@ -222,7 +223,7 @@ fn reported_of_lack(at: Pos, scope: &Scope<Fault>) -> Elaborated<()>
     ensures { result ≡ reported_of_lack least at scope.now }
 {
     if lacks(&scope.own) {
-        return reported(at, 51);
+        return reported(at, Rule::MissingProcedure);
     }
     Ok(())
 }

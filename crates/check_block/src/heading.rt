@@ -8,6 +8,7 @@ ghost use Rattle.check_block.specs.Headings.{standing_of, standing_elaborated, s
 use crate::agreeing::{agree, signature_of};
 use check_scope::{Elaborated, Fault, Known, Origin, Scope, beside, reported};
 use check_type_expr::{heading_of, names_of, nothing_of, with_made};
+use m2_rule::Rule;
 use m2_tree::{Heading, Pos};
 use m2_types::{procedure_meaning, with_procedure_type};
 use std::alloc::{AllocError, Global};
@@ -158,7 +159,7 @@ fn reported_of_other(types: &Types, at: Pos, procedure: Procedure, made: &Made) 
 {
     let awaited = made_of(types, procedure.heading);
     if !agree(signature_of(Some(made)), signature_of(awaited)) {
-        return reported(at, 50);
+        return reported(at, Rule::OtherHeading);
     }
     Ok(())
 }
@@ -216,7 +217,10 @@ fn headed_as(
     match standing {
         Standing::Free => with_new(alloc, scope, heading.name.name.as_bytes(), number, made),
         Standing::Awaited(procedure) => with_awaited(alloc, scope, heading, procedure, &made),
-        Standing::Taken => Ok(beside(nothing_made(&made), reported(heading.name.pos, 31))),
+        Standing::Taken => Ok(beside(
+            nothing_made(&made),
+            reported(heading.name.pos, Rule::DeclaredTwice),
+        )),
     }
 }
 

@@ -1,5 +1,6 @@
 -- Arguments against formals.
 use Rattle.std.specs.Prelude.{ℕ, ℤ, pos, Bool, false, not, ◌&&◌, cond, List, [], ◌∷◌, ◌++◌, Option, Some, None, Result, Ok}
+use Rattle.m2_rule.specs.declared.rule.Rule.TheVariants as rule
 use Rattle.m2_tree.specs.declared.pos.Pos.{Pos}
 use Rattle.typed_tree.specs.declared.types.TypeNo.{TypeNo}
 use Rattle.typed_tree.specs.declared.computed.Argument.{Argument}
@@ -39,67 +40,67 @@ elements_suit types t u = elements_suit_in types t (array_at types u)
 -- ---- VAR formals: a variable of the same type
 
 abbrev pub variable_passed : (g : Gathers) → TypeNo → Pos → Designated → Result Argument g.Reported
-variable_passed g t at (designated.Variable u d) = reported_where g (not (are_same u t)) at 44 (Ok (argument.Place d))
-variable_passed g t at (designated.Value x) = reported g at 44
-variable_passed g t at (designated.Open u slot) = reported g at 44
-variable_passed g t at (designated.Type u) = reported g at 44
-variable_passed g t at (designated.Procedure p) = reported g at 44
-variable_passed g t at (designated.Nested p) = reported g at 44
-variable_passed g t at (designated.Standard f) = reported g at 44
-variable_passed g t at (designated.Module k) = reported g at 44
+variable_passed g t at (designated.Variable u d) = reported_where g (not (are_same u t)) at rule.NoVariable (Ok (argument.Place d))
+variable_passed g t at (designated.Value x) = reported g at rule.NoVariable
+variable_passed g t at (designated.Open u slot) = reported g at rule.NoVariable
+variable_passed g t at (designated.Type u) = reported g at rule.NoVariable
+variable_passed g t at (designated.Procedure p) = reported g at rule.NoVariable
+variable_passed g t at (designated.Nested p) = reported g at rule.NoVariable
+variable_passed g t at (designated.Standard f) = reported g at rule.NoVariable
+variable_passed g t at (designated.Module k) = reported g at rule.NoVariable
 
 abbrev pub open_passed : (g : Gathers) → Types → TypeNo → Pos → Designated → Result Argument g.Reported
-open_passed g types t at (designated.Variable u d) = reported_where g (not (elements_suit types t u)) at 44 (Ok (argument.Array u d))
-open_passed g types t at (designated.Open u slot) = reported_where g (not (are_same u t)) at 44 (Ok (argument.Open slot))
-open_passed g types t at (designated.Value x) = reported g at 44
-open_passed g types t at (designated.Type u) = reported g at 44
-open_passed g types t at (designated.Procedure p) = reported g at 44
-open_passed g types t at (designated.Nested p) = reported g at 44
-open_passed g types t at (designated.Standard f) = reported g at 44
-open_passed g types t at (designated.Module k) = reported g at 44
+open_passed g types t at (designated.Variable u d) = reported_where g (not (elements_suit types t u)) at rule.NoVariable (Ok (argument.Array u d))
+open_passed g types t at (designated.Open u slot) = reported_where g (not (are_same u t)) at rule.NoVariable (Ok (argument.Open slot))
+open_passed g types t at (designated.Value x) = reported g at rule.NoVariable
+open_passed g types t at (designated.Type u) = reported g at rule.NoVariable
+open_passed g types t at (designated.Procedure p) = reported g at rule.NoVariable
+open_passed g types t at (designated.Nested p) = reported g at rule.NoVariable
+open_passed g types t at (designated.Standard f) = reported g at rule.NoVariable
+open_passed g types t at (designated.Module k) = reported g at rule.NoVariable
 
 -- ---- value formals
 
 abbrev pub text_argument : (g : Gathers) → TypeNo → Pos → Value → Result Argument g.Reported
-text_argument g t at (constant.Text text) = reported_where g (not (are_same t char)) at 43 (Ok (argument.Text text))
-text_argument g t at (constant.Number n) = reported g at 43
-text_argument g t at (constant.Scalar s) = reported g at 43
-text_argument g t at (constant.Set bits) = reported g at 43
+text_argument g t at (constant.Text text) = reported_where g (not (are_same t char)) at rule.WrongArgument (Ok (argument.Text text))
+text_argument g t at (constant.Number n) = reported g at rule.WrongArgument
+text_argument g t at (constant.Scalar s) = reported g at rule.WrongArgument
+text_argument g t at (constant.Set bits) = reported g at rule.WrongArgument
 
 abbrev pub text_passed : (g : Gathers) → TypeNo → Pos → Computed → Result Argument g.Reported
 text_passed g t at (value.Constant v) = text_argument g t at v
-text_passed g t at (value.Scalar u b e) = reported g at 43
-text_passed g t at (value.Set e) = reported g at 43
-text_passed g t at (value.Routine u e) = reported g at 43
-text_passed g t at (value.Procedure p) = reported g at 43
-text_passed g t at (value.Whole u d) = reported g at 43
-text_passed g t at value.Untaken = reported g at 43
+text_passed g t at (value.Scalar u b e) = reported g at rule.WrongArgument
+text_passed g t at (value.Set e) = reported g at rule.WrongArgument
+text_passed g t at (value.Routine u e) = reported g at rule.WrongArgument
+text_passed g t at (value.Procedure p) = reported g at rule.WrongArgument
+text_passed g t at (value.Whole u d) = reported g at rule.WrongArgument
+text_passed g t at value.Untaken = reported g at rule.WrongArgument
 
 -- an open array, an array, or a string where the elements are CHAR
 abbrev pub open_value : (g : Gathers) → Types → TypeNo → Pos → Designated → Result Argument g.Reported
-open_value g types t at (designated.Variable u d) = reported_where g (not (elements_suit types t u)) at 43 (Ok (argument.Array u d))
-open_value g types t at (designated.Open u slot) = reported_where g (not (are_same u t)) at 43 (Ok (argument.Open slot))
+open_value g types t at (designated.Variable u d) = reported_where g (not (elements_suit types t u)) at rule.WrongArgument (Ok (argument.Array u d))
+open_value g types t at (designated.Open u slot) = reported_where g (not (are_same u t)) at rule.WrongArgument (Ok (argument.Open slot))
 open_value g types t at (designated.Value x) = text_passed g t at x
-open_value g types t at (designated.Type u) = reported g at 40
-open_value g types t at (designated.Procedure p) = reported g at 43
-open_value g types t at (designated.Nested p) = reported g at 53
-open_value g types t at (designated.Standard f) = reported g at 53
-open_value g types t at (designated.Module k) = reported g at 40
+open_value g types t at (designated.Type u) = reported g at rule.WrongType
+open_value g types t at (designated.Procedure p) = reported g at rule.WrongArgument
+open_value g types t at (designated.Nested p) = reported g at rule.NoProcedureValue
+open_value g types t at (designated.Standard f) = reported g at rule.NoProcedureValue
+open_value g types t at (designated.Module k) = reported g at rule.WrongType
 
 -- for an array or a record a variable of the same type
 abbrev pub whole_passed : (g : Gathers) → TypeNo → Pos → Designated → Result Argument g.Reported
-whole_passed g t at (designated.Variable u d) = reported_where g (not (are_same u t)) at 43 (Ok (argument.Place d))
-whole_passed g t at (designated.Value x) = reported g at 43
-whole_passed g t at (designated.Open u slot) = reported g at 43
-whole_passed g t at (designated.Type u) = reported g at 40
-whole_passed g t at (designated.Procedure p) = reported g at 43
-whole_passed g t at (designated.Nested p) = reported g at 53
-whole_passed g t at (designated.Standard f) = reported g at 53
-whole_passed g t at (designated.Module k) = reported g at 40
+whole_passed g t at (designated.Variable u d) = reported_where g (not (are_same u t)) at rule.WrongArgument (Ok (argument.Place d))
+whole_passed g t at (designated.Value x) = reported g at rule.WrongArgument
+whole_passed g t at (designated.Open u slot) = reported g at rule.WrongArgument
+whole_passed g t at (designated.Type u) = reported g at rule.WrongType
+whole_passed g t at (designated.Procedure p) = reported g at rule.WrongArgument
+whole_passed g t at (designated.Nested p) = reported g at rule.NoProcedureValue
+whole_passed g t at (designated.Standard f) = reported g at rule.NoProcedureValue
+whole_passed g t at (designated.Module k) = reported g at rule.WrongType
 
 -- else what is assignment compatible
 abbrev pub simple_passed : (g : Gathers) → Types → TypeNo → Pos → Designated → Result Argument g.Reported
-simple_passed g types t at d = taken g types at d ▷ λ x. value_suited g 43 types t at x ▷ λ e. Ok (argument.Value t e)
+simple_passed g types t at d = taken g types at d ▷ λ x. value_suited g rule.WrongArgument types t at x ▷ λ e. Ok (argument.Value t e)
 
 abbrev pub passed_as : (g : Gathers) → Types → TypeNo → Pos → Designated → Class → Result Argument g.Reported
 passed_as g types t at d (class.Scalar s) = simple_passed g types t at d

@@ -1,5 +1,6 @@
 -- What is called, and what it asks for.
 use Rattle.std.specs.Prelude.{ℕ, not, ◌==◌, List, length, Option, Some, None, Result, Ok}
+use Rattle.m2_rule.specs.declared.rule.Rule.TheVariants as rule
 use Rattle.m2_tree.specs.declared.pos.Pos.{Pos}
 use Rattle.typed_tree.specs.declared.types.TypeNo.{TypeNo}
 use Rattle.typed_tree.specs.declared.computed.Argument.{Argument}
@@ -21,9 +22,9 @@ use Rattle.check_call.specs.declared.callee.Called.TheVariants as called
 
 abbrev pub held_by : (g : Gathers) → Pos → TypeNo → Place → Class → Result Called g.Reported
 held_by g at t d class.Procedure = Ok (called.Routine t (callee.Variable t d))
-held_by g at t d (class.Scalar s) = reported g at 40
-held_by g at t d class.Set = reported g at 40
-held_by g at t d class.Whole = reported g at 40
+held_by g at t d (class.Scalar s) = reported g at rule.WrongType
+held_by g at t d class.Set = reported g at rule.WrongType
+held_by g at t d class.Whole = reported g at rule.WrongType
 
 -- a procedure, or a variable of a procedure type
 abbrev pub callee_of : (g : Gathers) → Types → Pos → Designated → Result Called g.Reported
@@ -31,30 +32,30 @@ callee_of g types at (designated.Procedure p) = Ok (called.Routine p.heading (ca
 callee_of g types at (designated.Nested p) = Ok (called.Routine p.heading (callee.Nested p))
 callee_of g types at (designated.Variable t d) = held_by g at t d (class_at types t)
 callee_of g types at (designated.Standard f) = Ok (called.Standard f)
-callee_of g types at (designated.Value x) = reported g at 40
-callee_of g types at (designated.Open t slot) = reported g at 40
-callee_of g types at (designated.Type t) = reported g at 40
-callee_of g types at (designated.Module k) = reported g at 40
+callee_of g types at (designated.Value x) = reported g at rule.WrongType
+callee_of g types at (designated.Open t slot) = reported g at rule.WrongType
+callee_of g types at (designated.Type t) = reported g at rule.WrongType
+callee_of g types at (designated.Module k) = reported g at rule.WrongType
 
 abbrev pub counted : (g : Gathers) → Pos → (asked there : ℕ) → Result (Unit {0}) g.Reported
-counted g at asked there = reported_where g (not (asked == there)) at 42 (Ok tt)
+counted g at asked there = reported_where g (not (asked == there)) at rule.ArgumentCount (Ok tt)
 
 abbrev pub function_with : (g : Gathers) → Pos → (asked there : ℕ) → Option TypeNo → Result TypeNo g.Reported
-function_with g at asked there None = reported g at 40
+function_with g at asked there None = reported g at rule.WrongType
 function_with g at asked there (Some t) = counted g at asked there ▷ λ fine. Ok t
 
 -- the type that a function gives, which is called with so many arguments
 abbrev pub function_of : (g : Gathers) → Pos → Option Signature → (arguments : ℕ) → Result TypeNo g.Reported
-function_of g at None n = reported g at 40
+function_of g at None n = reported g at rule.WrongType
 function_of g at (Some h) n = function_with g at (length h.formals) n h.result
 
 abbrev pub proper_with : (g : Gathers) → Pos → (asked there : ℕ) → Option TypeNo → Result (Unit {0}) g.Reported
 proper_with g at asked there None = counted g at asked there
-proper_with g at asked there (Some t) = reported g at 40
+proper_with g at asked there (Some t) = reported g at rule.WrongType
 
 -- a procedure that is called as a statement with so many arguments
 abbrev pub proper_of : (g : Gathers) → Pos → Option Signature → (arguments : ℕ) → Result (Unit {0}) g.Reported
-proper_of g at None n = reported g at 40
+proper_of g at None n = reported g at rule.WrongType
 proper_of g at (Some h) n = proper_with g at (length h.formals) n h.result
 
 abbrev pub call_by : List Argument → Callee → Call

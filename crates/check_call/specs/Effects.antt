@@ -1,5 +1,6 @@
 -- What assignments and standard procedures do.
 use Rattle.std.specs.Prelude.{ℤ, pos, not, cond, int_lt, Option, Some, None, Result, Ok}
+use Rattle.m2_rule.specs.declared.rule.Rule.TheVariants as rule
 use Rattle.m2_tree.specs.declared.pos.Pos.{Pos}
 use Rattle.typed_tree.specs.declared.types.TypeNo.{TypeNo}
 use Rattle.typed_tree.specs.declared.computed.Place.{Place}
@@ -35,15 +36,15 @@ use Rattle.check_call.specs.declared.effect.Target.TheVariants as target
 abbrev pub target_of : (g : Gathers) → Pos → Designated → Result Target g.Reported
 target_of g at (designated.Variable t d) = Ok (target.Variable t d)
 target_of g at (designated.Open t slot) = Ok target.Open
-target_of g at (designated.Value x) = reported g at 40
-target_of g at (designated.Type t) = reported g at 40
-target_of g at (designated.Procedure p) = reported g at 40
-target_of g at (designated.Nested p) = reported g at 40
-target_of g at (designated.Standard f) = reported g at 40
-target_of g at (designated.Module k) = reported g at 40
+target_of g at (designated.Value x) = reported g at rule.WrongType
+target_of g at (designated.Type t) = reported g at rule.WrongType
+target_of g at (designated.Procedure p) = reported g at rule.WrongType
+target_of g at (designated.Nested p) = reported g at rule.WrongType
+target_of g at (designated.Standard f) = reported g at rule.WrongType
+target_of g at (designated.Module k) = reported g at rule.WrongType
 
 abbrev pub target_at : (g : Gathers) → Pos → Result Designated (Meaningless g.Reported) → Result Target g.Reported
-target_at g at d = of_sort g at 40 d ▷ target_of g at
+target_at g at d = of_sort g at rule.WrongType d ▷ target_of g at
 
 abbrev pub stored : TypeNo → Place → Accepted → TypedStmt
 stored t d (accepted.Value e) = step.Assign d t e
@@ -52,8 +53,8 @@ stored t d (accepted.Text text) = step.CopyText d t text
 
 -- nothing is assigned to an open array
 abbrev pub assigned_to : (g : Gathers) → Types → Target → Pos → Computed → Result TypedStmt g.Reported
-assigned_to g types target.Open at x = reported g at 41
-assigned_to g types (target.Variable t d) at x = suited g 41 types t at x ▷ λ a. Ok (stored t d a)
+assigned_to g types target.Open at x = reported g at rule.NotAssignable
+assigned_to g types (target.Variable t d) at x = suited g rule.NotAssignable types t at x ▷ λ a. Ok (stored t d a)
 
 abbrev pub assigned : (g : Gathers) → Types → Result Target g.Reported → Pos → Result Computed g.Reported → Result TypedStmt g.Reported
 assigned g types left at x = both g left x ▷ λ p. assigned_to g types p.0 at p.1
@@ -62,19 +63,19 @@ assigned g types left at x = both g left x ▷ λ p. assigned_to g types p.0 at 
 
 abbrev pub changed_as : (g : Gathers) → Pos → TypeNo → Place → Class → Result (TypeNo × Place) g.Reported
 changed_as g at t d (class.Scalar s) = Ok (t, d)
-changed_as g at t d class.Set = reported g at 44
-changed_as g at t d class.Procedure = reported g at 44
-changed_as g at t d class.Whole = reported g at 44
+changed_as g at t d class.Set = reported g at rule.NoVariable
+changed_as g at t d class.Procedure = reported g at rule.NoVariable
+changed_as g at t d class.Whole = reported g at rule.NoVariable
 
 abbrev pub changed : (g : Gathers) → Types → Pos → Designated → Result (TypeNo × Place) g.Reported
 changed g types at (designated.Variable t d) = changed_as g at t d (class_at types t)
-changed g types at (designated.Value x) = reported g at 44
-changed g types at (designated.Open t slot) = reported g at 44
-changed g types at (designated.Type t) = reported g at 44
-changed g types at (designated.Procedure p) = reported g at 44
-changed g types at (designated.Nested p) = reported g at 44
-changed g types at (designated.Standard f) = reported g at 44
-changed g types at (designated.Module k) = reported g at 44
+changed g types at (designated.Value x) = reported g at rule.NoVariable
+changed g types at (designated.Open t slot) = reported g at rule.NoVariable
+changed g types at (designated.Type t) = reported g at rule.NoVariable
+changed g types at (designated.Procedure p) = reported g at rule.NoVariable
+changed g types at (designated.Nested p) = reported g at rule.NoVariable
+changed g types at (designated.Standard f) = reported g at rule.NoVariable
+changed g types at (designated.Module k) = reported g at rule.NoVariable
 
 -- a number for which nothing is asked is an INTEGER where it is negative
 abbrev pub untyped : ℤ → Option TypeNo → TypeNo
@@ -82,18 +83,18 @@ untyped n None = cond (int_lt n (pos 0)) integer cardinal
 untyped n (Some t) = t
 
 abbrev pub known_amount : (g : Gathers) → Pos → Option Ordinal → Result TypedExpr g.Reported
-known_amount g at None = reported g at 43
+known_amount g at None = reported g at rule.WrongArgument
 known_amount g at (Some a) = Ok (expr.Constant (untyped a.number a.sort) a.number)
 
 -- an INTEGER, a CARDINAL or a number
 abbrev pub amount : (g : Gathers) → Pos → Computed → Result TypedExpr g.Reported
 amount g at (value.Constant v) = known_amount g at (whole_number v)
-amount g at (value.Scalar t b e) = reported_where g (not (is_numeric b)) at 43 (Ok e)
-amount g at (value.Set e) = reported g at 43
-amount g at (value.Routine t e) = reported g at 43
-amount g at (value.Procedure p) = reported g at 43
-amount g at (value.Whole t d) = reported g at 43
-amount g at value.Untaken = reported g at 43
+amount g at (value.Scalar t b e) = reported_where g (not (is_numeric b)) at rule.WrongArgument (Ok e)
+amount g at (value.Set e) = reported g at rule.WrongArgument
+amount g at (value.Routine t e) = reported g at rule.WrongArgument
+amount g at (value.Procedure p) = reported g at rule.WrongArgument
+amount g at (value.Whole t d) = reported g at rule.WrongArgument
+amount g at value.Untaken = reported g at rule.WrongArgument
 
 abbrev pub change_by : (g : Gathers) → Change → Result (TypeNo × Place) g.Reported → Result TypedExpr g.Reported → Result TypedStmt g.Reported
 change_by g o variable by = both g variable by ▷ λ p. Ok (step.Change o p.0.1 p.0.0 p.1)
@@ -102,32 +103,32 @@ change_by g o variable by = both g variable by ▷ λ p. Ok (step.Change o p.0.1
 
 abbrev pub set_as : (g : Gathers) → Pos → Place → Class → Result Place g.Reported
 set_as g at d class.Set = Ok d
-set_as g at d (class.Scalar s) = reported g at 44
-set_as g at d class.Procedure = reported g at 44
-set_as g at d class.Whole = reported g at 44
+set_as g at d (class.Scalar s) = reported g at rule.NoVariable
+set_as g at d class.Procedure = reported g at rule.NoVariable
+set_as g at d class.Whole = reported g at rule.NoVariable
 
 abbrev pub set_variable : (g : Gathers) → Types → Pos → Designated → Result Place g.Reported
 set_variable g types at (designated.Variable t d) = set_as g at d (class_at types t)
-set_variable g types at (designated.Value x) = reported g at 44
-set_variable g types at (designated.Open t slot) = reported g at 44
-set_variable g types at (designated.Type t) = reported g at 44
-set_variable g types at (designated.Procedure p) = reported g at 44
-set_variable g types at (designated.Nested p) = reported g at 44
-set_variable g types at (designated.Standard f) = reported g at 44
-set_variable g types at (designated.Module k) = reported g at 44
+set_variable g types at (designated.Value x) = reported g at rule.NoVariable
+set_variable g types at (designated.Open t slot) = reported g at rule.NoVariable
+set_variable g types at (designated.Type t) = reported g at rule.NoVariable
+set_variable g types at (designated.Procedure p) = reported g at rule.NoVariable
+set_variable g types at (designated.Nested p) = reported g at rule.NoVariable
+set_variable g types at (designated.Standard f) = reported g at rule.NoVariable
+set_variable g types at (designated.Module k) = reported g at rule.NoVariable
 
 abbrev pub element_known : (g : Gathers) → Pos → Option Ordinal → Result TypedExpr g.Reported
-element_known g at None = reported g at 43
-element_known g at (Some a) = reported_where g (not (is_between (pos 0) a.number (pos 31))) at 52 (Ok (expr.Constant (untyped a.number a.sort) a.number))
+element_known g at None = reported g at rule.WrongArgument
+element_known g at (Some a) = reported_where g (not (is_between (pos 0) a.number (pos 31))) at rule.OutOfRange (Ok (expr.Constant (untyped a.number a.sort) a.number))
 
 abbrev pub element : (g : Gathers) → Pos → Computed → Result TypedExpr g.Reported
 element g at (value.Constant v) = element_known g at (whole_number v)
-element g at (value.Scalar t b e) = reported_where g (not (is_numeric b)) at 43 (Ok e)
-element g at (value.Set e) = reported g at 43
-element g at (value.Routine t e) = reported g at 43
-element g at (value.Procedure p) = reported g at 43
-element g at (value.Whole t d) = reported g at 43
-element g at value.Untaken = reported g at 43
+element g at (value.Scalar t b e) = reported_where g (not (is_numeric b)) at rule.WrongArgument (Ok e)
+element g at (value.Set e) = reported g at rule.WrongArgument
+element g at (value.Routine t e) = reported g at rule.WrongArgument
+element g at (value.Procedure p) = reported g at rule.WrongArgument
+element g at (value.Whole t d) = reported g at rule.WrongArgument
+element g at value.Untaken = reported g at rule.WrongArgument
 
 abbrev pub membership_of : (g : Gathers) → Membership → Result Place g.Reported → Result TypedExpr g.Reported → Result TypedStmt g.Reported
 membership_of g o set x = both g set x ▷ λ p. Ok (step.Membership o p.0 p.1)
@@ -135,4 +136,4 @@ membership_of g o set x = both g set x ▷ λ p. Ok (step.Membership o p.0 p.1)
 -- ---- Put: a CHAR
 
 abbrev pub put : (g : Gathers) → Types → Pos → Computed → Result TypedStmt g.Reported
-put g types at x = value_suited g 43 types char at x ▷ λ e. Ok (step.Put e)
+put g types at x = value_suited g rule.WrongArgument types char at x ▷ λ e. Ok (step.Put e)

@@ -6,6 +6,7 @@ ghost use Rattle.check_call.specs.Actuals.{starts_at_zero, elements_suit_in, ele
 
 use check_operator::{Class, Computed, Designated, array_of, class_of, taken, value_suited};
 use check_scope::{Elaborated, both, reported};
+use m2_rule::Rule;
 use m2_tree::{Items, Pos};
 use std::alloc::AllocError;
 use typed_tree::{Argument, CHAR, Formal, Scalar, TypeNo, Types, Value, are_same, scalar_of};
@@ -44,20 +45,20 @@ fn variable_passed(t: TypeNo, at: Pos, designated: Designated) -> Elaborated<Arg
     match designated {
         Designated::Variable(u, place) => {
             if !are_same(u, t) {
-                return reported(at, 44);
+                return reported(at, Rule::NoVariable);
             }
             Ok(Argument::Place(place))
         }
         Designated::Value(value) => {
             drop(value);
-            reported(at, 44)
+            reported(at, Rule::NoVariable)
         }
-        Designated::Open(_, _) => reported(at, 44),
-        Designated::Type(_) => reported(at, 44),
-        Designated::Procedure(_) => reported(at, 44),
-        Designated::Nested(_) => reported(at, 44),
-        Designated::Standard(_) => reported(at, 44),
-        Designated::Module(_) => reported(at, 44),
+        Designated::Open(_, _) => reported(at, Rule::NoVariable),
+        Designated::Type(_) => reported(at, Rule::NoVariable),
+        Designated::Procedure(_) => reported(at, Rule::NoVariable),
+        Designated::Nested(_) => reported(at, Rule::NoVariable),
+        Designated::Standard(_) => reported(at, Rule::NoVariable),
+        Designated::Module(_) => reported(at, Rule::NoVariable),
     }
 }
 
@@ -68,25 +69,25 @@ fn open_passed(types: &Types, t: TypeNo, at: Pos, designated: Designated) -> Ela
     match designated {
         Designated::Variable(u, place) => {
             if !elements_suit(types, t, u) {
-                return reported(at, 44);
+                return reported(at, Rule::NoVariable);
             }
             Ok(Argument::Array(u, place))
         }
         Designated::Open(u, slot) => {
             if !are_same(u, t) {
-                return reported(at, 44);
+                return reported(at, Rule::NoVariable);
             }
             Ok(Argument::Open(slot))
         }
         Designated::Value(value) => {
             drop(value);
-            reported(at, 44)
+            reported(at, Rule::NoVariable)
         }
-        Designated::Type(_) => reported(at, 44),
-        Designated::Procedure(_) => reported(at, 44),
-        Designated::Nested(_) => reported(at, 44),
-        Designated::Standard(_) => reported(at, 44),
-        Designated::Module(_) => reported(at, 44),
+        Designated::Type(_) => reported(at, Rule::NoVariable),
+        Designated::Procedure(_) => reported(at, Rule::NoVariable),
+        Designated::Nested(_) => reported(at, Rule::NoVariable),
+        Designated::Standard(_) => reported(at, Rule::NoVariable),
+        Designated::Module(_) => reported(at, Rule::NoVariable),
     }
 }
 
@@ -96,13 +97,13 @@ fn text_argument(t: TypeNo, at: Pos, value: Value) -> Elaborated<Argument>
     match value {
         Value::Text(text) => {
             if !are_same(t, CHAR) {
-                return reported(at, 43);
+                return reported(at, Rule::WrongArgument);
             }
             Ok(Argument::Text(text))
         }
-        Value::Number(_) => reported(at, 43),
-        Value::Scalar(_) => reported(at, 43),
-        Value::Set(_) => reported(at, 43),
+        Value::Number(_) => reported(at, Rule::WrongArgument),
+        Value::Scalar(_) => reported(at, Rule::WrongArgument),
+        Value::Set(_) => reported(at, Rule::WrongArgument),
     }
 }
 
@@ -111,12 +112,12 @@ fn text_passed(t: TypeNo, at: Pos, value: Computed) -> Elaborated<Argument>
 {
     match value {
         Computed::Constant(value) => text_argument(t, at, value),
-        Computed::Scalar(_, _, _) => reported(at, 43),
-        Computed::Set(_) => reported(at, 43),
-        Computed::Routine(_, _) => reported(at, 43),
-        Computed::Procedure(_) => reported(at, 43),
-        Computed::Whole(_, _) => reported(at, 43),
-        Computed::Untaken => reported(at, 43),
+        Computed::Scalar(_, _, _) => reported(at, Rule::WrongArgument),
+        Computed::Set(_) => reported(at, Rule::WrongArgument),
+        Computed::Routine(_, _) => reported(at, Rule::WrongArgument),
+        Computed::Procedure(_) => reported(at, Rule::WrongArgument),
+        Computed::Whole(_, _) => reported(at, Rule::WrongArgument),
+        Computed::Untaken => reported(at, Rule::WrongArgument),
     }
 }
 
@@ -127,22 +128,22 @@ fn open_value(types: &Types, t: TypeNo, at: Pos, designated: Designated) -> Elab
     match designated {
         Designated::Variable(u, place) => {
             if !elements_suit(types, t, u) {
-                return reported(at, 43);
+                return reported(at, Rule::WrongArgument);
             }
             Ok(Argument::Array(u, place))
         }
         Designated::Open(u, slot) => {
             if !are_same(u, t) {
-                return reported(at, 43);
+                return reported(at, Rule::WrongArgument);
             }
             Ok(Argument::Open(slot))
         }
         Designated::Value(value) => text_passed(t, at, value),
-        Designated::Type(_) => reported(at, 40),
-        Designated::Procedure(_) => reported(at, 43),
-        Designated::Nested(_) => reported(at, 53),
-        Designated::Standard(_) => reported(at, 53),
-        Designated::Module(_) => reported(at, 40),
+        Designated::Type(_) => reported(at, Rule::WrongType),
+        Designated::Procedure(_) => reported(at, Rule::WrongArgument),
+        Designated::Nested(_) => reported(at, Rule::NoProcedureValue),
+        Designated::Standard(_) => reported(at, Rule::NoProcedureValue),
+        Designated::Module(_) => reported(at, Rule::WrongType),
     }
 }
 
@@ -153,20 +154,20 @@ fn whole_passed(t: TypeNo, at: Pos, designated: Designated) -> Elaborated<Argume
     match designated {
         Designated::Variable(u, place) => {
             if !are_same(u, t) {
-                return reported(at, 43);
+                return reported(at, Rule::WrongArgument);
             }
             Ok(Argument::Place(place))
         }
         Designated::Value(value) => {
             drop(value);
-            reported(at, 43)
+            reported(at, Rule::WrongArgument)
         }
-        Designated::Open(_, _) => reported(at, 43),
-        Designated::Type(_) => reported(at, 40),
-        Designated::Procedure(_) => reported(at, 43),
-        Designated::Nested(_) => reported(at, 53),
-        Designated::Standard(_) => reported(at, 53),
-        Designated::Module(_) => reported(at, 40),
+        Designated::Open(_, _) => reported(at, Rule::WrongArgument),
+        Designated::Type(_) => reported(at, Rule::WrongType),
+        Designated::Procedure(_) => reported(at, Rule::WrongArgument),
+        Designated::Nested(_) => reported(at, Rule::NoProcedureValue),
+        Designated::Standard(_) => reported(at, Rule::NoProcedureValue),
+        Designated::Module(_) => reported(at, Rule::WrongType),
     }
 }
 
@@ -175,7 +176,7 @@ fn simple_passed(types: &Types, t: TypeNo, at: Pos, designated: Designated) -> E
 {
     match taken(types, at, designated) {
         Err(fault) => Err(fault),
-        Ok(value) => match value_suited(43, types, t, at, value) {
+        Ok(value) => match value_suited(Rule::WrongArgument, types, t, at, value) {
             Err(fault) => Err(fault),
             Ok(e) => Ok(Argument::Value(t, e)),
         },

@@ -8,6 +8,7 @@ ghost use Rattle.check_call.specs.Callees.{held_by, callee_of, counted, function
 
 use check_operator::{Class, Designated, class_of};
 use check_scope::{Elaborated, reported};
+use m2_rule::Rule;
 use m2_tree::{Items, Pos};
 use typed_tree::{
     Argument, Call, LocalProcedure, Place, Procedure, Signature, Standard, TypeNo, Types,
@@ -35,9 +36,9 @@ fn held_by(types: &Types, at: Pos, t: TypeNo, place: Place) -> Elaborated<Called
 {
     match class_of(types, t) {
         Class::Procedure => Ok(Called::Routine(t, Callee::Variable(t, place))),
-        Class::Scalar(_) => reported(at, 40),
-        Class::Set => reported(at, 40),
-        Class::Whole => reported(at, 40),
+        Class::Scalar(_) => reported(at, Rule::WrongType),
+        Class::Set => reported(at, Rule::WrongType),
+        Class::Whole => reported(at, Rule::WrongType),
     }
 }
 
@@ -52,11 +53,11 @@ pub fn callee_of(types: &Types, at: Pos, designated: Designated) -> Elaborated<C
         Designated::Standard(standard) => Ok(Called::Standard(standard)),
         Designated::Value(value) => {
             drop(value);
-            reported(at, 40)
+            reported(at, Rule::WrongType)
         }
-        Designated::Open(_, _) => reported(at, 40),
-        Designated::Type(_) => reported(at, 40),
-        Designated::Module(_) => reported(at, 40),
+        Designated::Open(_, _) => reported(at, Rule::WrongType),
+        Designated::Type(_) => reported(at, Rule::WrongType),
+        Designated::Module(_) => reported(at, Rule::WrongType),
     }
 }
 
@@ -64,7 +65,7 @@ fn counted(at: Pos, asked: usize, there: usize) -> Elaborated<()>
     ensures { result ≡ counted least at asked there }
 {
     if asked != there {
-        return reported(at, 42);
+        return reported(at, Rule::ArgumentCount);
     }
     Ok(())
 }
@@ -75,9 +76,9 @@ pub fn function_of(at: Pos, signature: Option<&Signature>, arguments: usize) -> 
     ensures { result ≡ function_of least at (option_copied signature.entry) arguments }
 {
     match signature {
-        None => reported(at, 40),
+        None => reported(at, Rule::WrongType),
         Some(signature) => match signature.result {
-            None => reported(at, 40),
+            None => reported(at, Rule::WrongType),
             Some(t) => match counted(at, signature.formals.len(), arguments) {
                 Err(fault) => Err(fault),
                 Ok(()) => Ok(t),
@@ -92,9 +93,9 @@ pub fn proper_of(at: Pos, signature: Option<&Signature>, arguments: usize) -> El
     ensures { result ≡ proper_of least at (option_copied signature.entry) arguments }
 {
     match signature {
-        None => reported(at, 40),
+        None => reported(at, Rule::WrongType),
         Some(signature) => match signature.result {
-            Some(_) => reported(at, 40),
+            Some(_) => reported(at, Rule::WrongType),
             None => counted(at, signature.formals.len(), arguments),
         },
     }

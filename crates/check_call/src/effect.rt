@@ -7,6 +7,7 @@ ghost use Rattle.check_call.specs.Effects.{target_of, target_at, stored, assigne
 use check_const_ops::{Ordinal, whole_number};
 use check_operator::{Accepted, Class, Computed, Designated, class_of, suited, value_suited};
 use check_scope::{Elaborated, Sought, both, of_sort, reported};
+use m2_rule::Rule;
 use m2_tree::Pos;
 use typed_tree::{
     CARDINAL, CHAR, Change, INTEGER, Membership, Place, TypeNo, TypedExpr, TypedStmt, Types,
@@ -29,13 +30,13 @@ fn target_of(at: Pos, designated: Designated) -> Elaborated<Target>
         Designated::Open(_, _) => Ok(Target::Open),
         Designated::Value(value) => {
             drop(value);
-            reported(at, 40)
+            reported(at, Rule::WrongType)
         }
-        Designated::Type(_) => reported(at, 40),
-        Designated::Procedure(_) => reported(at, 40),
-        Designated::Nested(_) => reported(at, 40),
-        Designated::Standard(_) => reported(at, 40),
-        Designated::Module(_) => reported(at, 40),
+        Designated::Type(_) => reported(at, Rule::WrongType),
+        Designated::Procedure(_) => reported(at, Rule::WrongType),
+        Designated::Nested(_) => reported(at, Rule::WrongType),
+        Designated::Standard(_) => reported(at, Rule::WrongType),
+        Designated::Module(_) => reported(at, Rule::WrongType),
     }
 }
 
@@ -43,7 +44,7 @@ fn target_of(at: Pos, designated: Designated) -> Elaborated<Target>
 pub fn target_at(at: Pos, designated: Sought<Designated>) -> Elaborated<Target>
     ensures { result ≡ target_at least at designated }
 {
-    match of_sort(at, 40, designated) {
+    match of_sort(at, Rule::WrongType, designated) {
         Err(fault) => Err(fault),
         Ok(designated) => target_of(at, designated),
     }
@@ -63,8 +64,8 @@ fn assigned_to(types: &Types, target: Target, at: Pos, value: Computed) -> Elabo
     ensures { result ≡ assigned_to least types.now target at value }
 {
     match target {
-        Target::Open => reported(at, 41),
-        Target::Variable(t, place) => match suited(41, types, t, at, value) {
+        Target::Open => reported(at, Rule::NotAssignable),
+        Target::Variable(t, place) => match suited(Rule::NotAssignable, types, t, at, value) {
             Err(fault) => Err(fault),
             Ok(accepted) => Ok(stored(t, place, accepted)),
         },
@@ -91,9 +92,9 @@ fn changed_as(at: Pos, t: TypeNo, place: Place, class: Class) -> Elaborated<(Typ
 {
     match class {
         Class::Scalar(_) => Ok((t, place)),
-        Class::Set => reported(at, 44),
-        Class::Procedure => reported(at, 44),
-        Class::Whole => reported(at, 44),
+        Class::Set => reported(at, Rule::NoVariable),
+        Class::Procedure => reported(at, Rule::NoVariable),
+        Class::Whole => reported(at, Rule::NoVariable),
     }
 }
 
@@ -105,14 +106,14 @@ pub fn changed(types: &Types, at: Pos, designated: Designated) -> Elaborated<(Ty
         Designated::Variable(t, place) => changed_as(at, t, place, class_of(types, t)),
         Designated::Value(value) => {
             drop(value);
-            reported(at, 44)
+            reported(at, Rule::NoVariable)
         }
-        Designated::Open(_, _) => reported(at, 44),
-        Designated::Type(_) => reported(at, 44),
-        Designated::Procedure(_) => reported(at, 44),
-        Designated::Nested(_) => reported(at, 44),
-        Designated::Standard(_) => reported(at, 44),
-        Designated::Module(_) => reported(at, 44),
+        Designated::Open(_, _) => reported(at, Rule::NoVariable),
+        Designated::Type(_) => reported(at, Rule::NoVariable),
+        Designated::Procedure(_) => reported(at, Rule::NoVariable),
+        Designated::Nested(_) => reported(at, Rule::NoVariable),
+        Designated::Standard(_) => reported(at, Rule::NoVariable),
+        Designated::Module(_) => reported(at, Rule::NoVariable),
     }
 }
 
@@ -121,9 +122,9 @@ fn set_as(at: Pos, place: Place, class: Class) -> Elaborated<Place>
 {
     match class {
         Class::Set => Ok(place),
-        Class::Scalar(_) => reported(at, 44),
-        Class::Procedure => reported(at, 44),
-        Class::Whole => reported(at, 44),
+        Class::Scalar(_) => reported(at, Rule::NoVariable),
+        Class::Procedure => reported(at, Rule::NoVariable),
+        Class::Whole => reported(at, Rule::NoVariable),
     }
 }
 
@@ -135,14 +136,14 @@ pub fn set_variable(types: &Types, at: Pos, designated: Designated) -> Elaborate
         Designated::Variable(t, place) => set_as(at, place, class_of(types, t)),
         Designated::Value(value) => {
             drop(value);
-            reported(at, 44)
+            reported(at, Rule::NoVariable)
         }
-        Designated::Open(_, _) => reported(at, 44),
-        Designated::Type(_) => reported(at, 44),
-        Designated::Procedure(_) => reported(at, 44),
-        Designated::Nested(_) => reported(at, 44),
-        Designated::Standard(_) => reported(at, 44),
-        Designated::Module(_) => reported(at, 44),
+        Designated::Open(_, _) => reported(at, Rule::NoVariable),
+        Designated::Type(_) => reported(at, Rule::NoVariable),
+        Designated::Procedure(_) => reported(at, Rule::NoVariable),
+        Designated::Nested(_) => reported(at, Rule::NoVariable),
+        Designated::Standard(_) => reported(at, Rule::NoVariable),
+        Designated::Module(_) => reported(at, Rule::NoVariable),
     }
 }
 
@@ -160,7 +161,7 @@ fn known_amount(at: Pos, a: Option<Ordinal>) -> Elaborated<TypedExpr>
     ensures { result ≡ known_amount least at a }
 {
     match a {
-        None => reported(at, 43),
+        None => reported(at, Rule::WrongArgument),
         Some(a) => Ok(TypedExpr::Constant(untyped(a), a.number)),
     }
 }
@@ -173,15 +174,15 @@ pub fn amount(at: Pos, value: Computed) -> Elaborated<TypedExpr>
         Computed::Constant(value) => known_amount(at, whole_number(&value)),
         Computed::Scalar(_, base, e) => {
             if !is_numeric(base) {
-                return reported(at, 43);
+                return reported(at, Rule::WrongArgument);
             }
             Ok(e)
         }
-        Computed::Set(_) => reported(at, 43),
-        Computed::Routine(_, _) => reported(at, 43),
-        Computed::Procedure(_) => reported(at, 43),
-        Computed::Whole(_, _) => reported(at, 43),
-        Computed::Untaken => reported(at, 43),
+        Computed::Set(_) => reported(at, Rule::WrongArgument),
+        Computed::Routine(_, _) => reported(at, Rule::WrongArgument),
+        Computed::Procedure(_) => reported(at, Rule::WrongArgument),
+        Computed::Whole(_, _) => reported(at, Rule::WrongArgument),
+        Computed::Untaken => reported(at, Rule::WrongArgument),
     }
 }
 
@@ -189,10 +190,10 @@ fn element_known(at: Pos, a: Option<Ordinal>) -> Elaborated<TypedExpr>
     ensures { result ≡ element_known least at a }
 {
     match a {
-        None => reported(at, 43),
+        None => reported(at, Rule::WrongArgument),
         Some(a) => {
             if !(0 <= a.number && a.number <= 31) {
-                return reported(at, 52);
+                return reported(at, Rule::OutOfRange);
             }
             Ok(TypedExpr::Constant(untyped(a), a.number))
         }
@@ -207,15 +208,15 @@ pub fn element(at: Pos, value: Computed) -> Elaborated<TypedExpr>
         Computed::Constant(value) => element_known(at, whole_number(&value)),
         Computed::Scalar(_, base, e) => {
             if !is_numeric(base) {
-                return reported(at, 43);
+                return reported(at, Rule::WrongArgument);
             }
             Ok(e)
         }
-        Computed::Set(_) => reported(at, 43),
-        Computed::Routine(_, _) => reported(at, 43),
-        Computed::Procedure(_) => reported(at, 43),
-        Computed::Whole(_, _) => reported(at, 43),
-        Computed::Untaken => reported(at, 43),
+        Computed::Set(_) => reported(at, Rule::WrongArgument),
+        Computed::Routine(_, _) => reported(at, Rule::WrongArgument),
+        Computed::Procedure(_) => reported(at, Rule::WrongArgument),
+        Computed::Whole(_, _) => reported(at, Rule::WrongArgument),
+        Computed::Untaken => reported(at, Rule::WrongArgument),
     }
 }
 
@@ -251,7 +252,7 @@ pub fn membership_of(
 pub fn put(types: &Types, at: Pos, value: Computed) -> Elaborated<TypedStmt>
     ensures { result ≡ put least types.now at value }
 {
-    match value_suited(43, types, CHAR, at, value) {
+    match value_suited(Rule::WrongArgument, types, CHAR, at, value) {
         Err(fault) => Err(fault),
         Ok(e) => Ok(TypedStmt::Put(e)),
     }

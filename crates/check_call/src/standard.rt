@@ -8,6 +8,7 @@ use check_const::{bound_by, scalar_type, unary_of};
 use check_const_ops::converted;
 use check_operator::{Computed, Designated, of_value};
 use check_scope::{Elaborated, both, reported};
+use m2_rule::Rule;
 use m2_tree::{Boxed, Pos};
 use std::alloc::{AllocError, Global};
 use typed_tree::{
@@ -94,7 +95,7 @@ fn unary_scalar(
     ensures { IfOk result (λ v. v ≡ unary_scalar least function at base e) }
 {
     if !unary_takes(function, base) {
-        return Ok(reported(at, 43));
+        return Ok(reported(at, Rule::WrongArgument));
     }
     Ok(Ok(unary_built(function, base, Boxed::new(alloc, e)?)))
 }
@@ -113,11 +114,11 @@ pub fn unary_at(
     match value {
         Computed::Constant(value) => Ok(of_value(unary_of(standard, at, &value))),
         Computed::Scalar(_, base, e) => unary_scalar(alloc, function, at, base, e),
-        Computed::Set(_) => Ok(reported(at, 43)),
-        Computed::Routine(_, _) => Ok(reported(at, 43)),
-        Computed::Procedure(_) => Ok(reported(at, 43)),
-        Computed::Whole(_, _) => Ok(reported(at, 43)),
-        Computed::Untaken => Ok(reported(at, 43)),
+        Computed::Set(_) => Ok(reported(at, Rule::WrongArgument)),
+        Computed::Routine(_, _) => Ok(reported(at, Rule::WrongArgument)),
+        Computed::Procedure(_) => Ok(reported(at, Rule::WrongArgument)),
+        Computed::Whole(_, _) => Ok(reported(at, Rule::WrongArgument)),
+        Computed::Untaken => Ok(reported(at, Rule::WrongArgument)),
     }
 }
 
@@ -129,14 +130,14 @@ pub fn type_named(types: &Types, at: Pos, designated: Designated) -> Elaborated<
         Designated::Type(t) => scalar_type(at, t, scalar_of(types, t)),
         Designated::Value(value) => {
             drop(value);
-            reported(at, 33)
+            reported(at, Rule::NoType)
         }
-        Designated::Variable(_, _) => reported(at, 33),
-        Designated::Open(_, _) => reported(at, 33),
-        Designated::Procedure(_) => reported(at, 33),
-        Designated::Nested(_) => reported(at, 33),
-        Designated::Standard(_) => reported(at, 33),
-        Designated::Module(_) => reported(at, 33),
+        Designated::Variable(_, _) => reported(at, Rule::NoType),
+        Designated::Open(_, _) => reported(at, Rule::NoType),
+        Designated::Procedure(_) => reported(at, Rule::NoType),
+        Designated::Nested(_) => reported(at, Rule::NoType),
+        Designated::Standard(_) => reported(at, Rule::NoType),
+        Designated::Module(_) => reported(at, Rule::NoType),
     }
 }
 
@@ -161,7 +162,7 @@ fn converted_scalar(
     ensures { IfOk result (λ v. v ≡ converted_scalar least t to at base e) }
 {
     if !is_numeric(base) {
-        return Ok(reported(at, 43));
+        return Ok(reported(at, Rule::WrongArgument));
     }
     let operand = Boxed::new(alloc, e)?;
     Ok(Ok(Computed::Scalar(t, to.base, TypedExpr::Val(t, operand))))
@@ -179,11 +180,11 @@ fn converted_value(
     match value {
         Computed::Constant(value) => Ok(of_value(converted(t, to, at, &value))),
         Computed::Scalar(_, base, e) => converted_scalar(alloc, t, to, at, base, e),
-        Computed::Set(_) => Ok(reported(at, 43)),
-        Computed::Routine(_, _) => Ok(reported(at, 43)),
-        Computed::Procedure(_) => Ok(reported(at, 43)),
-        Computed::Whole(_, _) => Ok(reported(at, 43)),
-        Computed::Untaken => Ok(reported(at, 43)),
+        Computed::Set(_) => Ok(reported(at, Rule::WrongArgument)),
+        Computed::Routine(_, _) => Ok(reported(at, Rule::WrongArgument)),
+        Computed::Procedure(_) => Ok(reported(at, Rule::WrongArgument)),
+        Computed::Whole(_, _) => Ok(reported(at, Rule::WrongArgument)),
+        Computed::Untaken => Ok(reported(at, Rule::WrongArgument)),
     }
 }
 
@@ -213,13 +214,13 @@ pub fn high_of(at: Pos, designated: Designated) -> Elaborated<Computed>
         }
         Designated::Value(value) => {
             drop(value);
-            reported(at, 43)
+            reported(at, Rule::WrongArgument)
         }
-        Designated::Variable(_, _) => reported(at, 43),
-        Designated::Type(_) => reported(at, 40),
-        Designated::Procedure(_) => reported(at, 43),
-        Designated::Nested(_) => reported(at, 53),
-        Designated::Standard(_) => reported(at, 53),
-        Designated::Module(_) => reported(at, 40),
+        Designated::Variable(_, _) => reported(at, Rule::WrongArgument),
+        Designated::Type(_) => reported(at, Rule::WrongType),
+        Designated::Procedure(_) => reported(at, Rule::WrongArgument),
+        Designated::Nested(_) => reported(at, Rule::NoProcedureValue),
+        Designated::Standard(_) => reported(at, Rule::NoProcedureValue),
+        Designated::Module(_) => reported(at, Rule::WrongType),
     }
 }

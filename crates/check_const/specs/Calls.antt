@@ -1,5 +1,6 @@
 -- Calls of standard procedures.
 use Rattle.std.specs.Prelude.{ℕ, Option, Some, None, Result, Ok, Err}
+use Rattle.m2_rule.specs.declared.rule.Rule.TheVariants as rule
 use Rattle.m2_tree.specs.declared.pos.Pos.{Pos}
 use Rattle.typed_tree.specs.declared.types.TypeNo.{TypeNo}
 use Rattle.typed_tree.specs.declared.shape.Scalar.{Scalar}
@@ -35,7 +36,7 @@ sort_of Put = Never
 -- ---- arguments that name a type
 
 abbrev pub scalar_type : (g : Gathers) → Pos → TypeNo → Option Scalar → Result (TypeNo × Scalar) g.Reported
-scalar_type g at t None = reported g at 33
+scalar_type g at t None = reported g at rule.NoType
 scalar_type g at t (Some s) = Ok (t, s)
 
 -- the type that stands there, if it is one
@@ -48,7 +49,7 @@ type_in (denoted.Standard f) = None
 type_in (denoted.Module k) = None
 
 abbrev pub named_scalar : (g : Gathers) → Types → Pos → Option TypeNo → Result (TypeNo × Scalar) g.Reported
-named_scalar g types at None = reported g at 33
+named_scalar g types at None = reported g at rule.NoType
 named_scalar g types at (Some t) = scalar_type g at t (scalar_at types t)
 
 abbrev pub type_argument : (g : Gathers) → Types → Pos → Result (Option TypeNo) g.Reported → Result (TypeNo × Scalar) g.Reported
@@ -60,18 +61,18 @@ abbrev pub unary_of : (g : Gathers) → Standard → Pos → Value → Result Va
 unary_of g Abs at v = absolute g at v
 unary_of g Cap at v = capital g at v
 unary_of g Chr at v = character g at v
-unary_of g High at v = reported g at 34
-unary_of g Max at v = reported g at 34
-unary_of g Min at v = reported g at 34
+unary_of g High at v = reported g at rule.NoConstant
+unary_of g Max at v = reported g at rule.NoConstant
+unary_of g Min at v = reported g at rule.NoConstant
 unary_of g Odd at v = is_odd g at v
 unary_of g Ord at v = ordinal_of g at v
-unary_of g Val at v = reported g at 34
-unary_of g Inc at v = reported g at 34
-unary_of g Dec at v = reported g at 34
-unary_of g Incl at v = reported g at 34
-unary_of g Excl at v = reported g at 34
-unary_of g Halt at v = reported g at 34
-unary_of g Put at v = reported g at 34
+unary_of g Val at v = reported g at rule.NoConstant
+unary_of g Inc at v = reported g at rule.NoConstant
+unary_of g Dec at v = reported g at rule.NoConstant
+unary_of g Incl at v = reported g at rule.NoConstant
+unary_of g Excl at v = reported g at rule.NoConstant
+unary_of g Halt at v = reported g at rule.NoConstant
+unary_of g Put at v = reported g at rule.NoConstant
 
 abbrev pub unary : (g : Gathers) → Standard → Result (Pos × Value) g.Reported → Result Value g.Reported
 unary g f x = x ▷ λ p. unary_of g f p.0 p.1

@@ -1,5 +1,6 @@
 -- What designators stand for.
 use Rattle.std.specs.Prelude.{ℕ, not, List, Option, Some, None, Result, Ok, Err, slice_get}
+use Rattle.m2_rule.specs.declared.rule.Rule.TheVariants as rule
 use Rattle.m2_tree.specs.declared.pos.Pos.{Pos}
 use Rattle.m2_tree.specs.declared.name.Ident.{Ident}
 use Rattle.typed_tree.specs.declared.types.TypeNo.{TypeNo}
@@ -37,11 +38,11 @@ denoted_of (Err (Headless e)) = Ok denoted.Procedure
 
 abbrev pub as_constant : (g : Gathers) → Pos → Denoted → Result Value g.Reported
 as_constant g at (denoted.Value v) = Ok v
-as_constant g at (denoted.Type t) = reported g at 34
-as_constant g at denoted.Variable = reported g at 34
-as_constant g at denoted.Procedure = reported g at 34
-as_constant g at (denoted.Standard f) = reported g at 34
-as_constant g at (denoted.Module k) = reported g at 34
+as_constant g at (denoted.Type t) = reported g at rule.NoConstant
+as_constant g at denoted.Variable = reported g at rule.NoConstant
+as_constant g at denoted.Procedure = reported g at rule.NoConstant
+as_constant g at (denoted.Standard f) = reported g at rule.NoConstant
+as_constant g at (denoted.Module k) = reported g at rule.NoConstant
 
 abbrev pub constant_by : (g : Gathers) → Pos → Result Denoted g.Reported → Result Value g.Reported
 constant_by g at d = d ▷ as_constant g at
@@ -50,34 +51,34 @@ abbrev pub of_value : {T : Type 0} → Result Value T → Result Denoted T
 of_value v = v ▷ λ x. Ok (denoted.Value x)
 
 abbrev pub is_bitset : (g : Gathers) → Pos → Meaning → Result (Unit {0}) g.Reported
-is_bitset g at (meaning.Type t n) = reported_where g (not (are_same t bitset)) at 33 (Ok tt)
-is_bitset g at (meaning.Constant v) = reported g at 33
-is_bitset g at (meaning.Variable v) = reported g at 33
-is_bitset g at (meaning.Local v) = reported g at 33
-is_bitset g at (meaning.Field f) = reported g at 33
-is_bitset g at (meaning.Procedure p) = reported g at 33
-is_bitset g at (meaning.LocalProcedure p) = reported g at 33
-is_bitset g at meaning.Ahead = reported g at 33
-is_bitset g at (meaning.Standard f) = reported g at 33
-is_bitset g at (meaning.Module k) = reported g at 33
+is_bitset g at (meaning.Type t n) = reported_where g (not (are_same t bitset)) at rule.NoType (Ok tt)
+is_bitset g at (meaning.Constant v) = reported g at rule.NoType
+is_bitset g at (meaning.Variable v) = reported g at rule.NoType
+is_bitset g at (meaning.Local v) = reported g at rule.NoType
+is_bitset g at (meaning.Field f) = reported g at rule.NoType
+is_bitset g at (meaning.Procedure p) = reported g at rule.NoType
+is_bitset g at (meaning.LocalProcedure p) = reported g at rule.NoType
+is_bitset g at meaning.Ahead = reported g at rule.NoType
+is_bitset g at (meaning.Standard f) = reported g at rule.NoType
+is_bitset g at (meaning.Module k) = reported g at rule.NoType
 
 -- ---- components, and names of modules
 
 -- Constants and modules have no components. A type or a procedure with selectors is no constant.
 abbrev pub component : (g : Gathers) → Pos → Denoted → Result Denoted g.Reported
 component g at denoted.Variable = Ok denoted.Variable
-component g at (denoted.Value v) = reported g at 40
+component g at (denoted.Value v) = reported g at rule.WrongType
 component g at (denoted.Type t) = Ok denoted.Variable
 component g at denoted.Procedure = Ok denoted.Variable
 component g at (denoted.Standard f) = Ok denoted.Variable
-component g at (denoted.Module k) = reported g at 40
+component g at (denoted.Module k) = reported g at rule.WrongType
 
 abbrev pub exported_by : List ℕ → Option Table → Option Meaning
 exported_by name None = None
 exported_by name (Some table) = found name table.exported
 
 abbrev pub exported : (g : Gathers) → Pos → Option Meaning → Result Meaning g.Reported
-exported g at None = reported g at 32
+exported g at None = reported g at rule.NotExported
 exported g at (Some m) = Ok m
 
 abbrev pub member : (g : Gathers) → List Table → ℕ → Ident → Result Meaning g.Reported

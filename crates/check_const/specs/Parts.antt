@@ -1,6 +1,7 @@
 -- What constant expressions mean.
 use Rattle.std.specs.Prelude.{ℕ, pos, List, [], ◌∷◌, bit_or, Option, Some, None, Result, Ok}
 use Rattle.std.specs.List.{fold}
+use Rattle.m2_rule.specs.declared.rule.Rule.TheVariants as rule
 use Rattle.m2_tree.specs.declared.pos.Pos.{Pos}
 use Rattle.m2_tree.specs.declared.name.Ident.{Ident}
 use Rattle.m2_tree.specs.declared.expr.MulOp.{MulOp}
@@ -86,7 +87,7 @@ signed_first g (Some o) v = signed g o.op o.pos v
 
 abbrev pub set_type : (g : Gathers) → Scope g.Reported → Option Ident → Result (Unit {0}) g.Reported
 set_type g s None = Ok tt
-set_type g s (Some name) = of_sort g name.pos 33 (looked_up g s name) ▷ is_bitset g name.pos
+set_type g s (Some name) = of_sort g name.pos rule.NoType (looked_up g s name) ▷ is_bitset g name.pos
 
 abbrev pub set_of : (g : Gathers) → Result (Unit {0}) g.Reported → Result ℕ g.Reported → Result Denoted g.Reported
 set_of g t bits = both g t bits ▷ λ p. Ok (denoted.Value (value.Set p.1))
@@ -118,34 +119,34 @@ module _ (g : Gathers) where
   -- ---- calls
 
   abbrev pub one : Scope g.Reported → Pos → List (Part g.Reported) → Result (Pos × Value) g.Reported
-  one s at [] = reported g at 42
+  one s at [] = reported g at rule.ArgumentCount
   one s at (x ∷ []) = value_at x.at (constant s x)
-  one s at (x ∷ y ∷ xs) = reported g at 42
+  one s at (x ∷ y ∷ xs) = reported g at rule.ArgumentCount
 
   abbrev pub type_only : Scope g.Reported → Pos → List (Part g.Reported) → Result (TypeNo × Scalar) g.Reported
-  type_only s at [] = reported g at 42
+  type_only s at [] = reported g at rule.ArgumentCount
   type_only s at (x ∷ []) = type_argument g s.types x.at (x.names s)
-  type_only s at (x ∷ y ∷ xs) = reported g at 42
+  type_only s at (x ∷ y ∷ xs) = reported g at rule.ArgumentCount
 
   abbrev pub conversion : Scope g.Reported → Pos → List (Part g.Reported) → Result Value g.Reported
-  conversion s at [] = reported g at 42
-  conversion s at (t ∷ []) = reported g at 42
+  conversion s at [] = reported g at rule.ArgumentCount
+  conversion s at (t ∷ []) = reported g at rule.ArgumentCount
   conversion s at (t ∷ x ∷ []) = converted_by g (type_argument g s.types t.at (t.names s)) x.at (constant s x)
-  conversion s at (t ∷ x ∷ y ∷ xs) = reported g at 42
+  conversion s at (t ∷ x ∷ y ∷ xs) = reported g at rule.ArgumentCount
 
   abbrev pub by_sort : Scope g.Reported → Pos → Standard → List (Part g.Reported) → Sort → Result Value g.Reported
   by_sort s at f args Unary = unary g f (one s at args)
   by_sort s at f args Bound = bound f (type_only s at args)
   by_sort s at f args Conversion = conversion s at args
-  by_sort s at f args Never = reported g at 34
+  by_sort s at f args Never = reported g at rule.NoConstant
 
   abbrev pub called_as : Scope g.Reported → Pos → Denoted → List (Part g.Reported) → Result Value g.Reported
   called_as s at (denoted.Standard f) args = by_sort s at f args (sort_of f)
-  called_as s at (denoted.Value v) args = reported g at 34
-  called_as s at (denoted.Type t) args = reported g at 34
-  called_as s at denoted.Variable args = reported g at 34
-  called_as s at denoted.Procedure args = reported g at 34
-  called_as s at (denoted.Module k) args = reported g at 34
+  called_as s at (denoted.Value v) args = reported g at rule.NoConstant
+  called_as s at (denoted.Type t) args = reported g at rule.NoConstant
+  called_as s at denoted.Variable args = reported g at rule.NoConstant
+  called_as s at denoted.Procedure args = reported g at rule.NoConstant
+  called_as s at (denoted.Module k) args = reported g at rule.NoConstant
 
   abbrev pub called : Scope g.Reported → Pos → Result Denoted g.Reported → List (Part g.Reported) → Result Value g.Reported
   called s at d args = d ▷ λ x. called_as s at x args

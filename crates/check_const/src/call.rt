@@ -7,6 +7,7 @@ ghost use Rattle.check_const.specs.Calls.{sort_of, scalar_type, type_in, named_s
 use crate::denoted::Denoted;
 use check_const_ops::{absolute, bound_of, capital, character, converted, is_odd, ordinal_of};
 use check_scope::{Elaborated, both, reported};
+use m2_rule::Rule;
 use m2_tree::Pos;
 use typed_tree::{Scalar, Standard, TypeNo, Types, Value, scalar_of};
 
@@ -48,7 +49,7 @@ pub fn scalar_type(at: Pos, t: TypeNo, scalar: Option<Scalar>) -> Elaborated<(Ty
     ensures { result ≡ scalar_type least at t scalar }
 {
     match scalar {
-        None => reported(at, 33),
+        None => reported(at, Rule::NoType),
         Some(scalar) => Ok((t, scalar)),
     }
 }
@@ -71,7 +72,7 @@ fn named_scalar(types: &Types, at: Pos, named: Option<TypeNo>) -> Elaborated<(Ty
     ensures { result ≡ named_scalar least types.now at named }
 {
     match named {
-        None => reported(at, 33),
+        None => reported(at, Rule::NoType),
         Some(t) => scalar_type(at, t, scalar_of(types, t)),
     }
 }
@@ -109,7 +110,7 @@ pub fn unary_of(standard: Standard, at: Pos, value: &Value) -> Elaborated<Value>
         | Standard::Incl
         | Standard::Excl
         | Standard::Halt
-        | Standard::Put => reported(at, 34),
+        | Standard::Put => reported(at, Rule::NoConstant),
     }
 }
 

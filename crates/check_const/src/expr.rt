@@ -11,6 +11,7 @@ use crate::denoted::{Denoted, component, denoted_by, denoted_of, is_bitset, of_v
 use crate::qualified::member;
 use check_const_ops::{BinaryOp, Ordinal, combined, element, signed, single};
 use check_scope::{Elaborated, Fault, Scope, both, looked_up, of_sort};
+use m2_rule::Rule;
 use m2_tree::{Ident, Operator, Pos, Quoted, RelOp, Sign};
 use std::alloc::{AllocError, Global};
 use typed_tree::{Shared, TypeNo, Value};
@@ -51,7 +52,7 @@ pub fn set_type(scope: &Scope<Fault>, name: &Option<Ident>) -> Result<Elaborated
 {
     match name {
         None => Ok(Ok(())),
-        Some(name) => match of_sort(name.pos, 33, looked_up(scope, name)?) {
+        Some(name) => match of_sort(name.pos, Rule::NoType, looked_up(scope, name)?) {
             Err(fault) => Ok(Err(fault)),
             Ok(meaning) => Ok(is_bitset(name.pos, meaning)),
         },

@@ -6,6 +6,7 @@ ghost use Rattle.check_scope.specs.Elaborated.{least};
 ghost use Rattle.check_const.specs.Denote.{exported_by, exported, member};
 
 use check_scope::{Elaborated, Fault, Scope, reported};
+use m2_rule::Rule;
 use m2_tree::{Ident, Pos};
 use std::alloc::AllocError;
 use typed_tree::{Meaning, Shared, Table};
@@ -23,7 +24,7 @@ fn exported(at: Pos, meaning: Option<&Meaning>) -> Result<Elaborated<Meaning>, A
     ensures { IfOk result (λ m. m ≡ exported least at (option_copied meaning.entry)) }
 {
     match meaning {
-        None => Ok(reported(at, 32)),
+        None => Ok(reported(at, Rule::NotExported)),
         Some(meaning) => Ok(Ok(meaning.copy()?)),
     }
 }

@@ -3,6 +3,7 @@ use Rattle.std.proofs.Common.{◌≡◌, ℤ, pos, negsuc, Bool, true, false, co
 use Rattle.std.specs.Prelude.{int_le, FitsSigned}
 use Rattle.std.specs.Int.{w64}
 use Rattle.std.proofs.lemmas.Int.{ints, to_z-of_z}
+use Rattle.m2_rule.specs.declared.rule.Rule.TheVariants as rule
 use Rattle.m2_tree.specs.declared.pos.Pos.{Pos}
 use Rattle.typed_tree.specs.declared.types.TypeNo.{TypeNo}
 use Rattle.typed_tree.specs.Types.{is_integer}
@@ -35,5 +36,5 @@ pub no_fit : (E : ℤ → ℤ → ℤ) (x y : ℤ) → FitsSigned w64 x → Fits
 no_fit E x y p q h =
     subst (λ (n : ℤ). ¬ FitsSigned w64 (E n y)) (to_z-of_z w64 x p) (subst (λ (n : ℤ). ¬ FitsSigned w64 (E (to_z w64 (of_z w64 x)) n)) (to_z-of_z w64 y q) h)
 
-pub reported_of : (at : Pos) (sort : Option TypeNo) (n : ℤ) → ¬ FitsSigned w64 n → number_at least at sort n ≡ reported least at 52
-reported_of at sort n none = ap (λ (b : Bool). cond (not b) (reported least at 52) (Ok (valued sort n))) (unfit sort n none)
+pub reported_of : (at : Pos) (sort : Option TypeNo) (n : ℤ) → ¬ FitsSigned w64 n → number_at least at sort n ≡ reported least at rule.OutOfRange
+reported_of at sort n none = ap (λ (b : Bool). cond (not b) (reported least at rule.OutOfRange) (Ok (valued sort n))) (unfit sort n none)

@@ -1,6 +1,7 @@
 -- Numbers and their ranges.
 use Rattle.std.specs.Prelude.{ℤ, pos, negsuc, ◌+ℤ◌, ◌-ℤ◌, ◌*ℤ◌, Bool, not, cond, ◌&&◌, int_le, int_lt, Option, Some, None, Result, Ok}
 use Rattle.std.specs.Int.{int_div_euclid, int_rem_euclid}
+use Rattle.m2_rule.specs.declared.rule.Rule.TheVariants as rule
 use Rattle.m2_tree.specs.declared.pos.Pos.{Pos}
 use Rattle.typed_tree.specs.declared.types.TypeNo.{TypeNo}
 use Rattle.typed_tree.specs.declared.meaning.Value.{Value}
@@ -19,7 +20,7 @@ fits None n = is_between (negsuc 2147483647) n (pos 4294967295)
 fits (Some t) n = cond (is_integer t) (is_between (negsuc 2147483647) n (pos 2147483647)) (is_between (pos 0) n (pos 4294967295))
 
 abbrev pub number_at : (g : Gathers) → Pos → Option TypeNo → ℤ → Result Value g.Reported
-number_at g at sort n = reported_where g (not (fits sort n)) at 52 (Ok (valued sort n))
+number_at g at sort n = reported_where g (not (fits sort n)) at rule.OutOfRange (Ok (valued sort n))
 
 abbrev pub evaluated : BinaryOp → ℤ → ℤ → ℤ
 evaluated Plus x y = x +ℤ y

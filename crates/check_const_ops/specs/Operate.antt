@@ -1,5 +1,6 @@
 -- What operators make of constants.
 use Rattle.std.specs.Prelude.{ℤ, pos, Bool, true, false, not, ◌&&◌, ◌||◌, int_le, int_lt, Option, Some, None, Result, Ok}
+use Rattle.m2_rule.specs.declared.rule.Rule.TheVariants as rule
 use Rattle.m2_tree.specs.declared.pos.Pos.{Pos}
 use Rattle.m2_tree.specs.declared.expr.RelOp.{RelOp}
 use Rattle.m2_tree.specs.declared.expr.RelOp.TheVariants.{Equal, Unequal, Less, AtMost, Greater, AtLeast, In}
@@ -46,7 +47,7 @@ abbrev pub applied : (g : Gathers) → BinaryOp → Pos → Option TypeNo → �
 applied g Plus spot sort x y = evaluated_at g spot sort Plus x y
 applied g Minus spot sort x y = evaluated_at g spot sort Minus x y
 applied g Times spot sort x y = evaluated_at g spot sort Times x y
-applied g Over spot sort x y = reported g spot 40
+applied g Over spot sort x y = reported g spot rule.WrongType
 applied g Div spot sort x y = number_at g spot sort (quotient x y)
 applied g Mod spot sort x y = number_at g spot sort (remainder x y)
 applied g And spot sort x y = Ok (truth (int_lt (pos 0) x && int_lt (pos 0) y))
@@ -54,7 +55,7 @@ applied g Or spot sort x y = Ok (truth (int_lt (pos 0) x || int_lt (pos 0) y))
 applied g (Relation r) spot sort x y = Ok (truth (compared r x y))
 
 abbrev pub divisor : (g : Gathers) → BinaryOp → Pos → ℤ → Result (Unit {0}) g.Reported
-divisor g op spot y = reported_where g (is_division op && int_lt y (pos 1)) spot 52 (Ok tt)
+divisor g op spot y = reported_where g (is_division op && int_lt y (pos 1)) spot rule.OutOfRange (Ok tt)
 
 -- a number without a type that the other's type does not have
 abbrev pub is_misfit : Option TypeNo → Option TypeNo → ℤ → Bool
@@ -63,25 +64,25 @@ is_misfit (Some t) (Some u) n = false
 is_misfit (Some t) None n = not (fits (Some t) n)
 
 abbrev pub fitting : (g : Gathers) → Option TypeNo → Pos → Ordinal → Result (Unit {0}) g.Reported
-fitting g sort at a = reported_where g (is_misfit sort a.sort a.number) at 52 (Ok tt)
+fitting g sort at a = reported_where g (is_misfit sort a.sort a.number) at rule.OutOfRange (Ok tt)
 
 abbrev pub operated : (g : Gathers) → BinaryOp → Pos → Option TypeNo → Pos → Ordinal → Pos → Ordinal → Result Value g.Reported
 operated g op spot sort at a at' b =
-    reported_where g (not (takes op sort)) spot 40
+    reported_where g (not (takes op sort)) spot rule.WrongType
     (beside g (divisor g op spot b.number) (beside g (fitting g sort at a) (fitting g sort at' b)) ▷ λ fine. applied g op spot sort a.number b.number)
 
 abbrev pub on_scalars : (g : Gathers) → BinaryOp → Pos → Pos → Ordinal → Pos → Ordinal → Option (Option TypeNo) → Result Value g.Reported
-on_scalars g op spot at a at' b None = reported g spot 40
+on_scalars g op spot at a at' b None = reported g spot rule.WrongType
 on_scalars g op spot at a at' b (Some sort) = operated g op spot sort at a at' b
 
 abbrev pub binary : (g : Gathers) → BinaryOp → Pos → Pos → Option Operand → Pos → Option Operand → Result Value g.Reported
 binary g op spot at (Some (Scalar a)) at' (Some (Scalar b)) = on_scalars g op spot at a at' b (common a.sort b.sort)
 binary g op spot at (Some (Scalar a)) at' (Some (Set b)) = member g op spot at a b
-binary g op spot at (Some (Scalar a)) at' None = reported g spot 40
-binary g op spot at (Some (Set a)) at' (Some (Scalar b)) = reported g spot 40
+binary g op spot at (Some (Scalar a)) at' None = reported g spot rule.WrongType
+binary g op spot at (Some (Set a)) at' (Some (Scalar b)) = reported g spot rule.WrongType
 binary g op spot at (Some (Set a)) at' (Some (Set b)) = on_sets g op spot a b
-binary g op spot at (Some (Set a)) at' None = reported g spot 40
-binary g op spot at None at' y = reported g spot 40
+binary g op spot at (Some (Set a)) at' None = reported g spot rule.WrongType
+binary g op spot at None at' y = reported g spot rule.WrongType
 
 -- an operator at a place, between two parts at theirs
 abbrev pub combined : (g : Gathers) → BinaryOp → Pos → Pos → Result Value g.Reported → Pos → Result Value g.Reported → Result Value g.Reported
@@ -95,21 +96,21 @@ is_signed None = true
 is_signed (Some t) = is_integer t
 
 abbrev pub signed_scalar : (g : Gathers) → Sign → Pos → Ordinal → Result Value g.Reported
-signed_scalar g sign.Plus spot a = reported_where g (not (is_number a.sort)) spot 40 (Ok (valued a.sort a.number))
-signed_scalar g sign.Minus spot a = reported_where g (not (is_signed a.sort)) spot 40 (evaluated_at g spot a.sort Minus (pos 0) a.number)
+signed_scalar g sign.Plus spot a = reported_where g (not (is_number a.sort)) spot rule.WrongType (Ok (valued a.sort a.number))
+signed_scalar g sign.Minus spot a = reported_where g (not (is_signed a.sort)) spot rule.WrongType (evaluated_at g spot a.sort Minus (pos 0) a.number)
 
 abbrev pub signed_value : (g : Gathers) → Sign → Pos → Option Operand → Result Value g.Reported
-signed_value g o spot None = reported g spot 40
-signed_value g o spot (Some (Set bits)) = reported g spot 40
+signed_value g o spot None = reported g spot rule.WrongType
+signed_value g o spot (Some (Set bits)) = reported g spot rule.WrongType
 signed_value g o spot (Some (Scalar a)) = signed_scalar g o spot a
 
 abbrev pub signed : (g : Gathers) → Sign → Pos → Result Value g.Reported → Result Value g.Reported
 signed g o spot x = x ▷ λ v. signed_value g o spot (operand_of v)
 
 abbrev pub negated_value : (g : Gathers) → Pos → Option Operand → Result Value g.Reported
-negated_value g spot None = reported g spot 40
-negated_value g spot (Some (Set bits)) = reported g spot 40
-negated_value g spot (Some (Scalar a)) = reported_where g (not (is_truth a.sort)) spot 40 (Ok (truth (not (int_lt (pos 0) a.number))))
+negated_value g spot None = reported g spot rule.WrongType
+negated_value g spot (Some (Set bits)) = reported g spot rule.WrongType
+negated_value g spot (Some (Scalar a)) = reported_where g (not (is_truth a.sort)) spot rule.WrongType (Ok (truth (not (int_lt (pos 0) a.number))))
 
 abbrev pub negated : (g : Gathers) → Pos → Result Value g.Reported → Result Value g.Reported
 negated g spot x = x ▷ λ v. negated_value g spot (operand_of v)

@@ -1,5 +1,6 @@
 -- Sets: element k is there where bit k is 1.
 use Rattle.std.specs.Prelude.{ℕ, ◌-◌, ◌/◌, ◌%◌, ◌^◌, ◌==◌, ℤ, pos, negsuc, Bool, true, false, not, cond, nat_lt, int_lt, bit_and, bit_or, bit_xor, Option, Some, None, Result, Ok}
+use Rattle.m2_rule.specs.declared.rule.Rule.TheVariants as rule
 use Rattle.m2_tree.specs.declared.pos.Pos.{Pos}
 use Rattle.m2_tree.specs.declared.expr.RelOp.{RelOp}
 use Rattle.m2_tree.specs.declared.expr.RelOp.TheVariants as rel
@@ -23,21 +24,21 @@ without a b = bit_and a (bit_xor b 4294967295)
 abbrev pub set_related : (g : Gathers) → Pos → RelOp → ℕ → ℕ → Result Value g.Reported
 set_related g spot rel.Equal a b = Ok (truth (a == b))
 set_related g spot rel.Unequal a b = Ok (truth (not (a == b)))
-set_related g spot rel.Less a b = reported g spot 40
+set_related g spot rel.Less a b = reported g spot rule.WrongType
 set_related g spot rel.AtMost a b = Ok (truth (without a b == 0))
-set_related g spot rel.Greater a b = reported g spot 40
+set_related g spot rel.Greater a b = reported g spot rule.WrongType
 set_related g spot rel.AtLeast a b = Ok (truth (without b a == 0))
-set_related g spot rel.In a b = reported g spot 40
+set_related g spot rel.In a b = reported g spot rule.WrongType
 
 abbrev pub on_sets : (g : Gathers) → BinaryOp → Pos → ℕ → ℕ → Result Value g.Reported
 on_sets g Plus spot a b = Ok (value.Set (bit_or a b))
 on_sets g Minus spot a b = Ok (value.Set (without a b))
 on_sets g Times spot a b = Ok (value.Set (bit_and a b))
 on_sets g Over spot a b = Ok (value.Set (bit_xor a b))
-on_sets g Div spot a b = reported g spot 40
-on_sets g Mod spot a b = reported g spot 40
-on_sets g And spot a b = reported g spot 40
-on_sets g Or spot a b = reported g spot 40
+on_sets g Div spot a b = reported g spot rule.WrongType
+on_sets g Mod spot a b = reported g spot rule.WrongType
+on_sets g And spot a b = reported g spot rule.WrongType
+on_sets g Or spot a b = reported g spot rule.WrongType
 on_sets g (Relation r) spot a b = set_related g spot r a b
 
 -- ---- membership
@@ -51,23 +52,23 @@ abbrev pub has : ℕ → ℤ → Bool
 has bits n = bits / 2 ^ place n % 2 == 1
 
 abbrev pub member_of : (g : Gathers) → Pos → Pos → Ordinal → ℕ → Result Value g.Reported
-member_of g spot at x bits = reported_where g (not (is_number x.sort)) spot 40 (reported_where g (not (is_between (pos 0) x.number (pos 31))) at 52 (Ok (truth (has bits x.number))))
+member_of g spot at x bits = reported_where g (not (is_number x.sort)) spot rule.WrongType (reported_where g (not (is_between (pos 0) x.number (pos 31))) at rule.OutOfRange (Ok (truth (has bits x.number))))
 
 abbrev pub member : (g : Gathers) → BinaryOp → Pos → Pos → Ordinal → ℕ → Result Value g.Reported
-member g Plus spot at x bits = reported g spot 40
-member g Minus spot at x bits = reported g spot 40
-member g Times spot at x bits = reported g spot 40
-member g Over spot at x bits = reported g spot 40
-member g Div spot at x bits = reported g spot 40
-member g Mod spot at x bits = reported g spot 40
-member g And spot at x bits = reported g spot 40
-member g Or spot at x bits = reported g spot 40
-member g (Relation rel.Equal) spot at x bits = reported g spot 40
-member g (Relation rel.Unequal) spot at x bits = reported g spot 40
-member g (Relation rel.Less) spot at x bits = reported g spot 40
-member g (Relation rel.AtMost) spot at x bits = reported g spot 40
-member g (Relation rel.Greater) spot at x bits = reported g spot 40
-member g (Relation rel.AtLeast) spot at x bits = reported g spot 40
+member g Plus spot at x bits = reported g spot rule.WrongType
+member g Minus spot at x bits = reported g spot rule.WrongType
+member g Times spot at x bits = reported g spot rule.WrongType
+member g Over spot at x bits = reported g spot rule.WrongType
+member g Div spot at x bits = reported g spot rule.WrongType
+member g Mod spot at x bits = reported g spot rule.WrongType
+member g And spot at x bits = reported g spot rule.WrongType
+member g Or spot at x bits = reported g spot rule.WrongType
+member g (Relation rel.Equal) spot at x bits = reported g spot rule.WrongType
+member g (Relation rel.Unequal) spot at x bits = reported g spot rule.WrongType
+member g (Relation rel.Less) spot at x bits = reported g spot rule.WrongType
+member g (Relation rel.AtMost) spot at x bits = reported g spot rule.WrongType
+member g (Relation rel.Greater) spot at x bits = reported g spot rule.WrongType
+member g (Relation rel.AtLeast) spot at x bits = reported g spot rule.WrongType
 member g (Relation rel.In) spot at x bits = member_of g spot at x bits
 
 -- ---- elements in braces
@@ -81,14 +82,14 @@ abbrev pub with_span : ℕ → ℤ → ℤ → ℕ
 with_span bits low high = bit_or bits (without (up_to (place high)) (up_to (place low) / 2))
 
 abbrev pub numbered : (g : Gathers) → Pos → Option Ordinal → Result Ordinal g.Reported
-numbered g at None = reported g at 40
+numbered g at None = reported g at rule.WrongType
 numbered g at (Some a) = Ok a
 
 abbrev pub element : (g : Gathers) → Pos → Value → Result Ordinal g.Reported
 element g at v = numbered g at (whole_number v)
 
 abbrev pub is_element : (g : Gathers) → Pos → Ordinal → Result (Unit {0}) g.Reported
-is_element g at a = reported_where g (not (is_between (pos 0) a.number (pos 31))) at 52 (Ok tt)
+is_element g at a = reported_where g (not (is_between (pos 0) a.number (pos 31))) at rule.OutOfRange (Ok tt)
 
 abbrev pub single : (g : Gathers) → Pos → Value → Result ℕ g.Reported
 single g at v = element g at v ▷ λ a. is_element g at a ▷ λ fine. Ok (with_span 0 a.number a.number)
@@ -102,13 +103,13 @@ abbrev pub is_unlike : Ordinal → Ordinal → Bool
 is_unlike a b = has_none (common a.sort b.sort)
 
 abbrev pub ordered : (g : Gathers) → Pos → ℤ → ℤ → Result (Unit {0}) g.Reported
-ordered g at low high = reported_where g (int_lt high low) at 35 (Ok tt)
+ordered g at low high = reported_where g (int_lt high low) at rule.EmptyRange (Ok tt)
 
 abbrev pub in_set : (g : Gathers) → Pos → Result Ordinal g.Reported → Result (Unit {0}) g.Reported
 in_set g at a = a ▷ is_element g at
 
 abbrev pub related : (g : Gathers) → Pos → Pos → Ordinal → Ordinal → Result (Unit {0}) g.Reported
-related g at at' a b = reported_where g (is_unlike a b) at' 40 (ordered g at a.number b.number)
+related g at at' a b = reported_where g (is_unlike a b) at' rule.WrongType (ordered g at a.number b.number)
 
 abbrev pub related_bounds : (g : Gathers) → Pos → Pos → Result Ordinal g.Reported → Result Ordinal g.Reported → Result (Unit {0}) g.Reported
 related_bounds g at at' a b = both g a b ▷ λ p. related g at at' p.0 p.1

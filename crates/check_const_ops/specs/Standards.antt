@@ -1,6 +1,7 @@
 -- Standard procedures of constants.
 use Rattle.std.specs.Prelude.{ℤ, pos, ◌-ℤ◌, Bool, false, not, cond, int_lt, Option, Some, None, Result, Ok}
 use Rattle.std.specs.Int.{int_rem_euclid}
+use Rattle.m2_rule.specs.declared.rule.Rule.TheVariants as rule
 use Rattle.m2_tree.specs.declared.pos.Pos.{Pos}
 use Rattle.typed_tree.specs.declared.types.TypeNo.{TypeNo}
 use Rattle.typed_tree.specs.declared.shape.Scalar.{Scalar}
@@ -30,7 +31,7 @@ whole_number v = if_number (scalar_part (operand_of v))
 
 -- ABS
 abbrev pub absolute_part : (g : Gathers) → Pos → Option Ordinal → Result Value g.Reported
-absolute_part g at None = reported g at 43
+absolute_part g at None = reported g at rule.WrongArgument
 absolute_part g at (Some a) = cond (int_lt a.number (pos 0)) (evaluated_at g at a.sort Minus (pos 0) a.number) (number_at g at a.sort a.number)
 
 abbrev pub absolute : (g : Gathers) → Pos → Value → Result Value g.Reported
@@ -45,23 +46,23 @@ is_char None = false
 is_char (Some t) = are_same t char
 
 abbrev pub capital_part : (g : Gathers) → Pos → Option Ordinal → Result Value g.Reported
-capital_part g at None = reported g at 43
-capital_part g at (Some a) = reported_where g (not (is_char a.sort)) at 43 (Ok (valued (Some char) (upper a.number)))
+capital_part g at None = reported g at rule.WrongArgument
+capital_part g at (Some a) = reported_where g (not (is_char a.sort)) at rule.WrongArgument (Ok (valued (Some char) (upper a.number)))
 
 abbrev pub capital : (g : Gathers) → Pos → Value → Result Value g.Reported
 capital g at v = capital_part g at (scalar_part (operand_of v))
 
 -- CHR
 abbrev pub character_part : (g : Gathers) → Pos → Option Ordinal → Result Value g.Reported
-character_part g at None = reported g at 43
-character_part g at (Some a) = reported_where g (not (is_between (pos 0) a.number (pos 255))) at 52 (Ok (valued (Some char) a.number))
+character_part g at None = reported g at rule.WrongArgument
+character_part g at (Some a) = reported_where g (not (is_between (pos 0) a.number (pos 255))) at rule.OutOfRange (Ok (valued (Some char) a.number))
 
 abbrev pub character : (g : Gathers) → Pos → Value → Result Value g.Reported
 character g at v = character_part g at (whole_number v)
 
 -- ODD
 abbrev pub odd_part : (g : Gathers) → Pos → Option Ordinal → Result Value g.Reported
-odd_part g at None = reported g at 43
+odd_part g at None = reported g at rule.WrongArgument
 odd_part g at (Some a) = Ok (truth (int_lt (pos 0) (int_rem_euclid a.number (pos 2))))
 
 abbrev pub is_odd : (g : Gathers) → Pos → Value → Result Value g.Reported
@@ -69,7 +70,7 @@ is_odd g at v = odd_part g at (whole_number v)
 
 -- ORD
 abbrev pub ordinal_part : (g : Gathers) → Pos → Option Ordinal → Result Value g.Reported
-ordinal_part g at None = reported g at 43
+ordinal_part g at None = reported g at rule.WrongArgument
 ordinal_part g at (Some a) = number_at g at (Some cardinal) a.number
 
 abbrev pub ordinal_of : (g : Gathers) → Pos → Value → Result Value g.Reported
@@ -81,8 +82,8 @@ bound_of t s n = value.Scalar (record { of = t; base = s.base; number = n })
 
 -- VAL
 abbrev pub converted_part : (g : Gathers) → TypeNo → Scalar → Pos → Option Ordinal → Result Value g.Reported
-converted_part g t s at None = reported g at 43
-converted_part g t s at (Some a) = reported_where g (not (is_between s.low a.number s.high)) at 52 (Ok (bound_of t s a.number))
+converted_part g t s at None = reported g at rule.WrongArgument
+converted_part g t s at (Some a) = reported_where g (not (is_between s.low a.number s.high)) at rule.OutOfRange (Ok (bound_of t s a.number))
 
 abbrev pub converted : (g : Gathers) → TypeNo → Scalar → Pos → Value → Result Value g.Reported
 converted g t s at v = converted_part g t s at (whole_number v)

@@ -9,6 +9,7 @@ use crate::operate::common;
 use crate::sets::with_span;
 use crate::standard::whole_number;
 use check_scope::{Elaborated, beside, both, reported};
+use m2_rule::Rule;
 use m2_tree::Pos;
 use typed_tree::Value;
 
@@ -16,7 +17,7 @@ fn numbered(at: Pos, x: Option<Ordinal>) -> Elaborated<Ordinal>
     ensures { result ≡ numbered least at x }
 {
     match x {
-        None => reported(at, 40),
+        None => reported(at, Rule::WrongType),
         Some(a) => Ok(a),
     }
 }
@@ -32,7 +33,7 @@ fn is_element(at: Pos, a: Ordinal) -> Elaborated<()>
     ensures { result ≡ is_element least at a }
 {
     if !(0 <= a.number && a.number <= 31) {
-        return reported(at, 52);
+        return reported(at, Rule::OutOfRange);
     }
     Ok(())
 }
@@ -64,7 +65,7 @@ fn ordered(at: Pos, low: i64, high: i64) -> Elaborated<()>
     ensures { result ≡ ordered least at low high }
 {
     if high < low {
-        return reported(at, 35);
+        return reported(at, Rule::EmptyRange);
     }
     Ok(())
 }
@@ -82,7 +83,7 @@ fn related(at: Pos, high_at: Pos, a: Ordinal, b: Ordinal) -> Elaborated<()>
     ensures { result ≡ related least at high_at a b }
 {
     if is_unlike(a, b) {
-        return reported(high_at, 40);
+        return reported(high_at, Rule::WrongType);
     }
     ordered(at, a.number, b.number)
 }

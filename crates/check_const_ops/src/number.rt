@@ -8,6 +8,7 @@ ghost use Rattle.check_const_ops.specs.Numbers.{fits, number_at, evaluated, eval
 use crate::operand::valued;
 use crate::operator::BinaryOp;
 use check_scope::{Elaborated, reported};
+use m2_rule::Rule;
 use m2_tree::Pos;
 use typed_tree::{TypeNo, Value, is_integer};
 
@@ -32,7 +33,7 @@ pub fn number_at(at: Pos, sort: Option<TypeNo>, n: i64) -> Elaborated<Value>
     ensures { result ≡ number_at least at sort n }
 {
     if !fits(sort, n) {
-        return reported(at, 52);
+        return reported(at, Rule::OutOfRange);
     }
     Ok(valued(sort, n))
 }
@@ -65,7 +66,7 @@ pub fn evaluated_at(
     ensures { result ≡ evaluated_at least at sort op x y }
 {
     match evaluated(op, x, y) {
-        None => reported(at, 52),
+        None => reported(at, Rule::OutOfRange),
         Some(n) => number_at(at, sort, n),
     }
 }

@@ -10,6 +10,7 @@ use crate::operand::{Operand, Ordinal, is_number, is_truth, operand_of, truth, v
 use crate::operator::{BinaryOp, is_division};
 use crate::sets::{member, on_sets};
 use check_scope::{Elaborated, beside, both, reported};
+use m2_rule::Rule;
 use m2_tree::{Pos, RelOp, Sign};
 use typed_tree::{TypeNo, Value, are_same, is_integer, is_numeric};
 
@@ -67,7 +68,7 @@ fn applied(op: BinaryOp, spot: Pos, sort: Option<TypeNo>, x: i64, y: i64) -> Ela
 {
     match op {
         BinaryOp::Plus | BinaryOp::Minus | BinaryOp::Times => evaluated_at(spot, sort, op, x, y),
-        BinaryOp::Over => reported(spot, 40),
+        BinaryOp::Over => reported(spot, Rule::WrongType),
         BinaryOp::Div => number_at(spot, sort, quotient(x, y)),
         BinaryOp::Mod => number_at(spot, sort, remainder(x, y)),
         BinaryOp::And => Ok(truth(x > 0 && y > 0)),
@@ -81,7 +82,7 @@ pub fn divisor(op: BinaryOp, spot: Pos, y: i64) -> Elaborated<()>
     ensures { result ≡ divisor least op spot y }
 {
     if is_division(op) && y < 1 {
-        return reported(spot, 52);
+        return reported(spot, Rule::OutOfRange);
     }
     Ok(())
 }
@@ -103,7 +104,7 @@ pub fn fitting(wanted: Option<TypeNo>, at: Pos, a: Ordinal) -> Elaborated<()>
     ensures { result ≡ fitting least wanted at a }
 {
     if is_misfit(wanted, a) {
-        return reported(at, 52);
+        return reported(at, Rule::OutOfRange);
     }
     Ok(())
 }
@@ -120,7 +121,7 @@ fn operated(
     ensures { result ≡ operated least op spot sort at a other_at b }
 {
     if !takes(op, sort) {
-        return reported(spot, 40);
+        return reported(spot, Rule::WrongType);
     }
     let fit = beside(fitting(sort, at, a), fitting(sort, other_at, b));
     match beside(divisor(op, spot, b.number), fit) {
@@ -140,7 +141,7 @@ fn on_scalars(
     ensures { result ≡ on_scalars least op spot at a other_at b (common a.sort b.sort) }
 {
     match common(a.sort, b.sort) {
-        None => reported(spot, 40),
+        None => reported(spot, Rule::WrongType),
         Some(sort) => operated(op, spot, sort, at, a, other_at, b),
     }
 }
@@ -161,11 +162,11 @@ pub fn binary(
             on_scalars(op, spot, at, a, other_at, b)
         }
         (Some(Operand::Scalar(a)), Some(Operand::Set(b))) => member(op, spot, at, a, b),
-        (Some(Operand::Set(_)), Some(Operand::Scalar(_))) => reported(spot, 40),
+        (Some(Operand::Set(_)), Some(Operand::Scalar(_))) => reported(spot, Rule::WrongType),
         (Some(Operand::Set(a)), Some(Operand::Set(b))) => on_sets(op, spot, a, b),
-        (Some(Operand::Scalar(_)), None) => reported(spot, 40),
-        (Some(Operand::Set(_)), None) => reported(spot, 40),
-        (None, _) => reported(spot, 40),
+        (Some(Operand::Scalar(_)), None) => reported(spot, Rule::WrongType),
+        (Some(Operand::Set(_)), None) => reported(spot, Rule::WrongType),
+        (None, _) => reported(spot, Rule::WrongType),
     }
 }
 
@@ -190,8 +191,8 @@ fn signed_value(sign: Sign, spot: Pos, x: Option<Operand>) -> Elaborated<Value>
     ensures { result ≡ signed_value least sign spot x }
 {
     match x {
-        None => reported(spot, 40),
-        Some(Operand::Set(_)) => reported(spot, 40),
+        None => reported(spot, Rule::WrongType),
+        Some(Operand::Set(_)) => reported(spot, Rule::WrongType),
         Some(Operand::Scalar(a)) => signed_scalar(sign, spot, a),
     }
 }
@@ -211,13 +212,13 @@ fn signed_scalar(sign: Sign, spot: Pos, a: Ordinal) -> Elaborated<Value>
     match sign {
         Sign::Plus => {
             if !is_number(a.sort) {
-                return reported(spot, 40);
+                return reported(spot, Rule::WrongType);
             }
             Ok(valued(a.sort, a.number))
         }
         Sign::Minus => {
             if !is_signed(a.sort) {
-                return reported(spot, 40);
+                return reported(spot, Rule::WrongType);
             }
             evaluated_at(spot, a.sort, BinaryOp::Minus, 0, a.number)
         }
@@ -238,11 +239,11 @@ fn negated_value(spot: Pos, x: Option<Operand>) -> Elaborated<Value>
     ensures { result ≡ negated_value least spot x }
 {
     match x {
-        None => reported(spot, 40),
-        Some(Operand::Set(_)) => reported(spot, 40),
+        None => reported(spot, Rule::WrongType),
+        Some(Operand::Set(_)) => reported(spot, Rule::WrongType),
         Some(Operand::Scalar(a)) => {
             if !is_truth(a.sort) {
-                return reported(spot, 40);
+                return reported(spot, Rule::WrongType);
             }
             Ok(truth(!(a.number > 0)))
         }

@@ -7,6 +7,7 @@ ghost use Rattle.check_const_ops.specs.Sets.{without, set_related, on_sets, plac
 use crate::operand::{Ordinal, is_number, truth};
 use crate::operator::BinaryOp;
 use check_scope::{Elaborated, reported};
+use m2_rule::Rule;
 use m2_tree::{Pos, RelOp};
 use typed_tree::Value;
 
@@ -25,7 +26,7 @@ fn set_related(spot: Pos, relation: RelOp, a: u32, b: u32) -> Elaborated<Value>
         RelOp::Unequal => Ok(truth(!(a == b))),
         RelOp::AtMost => Ok(truth(without(a, b) == 0)),
         RelOp::AtLeast => Ok(truth(without(b, a) == 0)),
-        RelOp::Less | RelOp::Greater | RelOp::In => reported(spot, 40),
+        RelOp::Less | RelOp::Greater | RelOp::In => reported(spot, Rule::WrongType),
     }
 }
 
@@ -39,7 +40,10 @@ pub fn on_sets(op: BinaryOp, spot: Pos, a: u32, b: u32) -> Elaborated<Value>
         BinaryOp::Times => Ok(Value::Set(a & b)),
         BinaryOp::Over => Ok(Value::Set(a ^ b)),
         BinaryOp::Relation(relation) => set_related(spot, relation, a, b),
-        BinaryOp::Div | BinaryOp::Mod | BinaryOp::And | BinaryOp::Or => reported(spot, 40),
+        BinaryOp::Div | BinaryOp::Mod | BinaryOp::And | BinaryOp::Or => reported(
+            spot,
+            Rule::WrongType,
+        ),
     }
 }
 
@@ -89,7 +93,7 @@ pub fn member(op: BinaryOp, spot: Pos, at: Pos, x: Ordinal, bits: u32) -> Elabor
         | BinaryOp::Div
         | BinaryOp::Mod
         | BinaryOp::And
-        | BinaryOp::Or => reported(spot, 40),
+        | BinaryOp::Or => reported(spot, Rule::WrongType),
     }
 }
 
@@ -97,10 +101,10 @@ fn member_of(spot: Pos, at: Pos, x: Ordinal, bits: u32) -> Elaborated<Value>
     ensures { result ≡ member_of least spot at x bits }
 {
     if !is_number(x.sort) {
-        return reported(spot, 40);
+        return reported(spot, Rule::WrongType);
     }
     if !(0 <= x.number && x.number <= 31) {
-        return reported(at, 52);
+        return reported(at, Rule::OutOfRange);
     }
     Ok(truth(has(bits, x.number)))
 }

@@ -8,6 +8,7 @@ use crate::number::{evaluated_at, number_at};
 use crate::operand::{Operand, Ordinal, is_number, operand_of, truth, valued};
 use crate::operator::BinaryOp;
 use check_scope::{Elaborated, reported};
+use m2_rule::Rule;
 use m2_tree::Pos;
 use typed_tree::{CARDINAL, CHAR, Scalar, ScalarValue, TypeNo, Value, are_same};
 
@@ -35,7 +36,7 @@ fn absolute_part(at: Pos, a: Option<Ordinal>) -> Elaborated<Value>
     ensures { result ≡ absolute_part least at a }
 {
     match a {
-        None => reported(at, 43),
+        None => reported(at, Rule::WrongArgument),
         Some(a) => {
             if a.number < 0 {
                 evaluated_at(at, a.sort, BinaryOp::Minus, 0, a.number)
@@ -77,10 +78,10 @@ fn capital_part(at: Pos, a: Option<Ordinal>) -> Elaborated<Value>
     ensures { result ≡ capital_part least at a }
 {
     match a {
-        None => reported(at, 43),
+        None => reported(at, Rule::WrongArgument),
         Some(a) => {
             if !is_char(a.sort) {
-                return reported(at, 43);
+                return reported(at, Rule::WrongArgument);
             }
             Ok(valued(Some(CHAR), upper(a.number)))
         }
@@ -98,10 +99,10 @@ fn character_part(at: Pos, a: Option<Ordinal>) -> Elaborated<Value>
     ensures { result ≡ character_part least at a }
 {
     match a {
-        None => reported(at, 43),
+        None => reported(at, Rule::WrongArgument),
         Some(a) => {
             if !(0 <= a.number && a.number <= 255) {
-                return reported(at, 52);
+                return reported(at, Rule::OutOfRange);
             }
             Ok(valued(Some(CHAR), a.number))
         }
@@ -119,7 +120,7 @@ fn odd_part(at: Pos, a: Option<Ordinal>) -> Elaborated<Value>
     ensures { result ≡ odd_part least at a }
 {
     match a {
-        None => reported(at, 43),
+        None => reported(at, Rule::WrongArgument),
         Some(a) => Ok(truth(0 < a.number.rem_euclid(2))),
     }
 }
@@ -135,7 +136,7 @@ fn ordinal_part(at: Pos, a: Option<Ordinal>) -> Elaborated<Value>
     ensures { result ≡ ordinal_part least at a }
 {
     match a {
-        None => reported(at, 43),
+        None => reported(at, Rule::WrongArgument),
         Some(a) => number_at(at, Some(CARDINAL), a.number),
     }
 }
@@ -151,10 +152,10 @@ fn converted_part(t: TypeNo, to: Scalar, at: Pos, a: Option<Ordinal>) -> Elabora
     ensures { result ≡ converted_part least t to at a }
 {
     match a {
-        None => reported(at, 43),
+        None => reported(at, Rule::WrongArgument),
         Some(a) => {
             if !(to.low <= a.number && a.number <= to.high) {
-                return reported(at, 52);
+                return reported(at, Rule::OutOfRange);
             }
             Ok(bound_of(t, to, a.number))
         }

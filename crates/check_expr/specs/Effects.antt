@@ -1,5 +1,6 @@
 -- Calls as statements.
 use Rattle.std.specs.Prelude.{ℤ, pos, List, [], ◌∷◌, length, Result, Ok}
+use Rattle.m2_rule.specs.declared.rule.Rule.TheVariants as rule
 use Rattle.m2_tree.specs.declared.pos.Pos.{Pos}
 use Rattle.typed_tree.specs.declared.types.TypeNo.{TypeNo}
 use Rattle.typed_tree.specs.declared.computed.TypedExpr.{TypedExpr}
@@ -36,7 +37,7 @@ module _ (g : Gathers) where
 
   -- the variable of INC or DEC
   abbrev pub changed_in : Scope g.Reported → Meant g.Reported → Result (TypeNo × Place) g.Reported
-  changed_in s v = of_sort g v.fixed.at 44 (v.means s) ▷ changed g s.types v.fixed.at
+  changed_in s v = of_sort g v.fixed.at rule.NoVariable (v.means s) ▷ changed g s.types v.fixed.at
 
   -- by 1, where nothing is written
   abbrev pub changed_by : Scope g.Reported → Pos → Change → List (Meant g.Reported) → Result TypedStmt g.Reported
@@ -47,7 +48,7 @@ module _ (g : Gathers) where
 
   -- the set of INCL or EXCL
   abbrev pub set_in : Scope g.Reported → Meant g.Reported → Result Place g.Reported
-  set_in s v = of_sort g v.fixed.at 44 (v.means s) ▷ set_variable g s.types v.fixed.at
+  set_in s v = of_sort g v.fixed.at rule.NoVariable (v.means s) ▷ set_variable g s.types v.fixed.at
 
   abbrev pub member_by : Scope g.Reported → Pos → Membership → List (Meant g.Reported) → Result TypedStmt g.Reported
   member_by s at o [] = miscounted g s at []
@@ -66,7 +67,7 @@ module _ (g : Gathers) where
 
   -- functions are no statements
   abbrev pub function_done : Scope g.Reported → Pos → List (Meant g.Reported) → Result TypedStmt g.Reported
-  function_done s at args = reported_beside g at 40 (looked_at g s args)
+  function_done s at args = reported_beside g at rule.WrongType (looked_at g s args)
 
   abbrev pub standard_done : Scope g.Reported → Pos → List (Meant g.Reported) → Standard → Result TypedStmt g.Reported
   standard_done s at args Abs = function_done s at args

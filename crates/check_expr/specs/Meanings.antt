@@ -1,6 +1,7 @@
 -- What expressions of bodies mean: each has a value, or names what has none, or breaks rules.
 use Rattle.std.specs.Prelude.{ℕ, cond, List, [], ◌∷◌, map, length, Option, Some, None, Result, Ok}
 use Rattle.std.specs.List.{fold}
+use Rattle.m2_rule.specs.declared.rule.Rule.TheVariants as rule
 use Rattle.m2_tree.specs.declared.pos.Pos.{Pos}
 use Rattle.m2_tree.specs.declared.name.Ident.{Ident}
 use Rattle.m2_tree.specs.declared.expr.MulOp.{MulOp}
@@ -97,11 +98,11 @@ field_of g s at name (designated.Nested p) = field g s.types at name (designated
 field_of g s at name (designated.Standard f) = field g s.types at name (designated.Standard f)
 
 abbrev pub field_at : (g : Gathers) → Scope g.Reported → Pos → Ident → Result Designated (Meaningless g.Reported) → Result Designated (Meaningless g.Reported)
-field_at g s at name d = plain (of_sort g at 40 d ▷ field_of g s at name)
+field_at g s at name d = plain (of_sort g at rule.WrongType d ▷ field_of g s at name)
 
 -- what stands before a bracket is elaborated beside the index
 abbrev pub index_at : (g : Gathers) → Types → Pos → Result Designated (Meaningless g.Reported) → Pos → Result Computed g.Reported → Result Designated (Meaningless g.Reported)
-index_at g types at d at' x = plain (indexed g types (of_sort g at 40 d ▷ indices g types at) at' x)
+index_at g types at d at' x = plain (indexed g types (of_sort g at rule.WrongType d ▷ indices g types at) at' x)
 
 -- ---- arguments that name a type
 
@@ -117,7 +118,7 @@ type_in (designated.Standard f) = None
 type_in (designated.Module k) = None
 
 abbrev pub type_of : (g : Gathers) → Pos → Result Designated (Meaningless g.Reported) → Result (Option TypeNo) g.Reported
-type_of g at d = of_sort g at 33 d ▷ λ x. Ok (type_in x)
+type_of g at d = of_sort g at rule.NoType d ▷ λ x. Ok (type_in x)
 
 -- a name with selectors is no constant expression
 abbrev pub names_by : {A R : Type 0} → List A → (bare selected : R) → R
@@ -132,10 +133,10 @@ formals_of (Some h) = h.formals
 
 -- for a VAR formal it counts that a procedure is no variable, for others what it is
 abbrev pub passed_for : (g : Gathers) → Formal → Pos → Result Designated (Meaningless g.Reported) → Result Designated g.Reported
-passed_for g f at d = cond f.is_var (of_sort g at 44 d) (of_heading d)
+passed_for g f at d = cond f.is_var (of_sort g at rule.NoVariable d) (of_heading d)
 
 abbrev pub argument_by : (g : Gathers) → Types → Option Formal → Pos → Result Designated (Meaningless g.Reported) → Result Argument g.Reported
-argument_by g types None at d = reported g at 42
+argument_by g types None at d = reported g at rule.ArgumentCount
 argument_by g types (Some f) at d = passed_for g f at d ▷ actual g types f at
 
 abbrev pub call_given : (g : Gathers) → Types → TypeNo → Callee → Result (List Argument) g.Reported → Result Computed g.Reported
@@ -161,7 +162,7 @@ module _ (g : Gathers) where
 
   -- a wrong number of arguments
   abbrev pub miscounted : {A : Type 0} → Scope g.Reported → Pos → List (Meant g.Reported) → Result A g.Reported
-  miscounted s at args = reported_beside g at 42 (looked_at s args)
+  miscounted s at args = reported_beside g at rule.ArgumentCount (looked_at s args)
 
   -- the arguments, one after the other, with the formals that are left
   abbrev pub with_actual : Scope g.Reported → List Formal × Result (List Argument) g.Reported → Meant g.Reported → List Formal × Result (List Argument) g.Reported
@@ -182,7 +183,7 @@ module _ (g : Gathers) where
   unary s at f u (x ∷ y ∷ xs) = miscounted s at (x ∷ y ∷ xs)
 
   abbrev pub scalar_named : Scope g.Reported → Meant g.Reported → Result (TypeNo × Range) g.Reported
-  scalar_named s x = of_sort g x.fixed.at 33 (x.means s) ▷ type_named g s.types x.fixed.at
+  scalar_named s x = of_sort g x.fixed.at rule.NoType (x.means s) ▷ type_named g s.types x.fixed.at
 
   abbrev pub bound : Scope g.Reported → Pos → Standard → List (Meant g.Reported) → Result Computed g.Reported
   bound s at f [] = miscounted s at []
@@ -197,7 +198,7 @@ module _ (g : Gathers) where
 
   abbrev pub high : Scope g.Reported → Pos → List (Meant g.Reported) → Result Computed g.Reported
   high s at [] = miscounted s at []
-  high s at (x ∷ []) = of_sort g x.fixed.at 43 (x.means s) ▷ high_of g x.fixed.at
+  high s at (x ∷ []) = of_sort g x.fixed.at rule.WrongArgument (x.means s) ▷ high_of g x.fixed.at
   high s at (x ∷ y ∷ xs) = miscounted s at (x ∷ y ∷ xs)
 
   abbrev pub by_form : Scope g.Reported → Pos → Standard → List (Meant g.Reported) → Form → Result Computed g.Reported
@@ -205,7 +206,7 @@ module _ (g : Gathers) where
   by_form s at f args form.Bound = bound s at f args
   by_form s at f args form.Conversion = conversion s at args
   by_form s at f args form.High = high s at args
-  by_form s at f args form.Proper = reported_beside g at 40 (looked_at s args)
+  by_form s at f args form.Proper = reported_beside g at rule.WrongType (looked_at s args)
 
   abbrev pub called_as : Scope g.Reported → Pos → List (Meant g.Reported) → Called → Result Computed g.Reported
   called_as s at args (called.Routine h c) = routine_called s at h c args

@@ -31,6 +31,7 @@ use check_scope::{
     Elaborated, Fault, Scope, Sought, beside, of_heading, plain, refusal_beside, reported,
     reported_beside,
 };
+use m2_rule::Rule;
 use m2_tree::{AddOp, Designator, Expr, Item, Items, MulOp, Operator, Pos, Selector};
 use std::alloc::{AllocError, Global};
 use typed_tree::{Argument, CHAR, Formal, Scalar, Standard, TypeNo, Value};
@@ -333,7 +334,7 @@ fn miscounted(
     ensures { IfOk result (λ v. v ≡ miscounted least scope.now at (map (meant least) args.now)) }
 {
     let rest = looked_at(alloc, scope, args)?;
-    Ok(reported_beside(at, 42, rest))
+    Ok(reported_beside(at, Rule::ArgumentCount, rest))
 }
 
 /// A call of a standard procedure in an expression.
@@ -355,7 +356,7 @@ fn by_form(
         Form::High => high(alloc, scope, at, args),
         Form::Proper => {
             let rest = looked_at(alloc, scope, args)?;
-            Ok(reported_beside(at, 40, rest))
+            Ok(reported_beside(at, Rule::WrongType, rest))
         }
     }
 }
@@ -596,11 +597,11 @@ fn constant_call_of(
 {
     match callee {
         Denoted::Standard(standard) => by_sort(alloc, scope, at, standard, args),
-        Denoted::Value(_) => Ok(reported(at, 34)),
-        Denoted::Type(_) => Ok(reported(at, 34)),
-        Denoted::Variable => Ok(reported(at, 34)),
-        Denoted::Procedure => Ok(reported(at, 34)),
-        Denoted::Module(_) => Ok(reported(at, 34)),
+        Denoted::Value(_) => Ok(reported(at, Rule::NoConstant)),
+        Denoted::Type(_) => Ok(reported(at, Rule::NoConstant)),
+        Denoted::Variable => Ok(reported(at, Rule::NoConstant)),
+        Denoted::Procedure => Ok(reported(at, Rule::NoConstant)),
+        Denoted::Module(_) => Ok(reported(at, Rule::NoConstant)),
     }
 }
 
@@ -621,7 +622,7 @@ fn by_sort(
         Sort::Unary => Ok(unary_constant(standard, one(alloc, scope, at, args)?)),
         Sort::Bound => Ok(bound_of(standard, type_only(alloc, scope, at, args)?)),
         Sort::Conversion => constant_conversion(alloc, scope, at, args),
-        Sort::Never => Ok(reported(at, 34)),
+        Sort::Never => Ok(reported(at, Rule::NoConstant)),
     }
 }
 
@@ -636,12 +637,12 @@ fn one(
     ensures { IfOk result (λ x. x ≡ constants.one least scope.now at (map (part least) args.now)) }
 {
     match args {
-        [] => Ok(reported(at, 42)),
+        [] => Ok(reported(at, Rule::ArgumentCount)),
         [argument] => {
             let value = constant_of(alloc, scope, argument)?;
             Ok(value_at(place_of(argument), value))
         }
-        [_, _, ..] => Ok(reported(at, 42)),
+        [_, _, ..] => Ok(reported(at, Rule::ArgumentCount)),
     }
 }
 
@@ -657,12 +658,12 @@ fn type_only(
         (λ x. x ≡ constants.type_only least scope.now at (map (part least) args.now)) }
 {
     match args {
-        [] => Ok(reported(at, 42)),
+        [] => Ok(reported(at, Rule::ArgumentCount)),
         [argument] => {
             let named = type_named(alloc, scope, argument)?;
             Ok(type_argument(&scope.types, place_of(argument), named))
         }
-        [_, _, ..] => Ok(reported(at, 42)),
+        [_, _, ..] => Ok(reported(at, Rule::ArgumentCount)),
     }
 }
 
@@ -678,15 +679,15 @@ fn constant_conversion(
         (λ v. v ≡ constants.conversion least scope.now at (map (part least) args.now)) }
 {
     match args {
-        [] => Ok(reported(at, 42)),
-        [_] => Ok(reported(at, 42)),
+        [] => Ok(reported(at, Rule::ArgumentCount)),
+        [_] => Ok(reported(at, Rule::ArgumentCount)),
         [to, argument] => {
             let named = type_named(alloc, scope, to)?;
             let t = type_argument(&scope.types, place_of(to), named);
             let value = constant_of(alloc, scope, argument)?;
             Ok(converted_by(t, place_of(argument), value))
         }
-        [_, _, _, ..] => Ok(reported(at, 42)),
+        [_, _, _, ..] => Ok(reported(at, Rule::ArgumentCount)),
     }
 }
 

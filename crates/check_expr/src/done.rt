@@ -14,6 +14,7 @@ use check_call::{
 };
 use check_operator::signature_of;
 use check_scope::{Elaborated, Fault, Scope, of_heading, of_sort, refusal_beside, reported_beside};
+use m2_rule::Rule;
 use m2_tree::{Designator, Expr, Items, Pos};
 use std::alloc::{AllocError, Global};
 use typed_tree::{
@@ -65,7 +66,7 @@ fn miscounted(
     ensures { IfOk result (λ j. j ≡ miscounted least scope.now at (map (meant least) args.now)) }
 {
     let rest = looked_at(alloc, scope, args)?;
-    Ok(reported_beside(at, 42, rest))
+    Ok(reported_beside(at, Rule::ArgumentCount, rest))
 }
 
 /// The variable of INC or DEC.
@@ -78,7 +79,7 @@ fn changed_at(
         (λ j. j ≡ changed_in least scope.now (meant least arg.now)) }
 {
     let at = place_of(arg);
-    match of_sort(at, 44, stands_for(alloc, scope, arg)?) {
+    match of_sort(at, Rule::NoVariable, stands_for(alloc, scope, arg)?) {
         Err(fault) => Ok(Err(fault)),
         Ok(designated) => Ok(changed(&scope.types, at, designated)),
     }
@@ -145,7 +146,7 @@ fn set_at(alloc: Global, scope: &Scope<Fault>, arg: &Expr) -> Result<Elaborated<
         (λ j. j ≡ set_in least scope.now (meant least arg.now)) }
 {
     let at = place_of(arg);
-    match of_sort(at, 44, stands_for(alloc, scope, arg)?) {
+    match of_sort(at, Rule::NoVariable, stands_for(alloc, scope, arg)?) {
         Err(fault) => Ok(Err(fault)),
         Ok(designated) => Ok(set_variable(&scope.types, at, designated)),
     }
@@ -228,7 +229,7 @@ fn function_done(
     ensures { IfOk result (λ j. j ≡ function_done least scope.now at (map (meant least) args.now)) }
 {
     let rest = looked_at(alloc, scope, args)?;
-    Ok(reported_beside(at, 40, rest))
+    Ok(reported_beside(at, Rule::WrongType, rest))
 }
 
 /// `Console.Put`.

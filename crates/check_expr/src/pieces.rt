@@ -6,6 +6,7 @@ ghost use Rattle.check_scope.specs.Elaborated.{least, of_sort, of_heading, ◌�
 ghost use Rattle.check_const.specs.Parts as constants;
 ghost use Rattle.check_call.specs.Functions.{type_named, high_of, unary_at};
 ghost use Rattle.check_expr.specs.Meanings.{part, meant, head, of_computed, taken_at, signed_first, related, named, member_of, field_of, field_at, index_at, formals_of, passed_for, argument_by, call_given, type_in, type_of};
+ghost use Rattle.m2_rule.specs.declared.rule.Rule.TheVariants as rule;
 
 use check_call::{Callee, Unary, actual, call_by, high_of, type_named, unary_at};
 use check_const::{Denoted, member, set_place, sign_place};
@@ -16,6 +17,7 @@ use check_operator::{
 use check_scope::{
     Elaborated, Fault, Scope, Sought, looked_up, of_heading, of_sort, plain, reported,
 };
+use m2_rule::Rule;
 use m2_tree::{Boxed, Designator, Expr, Ident, Items, Operator, Pos, RelOp, Sign};
 use std::alloc::{AllocError, Global};
 use typed_tree::{Argument, Formal, Scalar, Signature, Standard, TypeNo, TypedExpr, Types, Value};
@@ -177,7 +179,7 @@ pub fn field_at(
 ) -> Result<Sought<Designated>, AllocError>
     ensures { IfOk result (λ d. d ≡ field_at least scope.now at name.now from) }
 {
-    match of_sort(at, 40, from) {
+    match of_sort(at, Rule::WrongType, from) {
         Err(fault) => Ok(plain(Err(fault))),
         Ok(from) => Ok(plain(field_of(alloc, scope, at, name, from)?)),
     }
@@ -194,7 +196,7 @@ pub fn index_at(
 ) -> Result<Sought<Designated>, AllocError>
     ensures { IfOk result (λ d. d ≡ index_at least types.now at from other_at index) }
 {
-    let array = match of_sort(at, 40, from) {
+    let array = match of_sort(at, Rule::WrongType, from) {
         Err(fault) => Err(fault),
         Ok(from) => indices(types, at, from),
     };
@@ -223,7 +225,7 @@ fn type_in(designated: Designated) -> Option<TypeNo>
 pub fn type_of(at: Pos, designated: Sought<Designated>) -> Elaborated<Option<TypeNo>>
     ensures { result ≡ type_of least at designated }
 {
-    match of_sort(at, 33, designated) {
+    match of_sort(at, Rule::NoType, designated) {
         Err(fault) => Err(fault),
         Ok(designated) => Ok(type_in(designated)),
     }
@@ -244,7 +246,7 @@ fn passed_for(formal: Formal, at: Pos, designated: Sought<Designated>) -> Elabor
     ensures { result ≡ passed_for least formal at designated }
 {
     if formal.is_var {
-        of_sort(at, 44, designated)
+        of_sort(at, Rule::NoVariable, designated)
     } else {
         of_heading(designated)
     }
@@ -260,7 +262,7 @@ pub fn argument_by(
     ensures { result ≡ argument_by least types.now formal at designated }
 {
     match formal {
-        None => reported(at, 42),
+        None => reported(at, Rule::ArgumentCount),
         Some(formal) => match passed_for(formal, at, designated) {
             Err(fault) => Err(fault),
             Ok(designated) => actual(types, formal, at, designated),
@@ -293,9 +295,9 @@ pub fn type_at(
     at: Pos,
     designated: Sought<Designated>,
 ) -> Elaborated<(TypeNo, Scalar)>
-    ensures { result ≡ (of_sort least at 33 designated ▷ type_named least types.now at) }
+    ensures { result ≡ (of_sort least at rule.NoType designated ▷ type_named least types.now at) }
 {
-    match of_sort(at, 33, designated) {
+    match of_sort(at, Rule::NoType, designated) {
         Err(fault) => Err(fault),
         Ok(designated) => type_named(types, at, designated),
     }
@@ -303,9 +305,9 @@ pub fn type_at(
 
 /// HIGH of an argument.
 pub fn high_at(at: Pos, designated: Sought<Designated>) -> Elaborated<Computed>
-    ensures { result ≡ (of_sort least at 43 designated ▷ high_of least at) }
+    ensures { result ≡ (of_sort least at rule.WrongArgument designated ▷ high_of least at) }
 {
-    match of_sort(at, 43, designated) {
+    match of_sort(at, Rule::WrongArgument, designated) {
         Err(fault) => Err(fault),
         Ok(designated) => high_of(at, designated),
     }

@@ -1,5 +1,6 @@
 -- What operators make of values.
 use Rattle.std.specs.Prelude.{ℤ, pos, Bool, true, false, not, ◌&&◌, Option, Some, None, Result, Ok}
+use Rattle.m2_rule.specs.declared.rule.Rule.TheVariants as rule
 use Rattle.m2_tree.specs.declared.pos.Pos.{Pos}
 use Rattle.m2_tree.specs.declared.expr.RelOp.{RelOp}
 use Rattle.m2_tree.specs.declared.expr.RelOp.TheVariants as rel
@@ -139,26 +140,26 @@ divisor_of g op spot (Run b e) = Ok tt
 
 abbrev pub fitting_both : (g : Gathers) → BinaryOp → Pos → Option TypeNo → Pos → Amount → Pos → Amount → Result (Unit {0}) g.Reported
 fitting_both g op spot sort at a at' b =
-    reported_where g (not (takes op sort)) spot 40 (beside g (divisor_of g op spot b) (beside g (fitting_of g sort at a) (fitting_of g sort at' b)))
+    reported_where g (not (takes op sort)) spot rule.WrongType (beside g (divisor_of g op spot b) (beside g (fitting_of g sort at a) (fitting_of g sort at' b)))
 
 abbrev pub stepped : (g : Gathers) → Pos → Option TypeNo → Amount → Amount → Option Step → Result Computed g.Reported
-stepped g spot sort a b None = reported g spot 40
+stepped g spot sort a b None = reported g spot rule.WrongType
 stepped g spot sort a b (Some o) = Ok (built (or_cardinal sort) (run_of (or_cardinal sort) a) (run_of (or_cardinal sort) b) o)
 
 abbrev pub on_amounts : (g : Gathers) → BinaryOp → Pos → Pos → Amount → Pos → Amount → Option (Option TypeNo) → Result Computed g.Reported
-on_amounts g op spot at a at' b None = reported g spot 40
+on_amounts g op spot at a at' b None = reported g spot rule.WrongType
 on_amounts g op spot at a at' b (Some sort) = fitting_both g op spot sort at a at' b ▷ λ fine. stepped g spot sort a b (step_of op)
 
 -- ---- sets
 
 -- a constant element is from 0 to 31
 abbrev pub element_fits : (g : Gathers) → Pos → Amount → Result (Unit {0}) g.Reported
-element_fits g at (Known a) = reported_where g (not (is_between (pos 0) a.number (pos 31))) at 52 (Ok tt)
+element_fits g at (Known a) = reported_where g (not (is_between (pos 0) a.number (pos 31))) at rule.OutOfRange (Ok tt)
 element_fits g at (Run b e) = Ok tt
 
 abbrev pub member : (g : Gathers) → BinaryOp → Pos → Pos → Amount → TypedExpr → Result Computed g.Reported
 member g op spot at a s =
-    reported_where g (not (is_in op && is_number (sort_of a))) spot 40
+    reported_where g (not (is_in op && is_number (sort_of a))) spot rule.WrongType
     (element_fits g at a ▷ λ fine. Ok (truth_of (expr.In (run_of (or_cardinal (sort_of a)) a) s)))
 
 abbrev pub set_built : TypedExpr → TypedExpr → SetStep → Computed
@@ -167,23 +168,23 @@ set_built x y (set_step.Compare c) = truth_of (expr.Compare c x y)
 set_built x y (set_step.Include i) = truth_of (expr.Include i x y)
 
 abbrev pub on_sets : (g : Gathers) → Pos → TypedExpr → TypedExpr → Option SetStep → Result Computed g.Reported
-on_sets g spot x y None = reported g spot 40
+on_sets g spot x y None = reported g spot rule.WrongType
 on_sets g spot x y (Some o) = Ok (set_built x y o)
 
 -- ---- procedures
 
 abbrev pub on_procedures : (g : Gathers) → Pos → (fit : Bool) → TypedExpr → TypedExpr → Option Comparison → Result Computed g.Reported
-on_procedures g spot fit x y None = reported g spot 40
-on_procedures g spot fit x y (Some c) = reported_where g (not fit) spot 40 (Ok (truth_of (expr.Compare c x y)))
+on_procedures g spot fit x y None = reported g spot rule.WrongType
+on_procedures g spot fit x y (Some c) = reported_where g (not fit) spot rule.WrongType (Ok (truth_of (expr.Compare c x y)))
 
 -- ---- all of them, where one side is no constant
 
 abbrev pub with_scalar : (g : Gathers) → BinaryOp → Pos → Pos → Amount → Pos → Option Side → Result Computed g.Reported
-with_scalar g op spot at a at' None = reported g spot 40
+with_scalar g op spot at a at' None = reported g spot rule.WrongType
 with_scalar g op spot at a at' (Some (side.Scalar b)) = on_amounts g op spot at a at' b (common (sort_of a) (sort_of b))
 with_scalar g op spot at a at' (Some (side.Set s)) = member g op spot at a s
-with_scalar g op spot at a at' (Some (side.Routine t e)) = reported g spot 40
-with_scalar g op spot at a at' (Some (side.Procedure p)) = reported g spot 40
+with_scalar g op spot at a at' (Some (side.Routine t e)) = reported g spot rule.WrongType
+with_scalar g op spot at a at' (Some (side.Procedure p)) = reported g spot rule.WrongType
 
 abbrev pub set_in : Option Side → Option TypedExpr
 set_in None = None
@@ -193,7 +194,7 @@ set_in (Some (side.Routine t e)) = None
 set_in (Some (side.Procedure p)) = None
 
 abbrev pub with_set : (g : Gathers) → BinaryOp → Pos → TypedExpr → Option TypedExpr → Result Computed g.Reported
-with_set g op spot x None = reported g spot 40
+with_set g op spot x None = reported g spot rule.WrongType
 with_set g op spot x (Some s) = on_sets g spot x s (set_step_of op)
 
 -- beside a value of a procedure type one of the same type, or a procedure whose heading agrees
@@ -212,11 +213,11 @@ routine_of types p (Some (side.Routine t e)) = Some (headings_agree types t p.he
 routine_of types p (Some (side.Procedure q)) = None
 
 abbrev pub with_partner : (g : Gathers) → Pos → TypedExpr → Option Comparison → Option (Bool × TypedExpr) → Result Computed g.Reported
-with_partner g spot x c None = reported g spot 40
+with_partner g spot x c None = reported g spot rule.WrongType
 with_partner g spot x c (Some p) = on_procedures g spot p.0 x p.1 c
 
 abbrev pub between : (g : Gathers) → Types → BinaryOp → Pos → Pos → Option Side → Pos → Option Side → Result Computed g.Reported
-between g types op spot at None at' y = reported g spot 40
+between g types op spot at None at' y = reported g spot rule.WrongType
 between g types op spot at (Some (side.Scalar a)) at' y = with_scalar g op spot at a at' y
 between g types op spot at (Some (side.Set e)) at' y = with_set g op spot e (set_in y)
 between g types op spot at (Some (side.Routine t e)) at' y = with_partner g spot e (equality_of op) (partner_of types t y)

@@ -1,6 +1,7 @@
 -- Components of variables.
 use Rattle.std.specs.Prelude.{ℕ, List, Option, Some, None, Result, Ok, slice_get}
 use Rattle.std.specs.Option.{option_map}
+use Rattle.m2_rule.specs.declared.rule.Rule.TheVariants as rule
 use Rattle.m2_tree.specs.declared.pos.Pos.{Pos}
 use Rattle.m2_tree.specs.declared.name.Ident.{Ident}
 use Rattle.typed_tree.specs.declared.types.TypeNo.{TypeNo}
@@ -34,11 +35,11 @@ abbrev pub numbered_field : List ℕ → List (List ℕ × TypeNo) → Option (�
 numbered_field name fs = typed_field fs (place_of name fs)
 
 abbrev pub field_named : (g : Gathers) → Pos → Option (ℕ × TypeNo) → Result (ℕ × TypeNo) g.Reported
-field_named g at None = reported g at 30
+field_named g at None = reported g at rule.Undeclared
 field_named g at (Some f) = Ok f
 
 abbrev pub record_field : (g : Gathers) → Pos → Ident → Option (List (List ℕ × TypeNo)) → Result (ℕ × TypeNo) g.Reported
-record_field g at name None = reported g at 40
+record_field g at name None = reported g at rule.WrongType
 record_field g at name (Some fs) = field_named g name.pos (numbered_field name.name fs)
 
 abbrev pub component : (g : Gathers) → Types → Pos → Ident → TypeNo → Place → Result Designated g.Reported
@@ -47,29 +48,29 @@ component g types at name t d = record_field g at name (fields_at types t) ▷ �
 -- only variables have components
 abbrev pub field : (g : Gathers) → Types → Pos → Ident → Designated → Result Designated g.Reported
 field g types at name (designated.Variable t d) = component g types at name t d
-field g types at name (designated.Value x) = reported g at 40
-field g types at name (designated.Open t slot) = reported g at 40
-field g types at name (designated.Type t) = reported g at 40
-field g types at name (designated.Procedure p) = reported g at 40
-field g types at name (designated.Nested p) = reported g at 40
-field g types at name (designated.Standard f) = reported g at 40
-field g types at name (designated.Module k) = reported g at 40
+field g types at name (designated.Value x) = reported g at rule.WrongType
+field g types at name (designated.Open t slot) = reported g at rule.WrongType
+field g types at name (designated.Type t) = reported g at rule.WrongType
+field g types at name (designated.Procedure p) = reported g at rule.WrongType
+field g types at name (designated.Nested p) = reported g at rule.WrongType
+field g types at name (designated.Standard f) = reported g at rule.WrongType
+field g types at name (designated.Module k) = reported g at rule.WrongType
 
 -- ---- elements
 
 abbrev pub array_indexed : (g : Gathers) → Pos → TypeNo → Place → Option (TypeNo × TypeNo) → Result Subscripted g.Reported
-array_indexed g at t d None = reported g at 40
+array_indexed g at t d None = reported g at rule.WrongType
 array_indexed g at t d (Some a) = Ok (indexes.Array t a.0 a.1 d)
 
 abbrev pub indices : (g : Gathers) → Types → Pos → Designated → Result Subscripted g.Reported
 indices g types at (designated.Variable t d) = array_indexed g at t d (array_at types t)
 indices g types at (designated.Open t slot) = Ok (indexes.Open t slot)
-indices g types at (designated.Value x) = reported g at 40
-indices g types at (designated.Type t) = reported g at 40
-indices g types at (designated.Procedure p) = reported g at 40
-indices g types at (designated.Nested p) = reported g at 40
-indices g types at (designated.Standard f) = reported g at 40
-indices g types at (designated.Module k) = reported g at 40
+indices g types at (designated.Value x) = reported g at rule.WrongType
+indices g types at (designated.Type t) = reported g at rule.WrongType
+indices g types at (designated.Procedure p) = reported g at rule.WrongType
+indices g types at (designated.Nested p) = reported g at rule.WrongType
+indices g types at (designated.Standard f) = reported g at rule.WrongType
+indices g types at (designated.Module k) = reported g at rule.WrongType
 
 -- the type of the index: open arrays have subscripts from 0
 abbrev pub asked : Subscripted → TypeNo
@@ -81,7 +82,7 @@ picked x (indexes.Array t i e d) = designated.Variable e (behind d (part.Element
 picked x (indexes.Open t slot) = designated.Variable t (behind (rooted (root.Open slot)) (part.OpenElement slot t x))
 
 abbrev pub with_index : (g : Gathers) → Types → Pos → Subscripted → Computed → Result Designated g.Reported
-with_index g types at a x = value_suited g 41 types (asked a) at x ▷ λ e. Ok (picked e a)
+with_index g types at a x = value_suited g rule.NotAssignable types (asked a) at x ▷ λ e. Ok (picked e a)
 
 -- the element of an array with this index
 abbrev pub indexed : (g : Gathers) → Types → Result Subscripted g.Reported → Pos → Result Computed g.Reported → Result Designated g.Reported

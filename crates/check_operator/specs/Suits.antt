@@ -1,5 +1,7 @@
--- What places take: assignment compatibility. A rule of this number is broken where a value does not suit.
+-- What places take: assignment compatibility. The rule is broken if a value does not suit.
 use Rattle.std.specs.Prelude.{ℕ, ◌-◌, ◌-ℤ◌, Bool, false, not, ◌&&◌, ◌||◌, nat_lt, unsigned_abs, List, length, Option, Some, None, Result, Ok}
+use Rattle.m2_rule.specs.declared.rule.Rule.{Rule}
+use Rattle.m2_rule.specs.declared.rule.Rule.TheVariants as rule
 use Rattle.m2_tree.specs.declared.pos.Pos.{Pos}
 use Rattle.typed_tree.specs.declared.types.TypeNo.{TypeNo}
 use Rattle.typed_tree.specs.declared.shape.Scalar.{Scalar as Range}
@@ -38,46 +40,46 @@ sort_suits asked None = is_numeric asked
 sort_suits asked (Some base) = bases_suit asked base
 
 -- a constant is one of the type
-abbrev pub known_suited : (g : Gathers) → ℕ → TypeNo → Range → Pos → Ordinal → Result TypedExpr g.Reported
-known_suited g number t s at a = reported_where g (not (sort_suits s.base a.sort)) at number (reported_where g (not (is_between s.low a.number s.high)) at 52 (Ok (expr.Constant t a.number)))
+abbrev pub known_suited : (g : Gathers) → Rule → TypeNo → Range → Pos → Ordinal → Result TypedExpr g.Reported
+known_suited g broken t s at a = reported_where g (not (sort_suits s.base a.sort)) at broken (reported_where g (not (is_between s.low a.number s.high)) at rule.OutOfRange (Ok (expr.Constant t a.number)))
 
-abbrev pub run_suited : (g : Gathers) → ℕ → Range → Pos → TypeNo → TypedExpr → Result TypedExpr g.Reported
-run_suited g number s at b e = reported_where g (not (bases_suit s.base b)) at number (Ok e)
+abbrev pub run_suited : (g : Gathers) → Rule → Range → Pos → TypeNo → TypedExpr → Result TypedExpr g.Reported
+run_suited g broken s at b e = reported_where g (not (bases_suit s.base b)) at broken (Ok e)
 
-abbrev pub scalar_suited : (g : Gathers) → ℕ → TypeNo → Range → Pos → Option Side → Result TypedExpr g.Reported
-scalar_suited g number t s at None = reported g at number
-scalar_suited g number t s at (Some (side.Scalar (Known a))) = known_suited g number t s at a
-scalar_suited g number t s at (Some (side.Scalar (Run b e))) = run_suited g number s at b e
-scalar_suited g number t s at (Some (side.Set e)) = reported g at number
-scalar_suited g number t s at (Some (side.Routine u e)) = reported g at number
-scalar_suited g number t s at (Some (side.Procedure p)) = reported g at number
+abbrev pub scalar_suited : (g : Gathers) → Rule → TypeNo → Range → Pos → Option Side → Result TypedExpr g.Reported
+scalar_suited g broken t s at None = reported g at broken
+scalar_suited g broken t s at (Some (side.Scalar (Known a))) = known_suited g broken t s at a
+scalar_suited g broken t s at (Some (side.Scalar (Run b e))) = run_suited g broken s at b e
+scalar_suited g broken t s at (Some (side.Set e)) = reported g at broken
+scalar_suited g broken t s at (Some (side.Routine u e)) = reported g at broken
+scalar_suited g broken t s at (Some (side.Procedure p)) = reported g at broken
 
 -- ---- sets and procedures
 
-abbrev pub set_suited : (g : Gathers) → ℕ → Pos → Option Side → Result TypedExpr g.Reported
-set_suited g number at None = reported g at number
-set_suited g number at (Some (side.Scalar a)) = reported g at number
-set_suited g number at (Some (side.Set e)) = Ok e
-set_suited g number at (Some (side.Routine u e)) = reported g at number
-set_suited g number at (Some (side.Procedure p)) = reported g at number
+abbrev pub set_suited : (g : Gathers) → Rule → Pos → Option Side → Result TypedExpr g.Reported
+set_suited g broken at None = reported g at broken
+set_suited g broken at (Some (side.Scalar a)) = reported g at broken
+set_suited g broken at (Some (side.Set e)) = Ok e
+set_suited g broken at (Some (side.Routine u e)) = reported g at broken
+set_suited g broken at (Some (side.Procedure p)) = reported g at broken
 
 -- a value of the type, or a procedure whose heading agrees
-abbrev pub procedure_suited : (g : Gathers) → ℕ → Types → TypeNo → Pos → Option Side → Result TypedExpr g.Reported
-procedure_suited g number types t at None = reported g at number
-procedure_suited g number types t at (Some (side.Scalar a)) = reported g at number
-procedure_suited g number types t at (Some (side.Set e)) = reported g at number
-procedure_suited g number types t at (Some (side.Routine u e)) = reported_where g (not (are_same u t)) at number (Ok e)
-procedure_suited g number types t at (Some (side.Procedure p)) = reported_where g (not (headings_agree types t p.heading)) at number (Ok (expr.Procedure p))
+abbrev pub procedure_suited : (g : Gathers) → Rule → Types → TypeNo → Pos → Option Side → Result TypedExpr g.Reported
+procedure_suited g broken types t at None = reported g at broken
+procedure_suited g broken types t at (Some (side.Scalar a)) = reported g at broken
+procedure_suited g broken types t at (Some (side.Set e)) = reported g at broken
+procedure_suited g broken types t at (Some (side.Routine u e)) = reported_where g (not (are_same u t)) at broken (Ok e)
+procedure_suited g broken types t at (Some (side.Procedure p)) = reported_where g (not (headings_agree types t p.heading)) at broken (Ok (expr.Procedure p))
 
-abbrev pub value_in : (g : Gathers) → ℕ → Types → TypeNo → Pos → Option Side → Class → Result TypedExpr g.Reported
-value_in g number types t at x (class.Scalar s) = scalar_suited g number t s at x
-value_in g number types t at x class.Set = set_suited g number at x
-value_in g number types t at x class.Procedure = procedure_suited g number types t at x
-value_in g number types t at x class.Whole = reported g at number
+abbrev pub value_in : (g : Gathers) → Rule → Types → TypeNo → Pos → Option Side → Class → Result TypedExpr g.Reported
+value_in g broken types t at x (class.Scalar s) = scalar_suited g broken t s at x
+value_in g broken types t at x class.Set = set_suited g broken at x
+value_in g broken types t at x class.Procedure = procedure_suited g broken types t at x
+value_in g broken types t at x class.Whole = reported g at broken
 
 -- a value for a place of this type, which is no array and no record
-abbrev pub value_suited : (g : Gathers) → ℕ → Types → TypeNo → Pos → Computed → Result TypedExpr g.Reported
-value_suited g number types t at x = value_in g number types t at (side_of x) (class_at types t)
+abbrev pub value_suited : (g : Gathers) → Rule → Types → TypeNo → Pos → Computed → Result TypedExpr g.Reported
+value_suited g broken types t at x = value_in g broken types t at (side_of x) (class_at types t)
 
 -- ---- strings, arrays and records
 
@@ -94,31 +96,31 @@ text_fits_in types n (Some a) = are_same a.1 char && text_within n (scalar_at ty
 abbrev pub text_fits : Types → TypeNo → (length : ℕ) → Bool
 text_fits types t n = text_fits_in types n (array_at types t)
 
-abbrev pub text_suited : (g : Gathers) → ℕ → Types → TypeNo → Pos → Value → Result Accepted g.Reported
-text_suited g number types t at (constant.Number n) = reported g at number
-text_suited g number types t at (constant.Scalar s) = reported g at number
-text_suited g number types t at (constant.Set bits) = reported g at number
-text_suited g number types t at (constant.Text text) = reported_where g (not (text_fits types t (length text))) at number (Ok (suits.Text text))
+abbrev pub text_suited : (g : Gathers) → Rule → Types → TypeNo → Pos → Value → Result Accepted g.Reported
+text_suited g broken types t at (constant.Number n) = reported g at broken
+text_suited g broken types t at (constant.Scalar s) = reported g at broken
+text_suited g broken types t at (constant.Set bits) = reported g at broken
+text_suited g broken types t at (constant.Text text) = reported_where g (not (text_fits types t (length text))) at broken (Ok (suits.Text text))
 
 -- one of the type, or a string that fits
-abbrev pub whole_suited : (g : Gathers) → ℕ → Types → TypeNo → Pos → Computed → Result Accepted g.Reported
-whole_suited g number types t at (value.Constant v) = text_suited g number types t at v
-whole_suited g number types t at (value.Whole u d) = reported_where g (not (are_same u t)) at number (Ok (suits.Whole d))
-whole_suited g number types t at (value.Scalar u b e) = reported g at number
-whole_suited g number types t at (value.Set e) = reported g at number
-whole_suited g number types t at (value.Routine u e) = reported g at number
-whole_suited g number types t at (value.Procedure p) = reported g at number
-whole_suited g number types t at value.Untaken = reported g at number
+abbrev pub whole_suited : (g : Gathers) → Rule → Types → TypeNo → Pos → Computed → Result Accepted g.Reported
+whole_suited g broken types t at (value.Constant v) = text_suited g broken types t at v
+whole_suited g broken types t at (value.Whole u d) = reported_where g (not (are_same u t)) at broken (Ok (suits.Whole d))
+whole_suited g broken types t at (value.Scalar u b e) = reported g at broken
+whole_suited g broken types t at (value.Set e) = reported g at broken
+whole_suited g broken types t at (value.Routine u e) = reported g at broken
+whole_suited g broken types t at (value.Procedure p) = reported g at broken
+whole_suited g broken types t at value.Untaken = reported g at broken
 
 abbrev pub of_expr : {T : Type 0} → Result TypedExpr T → Result Accepted T
 of_expr e = e ▷ λ x. Ok (suits.Value x)
 
-abbrev pub suited_in : (g : Gathers) → ℕ → Types → TypeNo → Pos → Computed → Class → Result Accepted g.Reported
-suited_in g number types t at x (class.Scalar s) = of_expr (value_suited g number types t at x)
-suited_in g number types t at x class.Set = of_expr (value_suited g number types t at x)
-suited_in g number types t at x class.Procedure = of_expr (value_suited g number types t at x)
-suited_in g number types t at x class.Whole = whole_suited g number types t at x
+abbrev pub suited_in : (g : Gathers) → Rule → Types → TypeNo → Pos → Computed → Class → Result Accepted g.Reported
+suited_in g broken types t at x (class.Scalar s) = of_expr (value_suited g broken types t at x)
+suited_in g broken types t at x class.Set = of_expr (value_suited g broken types t at x)
+suited_in g broken types t at x class.Procedure = of_expr (value_suited g broken types t at x)
+suited_in g broken types t at x class.Whole = whole_suited g broken types t at x
 
 -- a value for a place of this type
-abbrev pub suited : (g : Gathers) → ℕ → Types → TypeNo → Pos → Computed → Result Accepted g.Reported
-suited g number types t at x = suited_in g number types t at x (class_at types t)
+abbrev pub suited : (g : Gathers) → Rule → Types → TypeNo → Pos → Computed → Result Accepted g.Reported
+suited g broken types t at x = suited_in g broken types t at x (class_at types t)

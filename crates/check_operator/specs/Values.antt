@@ -1,5 +1,6 @@
 -- What names stand for in bodies, and what is taken as a value.
 use Rattle.std.specs.Prelude.{ℕ, ◌-◌, Result, Ok}
+use Rattle.m2_rule.specs.declared.rule.Rule.TheVariants as rule
 use Rattle.m2_tree.specs.declared.pos.Pos.{Pos}
 use Rattle.typed_tree.specs.declared.types.TypeNo.{TypeNo}
 use Rattle.typed_tree.specs.declared.computed.Slot.{Slot}
@@ -53,7 +54,7 @@ designated_by g level at (meaning.Local v) = Ok (local_by level v v.kind)
 designated_by g level at (meaning.Field f) = Ok (opened_by f)
 designated_by g level at (meaning.Procedure p) = Ok (designated.Procedure p)
 designated_by g level at (meaning.LocalProcedure p) = Ok (designated.Nested (nested_by level p))
-designated_by g level at meaning.Ahead = reported g at 30
+designated_by g level at meaning.Ahead = reported g at rule.Undeclared
 designated_by g level at (meaning.Standard f) = Ok (designated.Standard f)
 designated_by g level at (meaning.Module k) = Ok (designated.Module k)
 
@@ -84,8 +85,8 @@ abbrev pub taken : (g : Gathers) → Types → Pos → Designated → Result Com
 taken g types at (designated.Value x) = Ok x
 taken g types at (designated.Variable t d) = Ok (loaded types t d)
 taken g types at (designated.Open t slot) = Ok value.Untaken
-taken g types at (designated.Type t) = reported g at 40
+taken g types at (designated.Type t) = reported g at rule.WrongType
 taken g types at (designated.Procedure p) = Ok (value.Procedure p)
-taken g types at (designated.Nested p) = reported g at 53
-taken g types at (designated.Standard f) = reported g at 53
-taken g types at (designated.Module k) = reported g at 40
+taken g types at (designated.Nested p) = reported g at rule.NoProcedureValue
+taken g types at (designated.Standard f) = reported g at rule.NoProcedureValue
+taken g types at (designated.Module k) = reported g at rule.WrongType

@@ -6,6 +6,7 @@ ghost use Rattle.check_operator.specs.Values.{slot_of, local_by, opened_by, nest
 
 use crate::class::{Class, class_of};
 use check_scope::{Elaborated, reported};
+use m2_rule::Rule;
 use m2_tree::Pos;
 use std::alloc::{AllocError, Global};
 use typed_tree::{
@@ -109,7 +110,7 @@ pub fn designated_by(
         Meaning::LocalProcedure(procedure) => {
             Ok(Ok(Designated::Nested(nested_by(level, procedure))))
         }
-        Meaning::Ahead => Ok(reported(at, 30)),
+        Meaning::Ahead => Ok(reported(at, Rule::Undeclared)),
         Meaning::Standard(standard) => Ok(Ok(Designated::Standard(standard))),
         Meaning::Module(place) => Ok(Ok(Designated::Module(place))),
     }
@@ -148,10 +149,10 @@ pub fn taken(types: &Types, at: Pos, designated: Designated) -> Elaborated<Compu
         Designated::Value(value) => Ok(value),
         Designated::Variable(t, place) => Ok(loaded(types, t, place)),
         Designated::Open(_, _) => Ok(Computed::Untaken),
-        Designated::Type(_) => reported(at, 40),
+        Designated::Type(_) => reported(at, Rule::WrongType),
         Designated::Procedure(procedure) => Ok(Computed::Procedure(procedure)),
-        Designated::Nested(_) => reported(at, 53),
-        Designated::Standard(_) => reported(at, 53),
-        Designated::Module(_) => reported(at, 40),
+        Designated::Nested(_) => reported(at, Rule::NoProcedureValue),
+        Designated::Standard(_) => reported(at, Rule::NoProcedureValue),
+        Designated::Module(_) => reported(at, Rule::WrongType),
     }
 }

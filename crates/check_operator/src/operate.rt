@@ -12,6 +12,7 @@ use crate::pieces::{boxed, of_value, truth_of};
 use crate::side::{Amount, Side, known_of, or_cardinal, run_of, side_of, sort_of};
 use check_const_ops::{BinaryOp, Operand, binary, common, divisor, fitting, is_number, takes};
 use check_scope::{Elaborated, beside, both, reported};
+use m2_rule::Rule;
 use m2_tree::{Pos, RelOp};
 use std::alloc::{AllocError, Global};
 use typed_tree::{
@@ -181,7 +182,7 @@ fn fitting_both(
     ensures { result ≡ fitting_both least op spot sort at a.now other_at b.now }
 {
     if !takes(op, sort) {
-        return reported(spot, 40);
+        return reported(spot, Rule::WrongType);
     }
     let fit = beside(fitting_of(sort, at, a), fitting_of(sort, other_at, b));
     beside(divisor_of(op, spot, b), fit)
@@ -198,7 +199,7 @@ fn stepped(
     ensures { IfOk result (λ v. v ≡ stepped least spot sort a b step) }
 {
     match step {
-        None => Ok(reported(spot, 40)),
+        None => Ok(reported(spot, Rule::WrongType)),
         Some(step) => {
             let t = or_cardinal(sort);
             Ok(Ok(built(alloc, step, t, run_of(t, a), run_of(t, b))?))
@@ -220,7 +221,7 @@ fn on_amounts(
         (λ v. v ≡ on_amounts least op spot at a other_at b (common (sort_of a) (sort_of b))) }
 {
     match common(sort_of(&a), sort_of(&b)) {
-        None => Ok(reported(spot, 40)),
+        None => Ok(reported(spot, Rule::WrongType)),
         Some(sort) => match fitting_both(op, spot, sort, at, &a, other_at, &b) {
             Err(fault) => Ok(Err(fault)),
             Ok(()) => stepped(alloc, spot, sort, a, b, step_of(op)),
@@ -235,7 +236,7 @@ pub fn element_fits(at: Pos, a: &Amount) -> Elaborated<()>
     match a {
         Amount::Known(a) => {
             if !(0 <= a.number && a.number <= 31) {
-                return reported(at, 52);
+                return reported(at, Rule::OutOfRange);
             }
             Ok(())
         }
@@ -256,7 +257,7 @@ fn member(
 {
     let sort = sort_of(&a);
     if !(is_in(op) && is_number(sort)) {
-        return Ok(reported(spot, 40));
+        return Ok(reported(spot, Rule::WrongType));
     }
     match element_fits(at, &a) {
         Err(fault) => Ok(Err(fault)),
@@ -301,7 +302,7 @@ fn on_sets(
     ensures { IfOk result (λ v. v ≡ on_sets least spot x y step) }
 {
     match step {
-        None => Ok(reported(spot, 40)),
+        None => Ok(reported(spot, Rule::WrongType)),
         Some(step) => Ok(Ok(set_built(alloc, step, x, y)?)),
     }
 }
@@ -318,10 +319,10 @@ fn on_procedures(
     ensures { IfOk result (λ v. v ≡ on_procedures least spot fit x y comparison) }
 {
     match comparison {
-        None => Ok(reported(spot, 40)),
+        None => Ok(reported(spot, Rule::WrongType)),
         Some(comparison) => {
             if !fit {
-                return Ok(reported(spot, 40));
+                return Ok(reported(spot, Rule::WrongType));
             }
             let (first, second) = boxed(alloc, x, y)?;
             Ok(Ok(truth_of(TypedExpr::Compare(comparison, first, second))))
@@ -341,11 +342,11 @@ fn with_scalar(
     ensures { IfOk result (λ v. v ≡ with_scalar least op spot at a other_at y) }
 {
     match y {
-        None => Ok(reported(spot, 40)),
+        None => Ok(reported(spot, Rule::WrongType)),
         Some(Side::Scalar(b)) => on_amounts(alloc, op, spot, at, a, other_at, b),
         Some(Side::Set(set)) => member(alloc, op, spot, at, a, set),
-        Some(Side::Routine(_, _)) => Ok(reported(spot, 40)),
-        Some(Side::Procedure(_)) => Ok(reported(spot, 40)),
+        Some(Side::Routine(_, _)) => Ok(reported(spot, Rule::WrongType)),
+        Some(Side::Procedure(_)) => Ok(reported(spot, Rule::WrongType)),
     }
 }
 
@@ -372,7 +373,7 @@ fn with_set(
     ensures { IfOk result (λ v. v ≡ with_set least op spot x y) }
 {
     match y {
-        None => Ok(reported(spot, 40)),
+        None => Ok(reported(spot, Rule::WrongType)),
         Some(set) => on_sets(alloc, spot, x, set, set_step_of(op)),
     }
 }
@@ -416,7 +417,7 @@ fn with_partner(
     ensures { IfOk result (λ v. v ≡ with_partner least spot x comparison partner) }
 {
     match partner {
-        None => Ok(reported(spot, 40)),
+        None => Ok(reported(spot, Rule::WrongType)),
         Some((fit, y)) => on_procedures(alloc, spot, fit, x, y, comparison),
     }
 }
@@ -435,7 +436,7 @@ fn between(
     ensures { IfOk result (λ v. v ≡ between least types.now op spot at x other_at y) }
 {
     match x {
-        None => Ok(reported(spot, 40)),
+        None => Ok(reported(spot, Rule::WrongType)),
         Some(Side::Scalar(a)) => with_scalar(alloc, op, spot, at, a, other_at, y),
         Some(Side::Set(e)) => with_set(alloc, op, spot, e, set_in(y)),
         Some(Side::Routine(t, e)) => {

@@ -10,6 +10,7 @@ use crate::computed::Computed;
 use crate::side::{Amount, Side, side_of};
 use check_const_ops::Ordinal;
 use check_scope::{Elaborated, reported};
+use m2_rule::Rule;
 use m2_tree::{Pos, Quoted};
 use typed_tree::{
     CHAR, Place, Scalar, Shared, TypeNo, TypedExpr, Types, Value, are_same, is_numeric, scalar_of,
@@ -44,91 +45,91 @@ pub fn sort_suits(asked: TypeNo, sort: Option<TypeNo>) -> bool
 }
 
 fn known_suited(
-    number: u32,
+    broken: Rule,
     t: TypeNo,
     scalar: Scalar,
     at: Pos,
     a: Ordinal,
 ) -> Elaborated<TypedExpr>
-    ensures { result ≡ known_suited least number t scalar at a }
+    ensures { result ≡ known_suited least broken t scalar at a }
 {
     if !sort_suits(scalar.base, a.sort) {
-        return reported(at, number);
+        return reported(at, broken);
     }
     if !(scalar.low <= a.number && a.number <= scalar.high) {
-        return reported(at, 52);
+        return reported(at, Rule::OutOfRange);
     }
     Ok(TypedExpr::Constant(t, a.number))
 }
 
 fn run_suited(
-    number: u32,
+    broken: Rule,
     scalar: Scalar,
     at: Pos,
     base: TypeNo,
     e: TypedExpr,
 ) -> Elaborated<TypedExpr>
-    ensures { result ≡ run_suited least number scalar at base e }
+    ensures { result ≡ run_suited least broken scalar at base e }
 {
     if !bases_suit(scalar.base, base) {
-        return reported(at, number);
+        return reported(at, broken);
     }
     Ok(e)
 }
 
 fn scalar_suited(
-    number: u32,
+    broken: Rule,
     t: TypeNo,
     scalar: Scalar,
     at: Pos,
     x: Option<Side>,
 ) -> Elaborated<TypedExpr>
-    ensures { result ≡ scalar_suited least number t scalar at x }
+    ensures { result ≡ scalar_suited least broken t scalar at x }
 {
     match x {
-        None => reported(at, number),
-        Some(Side::Scalar(Amount::Known(a))) => known_suited(number, t, scalar, at, a),
-        Some(Side::Scalar(Amount::Run(base, e))) => run_suited(number, scalar, at, base, e),
-        Some(Side::Set(_)) => reported(at, number),
-        Some(Side::Routine(_, _)) => reported(at, number),
-        Some(Side::Procedure(_)) => reported(at, number),
+        None => reported(at, broken),
+        Some(Side::Scalar(Amount::Known(a))) => known_suited(broken, t, scalar, at, a),
+        Some(Side::Scalar(Amount::Run(base, e))) => run_suited(broken, scalar, at, base, e),
+        Some(Side::Set(_)) => reported(at, broken),
+        Some(Side::Routine(_, _)) => reported(at, broken),
+        Some(Side::Procedure(_)) => reported(at, broken),
     }
 }
 
-fn set_suited(number: u32, at: Pos, x: Option<Side>) -> Elaborated<TypedExpr>
-    ensures { result ≡ set_suited least number at x }
+fn set_suited(broken: Rule, at: Pos, x: Option<Side>) -> Elaborated<TypedExpr>
+    ensures { result ≡ set_suited least broken at x }
 {
     match x {
-        None => reported(at, number),
-        Some(Side::Scalar(_)) => reported(at, number),
+        None => reported(at, broken),
+        Some(Side::Scalar(_)) => reported(at, broken),
         Some(Side::Set(e)) => Ok(e),
-        Some(Side::Routine(_, _)) => reported(at, number),
-        Some(Side::Procedure(_)) => reported(at, number),
+        Some(Side::Routine(_, _)) => reported(at, broken),
+        Some(Side::Procedure(_)) => reported(at, broken),
     }
 }
 
 fn procedure_suited(
-    number: u32,
+    broken: Rule,
     types: &Types,
     t: TypeNo,
     at: Pos,
     x: Option<Side>,
 ) -> Elaborated<TypedExpr>
-    ensures { result ≡ procedure_suited least number types.now t at x }
+    ensures { result ≡ procedure_suited least broken types.now t at x }
 {
     match x {
-        None => reported(at, number),
-        Some(Side::Scalar(_)) => reported(at, number),
-        Some(Side::Set(_)) => reported(at, number),
+        None => reported(at, broken),
+        Some(Side::Scalar(_)) => reported(at, broken),
+        Some(Side::Set(_)) => reported(at, broken),
         Some(Side::Routine(u, e)) => {
             if !are_same(u, t) {
-                return reported(at, number);
+                return reported(at, broken);
             }
             Ok(e)
         }
         Some(Side::Procedure(procedure)) => {
             if !headings_agree(types, t, procedure.heading) {
-                return reported(at, number);
+                return reported(at, broken);
             }
             Ok(TypedExpr::Procedure(procedure))
         }
@@ -138,19 +139,19 @@ fn procedure_suited(
 /// A value for a place of this type, which is no array and no record. One that is not assignment compatible breaks the
 /// rule of this number, and a constant out of range is 52, both at the value.
 pub fn value_suited(
-    number: u32,
+    broken: Rule,
     types: &Types,
     t: TypeNo,
     at: Pos,
     x: Computed,
 ) -> Elaborated<TypedExpr>
-    ensures { result ≡ value_suited least number types.now t at x }
+    ensures { result ≡ value_suited least broken types.now t at x }
 {
     match class_of(types, t) {
-        Class::Scalar(scalar) => scalar_suited(number, t, scalar, at, side_of(x)),
-        Class::Set => set_suited(number, at, side_of(x)),
-        Class::Procedure => procedure_suited(number, types, t, at, side_of(x)),
-        Class::Whole => reported(at, number),
+        Class::Scalar(scalar) => scalar_suited(broken, t, scalar, at, side_of(x)),
+        Class::Set => set_suited(broken, at, side_of(x)),
+        Class::Procedure => procedure_suited(broken, types, t, at, side_of(x)),
+        Class::Whole => reported(at, broken),
     }
 }
 
@@ -184,38 +185,50 @@ pub fn text_fits(types: &Types, t: TypeNo, length: usize) -> bool
     text_fits_in(types, length, array_of(types, t))
 }
 
-fn text_suited(number: u32, types: &Types, t: TypeNo, at: Pos, value: Value) -> Elaborated<Accepted>
-    ensures { result ≡ text_suited least number types.now t at value }
+fn text_suited(
+    broken: Rule,
+    types: &Types,
+    t: TypeNo,
+    at: Pos,
+    value: Value,
+) -> Elaborated<Accepted>
+    ensures { result ≡ text_suited least broken types.now t at value }
 {
     match value {
-        Value::Number(_) => reported(at, number),
-        Value::Scalar(_) => reported(at, number),
-        Value::Set(_) => reported(at, number),
+        Value::Number(_) => reported(at, broken),
+        Value::Scalar(_) => reported(at, broken),
+        Value::Set(_) => reported(at, broken),
         Value::Text(text) => {
             if !text_fits(types, t, text.get().as_bytes().len()) {
-                return reported(at, number);
+                return reported(at, broken);
             }
             Ok(Accepted::Text(text))
         }
     }
 }
 
-fn whole_suited(number: u32, types: &Types, t: TypeNo, at: Pos, x: Computed) -> Elaborated<Accepted>
-    ensures { result ≡ whole_suited least number types.now t at x }
+fn whole_suited(
+    broken: Rule,
+    types: &Types,
+    t: TypeNo,
+    at: Pos,
+    x: Computed,
+) -> Elaborated<Accepted>
+    ensures { result ≡ whole_suited least broken types.now t at x }
 {
     match x {
-        Computed::Constant(value) => text_suited(number, types, t, at, value),
+        Computed::Constant(value) => text_suited(broken, types, t, at, value),
         Computed::Whole(u, place) => {
             if !are_same(u, t) {
-                return reported(at, number);
+                return reported(at, broken);
             }
             Ok(Accepted::Whole(place))
         }
-        Computed::Scalar(_, _, _) => reported(at, number),
-        Computed::Set(_) => reported(at, number),
-        Computed::Routine(_, _) => reported(at, number),
-        Computed::Procedure(_) => reported(at, number),
-        Computed::Untaken => reported(at, number),
+        Computed::Scalar(_, _, _) => reported(at, broken),
+        Computed::Set(_) => reported(at, broken),
+        Computed::Routine(_, _) => reported(at, broken),
+        Computed::Procedure(_) => reported(at, broken),
+        Computed::Untaken => reported(at, broken),
     }
 }
 
@@ -230,13 +243,13 @@ fn of_expr(e: Elaborated<TypedExpr>) -> Elaborated<Accepted>
 
 /// A value for a place of this type. One that is not assignment compatible breaks the rule of this number, and a constant
 /// out of range is 52, both at the value.
-pub fn suited(number: u32, types: &Types, t: TypeNo, at: Pos, x: Computed) -> Elaborated<Accepted>
-    ensures { result ≡ suited least number types.now t at x }
+pub fn suited(broken: Rule, types: &Types, t: TypeNo, at: Pos, x: Computed) -> Elaborated<Accepted>
+    ensures { result ≡ suited least broken types.now t at x }
 {
     match class_of(types, t) {
-        Class::Scalar(_) => of_expr(value_suited(number, types, t, at, x)),
-        Class::Set => of_expr(value_suited(number, types, t, at, x)),
-        Class::Procedure => of_expr(value_suited(number, types, t, at, x)),
-        Class::Whole => whole_suited(number, types, t, at, x),
+        Class::Scalar(_) => of_expr(value_suited(broken, types, t, at, x)),
+        Class::Set => of_expr(value_suited(broken, types, t, at, x)),
+        Class::Procedure => of_expr(value_suited(broken, types, t, at, x)),
+        Class::Whole => whole_suited(broken, types, t, at, x),
     }
 }

@@ -9,6 +9,7 @@ use crate::class::array_of;
 use crate::computed::{Computed, Designated};
 use crate::places::value_suited;
 use check_scope::{Elaborated, both, fields_of, reported};
+use m2_rule::Rule;
 use m2_tree::{Ident, Pos};
 use std::alloc::{AllocError, Global};
 use typed_tree::{
@@ -28,7 +29,7 @@ fn field_named(at: Pos, found: Option<(usize, TypeNo)>) -> Elaborated<(usize, Ty
     ensures { result ≡ field_named least at found }
 {
     match found {
-        None => reported(at, 30),
+        None => reported(at, Rule::Undeclared),
         Some(found) => Ok(found),
     }
 }
@@ -41,7 +42,7 @@ fn record_field(
     ensures { result ≡ record_field least at name.now (option_copied fields.entry) }
 {
     match fields {
-        None => reported(at, 40),
+        None => reported(at, Rule::WrongType),
         Some(fields) => field_named(name.pos, numbered_field(fields, name.name.as_bytes())),
     }
 }
@@ -77,14 +78,14 @@ pub fn field(
         Designated::Variable(t, place) => component(types, at, name, t, place),
         Designated::Value(value) => {
             drop(value);
-            Ok(reported(at, 40))
+            Ok(reported(at, Rule::WrongType))
         }
-        Designated::Open(_, _) => Ok(reported(at, 40)),
-        Designated::Type(_) => Ok(reported(at, 40)),
-        Designated::Procedure(_) => Ok(reported(at, 40)),
-        Designated::Nested(_) => Ok(reported(at, 40)),
-        Designated::Standard(_) => Ok(reported(at, 40)),
-        Designated::Module(_) => Ok(reported(at, 40)),
+        Designated::Open(_, _) => Ok(reported(at, Rule::WrongType)),
+        Designated::Type(_) => Ok(reported(at, Rule::WrongType)),
+        Designated::Procedure(_) => Ok(reported(at, Rule::WrongType)),
+        Designated::Nested(_) => Ok(reported(at, Rule::WrongType)),
+        Designated::Standard(_) => Ok(reported(at, Rule::WrongType)),
+        Designated::Module(_) => Ok(reported(at, Rule::WrongType)),
     }
 }
 
@@ -106,7 +107,7 @@ fn array_indexed(
     ensures { result ≡ array_indexed least at t place array }
 {
     match array {
-        None => reported(at, 40),
+        None => reported(at, Rule::WrongType),
         Some((index, element)) => Ok(Subscripted::Array(t, index, element, place)),
     }
 }
@@ -120,13 +121,13 @@ pub fn indices(types: &Types, at: Pos, from: Designated) -> Elaborated<Subscript
         Designated::Open(t, slot) => Ok(Subscripted::Open(t, slot)),
         Designated::Value(value) => {
             drop(value);
-            reported(at, 40)
+            reported(at, Rule::WrongType)
         }
-        Designated::Type(_) => reported(at, 40),
-        Designated::Procedure(_) => reported(at, 40),
-        Designated::Nested(_) => reported(at, 40),
-        Designated::Standard(_) => reported(at, 40),
-        Designated::Module(_) => reported(at, 40),
+        Designated::Type(_) => reported(at, Rule::WrongType),
+        Designated::Procedure(_) => reported(at, Rule::WrongType),
+        Designated::Nested(_) => reported(at, Rule::WrongType),
+        Designated::Standard(_) => reported(at, Rule::WrongType),
+        Designated::Module(_) => reported(at, Rule::WrongType),
     }
 }
 
@@ -164,7 +165,7 @@ fn with_index(
 ) -> Result<Elaborated<Designated>, AllocError>
     ensures { IfOk result (λ d. d ≡ with_index least types.now at array index) }
 {
-    match value_suited(41, types, asked(&array), at, index) {
+    match value_suited(Rule::NotAssignable, types, asked(&array), at, index) {
         Err(fault) => Ok(Err(fault)),
         Ok(e) => Ok(Ok(picked(alloc, array, e)?)),
     }

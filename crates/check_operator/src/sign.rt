@@ -7,6 +7,7 @@ ghost use Rattle.check_operator.specs.Signs.{signed_scalar, signed_value, signed
 use crate::computed::Computed;
 use crate::pieces::{of_value, truth_of};
 use check_scope::{Elaborated, reported};
+use m2_rule::Rule;
 use m2_tree::{Boxed, Pos, Sign};
 use std::alloc::{AllocError, Global};
 use typed_tree::{BOOLEAN, TypeNo, TypedExpr, are_same, is_integer, is_numeric};
@@ -23,14 +24,14 @@ fn signed_scalar(
     match sign {
         Sign::Plus => {
             if !is_numeric(base) {
-                return Ok(reported(spot, 40));
+                return Ok(reported(spot, Rule::WrongType));
             }
             let operand = Boxed::new(alloc, e)?;
             Ok(Ok(Computed::Scalar(base, base, TypedExpr::Plus(base, operand))))
         }
         Sign::Minus => {
             if !is_integer(base) {
-                return Ok(reported(spot, 40));
+                return Ok(reported(spot, Rule::WrongType));
             }
             let operand = Boxed::new(alloc, e)?;
             Ok(Ok(Computed::Scalar(base, base, TypedExpr::Negate(operand))))
@@ -49,11 +50,11 @@ fn signed_value(
     match value {
         Computed::Constant(value) => Ok(of_value(check_const_ops::signed(sign, spot, Ok(value)))),
         Computed::Scalar(_, base, e) => signed_scalar(alloc, sign, spot, base, e),
-        Computed::Set(_) => Ok(reported(spot, 40)),
-        Computed::Routine(_, _) => Ok(reported(spot, 40)),
-        Computed::Procedure(_) => Ok(reported(spot, 40)),
-        Computed::Whole(_, _) => Ok(reported(spot, 40)),
-        Computed::Untaken => Ok(reported(spot, 40)),
+        Computed::Set(_) => Ok(reported(spot, Rule::WrongType)),
+        Computed::Routine(_, _) => Ok(reported(spot, Rule::WrongType)),
+        Computed::Procedure(_) => Ok(reported(spot, Rule::WrongType)),
+        Computed::Whole(_, _) => Ok(reported(spot, Rule::WrongType)),
+        Computed::Untaken => Ok(reported(spot, Rule::WrongType)),
     }
 }
 
@@ -81,7 +82,7 @@ fn negated_scalar(
     ensures { IfOk result (λ v. v ≡ negated_scalar least spot base e) }
 {
     if !are_same(base, BOOLEAN) {
-        return Ok(reported(spot, 40));
+        return Ok(reported(spot, Rule::WrongType));
     }
     let operand = Boxed::new(alloc, e)?;
     Ok(Ok(truth_of(TypedExpr::Not(operand))))
@@ -97,11 +98,11 @@ fn negated_value(
     match value {
         Computed::Constant(value) => Ok(of_value(check_const_ops::negated(spot, Ok(value)))),
         Computed::Scalar(_, base, e) => negated_scalar(alloc, spot, base, e),
-        Computed::Set(_) => Ok(reported(spot, 40)),
-        Computed::Routine(_, _) => Ok(reported(spot, 40)),
-        Computed::Procedure(_) => Ok(reported(spot, 40)),
-        Computed::Whole(_, _) => Ok(reported(spot, 40)),
-        Computed::Untaken => Ok(reported(spot, 40)),
+        Computed::Set(_) => Ok(reported(spot, Rule::WrongType)),
+        Computed::Routine(_, _) => Ok(reported(spot, Rule::WrongType)),
+        Computed::Procedure(_) => Ok(reported(spot, Rule::WrongType)),
+        Computed::Whole(_, _) => Ok(reported(spot, Rule::WrongType)),
+        Computed::Untaken => Ok(reported(spot, Rule::WrongType)),
     }
 }
 

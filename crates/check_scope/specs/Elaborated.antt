@@ -1,6 +1,8 @@
 -- What a part of a module means, or which rules are broken in it.
 use Rattle.std.specs.Prelude.{ℕ, Bool, cond, ◌&&◌, ◌||◌, ◌==◌, nat_lt, List, [], ◌∷◌, ◌++◌, Result, Ok, Err}
 use Rattle.m2_tree.specs.declared.pos.Pos.{Pos}
+use Rattle.m2_rule.specs.declared.rule.Rule.{Rule}
+use Rattle.m2_rule.specs.RuleNumber.{number_of}
 use Rattle.check_scope.specs.declared.fault.Fault.{Fault}
 use Rattle.check_scope.specs.declared.meaningless.Meaningless.{Meaningless}
 use Rattle.check_scope.specs.declared.meaningless.Meaningless.TheVariants.{Broken, Headless}
@@ -27,11 +29,11 @@ abbrev pub least : Gathers
 least = record { Reported = Fault; one = λ f. f; join = lesser }
 
 -- A part means something, or rules are broken in it. The use of a name in whose declaration rules are broken repeats these.
-abbrev pub reported : (g : Gathers) {A : Type 0} → Pos → ℕ → Result A g.Reported
-reported g pos number = Err (g.one (record { pos = pos; number = number }))
+abbrev pub reported : (g : Gathers) {A : Type 0} → Pos → Rule → Result A g.Reported
+reported g pos broken = Err (g.one (record { pos = pos; number = number_of broken }))
 
-abbrev pub reported_where : (g : Gathers) {A : Type 0} → Bool → Pos → ℕ → Result A g.Reported → Result A g.Reported
-reported_where g broken pos number otherwise = cond broken (reported g pos number) otherwise
+abbrev pub reported_where : (g : Gathers) {A : Type 0} → Bool → Pos → Rule → Result A g.Reported → Result A g.Reported
+reported_where g holds pos broken otherwise = cond holds (reported g pos broken) otherwise
 
 -- what looks at a meaning is silent where there is none
 infixl 10 ◌▷◌
@@ -56,8 +58,8 @@ abbrev pub refusal_beside : (g : Gathers) {A : Type 0} → g.Reported → Result
 refusal_beside g e (Ok fine) = Err e
 refusal_beside g e (Err f) = Err (g.join e f)
 
-abbrev pub reported_beside : (g : Gathers) {A : Type 0} → Pos → ℕ → Result (Unit {0}) g.Reported → Result A g.Reported
-reported_beside g pos number rest = refusal_beside g (g.one (record { pos = pos; number = number })) rest
+abbrev pub reported_beside : (g : Gathers) {A : Type 0} → Pos → Rule → Result (Unit {0}) g.Reported → Result A g.Reported
+reported_beside g pos broken rest = refusal_beside g (g.one (record { pos = pos; number = number_of broken })) rest
 
 abbrev pub ahead : (g : Gathers) {A B : Type 0} → Result A g.Reported → Result (Unit {0}) g.Reported → (A → Result B g.Reported) → Result B g.Reported
 ahead g (Ok x) rest f = f x
@@ -66,10 +68,10 @@ ahead g (Err e) rest f = refusal_beside g e rest
 -- ---- names of procedures in whose headings rules are broken
 
 -- a rule that looks at what sort of thing a name is speaks of such a procedure too
-abbrev pub of_sort : (g : Gathers) {A : Type 0} → Pos → ℕ → Result A (Meaningless g.Reported) → Result A g.Reported
-of_sort g pos number (Ok x) = Ok x
-of_sort g pos number (Err (Broken e)) = Err e
-of_sort g pos number (Err (Headless e)) = reported g pos number
+abbrev pub of_sort : (g : Gathers) {A : Type 0} → Pos → Rule → Result A (Meaningless g.Reported) → Result A g.Reported
+of_sort g pos broken (Ok x) = Ok x
+of_sort g pos broken (Err (Broken e)) = Err e
+of_sort g pos broken (Err (Headless e)) = reported g pos broken
 
 -- if the heading counts, its own refusals are repeated
 abbrev pub of_heading : {A T : Type 0} → Result A (Meaningless T) → Result A T

@@ -3,6 +3,7 @@ use Rattle.std.specs.Prelude.{ℕ, Bool, true, false, ◌==◌, nat_lt, cond, Li
 use Rattle.std.specs.List.{fold}
 use Rattle.std.specs.Option.{option_map}
 use Rattle.std.specs.Borrow.{Bor}
+use Rattle.m2_rule.specs.declared.rule.Rule.TheVariants as rule
 use Rattle.m2_tree.specs.declared.pos.Pos.{Pos}
 use Rattle.m2_tree.specs.declared.name.Ident.{Ident}
 use Rattle.typed_tree.specs.declared.meaning.Meaning.{Meaning}
@@ -68,14 +69,14 @@ heading_means (Err e) = Err (Headless e)
 
 -- names are declared before use, but procedures are known in all bodies of their block
 abbrev pub means_seen : (g : Gathers) → Pos → Known g.Reported → (seen : Bool) → Result Meaning (Meaningless g.Reported)
-means_seen g at Later seen = plain (reported g at 30)
+means_seen g at Later seen = plain (reported g at rule.Undeclared)
 means_seen g at Ahead seen = Ok meaning.Ahead
-means_seen g at Begun seen = plain (reported g at 30)
+means_seen g at Begun seen = plain (reported g at rule.Undeclared)
 means_seen g at (Headed m) seen = heading_means m
-means_seen g at (Declared o m) seen = plain (cond seen m (reported g at 30))
+means_seen g at (Declared o m) seen = plain (cond seen m (reported g at rule.Undeclared))
 
 abbrev pub means_as : (g : Gathers) → Pos → Sight g.Reported → Result Meaning (Meaningless g.Reported)
-means_as g at None = plain (reported g at 30)
+means_as g at None = plain (reported g at rule.Undeclared)
 means_as g at (Some k) = means_seen g at k.0 k.1
 
 -- ---- fields under WITH come before all other names
@@ -139,7 +140,7 @@ State A T = Scope T × Result A T
 
 -- the first declaration of a name holds
 abbrev pub unless_declared : (g : Gathers) → Scope g.Reported → Ident → Known g.Reported → State (Unit {0}) g.Reported
-unless_declared g s name k = cond (is_free (found name.name s.own)) (with_known name.name k s, Ok tt) (s, reported g name.pos 31)
+unless_declared g s name k = cond (is_free (found name.name s.own)) (with_known name.name k s, Ok tt) (s, reported g name.pos rule.DeclaredTwice)
 
 abbrev pub declared : (g : Gathers) → Scope g.Reported → Ident → Result Meaning g.Reported → State (Unit {0}) g.Reported
 declared g s name m = unless_declared g s name (Declared Here m)
@@ -182,7 +183,7 @@ is_again (Some (Declared first m)) o = is_one_origin first o
 abbrev pub imported : (g : Gathers) → Scope g.Reported → Pos → List ℕ → Origin → Result Meaning g.Reported → State (Unit {0}) g.Reported
 imported g s at name o m =
     cond (is_again (found name s.own) o) (s, Ok tt)
-    (cond (is_free (found name s.own)) (with_known name (Declared o m) s, Ok tt) (s, reported g at 31))
+    (cond (is_free (found name s.own)) (with_known name (Declared o m) s, Ok tt) (s, reported g at rule.DeclaredTwice))
 
 -- ---- the names that a block declares, wherever they stand
 

@@ -1,8 +1,10 @@
 //! Rules that are broken.
 
 ghost use Rattle.std.specs.Prelude.{◌≡◌, Err};
+ghost use Rattle.m2_rule.specs.RuleNumber.{number_of};
 ghost use Rattle.check_scope.specs.Elaborated.{is_less, lesser, least, both, beside, refusal_beside, reported_beside};
 
+use m2_rule::Rule;
 use m2_tree::Pos;
 
 /// A rule that is broken, and where.
@@ -32,10 +34,13 @@ pub fn lesser(f: Fault, g: Fault) -> Fault
 }
 
 /// What is reported of a rule that is broken.
-pub fn reported<T>(pos: Pos, number: u32) -> Elaborated<T>
-    ensures { result ≡ Err (record { pos = pos; number = number }) }
+pub fn reported<T>(pos: Pos, broken: Rule) -> Elaborated<T>
+    ensures { result ≡ Err (record { pos = pos; number = number_of broken }) }
 {
-    Err(Fault { pos, number })
+    Err(Fault {
+        pos,
+        number: broken.number(),
+    })
 }
 
 /// Two parts that stand beside one another. Where both have broken rules, the least is reported.
@@ -73,8 +78,12 @@ pub fn refusal_beside<T>(fault: Fault, rest: Elaborated<()>) -> Elaborated<T>
 }
 
 /// What is reported of a rule that is broken, beside what is reported of the parts that stand behind.
-pub fn reported_beside<T>(pos: Pos, number: u32, rest: Elaborated<()>) -> Elaborated<T>
-    ensures { result ≡ reported_beside least pos number rest }
+pub fn reported_beside<T>(pos: Pos, broken: Rule, rest: Elaborated<()>) -> Elaborated<T>
+    ensures { result ≡ reported_beside least pos broken rest }
 {
-    refusal_beside(Fault { pos, number }, rest)
+    let fault = Fault {
+        pos,
+        number: broken.number(),
+    };
+    refusal_beside(fault, rest)
 }

@@ -4,6 +4,7 @@ ghost use Rattle.std.specs.Prelude.{◌≡◌};
 ghost use Rattle.check_scope.specs.Elaborated.{least, of_sort, of_heading, plain};
 
 use crate::fault::{Elaborated, Fault, reported};
+use m2_rule::Rule;
 use m2_tree::Pos;
 
 /// Why a name or a designator has no meaning, with what is reported of it.
@@ -19,13 +20,13 @@ pub enum Meaningless<T> {
 pub type Sought<T> = Result<T, Meaningless<Fault>>;
 
 /// What a rule looks at that asks what sort of thing a name is. It is broken by a procedure, whatever its heading.
-pub fn of_sort<T>(pos: Pos, number: u32, sought: Sought<T>) -> Elaborated<T>
-    ensures { result ≡ of_sort least pos number sought }
+pub fn of_sort<T>(pos: Pos, broken: Rule, sought: Sought<T>) -> Elaborated<T>
+    ensures { result ≡ of_sort least pos broken sought }
 {
     match sought {
         Ok(meaning) => Ok(meaning),
         Err(Meaningless::Broken(fault)) => Err(fault),
-        Err(Meaningless::Headless(_)) => reported(pos, number),
+        Err(Meaningless::Headless(_)) => reported(pos, broken),
     }
 }
 

@@ -9,6 +9,7 @@ ghost use Rattle.check_scope.specs.Scopes.{sighted, seen_at, in_block, nearer, o
 use crate::fault::{Elaborated, Fault, reported};
 use crate::known::{Known, Origin};
 use crate::meaningless::{Meaningless, Sought, plain};
+use m2_rule::Rule;
 use m2_tree::{Ident, Items, Pos};
 use std::alloc::{AllocError, Global};
 use std::mem;
@@ -160,14 +161,14 @@ fn means_seen(at: Pos, known: &Known<Fault>, seen: bool) -> Result<Sought<Meanin
     ensures { IfOk result (λ m. m ≡ means_seen least at known.now seen) }
 {
     match known {
-        Known::Later | Known::Begun => Ok(plain(reported(at, 30))),
+        Known::Later | Known::Begun => Ok(plain(reported(at, Rule::Undeclared))),
         Known::Ahead => Ok(Ok(Meaning::Ahead)),
         Known::Headed(means) => heading_means(means),
         Known::Declared(_, means) => {
             if seen {
                 declared_means(means)
             } else {
-                Ok(plain(reported(at, 30)))
+                Ok(plain(reported(at, Rule::Undeclared)))
             }
         }
     }
@@ -178,7 +179,7 @@ fn means_as(at: Pos, known: Sight<'_>) -> Result<Sought<Meaning>, AllocError>
         (λ m. m ≡ means_as least at (sighted known.entry)) }
 {
     match known {
-        None => Ok(plain(reported(at, 30))),
+        None => Ok(plain(reported(at, Rule::Undeclared))),
         Some((known, seen)) => means_seen(at, known, seen),
     }
 }
@@ -285,7 +286,7 @@ pub fn declare(
     ensures { IfOk result (λ j. (scope.new, j) ≡ declared least scope.old name.now means) }
 {
     if !is_free(scope.own.find(name.name.as_bytes())) {
-        return Ok(reported(name.pos, 31));
+        return Ok(reported(name.pos, Rule::DeclaredTwice));
     }
     with_known(
         alloc,
@@ -305,7 +306,7 @@ pub fn begin(
     ensures { IfOk result (λ j. (scope.new, j) ≡ begun least scope.old name.now) }
 {
     if !is_free(scope.own.find(name.name.as_bytes())) {
-        return Ok(reported(name.pos, 31));
+        return Ok(reported(name.pos, Rule::DeclaredTwice));
     }
     with_known(alloc, scope, name.name.as_bytes(), Known::Begun)?;
     Ok(Ok(()))
@@ -387,7 +388,7 @@ pub fn import(
         return Ok(Ok(()));
     }
     if !is_free(known) {
-        return Ok(reported(at, 31));
+        return Ok(reported(at, Rule::DeclaredTwice));
     }
     with_known(alloc, scope, name, Known::Declared(origin, means))?;
     Ok(Ok(()))

@@ -1,5 +1,6 @@
 -- The control variable of a FOR, and from where to where it goes.
 use Rattle.std.specs.Prelude.{ℤ, pos, Bool, true, false, not, ◌&&◌, ◌||◌, ◌==◌, int_lt, List, Option, Some, None, Result, Ok}
+use Rattle.m2_rule.specs.declared.rule.Rule.TheVariants as rule
 use Rattle.m2_tree.specs.declared.pos.Pos.{Pos}
 use Rattle.m2_tree.specs.declared.name.Ident.{Ident}
 use Rattle.typed_tree.specs.declared.types.TypeNo.{TypeNo}
@@ -41,9 +42,9 @@ use Rattle.check_stmt_parts.specs.declared.control.Course.{Course}
 
 abbrev pub controlled_as : (g : Gathers) → Pos → TypeNo → Place → Class → Result Control g.Reported
 controlled_as g at t d (class.Scalar s) = Ok (record { of = t; base = s.base; place = d })
-controlled_as g at t d class.Set = reported g at 47
-controlled_as g at t d class.Procedure = reported g at 47
-controlled_as g at t d class.Whole = reported g at 47
+controlled_as g at t d class.Set = reported g at rule.WrongControl
+controlled_as g at t d class.Procedure = reported g at rule.WrongControl
+controlled_as g at t d class.Whole = reported g at rule.WrongControl
 
 abbrev pub controlled : (g : Gathers) → Types → Pos → TypeNo → Place → Result Control g.Reported
 controlled g types at t d = controlled_as g at t d (class_at types t)
@@ -55,38 +56,38 @@ is_own kind.Alias = false
 is_own kind.Open = false
 
 abbrev pub control_by : (g : Gathers) → Scope g.Reported → Pos → Meaning → Result Control g.Reported
-control_by g s at (meaning.Constant v) = reported g at 47
-control_by g s at (meaning.Type t n) = reported g at 47
-control_by g s at (meaning.Variable v) = reported_where g (not (v.home == s.types.home)) at 47 (controlled g s.types at v.of (rooted (root.Global v)))
-control_by g s at (meaning.Local v) = reported_where g (not (is_own v.kind && (v.level == s.level))) at 47 (controlled g s.types at v.of (rooted (root.Local (slot_of s.level v))))
-control_by g s at (meaning.Field f) = reported g at 47
-control_by g s at (meaning.Procedure p) = reported g at 47
-control_by g s at (meaning.LocalProcedure p) = reported g at 47
-control_by g s at meaning.Ahead = reported g at 30
-control_by g s at (meaning.Standard f) = reported g at 47
-control_by g s at (meaning.Module k) = reported g at 47
+control_by g s at (meaning.Constant v) = reported g at rule.WrongControl
+control_by g s at (meaning.Type t n) = reported g at rule.WrongControl
+control_by g s at (meaning.Variable v) = reported_where g (not (v.home == s.types.home)) at rule.WrongControl (controlled g s.types at v.of (rooted (root.Global v)))
+control_by g s at (meaning.Local v) = reported_where g (not (is_own v.kind && (v.level == s.level))) at rule.WrongControl (controlled g s.types at v.of (rooted (root.Local (slot_of s.level v))))
+control_by g s at (meaning.Field f) = reported g at rule.WrongControl
+control_by g s at (meaning.Procedure p) = reported g at rule.WrongControl
+control_by g s at (meaning.LocalProcedure p) = reported g at rule.WrongControl
+control_by g s at meaning.Ahead = reported g at rule.Undeclared
+control_by g s at (meaning.Standard f) = reported g at rule.WrongControl
+control_by g s at (meaning.Module k) = reported g at rule.WrongControl
 
 abbrev pub control_of : (g : Gathers) → Scope g.Reported → Ident → Result Control g.Reported
-control_of g s name = of_sort g name.pos 47 (looked_up g s name) ▷ control_by g s name.pos
+control_of g s name = of_sort g name.pos rule.WrongControl (looked_up g s name) ▷ control_by g s name.pos
 
 -- ---- the start is assigned to it
 
 abbrev pub start_at : (g : Gathers) → Types → Pos → Result TypeNo g.Reported → Result Computed g.Reported → Result TypedExpr g.Reported
-start_at g types at t x = both g t x ▷ λ p. value_suited g 41 types p.0 at p.1
+start_at g types at t x = both g t x ▷ λ p. value_suited g rule.NotAssignable types p.0 at p.1
 
 -- ---- the limit is of a base type that goes with the one of the variable; a number without a type is one of it
 
 abbrev pub limit_number : (g : Gathers) → TypeNo → Pos → ℤ → Option TypeNo → Result TypedExpr g.Reported
-limit_number g base at n None = reported_where g (not (fits (Some base) n)) at 52 (Ok (expr.Constant base n))
+limit_number g base at n None = reported_where g (not (fits (Some base) n)) at rule.OutOfRange (Ok (expr.Constant base n))
 limit_number g base at n (Some t) = Ok (expr.Constant t n)
 
 abbrev pub limit_by : (g : Gathers) → TypeNo → Pos → Option Side → Result TypedExpr g.Reported
-limit_by g base at None = reported g at 41
-limit_by g base at (Some (side.Scalar (Known a))) = reported_where g (not (sort_suits base a.sort)) at 41 (limit_number g base at a.number a.sort)
-limit_by g base at (Some (side.Scalar (Run b e))) = reported_where g (not (bases_suit base b)) at 41 (Ok e)
-limit_by g base at (Some (side.Set e)) = reported g at 41
-limit_by g base at (Some (side.Routine t e)) = reported g at 41
-limit_by g base at (Some (side.Procedure p)) = reported g at 41
+limit_by g base at None = reported g at rule.NotAssignable
+limit_by g base at (Some (side.Scalar (Known a))) = reported_where g (not (sort_suits base a.sort)) at rule.NotAssignable (limit_number g base at a.number a.sort)
+limit_by g base at (Some (side.Scalar (Run b e))) = reported_where g (not (bases_suit base b)) at rule.NotAssignable (Ok e)
+limit_by g base at (Some (side.Set e)) = reported g at rule.NotAssignable
+limit_by g base at (Some (side.Routine t e)) = reported g at rule.NotAssignable
+limit_by g base at (Some (side.Procedure p)) = reported g at rule.NotAssignable
 
 abbrev pub limit_at : (g : Gathers) → Pos → Result TypeNo g.Reported → Result Computed g.Reported → Result TypedExpr g.Reported
 limit_at g at base x = both g base x ▷ λ p. limit_by g p.0 at (side_of p.1)
@@ -97,8 +98,8 @@ abbrev pub is_zero : ℤ → Bool
 is_zero n = not (int_lt n (pos 0) || int_lt (pos 0) n)
 
 abbrev pub step_number : (g : Gathers) → Pos → Option Ordinal → Result ℤ g.Reported
-step_number g at None = reported g at 40
-step_number g at (Some a) = reported_where g (is_zero a.number) at 48 (Ok a.number)
+step_number g at None = reported g at rule.WrongType
+step_number g at (Some a) = reported_where g (is_zero a.number) at rule.ZeroStep (Ok a.number)
 
 abbrev pub step_by : (g : Gathers) → Pos → Value → Result ℤ g.Reported
 step_by g at v = step_number g at (whole_number v)

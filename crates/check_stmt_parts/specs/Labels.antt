@@ -1,6 +1,7 @@
 -- Labels of CASE.
 use Rattle.std.specs.Prelude.{ℤ, Bool, true, false, not, int_lt, List, [], Option, Some, None, Result, Ok, Err}
 use Rattle.std.specs.List.{fold}
+use Rattle.m2_rule.specs.declared.rule.Rule.TheVariants as rule
 use Rattle.m2_tree.specs.declared.pos.Pos.{Pos}
 use Rattle.m2_tree.specs.declared.expr.Item.{Item, out-Item}
 use Rattle.typed_tree.specs.declared.types.TypeNo.{TypeNo}
@@ -38,15 +39,15 @@ suits_selector (Some base) b = are_same b base
 -- ---- one bound at its place; a label at its own place is no constant: 49
 
 abbrev pub ordinal_in : (g : Gathers) → Pos → Option Operand → Result Ordinal g.Reported
-ordinal_in g at None = reported g at 40
-ordinal_in g at (Some (operand.Set bits)) = reported g at 40
+ordinal_in g at None = reported g at rule.WrongType
+ordinal_in g at (Some (operand.Set bits)) = reported g at rule.WrongType
 ordinal_in g at (Some (operand.Scalar a)) = Ok a
 
 abbrev pub of_type : (g : Gathers) → (alike : Bool) → Pos → Result (Unit {0}) g.Reported
-of_type g alike at = reported_where g (not alike) at 40 (Ok tt)
+of_type g alike at = reported_where g (not alike) at rule.WrongType (Ok tt)
 
 abbrev pub no_constant : (g : Gathers) → (alike : Bool) → (label at : Pos) → Result Ordinal g.Reported
-no_constant g alike label at = both g (of_type g alike at) (reported g {A = Ordinal} label 49) ▷ λ p. Ok p.1
+no_constant g alike label at = both g (of_type g alike at) (reported g {A = Ordinal} label rule.WrongLabel) ▷ λ p. Ok p.1
 
 abbrev pub value_bound : (g : Gathers) → Option TypeNo → (label at : Pos) → Computed → Result Ordinal g.Reported
 value_bound g base label at (value.Constant v) = ordinal_in g at (operand_of v)
@@ -69,8 +70,8 @@ bound_by g types base label at (designated.Variable t d) = variable_bound g base
 bound_by g types base label at (designated.Open t slot) = no_constant g false label at
 bound_by g types base label at (designated.Type t) = no_constant g false label at
 bound_by g types base label at (designated.Procedure p) = no_constant g false label at
-bound_by g types base label at (designated.Nested p) = reported g at 53
-bound_by g types base label at (designated.Standard f) = reported g at 53
+bound_by g types base label at (designated.Nested p) = reported g at rule.NoProcedureValue
+bound_by g types base label at (designated.Standard f) = reported g at rule.NoProcedureValue
 bound_by g types base label at (designated.Module k) = no_constant g false label at
 
 -- a procedure is no constant, whatever its heading
@@ -90,12 +91,12 @@ is_of_base base (Some t) = are_same t base
 
 -- a number without a type is one of the base type
 abbrev pub number_fits : (g : Gathers) → TypeNo → Pos → Ordinal → Option TypeNo → Result (Unit {0}) g.Reported
-number_fits g base at a None = reported_where g (not (fits (Some base) a.number)) at 52 (Ok tt)
+number_fits g base at a None = reported_where g (not (fits (Some base) a.number)) at rule.OutOfRange (Ok tt)
 number_fits g base at a (Some t) = Ok tt
 
 abbrev pub suits_base : (g : Gathers) → Option TypeNo → Pos → Ordinal → Result (Unit {0}) g.Reported
 suits_base g None at a = Ok tt
-suits_base g (Some base) at a = reported_where g (not (is_of_base base a.sort)) at 40 (number_fits g base at a a.sort)
+suits_base g (Some base) at a = reported_where g (not (is_of_base base a.sort)) at rule.WrongType (number_fits g base at a a.sort)
 
 abbrev pub bound_suits : (g : Gathers) → Option TypeNo → Pos → Result Ordinal g.Reported → Result (Unit {0}) g.Reported
 bound_suits g base at a = a ▷ suits_base g base at
@@ -107,7 +108,7 @@ single g base at a = both g a (bound_suits g base at a) ▷ λ p. Ok (record { l
 
 abbrev pub ordered_if : (g : Gathers) → Pos → Ordinal → Ordinal → Option (Option TypeNo) → Result (Unit {0}) g.Reported
 ordered_if g at a b None = Ok tt
-ordered_if g at a b (Some sort) = reported_where g (int_lt b.number a.number) at 35 (Ok tt)
+ordered_if g at a b (Some sort) = reported_where g (int_lt b.number a.number) at rule.EmptyRange (Ok tt)
 
 abbrev pub are_ordered : (g : Gathers) → Pos → Result Ordinal g.Reported → Result Ordinal g.Reported → Result (Unit {0}) g.Reported
 are_ordered g at a b = both g a b ▷ λ p. ordered_if g at p.0 p.1 (common p.0.sort p.1.sort)
@@ -128,7 +129,7 @@ Labels T = List (ℤ × ℤ) × Result (List Label) T
 
 -- no two labels have a value in common
 abbrev pub with_new : (g : Gathers) → Pos → Labels g.Reported → Label → Labels g.Reported
-with_new g at st l = let t = taken l.low l.high st.0 in (t.0, with_next g st.1 (reported_where g (not t.1) at 49 (Ok l)))
+with_new g at st l = let t = taken l.low l.high st.0 in (t.0, with_next g st.1 (reported_where g (not t.1) at rule.WrongLabel (Ok l)))
 
 abbrev pub with_label : (g : Gathers) → Pos → Labels g.Reported → Result Label g.Reported → Labels g.Reported
 with_label g at st (Ok l) = with_new g at st l

@@ -2,6 +2,7 @@
 use Rattle.std.specs.Prelude.{true, not, cond, List, [], ◌∷◌, ◌++◌, length, Option, Some, None, Result, Ok, Err}
 use Rattle.std.specs.List.{fold}
 use Rattle.std.specs.Option.{is_some}
+use Rattle.m2_rule.specs.declared.rule.Rule.TheVariants as rule
 use Rattle.m2_tree.specs.declared.pos.Pos.{Pos}
 use Rattle.m2_tree.specs.declared.expr.Expr.{Expr}
 use Rattle.m2_tree.specs.declared.expr.Expr.TheOpen as layer
@@ -47,23 +48,23 @@ in_loop w = record { gives = w.gives; in_loop = true }
 
 -- an EXIT stands in a LOOP
 abbrev pub exited : (g : Gathers) → Pos → Around g.Reported → Result TypedStmt g.Reported
-exited g at w = reported_where g (not w.in_loop) at 45 (Ok step.Exit)
+exited g at w = reported_where g (not w.in_loop) at rule.LonelyExit (Ok step.Exit)
 
 -- a value is assignment compatible with the type of the result
 abbrev pub given_back : (g : Gathers) → Types → Result TypeNo g.Reported → Pos → Result Computed g.Reported → Result TypedStmt g.Reported
-given_back g types t at x = both g t x ▷ λ p. value_suited g 41 types p.0 at p.1 ▷ λ e. Ok (step.Give p.0 e)
+given_back g types t at x = both g t x ▷ λ p. value_suited g rule.NotAssignable types p.0 at p.1 ▷ λ e. Ok (step.Give p.0 e)
 
 -- functions alone give a value, and always
 abbrev pub returned : (g : Gathers) → Scope g.Reported → Pos → Option (Result TypeNo g.Reported) → Option (Meant g.Reported) → Result TypedStmt g.Reported
 returned g s at None None = Ok step.Return
-returned g s at None (Some x) = reported_beside g at 46 (value_of g s x ▷ λ v. Ok tt)
-returned g s at (Some t) None = reported g at 46
+returned g s at None (Some x) = reported_beside g at rule.WrongReturn (value_of g s x ▷ λ v. Ok tt)
+returned g s at (Some t) None = reported g at rule.WrongReturn
 returned g s at (Some t) (Some x) = given_back g s.types t x.fixed.at (value_of g s x)
 
 -- ---- conditions and assignments
 
 abbrev pub condition : (g : Gathers) → Scope g.Reported → Meant g.Reported → Result TypedExpr g.Reported
-condition g s x = value_of g s x ▷ value_suited g 40 s.types boolean x.fixed.at
+condition g s x = value_of g s x ▷ value_suited g rule.WrongType s.types boolean x.fixed.at
 
 abbrev pub assignment : (g : Gathers) → Scope g.Reported → Meant g.Reported → Meant g.Reported → Result TypedStmt g.Reported
 assignment g s d x = assigned g s.types (target_at g d.fixed.at (d.means s)) x.fixed.at (value_of g s x)
@@ -81,11 +82,11 @@ selector_amount (Known a) = (untyped a.number a.sort, expr.Constant (untyped a.n
 selector_amount (Run b e) = (b, e)
 
 abbrev pub selector_of : (g : Gathers) → Pos → Option Side → Result (TypeNo × TypedExpr) g.Reported
-selector_of g at None = reported g at 40
+selector_of g at None = reported g at rule.WrongType
 selector_of g at (Some (side.Scalar a)) = Ok (selector_amount a)
-selector_of g at (Some (side.Set e)) = reported g at 40
-selector_of g at (Some (side.Routine t e)) = reported g at 40
-selector_of g at (Some (side.Procedure p)) = reported g at 40
+selector_of g at (Some (side.Set e)) = reported g at rule.WrongType
+selector_of g at (Some (side.Routine t e)) = reported g at rule.WrongType
+selector_of g at (Some (side.Procedure p)) = reported g at rule.WrongType
 
 abbrev pub selected : (g : Gathers) → Scope g.Reported → Meant g.Reported → Result (TypeNo × TypedExpr) g.Reported
 selected g s x = value_of g s x ▷ λ v. selector_of g x.fixed.at (side_of v)
@@ -93,17 +94,17 @@ selected g s x = value_of g s x ▷ λ v. selector_of g x.fixed.at (side_of v)
 -- ---- the record of a WITH, with its type
 
 abbrev pub record_by : (g : Gathers) → Types → Pos → Designated → Result (TypeNo × Place) g.Reported
-record_by g types at (designated.Variable t d) = reported_where g (not (is_some (fields_at types t))) at 40 (Ok (t, d))
-record_by g types at (designated.Value x) = reported g at 40
-record_by g types at (designated.Open t slot) = reported g at 40
-record_by g types at (designated.Type t) = reported g at 40
-record_by g types at (designated.Procedure p) = reported g at 40
-record_by g types at (designated.Nested p) = reported g at 40
-record_by g types at (designated.Standard f) = reported g at 40
-record_by g types at (designated.Module k) = reported g at 40
+record_by g types at (designated.Variable t d) = reported_where g (not (is_some (fields_at types t))) at rule.WrongType (Ok (t, d))
+record_by g types at (designated.Value x) = reported g at rule.WrongType
+record_by g types at (designated.Open t slot) = reported g at rule.WrongType
+record_by g types at (designated.Type t) = reported g at rule.WrongType
+record_by g types at (designated.Procedure p) = reported g at rule.WrongType
+record_by g types at (designated.Nested p) = reported g at rule.WrongType
+record_by g types at (designated.Standard f) = reported g at rule.WrongType
+record_by g types at (designated.Module k) = reported g at rule.WrongType
 
 abbrev pub record_of : (g : Gathers) → Scope g.Reported → Meant g.Reported → Result (TypeNo × Place) g.Reported
-record_of g s d = of_sort g d.fixed.at 40 (d.means s) ▷ record_by g s.types d.fixed.at
+record_of g s d = of_sort g d.fixed.at rule.WrongType (d.means s) ▷ record_by g s.types d.fixed.at
 
 -- ---- The record type that a WITH opens, if its designator has no meaning: that to which it leads whatever its subscripts are.
 

@@ -5,6 +5,7 @@ ghost use Rattle.check_scope.specs.Elaborated.{least};
 ghost use Rattle.check_stmt_parts.specs.Simple.{in_loop, exited};
 
 use check_scope::{Elaborated, Fault, reported};
+use m2_rule::Rule;
 use m2_tree::Pos;
 use typed_tree::{TypeNo, TypedStmt};
 
@@ -32,7 +33,7 @@ pub fn exited(at: Pos, around: &Around<Fault>) -> Elaborated<TypedStmt>
     ensures { result ≡ exited least at around.now }
 {
     if !around.in_loop {
-        return reported(at, 45);
+        return reported(at, Rule::LonelyExit);
     }
     Ok(TypedStmt::Exit)
 }

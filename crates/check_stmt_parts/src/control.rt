@@ -13,6 +13,7 @@ use check_operator::{
     Amount, Class, Computed, Side, bases_suit, class_of, side_of, slot_of, sort_suits, value_suited,
 };
 use check_scope::{Elaborated, Fault, Scope, both, looked_up, of_sort, reported};
+use m2_rule::Rule;
 use m2_tree::{Boxed, Expr, Ident, Items, Pos};
 use std::alloc::{AllocError, Global};
 use typed_tree::{
@@ -47,9 +48,9 @@ fn controlled(types: &Types, at: Pos, t: TypeNo, place: Place) -> Elaborated<Con
             base: scalar.base,
             place,
         }),
-        Class::Set => reported(at, 47),
-        Class::Procedure => reported(at, 47),
-        Class::Whole => reported(at, 47),
+        Class::Set => reported(at, Rule::WrongControl),
+        Class::Procedure => reported(at, Rule::WrongControl),
+        Class::Whole => reported(at, Rule::WrongControl),
     }
 }
 
@@ -68,27 +69,27 @@ fn control_by(alloc: Global, scope: &Scope<Fault>, at: Pos, meaning: Meaning) ->
     match meaning {
         Meaning::Variable(variable) => {
             if variable.home != scope.types.home {
-                return reported(at, 47);
+                return reported(at, Rule::WrongControl);
             }
             let place = rooted(alloc, Root::Global(variable));
             controlled(&scope.types, at, variable.of, place)
         }
         Meaning::Local(variable) => {
             if !(is_own(variable.kind) && variable.level == scope.level) {
-                return reported(at, 47);
+                return reported(at, Rule::WrongControl);
             }
             let slot = slot_of(scope.level, variable);
             let place = rooted(alloc, Root::Local(slot));
             controlled(&scope.types, at, variable.of, place)
         }
-        Meaning::Ahead => reported(at, 30),
-        Meaning::Constant(_) => reported(at, 47),
-        Meaning::Type(_, _) => reported(at, 47),
-        Meaning::Field(_) => reported(at, 47),
-        Meaning::Procedure(_) => reported(at, 47),
-        Meaning::LocalProcedure(_) => reported(at, 47),
-        Meaning::Standard(_) => reported(at, 47),
-        Meaning::Module(_) => reported(at, 47),
+        Meaning::Ahead => reported(at, Rule::Undeclared),
+        Meaning::Constant(_) => reported(at, Rule::WrongControl),
+        Meaning::Type(_, _) => reported(at, Rule::WrongControl),
+        Meaning::Field(_) => reported(at, Rule::WrongControl),
+        Meaning::Procedure(_) => reported(at, Rule::WrongControl),
+        Meaning::LocalProcedure(_) => reported(at, Rule::WrongControl),
+        Meaning::Standard(_) => reported(at, Rule::WrongControl),
+        Meaning::Module(_) => reported(at, Rule::WrongControl),
     }
 }
 
@@ -99,7 +100,7 @@ fn control_of(
 ) -> Result<Elaborated<Control>, AllocError>
     ensures { IfOk result (λ j. j ≡ control_of least scope.now name.now) }
 {
-    match of_sort(name.pos, 47, looked_up(scope, name)?) {
+    match of_sort(name.pos, Rule::WrongControl, looked_up(scope, name)?) {
         Err(fault) => Ok(Err(fault)),
         Ok(meaning) => Ok(control_by(alloc, scope, name.pos, meaning)),
     }
@@ -115,7 +116,7 @@ fn start_at(
 {
     match both(t, value) {
         Err(fault) => Err(fault),
-        Ok((t, value)) => value_suited(41, types, t, at, value),
+        Ok((t, value)) => value_suited(Rule::NotAssignable, types, t, at, value),
     }
 }
 
@@ -125,7 +126,7 @@ fn limit_number(base: TypeNo, at: Pos, n: i64, sort: Option<TypeNo>) -> Elaborat
     match sort {
         None => {
             if !fits(Some(base), n) {
-                return reported(at, 52);
+                return reported(at, Rule::OutOfRange);
             }
             Ok(TypedExpr::Constant(base, n))
         }
@@ -139,13 +140,13 @@ fn limit_amount(base: TypeNo, at: Pos, a: Amount) -> Elaborated<TypedExpr>
     match a {
         Amount::Known(a) => {
             if !sort_suits(base, a.sort) {
-                return reported(at, 41);
+                return reported(at, Rule::NotAssignable);
             }
             limit_number(base, at, a.number, a.sort)
         }
         Amount::Run(other, e) => {
             if !bases_suit(base, other) {
-                return reported(at, 41);
+                return reported(at, Rule::NotAssignable);
             }
             Ok(e)
         }
@@ -156,11 +157,11 @@ fn limit_by(base: TypeNo, at: Pos, limit: Option<Side>) -> Elaborated<TypedExpr>
     ensures { result ≡ limit_by least base at limit }
 {
     match limit {
-        None => reported(at, 41),
+        None => reported(at, Rule::NotAssignable),
         Some(Side::Scalar(a)) => limit_amount(base, at, a),
-        Some(Side::Set(_)) => reported(at, 41),
-        Some(Side::Routine(_, _)) => reported(at, 41),
-        Some(Side::Procedure(_)) => reported(at, 41),
+        Some(Side::Set(_)) => reported(at, Rule::NotAssignable),
+        Some(Side::Routine(_, _)) => reported(at, Rule::NotAssignable),
+        Some(Side::Procedure(_)) => reported(at, Rule::NotAssignable),
     }
 }
 
@@ -183,10 +184,10 @@ fn step_number(at: Pos, number: Option<Ordinal>) -> Elaborated<i64>
     ensures { result ≡ step_number least at number }
 {
     match number {
-        None => reported(at, 40),
+        None => reported(at, Rule::WrongType),
         Some(a) => {
             if is_zero(a.number) {
-                return reported(at, 48);
+                return reported(at, Rule::ZeroStep);
             }
             Ok(a.number)
         }

@@ -13,6 +13,7 @@ use check_const_ops::{Operand, Ordinal, common, fits, operand_of};
 use check_expr::{place_of, stands_for};
 use check_operator::{Class, Computed, Designated, class_of};
 use check_scope::{Elaborated, Fault, Meaningless, Scope, Sought, beside, both, reported};
+use m2_rule::Rule;
 use m2_tree::{Expr, Item, Items, Pos};
 use std::alloc::{AllocError, Global};
 use typed_tree::{Label, TypeNo, Types, are_same, is_numeric};
@@ -21,8 +22,8 @@ fn ordinal_in(at: Pos, operand: Option<Operand>) -> Elaborated<Ordinal>
     ensures { result ≡ ordinal_in least at operand }
 {
     match operand {
-        None => reported(at, 40),
-        Some(Operand::Set(_)) => reported(at, 40),
+        None => reported(at, Rule::WrongType),
+        Some(Operand::Set(_)) => reported(at, Rule::WrongType),
         Some(Operand::Scalar(a)) => Ok(a),
     }
 }
@@ -31,7 +32,7 @@ fn of_type(alike: bool, at: Pos) -> Elaborated<()>
     ensures { result ≡ of_type least alike at }
 {
     if !alike {
-        return reported(at, 40);
+        return reported(at, Rule::WrongType);
     }
     Ok(())
 }
@@ -40,7 +41,7 @@ fn of_type(alike: bool, at: Pos) -> Elaborated<()>
 fn no_constant(alike: bool, label: Pos, at: Pos) -> Elaborated<Ordinal>
     ensures { result ≡ no_constant least alike label at }
 {
-    let unknown: Elaborated<Ordinal> = reported(label, 49);
+    let unknown: Elaborated<Ordinal> = reported(label, Rule::WrongLabel);
     match both(of_type(alike, at), unknown) {
         Err(fault) => Err(fault),
         Ok(((), a)) => Ok(a),
@@ -96,8 +97,8 @@ fn bound_by(
         Designated::Open(_, _) => no_constant(false, label, at),
         Designated::Type(_) => no_constant(false, label, at),
         Designated::Procedure(_) => no_constant(false, label, at),
-        Designated::Nested(_) => reported(at, 53),
-        Designated::Standard(_) => reported(at, 53),
+        Designated::Nested(_) => reported(at, Rule::NoProcedureValue),
+        Designated::Standard(_) => reported(at, Rule::NoProcedureValue),
         Designated::Module(_) => no_constant(false, label, at),
     }
 }
@@ -148,7 +149,7 @@ fn number_fits(base: TypeNo, at: Pos, a: Ordinal) -> Elaborated<()>
     match a.sort {
         None => {
             if !fits(Some(base), a.number) {
-                return reported(at, 52);
+                return reported(at, Rule::OutOfRange);
             }
             Ok(())
         }
@@ -163,7 +164,7 @@ fn suits_base(base: Option<TypeNo>, at: Pos, a: Ordinal) -> Elaborated<()>
         None => Ok(()),
         Some(base) => {
             if !is_of_base(base, a.sort) {
-                return reported(at, 40);
+                return reported(at, Rule::WrongType);
             }
             number_fits(base, at, a)
         }
@@ -200,7 +201,7 @@ fn ordered_if(at: Pos, low: Ordinal, high: Ordinal) -> Elaborated<()>
         None => Ok(()),
         Some(_) => {
             if high.number < low.number {
-                return reported(at, 35);
+                return reported(at, Rule::EmptyRange);
             }
             Ok(())
         }
@@ -288,7 +289,7 @@ fn with_new(
     let next = if ranges.take(label.low, label.high)? {
         Ok(label)
     } else {
-        reported(at, 49)
+        reported(at, Rule::WrongLabel)
     };
     with_next(done, next)
 }

@@ -14,6 +14,7 @@ use check_operator::{Amount, Computed, Designated, Side, side_of, value_suited};
 use check_scope::{
     Elaborated, Fault, OpenedRecord, Scope, both, fields_of, of_sort, reported, reported_beside,
 };
+use m2_rule::Rule;
 use m2_tree::{Designator, Expr, Items, Pos};
 use std::alloc::{AllocError, Global};
 use typed_tree::{BOOLEAN, Place, TypeNo, TypedExpr, TypedStmt, Types};
@@ -28,7 +29,7 @@ fn given_back(
 {
     match both(t, value) {
         Err(fault) => Err(fault),
-        Ok((t, value)) => match value_suited(41, types, t, at, value) {
+        Ok((t, value)) => match value_suited(Rule::NotAssignable, types, t, at, value) {
             Err(fault) => Err(fault),
             Ok(e) => Ok(TypedStmt::Give(t, e)),
         },
@@ -51,15 +52,15 @@ pub fn returned(
         None => match value {
             None => Ok(Ok(TypedStmt::Return)),
             Some(e) => match value_of(alloc, scope, e)? {
-                Err(fault) => Ok(reported_beside(at, 46, Err(fault))),
+                Err(fault) => Ok(reported_beside(at, Rule::WrongReturn, Err(fault))),
                 Ok(value) => {
                     drop(value);
-                    Ok(reported(at, 46))
+                    Ok(reported(at, Rule::WrongReturn))
                 }
             },
         },
         Some(t) => match value {
-            None => Ok(reported(at, 46)),
+            None => Ok(reported(at, Rule::WrongReturn)),
             Some(e) => {
                 let value = value_of(alloc, scope, e)?;
                 Ok(given_back(&scope.types, t, place_of(e), value))
@@ -78,7 +79,7 @@ pub fn condition(
 {
     match value_of(alloc, scope, e)? {
         Err(fault) => Ok(Err(fault)),
-        Ok(value) => Ok(value_suited(40, &scope.types, BOOLEAN, place_of(e), value)),
+        Ok(value) => Ok(value_suited(Rule::WrongType, &scope.types, BOOLEAN, place_of(e), value)),
     }
 }
 
@@ -129,11 +130,11 @@ fn selector_of(at: Pos, side: Option<Side>) -> Elaborated<(TypeNo, TypedExpr)>
     ensures { result ≡ selector_of least at side }
 {
     match side {
-        None => reported(at, 40),
+        None => reported(at, Rule::WrongType),
         Some(Side::Scalar(a)) => Ok(selector_amount(a)),
-        Some(Side::Set(_)) => reported(at, 40),
-        Some(Side::Routine(_, _)) => reported(at, 40),
-        Some(Side::Procedure(_)) => reported(at, 40),
+        Some(Side::Set(_)) => reported(at, Rule::WrongType),
+        Some(Side::Routine(_, _)) => reported(at, Rule::WrongType),
+        Some(Side::Procedure(_)) => reported(at, Rule::WrongType),
     }
 }
 
@@ -167,20 +168,20 @@ fn record_by(types: &Types, at: Pos, designated: Designated) -> Elaborated<(Type
     match designated {
         Designated::Variable(t, place) => {
             if !is_record(types, t) {
-                return reported(at, 40);
+                return reported(at, Rule::WrongType);
             }
             Ok((t, place))
         }
         Designated::Value(value) => {
             drop(value);
-            reported(at, 40)
+            reported(at, Rule::WrongType)
         }
-        Designated::Open(_, _) => reported(at, 40),
-        Designated::Type(_) => reported(at, 40),
-        Designated::Procedure(_) => reported(at, 40),
-        Designated::Nested(_) => reported(at, 40),
-        Designated::Standard(_) => reported(at, 40),
-        Designated::Module(_) => reported(at, 40),
+        Designated::Open(_, _) => reported(at, Rule::WrongType),
+        Designated::Type(_) => reported(at, Rule::WrongType),
+        Designated::Procedure(_) => reported(at, Rule::WrongType),
+        Designated::Nested(_) => reported(at, Rule::WrongType),
+        Designated::Standard(_) => reported(at, Rule::WrongType),
+        Designated::Module(_) => reported(at, Rule::WrongType),
     }
 }
 
@@ -193,7 +194,7 @@ pub fn record_of(
     ensures { IfOk result (λ j. j ≡ record_of least scope.now (head least designator.now)) }
 {
     let at = first_of(designator);
-    match of_sort(at, 40, designated(alloc, scope, designator)?) {
+    match of_sort(at, Rule::WrongType, designated(alloc, scope, designator)?) {
         Err(fault) => Ok(Err(fault)),
         Ok(designated) => Ok(record_by(&scope.types, at, designated)),
     }

@@ -1,5 +1,6 @@
 -- How many scalar cells types have, counted up to one more than 131072, the most.
 use Rattle.std.specs.Prelude.{ℕ, ◌+◌, ◌*◌, ℤ, ◌-ℤ◌, Bool, true, false, not, cond, nat_lt, int_lt, unsigned_abs, Option, Some, None, Result, Ok}
+use Rattle.m2_rule.specs.declared.rule.Rule.TheVariants as rule
 use Rattle.m2_tree.specs.declared.pos.Pos.{Pos}
 use Rattle.typed_tree.specs.declared.types.TypeNo.{TypeNo}
 use Rattle.typed_tree.specs.declared.shape.Scalar.{Scalar}
@@ -23,7 +24,7 @@ abbrev pub plus : ℕ → ℕ → ℕ
 plus a b = cond (nat_lt 131072 (a + b)) 131073 (a + b)
 
 abbrev pub array_cells : (g : Gathers) → Pos → (count cells : ℕ) → Result ℕ g.Reported
-array_cells g at count cells = reported_where g (nat_lt 131072 (count * cells)) at 38 (Ok (count * cells))
+array_cells g at count cells = reported_where g (nat_lt 131072 (count * cells)) at rule.LargeType (Ok (count * cells))
 
 -- a scalar, but not INTEGER or CARDINAL as a whole
 abbrev pub is_index_scalar : TypeNo → Option Scalar → Bool

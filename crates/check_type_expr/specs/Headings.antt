@@ -1,6 +1,7 @@
 -- Headings of procedures, and procedure types.
 use Rattle.std.specs.Prelude.{ℕ, Bool, not, List, [], ◌∷◌, ◌++◌, map, Option, Some, None, Result, Ok, Err}
 use Rattle.std.specs.List.{fold}
+use Rattle.m2_rule.specs.declared.rule.Rule.TheVariants as rule
 use Rattle.m2_tree.specs.declared.pos.Pos.{Pos}
 use Rattle.m2_tree.specs.declared.name.Ident.{Ident}
 use Rattle.m2_tree.specs.declared.expr.Qualified.{Qualified}
@@ -26,7 +27,7 @@ formal_of g s is_var f = named_type g s f.of ▷ λ t. Ok (record { is_var = is_
 
 -- a function gives no arrays and no records
 abbrev pub result_in : (g : Gathers) → Types → Pos → TypeNo → Result (Option TypeNo) g.Reported
-result_in g types at t = reported_where g (not (is_result types t)) at 33 (Ok (Some t))
+result_in g types at t = reported_where g (not (is_result types t)) at rule.NoType (Ok (Some t))
 
 abbrev pub result_of : (g : Gathers) → Scope g.Reported → Option Qualified → Result (Option TypeNo) g.Reported
 result_of g s None = Ok None

@@ -1,6 +1,7 @@
 -- The types that type expressions make.
 use Rattle.std.specs.Prelude.{ℕ, ◌+◌, ℤ, pos, ◌-ℤ◌, Bool, not, cond, nat_lt, List, [], ◌∷◌, ◌++◌, length, Option, Some, None, Result, Ok, Err, slice_get}
 use Rattle.std.specs.List.{fold}
+use Rattle.m2_rule.specs.declared.rule.Rule.TheVariants as rule
 use Rattle.m2_tree.specs.declared.pos.Pos.{Pos}
 use Rattle.m2_tree.specs.declared.name.Ident.{Ident}
 use Rattle.m2_tree.specs.declared.expr.Qualified.{Qualified}
@@ -52,7 +53,7 @@ scalar_made sc = sc ▷ λ x. Ok (record { shape = shape.Scalar x; cells = 1 })
 
 abbrev pub reported_at : (g : Gathers) → Option Ident → Result (Unit {0}) g.Reported
 reported_at g None = Ok tt
-reported_at g (Some name) = reported g name.pos 37
+reported_at g (Some name) = reported g name.pos rule.ConstantCount
 
 -- the 257th constant
 abbrev pub too_many : (g : Gathers) → List Ident → Result (Unit {0}) g.Reported
@@ -80,7 +81,7 @@ enumeration g s names =
 -- ---- subranges
 
 abbrev pub scalar_or : (g : Gathers) → Pos → Option Scalar → Result Scalar g.Reported
-scalar_or g at None = reported g at 33
+scalar_or g at None = reported g at rule.NoType
 scalar_or g at (Some sc) = Ok sc
 
 abbrev pub scalar_in : (g : Gathers) → Types → Pos → Result TypeNo g.Reported → Result Scalar g.Reported
@@ -116,7 +117,7 @@ simple_type g s (simple.Subrange of at low high) = with_made s (scalar_made (sub
 -- ---- arrays
 
 abbrev pub index_in : (g : Gathers) → Types → Pos → Result TypeNo g.Reported → Result TypeNo g.Reported
-index_in g types at t = t ▷ λ x. reported_where g (not (is_index types x)) at 36 (Ok x)
+index_in g types at t = t ▷ λ x. reported_where g (not (is_index types x)) at rule.NoIndex (Ok x)
 
 abbrev pub array_in : (g : Gathers) → Types → Pos → TypeNo → TypeNo → Result Made g.Reported
 array_in g types at i e = array_cells g at (count_at types i) (cells_at types e) ▷ λ n. Ok (record { shape = shape.Array i e; cells = n })
@@ -141,7 +142,7 @@ abbrev pub nothing_of : {T : Type 0} → Result TypeNo T → Result (Unit {0}) T
 nothing_of t = t ▷ λ x. Ok tt
 
 abbrev pub record_in : (g : Gathers) → Pos → Fields → Result Made g.Reported
-record_in g at fs = reported_where g (nat_lt 131072 fs.cells) at 38 (Ok (record { shape = shape.Record fs.names; cells = fs.cells }))
+record_in g at fs = reported_where g (nat_lt 131072 fs.cells) at rule.LargeType (Ok (record { shape = shape.Record fs.names; cells = fs.cells }))
 
 abbrev pub record_of : (g : Gathers) → Pos → Fields → Result (Unit {0}) g.Reported → Result Made g.Reported
 record_of g at fs elaborated = elaborated ▷ λ fine. record_in g at fs

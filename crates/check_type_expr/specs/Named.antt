@@ -1,5 +1,6 @@
 -- Names of types.
 use Rattle.std.specs.Prelude.{ℕ, Option, Some, None, Result, Ok, Err}
+use Rattle.m2_rule.specs.declared.rule.Rule.TheVariants as rule
 use Rattle.m2_tree.specs.declared.pos.Pos.{Pos}
 use Rattle.m2_tree.specs.declared.name.Ident.{Ident}
 use Rattle.m2_tree.specs.declared.expr.Qualified.{Qualified}
@@ -21,32 +22,32 @@ first_of q = first_place q.module q.name
 
 abbrev pub type_meant : (g : Gathers) → Pos → Meaning → Result TypeNo g.Reported
 type_meant g at (meaning.Type t n) = Ok t
-type_meant g at (meaning.Constant v) = reported g at 33
-type_meant g at (meaning.Variable v) = reported g at 33
-type_meant g at (meaning.Local v) = reported g at 33
-type_meant g at (meaning.Field f) = reported g at 33
-type_meant g at (meaning.Procedure p) = reported g at 33
-type_meant g at (meaning.LocalProcedure p) = reported g at 33
-type_meant g at meaning.Ahead = reported g at 33
-type_meant g at (meaning.Standard f) = reported g at 33
-type_meant g at (meaning.Module k) = reported g at 33
+type_meant g at (meaning.Constant v) = reported g at rule.NoType
+type_meant g at (meaning.Variable v) = reported g at rule.NoType
+type_meant g at (meaning.Local v) = reported g at rule.NoType
+type_meant g at (meaning.Field f) = reported g at rule.NoType
+type_meant g at (meaning.Procedure p) = reported g at rule.NoType
+type_meant g at (meaning.LocalProcedure p) = reported g at rule.NoType
+type_meant g at meaning.Ahead = reported g at rule.NoType
+type_meant g at (meaning.Standard f) = reported g at rule.NoType
+type_meant g at (meaning.Module k) = reported g at rule.NoType
 
 -- M.x, where M means a module
 abbrev pub in_module : (g : Gathers) → Scope g.Reported → Pos → Ident → Meaning → Result TypeNo g.Reported
 in_module g s at name (meaning.Module k) = member g s.tables k name ▷ type_meant g at
-in_module g s at name (meaning.Type t n) = reported g at 33
-in_module g s at name (meaning.Constant v) = reported g at 33
-in_module g s at name (meaning.Variable v) = reported g at 33
-in_module g s at name (meaning.Local v) = reported g at 33
-in_module g s at name (meaning.Field f) = reported g at 33
-in_module g s at name (meaning.Procedure p) = reported g at 33
-in_module g s at name (meaning.LocalProcedure p) = reported g at 33
-in_module g s at name meaning.Ahead = reported g at 33
-in_module g s at name (meaning.Standard f) = reported g at 33
+in_module g s at name (meaning.Type t n) = reported g at rule.NoType
+in_module g s at name (meaning.Constant v) = reported g at rule.NoType
+in_module g s at name (meaning.Variable v) = reported g at rule.NoType
+in_module g s at name (meaning.Local v) = reported g at rule.NoType
+in_module g s at name (meaning.Field f) = reported g at rule.NoType
+in_module g s at name (meaning.Procedure p) = reported g at rule.NoType
+in_module g s at name (meaning.LocalProcedure p) = reported g at rule.NoType
+in_module g s at name meaning.Ahead = reported g at rule.NoType
+in_module g s at name (meaning.Standard f) = reported g at rule.NoType
 
 abbrev pub of_module : (g : Gathers) → Scope g.Reported → Option Ident → Ident → Result TypeNo g.Reported
-of_module g s None name = of_sort g name.pos 33 (looked_up g s name) ▷ type_meant g name.pos
-of_module g s (Some home) name = of_sort g home.pos 33 (looked_up g s home) ▷ in_module g s home.pos name
+of_module g s None name = of_sort g name.pos rule.NoType (looked_up g s name) ▷ type_meant g name.pos
+of_module g s (Some home) name = of_sort g home.pos rule.NoType (looked_up g s home) ▷ in_module g s home.pos name
 
 abbrev pub named_type : (g : Gathers) → Scope g.Reported → Qualified → Result TypeNo g.Reported
 named_type g s q = of_module g s q.module q.name

@@ -1,5 +1,6 @@
 -- Subranges.
 use Rattle.std.specs.Prelude.{ℕ, ℤ, pos, Bool, not, cond, int_lt, Option, Some, None, Result, Ok}
+use Rattle.m2_rule.specs.declared.rule.Rule.TheVariants as rule
 use Rattle.m2_tree.specs.declared.pos.Pos.{Pos}
 use Rattle.typed_tree.specs.declared.types.TypeNo.{TypeNo}
 use Rattle.typed_tree.specs.declared.shape.Scalar.{Scalar}
@@ -16,8 +17,8 @@ use Rattle.check_const_ops.specs.Common.{common}
 -- ---- bounds
 
 abbrev pub ordinal_in : (g : Gathers) → Pos → Option Operand → Result Ordinal g.Reported
-ordinal_in g at None = reported g at 40
-ordinal_in g at (Some (operands.Set bits)) = reported g at 40
+ordinal_in g at None = reported g at rule.WrongType
+ordinal_in g at (Some (operands.Set bits)) = reported g at rule.WrongType
 ordinal_in g at (Some (operands.Scalar a)) = Ok a
 
 -- a bound is a scalar
@@ -25,7 +26,7 @@ abbrev pub bound_of : (g : Gathers) → Pos → Result Value g.Reported → Resu
 bound_of g at v = v ▷ λ x. ordinal_in g at (operand_of x)
 
 abbrev pub ordered : (g : Gathers) → Pos → ℤ → ℤ → Result (Unit {0}) g.Reported
-ordered g at low high = reported_where g (int_lt high low) at 35 (Ok tt)
+ordered g at low high = reported_where g (int_lt high low) at rule.EmptyRange (Ok tt)
 
 -- ---- with no type named
 
@@ -40,7 +41,7 @@ base_of (Some t) low = t
 -- a number without a type takes the base
 abbrev pub fits_at : (g : Gathers) → Pos → TypeNo → Option TypeNo → ℤ → Result (Unit {0}) g.Reported
 fits_at g at base (Some t) n = Ok tt
-fits_at g at base None n = reported_where g (not (fits (Some base) n)) at 52 (Ok tt)
+fits_at g at base None n = reported_where g (not (fits (Some base) n)) at rule.OutOfRange (Ok tt)
 
 abbrev pub based : (g : Gathers) → Pos → Ordinal → Pos → Ordinal → TypeNo → Result Scalar g.Reported
 based g at a at' b base =
@@ -48,7 +49,7 @@ based g at a at' b base =
     ▷ λ fine. Ok (record { base = base; low = a.number; high = b.number })
 
 abbrev pub between : (g : Gathers) → Pos → Ordinal → Pos → Ordinal → Option (Option TypeNo) → Result Scalar g.Reported
-between g at a at' b None = reported g at' 40
+between g at a at' b None = reported g at' rule.WrongType
 between g at a at' b (Some sort) = based g at a at' b (base_of sort a.number)
 
 abbrev pub unnamed : (g : Gathers) → Pos → Result Ordinal g.Reported → Pos → Result Ordinal g.Reported → Result Scalar g.Reported
@@ -61,7 +62,7 @@ is_of_base base None = is_numeric base
 is_of_base base (Some t) = are_same t base
 
 abbrev pub is_of : (g : Gathers) → Scalar → Pos → Ordinal → Result (Unit {0}) g.Reported
-is_of g of at a = reported_where g (not (is_of_base of.base a.sort)) at 40 (reported_where g (not (is_between of.low a.number of.high)) at 52 (Ok tt))
+is_of g of at a = reported_where g (not (is_of_base of.base a.sort)) at rule.WrongType (reported_where g (not (is_between of.low a.number of.high)) at rule.OutOfRange (Ok tt))
 
 abbrev pub bound_in : (g : Gathers) → Result Scalar g.Reported → Pos → Result Ordinal g.Reported → Result (Unit {0}) g.Reported
 bound_in g of at a = both g of a ▷ λ p. is_of g p.0 at p.1

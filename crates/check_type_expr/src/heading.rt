@@ -8,6 +8,7 @@ ghost use Rattle.check_type_expr.specs.Headings.{formal_of, result_in, result_of
 use crate::field::{Fields, no_fields, with_names};
 use crate::named::{first_of, named_type};
 use check_scope::{Elaborated, Fault, Scope, both, reported};
+use m2_rule::Rule;
 use m2_tree::{FormalType, Heading, Ident, Items, Parameter, Pos, Qualified, Section};
 use std::alloc::{AllocError, Global};
 use typed_tree::{Formal, INTEGER, Made, Shape, Signature, TypeNo, Types, is_result};
@@ -34,7 +35,7 @@ fn result_in(types: &Types, at: Pos, t: TypeNo) -> Elaborated<Option<TypeNo>>
     ensures { result ≡ result_in least types.now at t }
 {
     if !is_result(types, t) {
-        return reported(at, 33);
+        return reported(at, Rule::NoType);
     }
     Ok(Some(t))
 }

@@ -14,6 +14,7 @@ use crate::subrange::{bound_of, under, unnamed};
 use check_const_ops::Ordinal;
 use check_expr::{constant_of, place_of};
 use check_scope::{Elaborated, Fault, Scope, beside, both, declare, reported};
+use m2_rule::Rule;
 use m2_tree::{Expr, Field, Ident, Pos, Qualified, Simple, TypeExpr};
 use std::alloc::{AllocError, Global};
 use typed_tree::{
@@ -61,7 +62,7 @@ fn too_many(names: &[Ident]) -> Elaborated<()>
 {
     match names.get(256) {
         None => Ok(()),
-        Some(name) => reported(name.pos, 37),
+        Some(name) => reported(name.pos, Rule::ConstantCount),
     }
 }
 
@@ -139,7 +140,7 @@ fn scalar_in(types: &Types, at: Pos, t: Elaborated<TypeNo>) -> Elaborated<Scalar
     match t {
         Err(fault) => Err(fault),
         Ok(t) => match scalar_of(types, t) {
-            None => reported(at, 33),
+            None => reported(at, Rule::NoType),
             Some(scalar) => Ok(scalar),
         },
     }
@@ -231,7 +232,7 @@ fn index_in(types: &Types, at: Pos, t: Elaborated<TypeNo>) -> Elaborated<TypeNo>
         Err(fault) => Err(fault),
         Ok(t) => {
             if !is_index(types, t) {
-                return reported(at, 36);
+                return reported(at, Rule::NoIndex);
             }
             Ok(t)
         }
@@ -314,7 +315,7 @@ fn record_in(at: Pos, fields: Fields) -> Elaborated<Made>
     ensures { result ≡ record_in least at fields }
 {
     if fields.cells > 131_072 {
-        return reported(at, 38);
+        return reported(at, Rule::LargeType);
     }
     Ok(Made {
         shape: Shape::Record(fields.names),

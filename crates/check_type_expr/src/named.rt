@@ -6,6 +6,7 @@ ghost use Rattle.check_type_expr.specs.Named.{first_of, type_meant, in_module, o
 
 use check_const::member;
 use check_scope::{Elaborated, Fault, Scope, looked_up, of_sort, reported};
+use m2_rule::Rule;
 use m2_tree::{Ident, Pos, Qualified};
 use std::alloc::AllocError;
 use typed_tree::{Meaning, TypeNo};
@@ -25,15 +26,15 @@ fn type_meant(at: Pos, meaning: Meaning) -> Elaborated<TypeNo>
 {
     match meaning {
         Meaning::Type(t, _) => Ok(t),
-        Meaning::Constant(_) => reported(at, 33),
-        Meaning::Variable(_) => reported(at, 33),
-        Meaning::Local(_) => reported(at, 33),
-        Meaning::Field(_) => reported(at, 33),
-        Meaning::Procedure(_) => reported(at, 33),
-        Meaning::LocalProcedure(_) => reported(at, 33),
-        Meaning::Ahead => reported(at, 33),
-        Meaning::Standard(_) => reported(at, 33),
-        Meaning::Module(_) => reported(at, 33),
+        Meaning::Constant(_) => reported(at, Rule::NoType),
+        Meaning::Variable(_) => reported(at, Rule::NoType),
+        Meaning::Local(_) => reported(at, Rule::NoType),
+        Meaning::Field(_) => reported(at, Rule::NoType),
+        Meaning::Procedure(_) => reported(at, Rule::NoType),
+        Meaning::LocalProcedure(_) => reported(at, Rule::NoType),
+        Meaning::Ahead => reported(at, Rule::NoType),
+        Meaning::Standard(_) => reported(at, Rule::NoType),
+        Meaning::Module(_) => reported(at, Rule::NoType),
     }
 }
 
@@ -56,15 +57,15 @@ fn in_module(
 {
     match meaning {
         Meaning::Module(place) => Ok(type_by(at, member(scope, place, name)?)),
-        Meaning::Type(_, _) => Ok(reported(at, 33)),
-        Meaning::Constant(_) => Ok(reported(at, 33)),
-        Meaning::Variable(_) => Ok(reported(at, 33)),
-        Meaning::Local(_) => Ok(reported(at, 33)),
-        Meaning::Field(_) => Ok(reported(at, 33)),
-        Meaning::Procedure(_) => Ok(reported(at, 33)),
-        Meaning::LocalProcedure(_) => Ok(reported(at, 33)),
-        Meaning::Ahead => Ok(reported(at, 33)),
-        Meaning::Standard(_) => Ok(reported(at, 33)),
+        Meaning::Type(_, _) => Ok(reported(at, Rule::NoType)),
+        Meaning::Constant(_) => Ok(reported(at, Rule::NoType)),
+        Meaning::Variable(_) => Ok(reported(at, Rule::NoType)),
+        Meaning::Local(_) => Ok(reported(at, Rule::NoType)),
+        Meaning::Field(_) => Ok(reported(at, Rule::NoType)),
+        Meaning::Procedure(_) => Ok(reported(at, Rule::NoType)),
+        Meaning::LocalProcedure(_) => Ok(reported(at, Rule::NoType)),
+        Meaning::Ahead => Ok(reported(at, Rule::NoType)),
+        Meaning::Standard(_) => Ok(reported(at, Rule::NoType)),
     }
 }
 
@@ -75,9 +76,9 @@ pub fn named_type(scope: &Scope<Fault>, q: &Qualified) -> Result<Elaborated<Type
     match &q.module {
         None => Ok(type_by(
             q.name.pos,
-            of_sort(q.name.pos, 33, looked_up(scope, &q.name)?),
+            of_sort(q.name.pos, Rule::NoType, looked_up(scope, &q.name)?),
         )),
-        Some(home) => match of_sort(home.pos, 33, looked_up(scope, home)?) {
+        Some(home) => match of_sort(home.pos, Rule::NoType, looked_up(scope, home)?) {
             Err(fault) => Ok(Err(fault)),
             Ok(meaning) => in_module(scope, home.pos, &q.name, meaning),
         },

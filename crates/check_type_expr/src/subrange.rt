@@ -6,6 +6,7 @@ ghost use Rattle.check_type_expr.specs.Subranges.{ordinal_in, bound_of, number_b
 
 use check_const_ops::{Operand, Ordinal, common, fits, operand_of};
 use check_scope::{Elaborated, beside, both, reported};
+use m2_rule::Rule;
 use m2_tree::Pos;
 use typed_tree::{CARDINAL, INTEGER, Scalar, TypeNo, Value, are_same, is_numeric};
 
@@ -13,8 +14,8 @@ fn ordinal_in(at: Pos, x: Option<Operand>) -> Elaborated<Ordinal>
     ensures { result ≡ ordinal_in least at x }
 {
     match x {
-        None => reported(at, 40),
-        Some(Operand::Set(_)) => reported(at, 40),
+        None => reported(at, Rule::WrongType),
+        Some(Operand::Set(_)) => reported(at, Rule::WrongType),
         Some(Operand::Scalar(a)) => Ok(a),
     }
 }
@@ -52,7 +53,7 @@ fn fits_at(at: Pos, base: TypeNo, a: Ordinal) -> Elaborated<()>
         Some(_) => Ok(()),
         None => {
             if !fits(Some(base), a.number) {
-                return reported(at, 52);
+                return reported(at, Rule::OutOfRange);
             }
             Ok(())
         }
@@ -63,7 +64,7 @@ fn ordered(at: Pos, low: i64, high: i64) -> Elaborated<()>
     ensures { result ≡ ordered least at low high }
 {
     if high < low {
-        return reported(at, 35);
+        return reported(at, Rule::EmptyRange);
     }
     Ok(())
 }
@@ -78,7 +79,7 @@ fn between(
     ensures { result ≡ between least at a high_at b sort }
 {
     match sort {
-        None => reported(high_at, 40),
+        None => reported(high_at, Rule::WrongType),
         Some(sort) => {
             let base = base_of(sort, a.number);
             let fit = beside(fits_at(at, base, a), fits_at(high_at, base, b));
@@ -123,10 +124,10 @@ fn is_of(of: Scalar, at: Pos, a: Ordinal) -> Elaborated<()>
     ensures { result ≡ is_of least of at a }
 {
     if !is_of_base(of.base, a.sort) {
-        return reported(at, 40);
+        return reported(at, Rule::WrongType);
     }
     if !(of.low <= a.number && a.number <= of.high) {
-        return reported(at, 52);
+        return reported(at, Rule::OutOfRange);
     }
     Ok(())
 }

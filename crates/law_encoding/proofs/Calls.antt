@@ -1,6 +1,7 @@
 -- Values, arguments, calls and standard functions count no more than what they are made of.
 use Rattle.std.proofs.Common.{◌≡◌, ℕ, ◌+◌, ◌≤◌, Bool, true, false, List, Result, arith}
 use Rattle.std.specs.Prelude.{not, cond}
+use Rattle.m2_rule.specs.declared.rule.Rule.TheVariants as rule
 use Rattle.m2_tree.specs.declared.pos.Pos.{Pos}
 use Rattle.typed_tree.specs.declared.computed.Argument.{Argument}
 use Rattle.typed_tree.specs.declared.computed.Argument.TheVariants as argument
@@ -81,11 +82,11 @@ module _ (g : Gathers) (types : Types) where
   taken_most n at (designated.Value x) p = fine x p
   taken_most n at (designated.Variable t d) p = fine (loaded types t d) (loaded_as_most n t d (class_at types t) p)
   taken_most n at (designated.Open t slot) p = fine value.Untaken (omega arith)
-  taken_most n at (designated.Type t) p = reported_most g at 40
+  taken_most n at (designated.Type t) p = reported_most g at rule.WrongType
   taken_most n at (designated.Procedure f) p = fine (value.Procedure f) (omega (arith, p))
-  taken_most n at (designated.Nested f) p = reported_most g at 53
-  taken_most n at (designated.Standard f) p = reported_most g at 53
-  taken_most n at (designated.Module k) p = reported_most g at 40
+  taken_most n at (designated.Nested f) p = reported_most g at rule.NoProcedureValue
+  taken_most n at (designated.Standard f) p = reported_most g at rule.NoProcedureValue
+  taken_most n at (designated.Module k) p = reported_most g at rule.WrongType
 
   -- ---- arguments
 
@@ -102,65 +103,65 @@ module _ (g : Gathers) (types : Types) where
   one_passed a n e = omega (arith, e)
 
   variable_most : (n : ℕ) (t : TypeNo) (at : Pos) (d : Designated) → size_designated d ≤ n → Passed_ (1 + n) (variable_passed g t at d)
-  variable_most n t at (designated.Value x) p = reported_most g at 44
-  variable_most n t at (designated.Variable u d) p = where_most g _ at 44 (fine (argument.Place d) (placed _ _ n (argument_place d) p))
-  variable_most n t at (designated.Open u slot) p = reported_most g at 44
-  variable_most n t at (designated.Type u) p = reported_most g at 44
-  variable_most n t at (designated.Procedure f) p = reported_most g at 44
-  variable_most n t at (designated.Nested f) p = reported_most g at 44
-  variable_most n t at (designated.Standard f) p = reported_most g at 44
-  variable_most n t at (designated.Module k) p = reported_most g at 44
+  variable_most n t at (designated.Value x) p = reported_most g at rule.NoVariable
+  variable_most n t at (designated.Variable u d) p = where_most g _ at rule.NoVariable (fine (argument.Place d) (placed _ _ n (argument_place d) p))
+  variable_most n t at (designated.Open u slot) p = reported_most g at rule.NoVariable
+  variable_most n t at (designated.Type u) p = reported_most g at rule.NoVariable
+  variable_most n t at (designated.Procedure f) p = reported_most g at rule.NoVariable
+  variable_most n t at (designated.Nested f) p = reported_most g at rule.NoVariable
+  variable_most n t at (designated.Standard f) p = reported_most g at rule.NoVariable
+  variable_most n t at (designated.Module k) p = reported_most g at rule.NoVariable
 
   open_most : (n : ℕ) (t : TypeNo) (at : Pos) (d : Designated) → size_designated d ≤ n → Passed_ (1 + n) (open_passed g types t at d)
-  open_most n t at (designated.Value x) p = reported_most g at 44
-  open_most n t at (designated.Variable u d) p = where_most g _ at 44 (fine (argument.Array u d) (placed _ _ n (argument_array u d) p))
-  open_most n t at (designated.Open u slot) p = where_most g _ at 44 (fine (argument.Open slot) (two_passed _ n (argument_open slot) p))
-  open_most n t at (designated.Type u) p = reported_most g at 44
-  open_most n t at (designated.Procedure f) p = reported_most g at 44
-  open_most n t at (designated.Nested f) p = reported_most g at 44
-  open_most n t at (designated.Standard f) p = reported_most g at 44
-  open_most n t at (designated.Module k) p = reported_most g at 44
+  open_most n t at (designated.Value x) p = reported_most g at rule.NoVariable
+  open_most n t at (designated.Variable u d) p = where_most g _ at rule.NoVariable (fine (argument.Array u d) (placed _ _ n (argument_array u d) p))
+  open_most n t at (designated.Open u slot) p = where_most g _ at rule.NoVariable (fine (argument.Open slot) (two_passed _ n (argument_open slot) p))
+  open_most n t at (designated.Type u) p = reported_most g at rule.NoVariable
+  open_most n t at (designated.Procedure f) p = reported_most g at rule.NoVariable
+  open_most n t at (designated.Nested f) p = reported_most g at rule.NoVariable
+  open_most n t at (designated.Standard f) p = reported_most g at rule.NoVariable
+  open_most n t at (designated.Module k) p = reported_most g at rule.NoVariable
 
   text_argument_most : (n : ℕ) (t : TypeNo) (at : Pos) (v : Value) → Passed_ (1 + n) (text_argument g t at v)
-  text_argument_most n t at (constant.Text text) = where_most g _ at 43 (fine (argument.Text text) (one_passed _ n (argument_text text)))
-  text_argument_most n t at (constant.Number i) = reported_most g at 43
-  text_argument_most n t at (constant.Scalar s) = reported_most g at 43
-  text_argument_most n t at (constant.Set bits) = reported_most g at 43
+  text_argument_most n t at (constant.Text text) = where_most g _ at rule.WrongArgument (fine (argument.Text text) (one_passed _ n (argument_text text)))
+  text_argument_most n t at (constant.Number i) = reported_most g at rule.WrongArgument
+  text_argument_most n t at (constant.Scalar s) = reported_most g at rule.WrongArgument
+  text_argument_most n t at (constant.Set bits) = reported_most g at rule.WrongArgument
 
   text_most : (n : ℕ) (t : TypeNo) (at : Pos) (x : Computed) → Passed_ (1 + n) (text_passed g t at x)
   text_most n t at (value.Constant v) = text_argument_most n t at v
-  text_most n t at (value.Scalar u b e) = reported_most g at 43
-  text_most n t at (value.Set e) = reported_most g at 43
-  text_most n t at (value.Routine u e) = reported_most g at 43
-  text_most n t at (value.Procedure f) = reported_most g at 43
-  text_most n t at (value.Whole u d) = reported_most g at 43
-  text_most n t at value.Untaken = reported_most g at 43
+  text_most n t at (value.Scalar u b e) = reported_most g at rule.WrongArgument
+  text_most n t at (value.Set e) = reported_most g at rule.WrongArgument
+  text_most n t at (value.Routine u e) = reported_most g at rule.WrongArgument
+  text_most n t at (value.Procedure f) = reported_most g at rule.WrongArgument
+  text_most n t at (value.Whole u d) = reported_most g at rule.WrongArgument
+  text_most n t at value.Untaken = reported_most g at rule.WrongArgument
 
   open_value_most : (n : ℕ) (t : TypeNo) (at : Pos) (d : Designated) → size_designated d ≤ n → Passed_ (1 + n) (open_value g types t at d)
   open_value_most n t at (designated.Value x) p = text_most n t at x
-  open_value_most n t at (designated.Variable u d) p = where_most g _ at 43 (fine (argument.Array u d) (placed _ _ n (argument_array u d) p))
-  open_value_most n t at (designated.Open u slot) p = where_most g _ at 43 (fine (argument.Open slot) (two_passed _ n (argument_open slot) p))
-  open_value_most n t at (designated.Type u) p = reported_most g at 40
-  open_value_most n t at (designated.Procedure f) p = reported_most g at 43
-  open_value_most n t at (designated.Nested f) p = reported_most g at 53
-  open_value_most n t at (designated.Standard f) p = reported_most g at 53
-  open_value_most n t at (designated.Module k) p = reported_most g at 40
+  open_value_most n t at (designated.Variable u d) p = where_most g _ at rule.WrongArgument (fine (argument.Array u d) (placed _ _ n (argument_array u d) p))
+  open_value_most n t at (designated.Open u slot) p = where_most g _ at rule.WrongArgument (fine (argument.Open slot) (two_passed _ n (argument_open slot) p))
+  open_value_most n t at (designated.Type u) p = reported_most g at rule.WrongType
+  open_value_most n t at (designated.Procedure f) p = reported_most g at rule.WrongArgument
+  open_value_most n t at (designated.Nested f) p = reported_most g at rule.NoProcedureValue
+  open_value_most n t at (designated.Standard f) p = reported_most g at rule.NoProcedureValue
+  open_value_most n t at (designated.Module k) p = reported_most g at rule.WrongType
 
   whole_most : (n : ℕ) (t : TypeNo) (at : Pos) (d : Designated) → size_designated d ≤ n → Passed_ (1 + n) (whole_passed g t at d)
-  whole_most n t at (designated.Value x) p = reported_most g at 43
-  whole_most n t at (designated.Variable u d) p = where_most g _ at 43 (fine (argument.Place d) (placed _ _ n (argument_place d) p))
-  whole_most n t at (designated.Open u slot) p = reported_most g at 43
-  whole_most n t at (designated.Type u) p = reported_most g at 40
-  whole_most n t at (designated.Procedure f) p = reported_most g at 43
-  whole_most n t at (designated.Nested f) p = reported_most g at 53
-  whole_most n t at (designated.Standard f) p = reported_most g at 53
-  whole_most n t at (designated.Module k) p = reported_most g at 40
+  whole_most n t at (designated.Value x) p = reported_most g at rule.WrongArgument
+  whole_most n t at (designated.Variable u d) p = where_most g _ at rule.WrongArgument (fine (argument.Place d) (placed _ _ n (argument_place d) p))
+  whole_most n t at (designated.Open u slot) p = reported_most g at rule.WrongArgument
+  whole_most n t at (designated.Type u) p = reported_most g at rule.WrongType
+  whole_most n t at (designated.Procedure f) p = reported_most g at rule.WrongArgument
+  whole_most n t at (designated.Nested f) p = reported_most g at rule.NoProcedureValue
+  whole_most n t at (designated.Standard f) p = reported_most g at rule.NoProcedureValue
+  whole_most n t at (designated.Module k) p = reported_most g at rule.WrongType
 
   value_sum : (a e n : ℕ) → a ≡ 1 + e → e ≤ n → a ≤ 1 + n
   value_sum a e n q l = omega (arith, q, l)
 
   simple_most : (n : ℕ) (t : TypeNo) (at : Pos) (d : Designated) → size_designated d ≤ n → Passed_ (1 + n) (simple_passed g types t at d)
-  simple_most n t at d p = then_most (taken_most n at d p) (λ x h. then_most (suited_most g n 43 types t at x h) (λ e k. fine (argument.Value t e) (value_sum _ _ n (argument_value t e) k)))
+  simple_most n t at d p = then_most (taken_most n at d p) (λ x h. then_most (suited_most g n rule.WrongArgument types t at x h) (λ e k. fine (argument.Value t e) (value_sum _ _ n (argument_value t e) k)))
 
   passed_most : (n : ℕ) (t : TypeNo) (at : Pos) (d : Designated) (c : Class) → size_designated d ≤ n → Passed_ (1 + n) (passed_as g types t at d c)
   passed_most n t at d (class.Scalar s) p = simple_most n t at d p
@@ -182,9 +183,9 @@ module _ (g : Gathers) (types : Types) where
 
   held_most : (n : ℕ) (at : Pos) (t : TypeNo) (d : Place) (c : Class) → 1 + size_place d ≤ n → AtMost size_called n (held_by g at t d c)
   held_most n at t d class.Procedure p = fine (called.Routine t (callee.Variable t d)) p
-  held_most n at t d (class.Scalar s) p = reported_most g at 40
-  held_most n at t d class.Set p = reported_most g at 40
-  held_most n at t d class.Whole p = reported_most g at 40
+  held_most n at t d (class.Scalar s) p = reported_most g at rule.WrongType
+  held_most n at t d class.Set p = reported_most g at rule.WrongType
+  held_most n at t d class.Whole p = reported_most g at rule.WrongType
 
   one_of_two : (n : ℕ) → 2 ≤ n → 1 ≤ n
   one_of_two n l = omega (arith, l)
@@ -197,10 +198,10 @@ module _ (g : Gathers) (types : Types) where
   callee_most n at (designated.Nested f) p = fine (called.Routine f.heading (callee.Nested f)) p
   callee_most n at (designated.Variable t d) p = held_most n at t d (class_at types t) p
   callee_most n at (designated.Standard f) p = fine (called.Standard f) (none_most n)
-  callee_most n at (designated.Value x) p = reported_most g at 40
-  callee_most n at (designated.Open t slot) p = reported_most g at 40
-  callee_most n at (designated.Type t) p = reported_most g at 40
-  callee_most n at (designated.Module k) p = reported_most g at 40
+  callee_most n at (designated.Value x) p = reported_most g at rule.WrongType
+  callee_most n at (designated.Open t slot) p = reported_most g at rule.WrongType
+  callee_most n at (designated.Type t) p = reported_most g at rule.WrongType
+  callee_most n at (designated.Module k) p = reported_most g at rule.WrongType
 
   -- ---- standard functions
 
@@ -216,34 +217,34 @@ module _ (g : Gathers) (types : Types) where
 
   pub unary_most : (n : ℕ) (f : Standard) (u : Unary) (at : Pos) (x : Computed) → size_value x ≤ n → AtMost size_value (1 + n) (unary_at g f u at x)
   unary_most n f u at (value.Constant v) p = of_value_most g (1 + n) _ (at_least_one n)
-  unary_most n f u at (value.Scalar t b e) p = where_most g (not (unary_takes u b)) at 43 (fine (unary_built u b e) (unary_built_most n u b e p))
-  unary_most n f u at (value.Set e) p = reported_most g at 43
-  unary_most n f u at (value.Routine t e) p = reported_most g at 43
-  unary_most n f u at (value.Procedure h) p = reported_most g at 43
-  unary_most n f u at (value.Whole t d) p = reported_most g at 43
-  unary_most n f u at value.Untaken p = reported_most g at 43
+  unary_most n f u at (value.Scalar t b e) p = where_most g (not (unary_takes u b)) at rule.WrongArgument (fine (unary_built u b e) (unary_built_most n u b e p))
+  unary_most n f u at (value.Set e) p = reported_most g at rule.WrongArgument
+  unary_most n f u at (value.Routine t e) p = reported_most g at rule.WrongArgument
+  unary_most n f u at (value.Procedure h) p = reported_most g at rule.WrongArgument
+  unary_most n f u at (value.Whole t d) p = reported_most g at rule.WrongArgument
+  unary_most n f u at value.Untaken p = reported_most g at rule.WrongArgument
 
   pub bound_most : (n : ℕ) (f : Standard) (x : Result (TypeNo × Range) g.Reported) → AtMost size_value (1 + n) (bound_at f x)
   bound_most n f x = then_most (any_most x) (λ p h. fine (value.Constant _) (at_least_one n))
 
   converted_most : (n : ℕ) (t : TypeNo) (s : Range) (at : Pos) (x : Computed) → size_value x ≤ n → AtMost size_value (1 + n) (converted_value g t s at x)
   converted_most n t s at (value.Constant v) p = of_value_most g (1 + n) _ (at_least_one n)
-  converted_most n t s at (value.Scalar u b e) p = where_most g (not (is_numeric b)) at 43 (fine (value.Scalar t s.base (expr.Val t e)) (value_sum _ _ n (expr_val t e) p))
-  converted_most n t s at (value.Set e) p = reported_most g at 43
-  converted_most n t s at (value.Routine u e) p = reported_most g at 43
-  converted_most n t s at (value.Procedure h) p = reported_most g at 43
-  converted_most n t s at (value.Whole u d) p = reported_most g at 43
-  converted_most n t s at value.Untaken p = reported_most g at 43
+  converted_most n t s at (value.Scalar u b e) p = where_most g (not (is_numeric b)) at rule.WrongArgument (fine (value.Scalar t s.base (expr.Val t e)) (value_sum _ _ n (expr_val t e) p))
+  converted_most n t s at (value.Set e) p = reported_most g at rule.WrongArgument
+  converted_most n t s at (value.Routine u e) p = reported_most g at rule.WrongArgument
+  converted_most n t s at (value.Procedure h) p = reported_most g at rule.WrongArgument
+  converted_most n t s at (value.Whole u d) p = reported_most g at rule.WrongArgument
+  converted_most n t s at value.Untaken p = reported_most g at rule.WrongArgument
 
   pub conversion_most : (n : ℕ) (to : Result (TypeNo × Range) g.Reported) (at : Pos) {x : Result Computed g.Reported} → AtMost size_value n x → AtMost size_value (1 + n) (conversion_at g to at x)
   conversion_most n to at p = then_most (both_most g (any_most to) p) (λ v h. converted_most n v.0.0 v.0.1 at v.1 (omega (arith, h)))
 
   pub high_most : (n : ℕ) (at : Pos) (d : Designated) → AtMost size_value (1 + n) (high_of g at d)
   high_most n at (designated.Open t slot) = fine (value.Scalar cardinal cardinal (expr.High slot)) (one_passed _ n (expr_high slot))
-  high_most n at (designated.Value x) = reported_most g at 43
-  high_most n at (designated.Variable t d) = reported_most g at 43
-  high_most n at (designated.Type t) = reported_most g at 40
-  high_most n at (designated.Procedure f) = reported_most g at 43
-  high_most n at (designated.Nested f) = reported_most g at 53
-  high_most n at (designated.Standard f) = reported_most g at 53
-  high_most n at (designated.Module k) = reported_most g at 40
+  high_most n at (designated.Value x) = reported_most g at rule.WrongArgument
+  high_most n at (designated.Variable t d) = reported_most g at rule.WrongArgument
+  high_most n at (designated.Type t) = reported_most g at rule.WrongType
+  high_most n at (designated.Procedure f) = reported_most g at rule.WrongArgument
+  high_most n at (designated.Nested f) = reported_most g at rule.NoProcedureValue
+  high_most n at (designated.Standard f) = reported_most g at rule.NoProcedureValue
+  high_most n at (designated.Module k) = reported_most g at rule.WrongType

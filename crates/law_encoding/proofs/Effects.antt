@@ -1,5 +1,7 @@
 -- Assignments, and calls as statements, count no more than what they are made of.
 use Rattle.std.proofs.Common.{◌≡◌, ℕ, ◌+◌, ◌≤◌, pos, List, [], ◌∷◌, length, Option, Some, None, Result, arith}
+use Rattle.m2_rule.specs.declared.rule.Rule.{Rule}
+use Rattle.m2_rule.specs.declared.rule.Rule.TheVariants as rule
 use Rattle.m2_tree.specs.declared.pos.Pos.{Pos}
 use Rattle.typed_tree.specs.declared.computed.Place.{Place}
 use Rattle.typed_tree.specs.declared.computed.TypedExpr.{TypedExpr}
@@ -69,25 +71,25 @@ module _ (g : Gathers) (s : Scope g.Reported) where
   target_of_most : (n : ℕ) (at : Pos) (d : Designated) → size_designated d ≤ n → AtMost size_target n (target_of g at d)
   target_of_most n at (designated.Variable t d) p = fine (target.Variable t d) p
   target_of_most n at (designated.Open t slot) p = fine target.Open (none_most n)
-  target_of_most n at (designated.Value x) p = reported_most g at 40
-  target_of_most n at (designated.Type t) p = reported_most g at 40
-  target_of_most n at (designated.Procedure f) p = reported_most g at 40
-  target_of_most n at (designated.Nested f) p = reported_most g at 40
-  target_of_most n at (designated.Standard f) p = reported_most g at 40
-  target_of_most n at (designated.Module k) p = reported_most g at 40
+  target_of_most n at (designated.Value x) p = reported_most g at rule.WrongType
+  target_of_most n at (designated.Type t) p = reported_most g at rule.WrongType
+  target_of_most n at (designated.Procedure f) p = reported_most g at rule.WrongType
+  target_of_most n at (designated.Nested f) p = reported_most g at rule.WrongType
+  target_of_most n at (designated.Standard f) p = reported_most g at rule.WrongType
+  target_of_most n at (designated.Module k) p = reported_most g at rule.WrongType
 
   abbrev size_accepted : Accepted → ℕ
   size_accepted (accepted.Value e) = size_typed e
   size_accepted (accepted.Whole d) = 1 + size_place d
   size_accepted (accepted.Text text) = 0
 
-  text_accepted : (n number : ℕ) (t : TypeNo) (at : Pos) (v : Value) → AtMost size_accepted n (text_suited g number s.types t at v)
+  text_accepted : (n : ℕ) (broken : Rule) (t : TypeNo) (at : Pos) (v : Value) → AtMost size_accepted n (text_suited g broken s.types t at v)
   text_accepted n number t at (constant.Number i) = reported_most g at number
   text_accepted n number t at (constant.Scalar i) = reported_most g at number
   text_accepted n number t at (constant.Set bits) = reported_most g at number
   text_accepted n number t at (constant.Text text) = where_most g _ at number (fine (accepted.Text text) (none_most n))
 
-  whole_accepted : (n number : ℕ) (t : TypeNo) (at : Pos) (x : Computed) → size_value x ≤ n → AtMost size_accepted n (whole_suited g number s.types t at x)
+  whole_accepted : (n : ℕ) (broken : Rule) (t : TypeNo) (at : Pos) (x : Computed) → size_value x ≤ n → AtMost size_accepted n (whole_suited g broken s.types t at x)
   whole_accepted n number t at (value.Constant v) p = text_accepted n number t at v
   whole_accepted n number t at (value.Whole u d) p = where_most g _ at number (fine (accepted.Whole d) p)
   whole_accepted n number t at (value.Scalar u b e) p = reported_most g at number
@@ -96,16 +98,16 @@ module _ (g : Gathers) (s : Scope g.Reported) where
   whole_accepted n number t at (value.Procedure f) p = reported_most g at number
   whole_accepted n number t at value.Untaken p = reported_most g at number
 
-  value_accepted : (n number : ℕ) (t : TypeNo) (at : Pos) (x : Computed) → size_value x ≤ n → AtMost size_accepted n (of_expr (value_suited g number s.types t at x))
-  value_accepted n number t at x p = then_most (suited_most g n number s.types t at x p) (λ e q. fine (accepted.Value e) q)
+  value_accepted : (n : ℕ) (broken : Rule) (t : TypeNo) (at : Pos) (x : Computed) → size_value x ≤ n → AtMost size_accepted n (of_expr (value_suited g broken s.types t at x))
+  value_accepted n broken t at x p = then_most (suited_most g n broken s.types t at x p) (λ e q. fine (accepted.Value e) q)
 
-  accepted_in : (n number : ℕ) (t : TypeNo) (at : Pos) (x : Computed) (c : Class) → size_value x ≤ n → AtMost size_accepted n (suited_in g number s.types t at x c)
+  accepted_in : (n : ℕ) (broken : Rule) (t : TypeNo) (at : Pos) (x : Computed) (c : Class) → size_value x ≤ n → AtMost size_accepted n (suited_in g broken s.types t at x c)
   accepted_in n number t at x (class.Scalar r) p = value_accepted n number t at x p
   accepted_in n number t at x class.Set p = value_accepted n number t at x p
   accepted_in n number t at x class.Procedure p = value_accepted n number t at x p
   accepted_in n number t at x class.Whole p = whole_accepted n number t at x p
 
-  accepted_most : (n number : ℕ) (t : TypeNo) (at : Pos) (x : Computed) → size_value x ≤ n → AtMost size_accepted n (suited g number s.types t at x)
+  accepted_most : (n : ℕ) (broken : Rule) (t : TypeNo) (at : Pos) (x : Computed) → size_value x ≤ n → AtMost size_accepted n (suited g broken s.types t at x)
   accepted_most n number t at x p = accepted_in n number t at x (class_at s.types t) p
 
   assign_sum : (a d e n k : ℕ) → a ≡ 1 + d + e → 1 + d ≤ n → e ≤ k → a ≤ n + k
@@ -129,13 +131,13 @@ module _ (g : Gathers) (s : Scope g.Reported) where
   both_sum a b c n h l = omega (arith, h, l)
 
   assigned_to_most : (n : ℕ) (a : Target) (at : Pos) (x : Computed) → size_target a + size_value x ≤ n → Stmt_ n (assigned_to g s.types a at x)
-  assigned_to_most n target.Open at x p = reported_most g at 41
+  assigned_to_most n target.Open at x p = reported_most g at rule.NotAssignable
   assigned_to_most n (target.Variable t d) at x p =
-      then_most (accepted_most (size_value x) 41 t at x (itself_most _)) (λ a k. fine (stored t d a) (both_sum _ _ _ n (stored_most (1 + size_place d) (size_value x) t d a (itself_most _) k) p))
+      then_most (accepted_most (size_value x) rule.NotAssignable t at x (itself_most _)) (λ a k. fine (stored t d a) (both_sum _ _ _ n (stored_most (1 + size_place d) (size_value x) t d a (itself_most _) k) p))
 
   pub assignment_most : (n k : ℕ) (d : Meant g.Reported) (at : Pos) (x : Meant g.Reported) → FM g s n d → FM g s k x → Stmt_ (n + k) (assigned g s.types (target_at g d.fixed.at (d.means s)) at (value_of g s x))
   assignment_most n k d at x p q =
-      then_most (both_most g (then_most (sort_most g d.fixed.at 40 p) (λ e l. target_of_most n d.fixed.at e l)) (value_most g s k x q)) (λ v l. assigned_to_most (n + k) v.0 at v.1 l)
+      then_most (both_most g (then_most (sort_most g d.fixed.at rule.WrongType p) (λ e l. target_of_most n d.fixed.at e l)) (value_most g s k x q)) (λ v l. assigned_to_most (n + k) v.0 at v.1 l)
 
   -- ---- INC and DEC
 
@@ -144,32 +146,32 @@ module _ (g : Gathers) (s : Scope g.Reported) where
 
   changed_as_most : (n : ℕ) (at : Pos) (t : TypeNo) (d : Place) (c : Class) → 1 + size_place d ≤ n → AtMost size_variable n (changed_as g at t d c)
   changed_as_most n at t d (class.Scalar r) p = fine (t, d) p
-  changed_as_most n at t d class.Set p = reported_most g at 44
-  changed_as_most n at t d class.Procedure p = reported_most g at 44
-  changed_as_most n at t d class.Whole p = reported_most g at 44
+  changed_as_most n at t d class.Set p = reported_most g at rule.NoVariable
+  changed_as_most n at t d class.Procedure p = reported_most g at rule.NoVariable
+  changed_as_most n at t d class.Whole p = reported_most g at rule.NoVariable
 
   changed_most : (n : ℕ) (at : Pos) (d : Designated) → size_designated d ≤ n → AtMost size_variable n (changed g s.types at d)
   changed_most n at (designated.Variable t d) p = changed_as_most n at t d (class_at s.types t) p
-  changed_most n at (designated.Value x) p = reported_most g at 44
-  changed_most n at (designated.Open t slot) p = reported_most g at 44
-  changed_most n at (designated.Type t) p = reported_most g at 44
-  changed_most n at (designated.Procedure f) p = reported_most g at 44
-  changed_most n at (designated.Nested f) p = reported_most g at 44
-  changed_most n at (designated.Standard f) p = reported_most g at 44
-  changed_most n at (designated.Module k) p = reported_most g at 44
+  changed_most n at (designated.Value x) p = reported_most g at rule.NoVariable
+  changed_most n at (designated.Open t slot) p = reported_most g at rule.NoVariable
+  changed_most n at (designated.Type t) p = reported_most g at rule.NoVariable
+  changed_most n at (designated.Procedure f) p = reported_most g at rule.NoVariable
+  changed_most n at (designated.Nested f) p = reported_most g at rule.NoVariable
+  changed_most n at (designated.Standard f) p = reported_most g at rule.NoVariable
+  changed_most n at (designated.Module k) p = reported_most g at rule.NoVariable
 
   known_amount_most : (n : ℕ) (at : Pos) (o : Option Ordinal) → 1 ≤ n → Expr_ n (known_amount g at o)
-  known_amount_most n at None l = reported_most g at 43
+  known_amount_most n at None l = reported_most g at rule.WrongArgument
   known_amount_most n at (Some a) l = fine (expr.Constant (untyped a.number a.sort) a.number) (le_trans _ 1 n (le_of _ 1 (expr_constant (untyped a.number a.sort) a.number)) l)
 
   amount_most : (n : ℕ) (at : Pos) (x : Computed) → size_value x ≤ n → Expr_ n (amount g at x)
   amount_most n at (value.Constant v) p = known_amount_most n at (whole_number v) p
-  amount_most n at (value.Scalar t b e) p = where_most g _ at 43 (fine e p)
-  amount_most n at (value.Set e) p = reported_most g at 43
-  amount_most n at (value.Routine t e) p = reported_most g at 43
-  amount_most n at (value.Procedure f) p = reported_most g at 43
-  amount_most n at (value.Whole t d) p = reported_most g at 43
-  amount_most n at value.Untaken p = reported_most g at 43
+  amount_most n at (value.Scalar t b e) p = where_most g _ at rule.WrongArgument (fine e p)
+  amount_most n at (value.Set e) p = reported_most g at rule.WrongArgument
+  amount_most n at (value.Routine t e) p = reported_most g at rule.WrongArgument
+  amount_most n at (value.Procedure f) p = reported_most g at rule.WrongArgument
+  amount_most n at (value.Whole t d) p = reported_most g at rule.WrongArgument
+  amount_most n at value.Untaken p = reported_most g at rule.WrongArgument
 
   change_sum : (a d e n : ℕ) → a ≡ 2 + d + e → 1 + d + e ≤ n → a ≤ 1 + n
   change_sum a d e n q l = omega (arith, q, l)
@@ -178,7 +180,7 @@ module _ (g : Gathers) (s : Scope g.Reported) where
   change_by_most n k o p q = then_most (both_most g p q) (λ v l. fine (step.Change o v.0.1 v.0.0 v.1) (change_sum _ _ _ (n + k) (step_change o v.0.1 v.0.0 v.1) l))
 
   changed_in_most : (n : ℕ) (v : Meant g.Reported) → FM g s n v → AtMost size_variable n (changed_in g s v)
-  changed_in_most n v p = then_most (sort_most g v.fixed.at 44 p) (λ d k. changed_most n v.fixed.at d k)
+  changed_in_most n v p = then_most (sort_most g v.fixed.at rule.NoVariable p) (λ d k. changed_most n v.fixed.at d k)
 
   one_sum : (k n : ℕ) → 1 + (n + 1) ≤ 1 + (k + (1 + n + 0))
   one_sum k n = omega arith
@@ -187,7 +189,7 @@ module _ (g : Gathers) (s : Scope g.Reported) where
   two_sum k n m a = omega arith
 
   changed_by_most : (k : ℕ) (ns : List ℕ) (at : Pos) (o : Change) (args : List (Meant g.Reported)) → AllM g s ns args → Stmt_ (1 + (k + arguments ns)) (changed_by g s at o args)
-  changed_by_most k ns at o [] all = reported_beside_most g at 42 (looked_at g s [])
+  changed_by_most k ns at o [] all = reported_beside_most g at rule.ArgumentCount (looked_at g s [])
   changed_by_most k [] at o (v ∷ []) all = absurd all
   changed_by_most k (n ∷ m ∷ ns) at o (v ∷ []) all = absurd all.1
   changed_by_most k (n ∷ []) at o (v ∷ []) all =
@@ -196,7 +198,7 @@ module _ (g : Gathers) (s : Scope g.Reported) where
   changed_by_most k (n ∷ []) at o (v ∷ x ∷ []) all = absurd all.1
   changed_by_most k (n ∷ m ∷ ns) at o (v ∷ x ∷ []) all =
       at_more (two_sum k n m (arguments ns)) (change_by_most n m o (changed_in_most n v all.0) (then_most (value_most g s m x all.1.0) (λ y l. amount_most m x.fixed.at y l)))
-  changed_by_most k ns at o (v ∷ n ∷ x ∷ xs) all = reported_beside_most g at 42 _
+  changed_by_most k ns at o (v ∷ n ∷ x ∷ xs) all = reported_beside_most g at rule.ArgumentCount _
 
   -- ---- INCL and EXCL
 
@@ -205,47 +207,47 @@ module _ (g : Gathers) (s : Scope g.Reported) where
 
   set_as_most : (n : ℕ) (at : Pos) (d : Place) (c : Class) → 1 + size_place d ≤ n → AtMost size_set n (set_as g at d c)
   set_as_most n at d class.Set p = fine d p
-  set_as_most n at d (class.Scalar r) p = reported_most g at 44
-  set_as_most n at d class.Procedure p = reported_most g at 44
-  set_as_most n at d class.Whole p = reported_most g at 44
+  set_as_most n at d (class.Scalar r) p = reported_most g at rule.NoVariable
+  set_as_most n at d class.Procedure p = reported_most g at rule.NoVariable
+  set_as_most n at d class.Whole p = reported_most g at rule.NoVariable
 
   set_variable_most : (n : ℕ) (at : Pos) (d : Designated) → size_designated d ≤ n → AtMost size_set n (set_variable g s.types at d)
   set_variable_most n at (designated.Variable t d) p = set_as_most n at d (class_at s.types t) p
-  set_variable_most n at (designated.Value x) p = reported_most g at 44
-  set_variable_most n at (designated.Open t slot) p = reported_most g at 44
-  set_variable_most n at (designated.Type t) p = reported_most g at 44
-  set_variable_most n at (designated.Procedure f) p = reported_most g at 44
-  set_variable_most n at (designated.Nested f) p = reported_most g at 44
-  set_variable_most n at (designated.Standard f) p = reported_most g at 44
-  set_variable_most n at (designated.Module k) p = reported_most g at 44
+  set_variable_most n at (designated.Value x) p = reported_most g at rule.NoVariable
+  set_variable_most n at (designated.Open t slot) p = reported_most g at rule.NoVariable
+  set_variable_most n at (designated.Type t) p = reported_most g at rule.NoVariable
+  set_variable_most n at (designated.Procedure f) p = reported_most g at rule.NoVariable
+  set_variable_most n at (designated.Nested f) p = reported_most g at rule.NoVariable
+  set_variable_most n at (designated.Standard f) p = reported_most g at rule.NoVariable
+  set_variable_most n at (designated.Module k) p = reported_most g at rule.NoVariable
 
   element_known_most : (n : ℕ) (at : Pos) (o : Option Ordinal) → 1 ≤ n → Expr_ n (element_known g at o)
-  element_known_most n at None l = reported_most g at 43
-  element_known_most n at (Some a) l = where_most g _ at 52 (fine (expr.Constant (untyped a.number a.sort) a.number) (le_trans _ 1 n (le_of _ 1 (expr_constant (untyped a.number a.sort) a.number)) l))
+  element_known_most n at None l = reported_most g at rule.WrongArgument
+  element_known_most n at (Some a) l = where_most g _ at rule.OutOfRange (fine (expr.Constant (untyped a.number a.sort) a.number) (le_trans _ 1 n (le_of _ 1 (expr_constant (untyped a.number a.sort) a.number)) l))
 
   element_most : (n : ℕ) (at : Pos) (x : Computed) → size_value x ≤ n → Expr_ n (element g at x)
   element_most n at (value.Constant v) p = element_known_most n at (whole_number v) p
-  element_most n at (value.Scalar t b e) p = where_most g _ at 43 (fine e p)
-  element_most n at (value.Set e) p = reported_most g at 43
-  element_most n at (value.Routine t e) p = reported_most g at 43
-  element_most n at (value.Procedure f) p = reported_most g at 43
-  element_most n at (value.Whole t d) p = reported_most g at 43
-  element_most n at value.Untaken p = reported_most g at 43
+  element_most n at (value.Scalar t b e) p = where_most g _ at rule.WrongArgument (fine e p)
+  element_most n at (value.Set e) p = reported_most g at rule.WrongArgument
+  element_most n at (value.Routine t e) p = reported_most g at rule.WrongArgument
+  element_most n at (value.Procedure f) p = reported_most g at rule.WrongArgument
+  element_most n at (value.Whole t d) p = reported_most g at rule.WrongArgument
+  element_most n at value.Untaken p = reported_most g at rule.WrongArgument
 
   membership_most : (n k : ℕ) (o : Membership) {d : Result Place g.Reported} {e : Result TypedExpr g.Reported} → AtMost size_set n d → Expr_ k e → Stmt_ (1 + (n + k)) (membership_of g o d e)
   membership_most n k o p q = then_most (both_most g p q) (λ v l. fine (step.Membership o v.0 v.1) (change_sum _ _ _ (n + k) (step_membership o v.0 v.1) l))
 
   set_in_most : (n : ℕ) (v : Meant g.Reported) → FM g s n v → AtMost size_set n (set_in g s v)
-  set_in_most n v p = then_most (sort_most g v.fixed.at 44 p) (λ d k. set_variable_most n v.fixed.at d k)
+  set_in_most n v p = then_most (sort_most g v.fixed.at rule.NoVariable p) (λ d k. set_variable_most n v.fixed.at d k)
 
   member_by_most : (k : ℕ) (ns : List ℕ) (at : Pos) (o : Membership) (args : List (Meant g.Reported)) → AllM g s ns args → Stmt_ (1 + (k + arguments ns)) (member_by g s at o args)
-  member_by_most k ns at o [] all = reported_beside_most g at 42 (looked_at g s [])
-  member_by_most k ns at o (v ∷ []) all = reported_beside_most g at 42 _
+  member_by_most k ns at o [] all = reported_beside_most g at rule.ArgumentCount (looked_at g s [])
+  member_by_most k ns at o (v ∷ []) all = reported_beside_most g at rule.ArgumentCount _
   member_by_most k [] at o (v ∷ x ∷ []) all = absurd all
   member_by_most k (n ∷ []) at o (v ∷ x ∷ []) all = absurd all.1
   member_by_most k (n ∷ m ∷ ns) at o (v ∷ x ∷ []) all =
       at_more (two_sum k n m (arguments ns)) (membership_most n m o (set_in_most n v all.0) (then_most (value_most g s m x all.1.0) (λ y l. element_most m x.fixed.at y l)))
-  member_by_most k ns at o (v ∷ n ∷ x ∷ xs) all = reported_beside_most g at 42 _
+  member_by_most k ns at o (v ∷ n ∷ x ∷ xs) all = reported_beside_most g at rule.ArgumentCount _
 
   -- ---- HALT and Put
 
@@ -254,28 +256,28 @@ module _ (g : Gathers) (s : Scope g.Reported) where
 
   halted_most : (n : ℕ) (at : Pos) (args : List (Meant g.Reported)) → Stmt_ (1 + n) (halted g s at args)
   halted_most n at [] = fine step.Halt (one_of _ n step_halt)
-  halted_most n at (x ∷ xs) = reported_beside_most g at 42 _
+  halted_most n at (x ∷ xs) = reported_beside_most g at rule.ArgumentCount _
 
   put_sum : (a e k n b : ℕ) → a ≡ 1 + e → e ≤ n → a ≤ 1 + (k + (1 + n + b))
   put_sum a e k n b q l = omega (arith, q, l)
 
   put_by_most : (k : ℕ) (ns : List ℕ) (at : Pos) (args : List (Meant g.Reported)) → AllM g s ns args → Stmt_ (1 + (k + arguments ns)) (put_by g s at args)
-  put_by_most k ns at [] all = reported_beside_most g at 42 (looked_at g s [])
+  put_by_most k ns at [] all = reported_beside_most g at rule.ArgumentCount (looked_at g s [])
   put_by_most k [] at (x ∷ []) all = absurd all
   put_by_most k (n ∷ ns) at (x ∷ []) all =
-      then_most (value_most g s n x all.0) (λ v l. then_most (suited_most g n 43 s.types char x.fixed.at v l) (λ e q. fine (step.Put e) (put_sum _ _ k n (arguments ns) (step_put e) q)))
-  put_by_most k ns at (x ∷ y ∷ xs) all = reported_beside_most g at 42 _
+      then_most (value_most g s n x all.0) (λ v l. then_most (suited_most g n rule.WrongArgument s.types char x.fixed.at v l) (λ e q. fine (step.Put e) (put_sum _ _ k n (arguments ns) (step_put e) q)))
+  put_by_most k ns at (x ∷ y ∷ xs) all = reported_beside_most g at rule.ArgumentCount _
 
   standard_most : (k : ℕ) (ns : List ℕ) (at : Pos) (args : List (Meant g.Reported)) (f : Standard) → AllM g s ns args → Stmt_ (1 + (k + arguments ns)) (standard_done g s at args f)
-  standard_most k ns at args Abs all = reported_beside_most g at 40 _
-  standard_most k ns at args Cap all = reported_beside_most g at 40 _
-  standard_most k ns at args Chr all = reported_beside_most g at 40 _
-  standard_most k ns at args High all = reported_beside_most g at 40 _
-  standard_most k ns at args Max all = reported_beside_most g at 40 _
-  standard_most k ns at args Min all = reported_beside_most g at 40 _
-  standard_most k ns at args Odd all = reported_beside_most g at 40 _
-  standard_most k ns at args Ord all = reported_beside_most g at 40 _
-  standard_most k ns at args Val all = reported_beside_most g at 40 _
+  standard_most k ns at args Abs all = reported_beside_most g at rule.WrongType _
+  standard_most k ns at args Cap all = reported_beside_most g at rule.WrongType _
+  standard_most k ns at args Chr all = reported_beside_most g at rule.WrongType _
+  standard_most k ns at args High all = reported_beside_most g at rule.WrongType _
+  standard_most k ns at args Max all = reported_beside_most g at rule.WrongType _
+  standard_most k ns at args Min all = reported_beside_most g at rule.WrongType _
+  standard_most k ns at args Odd all = reported_beside_most g at rule.WrongType _
+  standard_most k ns at args Ord all = reported_beside_most g at rule.WrongType _
+  standard_most k ns at args Val all = reported_beside_most g at rule.WrongType _
   standard_most k ns at args Inc all = changed_by_most k ns at Increase args all
   standard_most k ns at args Dec all = changed_by_most k ns at Decrease args all
   standard_most k ns at args Incl all = member_by_most k ns at Include args all

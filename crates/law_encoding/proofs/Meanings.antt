@@ -2,6 +2,7 @@
 use Rattle.std.proofs.Common.{map, ◌≡◌, ℕ, ◌+◌, ◌≤◌, Bool, true, false, List, [], ◌∷◌, ◌++◌, length, Option, Some, None, Result, Ok, sym, ap, subst, ◌∙◌, arith}
 use Rattle.std.specs.Prelude.{cond}
 use Rattle.std.specs.List.{fold}
+use Rattle.m2_rule.specs.declared.rule.Rule.TheVariants as rule
 use Rattle.m2_tree.specs.declared.pos.Pos.{Pos}
 use Rattle.m2_tree.specs.declared.name.Ident.{Ident}
 use Rattle.m2_tree.specs.declared.expr.MulOp.{MulOp}
@@ -126,7 +127,7 @@ module _ (g : Gathers) (s : Scope g.Reported) where
       fine _ (field_of_three _ _ _ (behind_size (rooted (root.With f.with)) (part.Field f.whole f.number)) (rooted_size (root.With f.with)) (component_field f.whole f.number))
   by_meaning level at (meaning.Procedure f) = fine (designated.Procedure f) (omega arith)
   by_meaning level at (meaning.LocalProcedure f) = fine _ (omega arith)
-  by_meaning level at meaning.Ahead = reported_most g at 30
+  by_meaning level at meaning.Ahead = reported_most g at rule.Undeclared
   by_meaning level at (meaning.Standard f) = fine (designated.Standard f) (omega arith)
   by_meaning level at (meaning.Module k) = fine (designated.Module k) (omega arith)
 
@@ -148,12 +149,12 @@ module _ (g : Gathers) (s : Scope g.Reported) where
 
   -- ---- calls
 
-  passed_by : (n : ℕ) (is_var : Bool) (at : Pos) {d : Result Designated (Meaningless g.Reported)} → Designated_ n d → Designated_ n (cond is_var (of_sort g at 44 d) (of_heading d))
-  passed_by n true at p = sort_most g at 44 p
+  passed_by : (n : ℕ) (is_var : Bool) (at : Pos) {d : Result Designated (Meaningless g.Reported)} → Designated_ n d → Designated_ n (cond is_var (of_sort g at rule.NoVariable d) (of_heading d))
+  passed_by n true at p = sort_most g at rule.NoVariable p
   passed_by n false at p = of_heading_most p
 
   argument_most : (n : ℕ) (o : Option Formal) (at : Pos) {d : Result Designated (Meaningless g.Reported)} → Designated_ n d → AtMost size_passed (1 + n) (argument_by g s.types o at d)
-  argument_most n None at p = reported_most g at 42
+  argument_most n None at p = reported_most g at rule.ArgumentCount
   argument_most n (Some f) at p = then_most (passed_by n f.is_var at p) (λ d k. actual_most g s.types n f at d k)
 
   -- so many arguments
@@ -202,40 +203,40 @@ module _ (g : Gathers) (s : Scope g.Reported) where
   only_one k n = omega arith
 
   unary_all : (k : ℕ) (ns : List ℕ) (at : Pos) (f : Standard) (u : Unary) (args : List (Meant g.Reported)) → AllM ns args → Value_ (1 + (k + arguments ns)) (unary g s at f u args)
-  unary_all k ns at f u [] all = reported_beside_most g at 42 (looked_at g s [])
+  unary_all k ns at f u [] all = reported_beside_most g at rule.ArgumentCount (looked_at g s [])
   unary_all k [] at f u (x ∷ []) all = absurd all
   unary_all k (n ∷ []) at f u (x ∷ []) all = at_more (only_one k n) (then_most (value_most n x all.0) (λ v p. unary_most g s.types n f u x.fixed.at v p))
   unary_all k (n ∷ m ∷ ns) at f u (x ∷ []) all = absurd all.1
-  unary_all k ns at f u (x ∷ y ∷ xs) all = reported_beside_most g at 42 _
+  unary_all k ns at f u (x ∷ y ∷ xs) all = reported_beside_most g at rule.ArgumentCount _
 
   bound_all : (k n : ℕ) (at : Pos) (f : Standard) (args : List (Meant g.Reported)) → Value_ (1 + (k + n)) (bound g s at f args)
-  bound_all k n at f [] = reported_beside_most g at 42 (looked_at g s [])
+  bound_all k n at f [] = reported_beside_most g at rule.ArgumentCount (looked_at g s [])
   bound_all k n at f (x ∷ []) = bound_most g s.types (k + n) f _
-  bound_all k n at f (x ∷ y ∷ xs) = reported_beside_most g at 42 _
+  bound_all k n at f (x ∷ y ∷ xs) = reported_beside_most g at rule.ArgumentCount _
 
   second_one : (k m n a : ℕ) → 1 + n ≤ 1 + (k + (1 + m + (1 + n + a)))
   second_one k m n a = omega arith
 
   conversion_all : (k : ℕ) (ns : List ℕ) (at : Pos) (args : List (Meant g.Reported)) → AllM ns args → Value_ (1 + (k + arguments ns)) (conversion g s at args)
-  conversion_all k ns at [] all = reported_beside_most g at 42 (looked_at g s [])
-  conversion_all k ns at (t ∷ []) all = reported_beside_most g at 42 _
+  conversion_all k ns at [] all = reported_beside_most g at rule.ArgumentCount (looked_at g s [])
+  conversion_all k ns at (t ∷ []) all = reported_beside_most g at rule.ArgumentCount _
   conversion_all k [] at (t ∷ x ∷ []) all = absurd all
   conversion_all k (m ∷ []) at (t ∷ x ∷ []) all = absurd all.1
   conversion_all k (m ∷ n ∷ ns) at (t ∷ x ∷ []) all = at_more (second_one k m n (arguments ns)) (conversion_most g s.types n _ x.fixed.at (value_most n x all.1.0))
-  conversion_all k ns at (t ∷ x ∷ y ∷ xs) all = reported_beside_most g at 42 _
+  conversion_all k ns at (t ∷ x ∷ y ∷ xs) all = reported_beside_most g at rule.ArgumentCount _
 
   high_all : (k : ℕ) (ns : List ℕ) (at : Pos) (args : List (Meant g.Reported)) → AllM ns args → Value_ (1 + (k + arguments ns)) (high g s at args)
-  high_all k ns at [] all = reported_beside_most g at 42 (looked_at g s [])
+  high_all k ns at [] all = reported_beside_most g at rule.ArgumentCount (looked_at g s [])
   high_all k [] at (x ∷ []) all = absurd all
-  high_all k (n ∷ ns) at (x ∷ []) all = then_most (sort_most g x.fixed.at 43 all.0) (λ d p. high_most g s.types (k + arguments (n ∷ ns)) x.fixed.at d)
-  high_all k ns at (x ∷ y ∷ xs) all = reported_beside_most g at 42 _
+  high_all k (n ∷ ns) at (x ∷ []) all = then_most (sort_most g x.fixed.at rule.WrongArgument all.0) (λ d p. high_most g s.types (k + arguments (n ∷ ns)) x.fixed.at d)
+  high_all k ns at (x ∷ y ∷ xs) all = reported_beside_most g at rule.ArgumentCount _
 
   form_most : (k : ℕ) (ns : List ℕ) (at : Pos) (f : Standard) (args : List (Meant g.Reported)) (o : Form) → AllM ns args → Value_ (1 + (k + arguments ns)) (by_form g s at f args o)
   form_most k ns at f args (form.Unary u) all = unary_all k ns at f u args all
   form_most k ns at f args form.Bound all = bound_all k (arguments ns) at f args
   form_most k ns at f args form.Conversion all = conversion_all k ns at args all
   form_most k ns at f args form.High all = high_all k ns at args all
-  form_most k ns at f args form.Proper all = reported_beside_most g at 40 _
+  form_most k ns at f args form.Proper all = reported_beside_most g at rule.WrongType _
 
   called_as_most : (k : ℕ) (ns : List ℕ) (at : Pos) (args : List (Meant g.Reported)) (x : Called) → size_called x ≤ k → AllM ns args → Value_ (1 + (k + arguments ns)) (called_as g s at args x)
   called_as_most k ns at args (called.Routine t c) p all = routine_most k ns at t c args p all
@@ -396,8 +397,8 @@ module _ (g : Gathers) (s : Scope g.Reported) where
   index_sum k n = omega arith
 
   selector_most : (y : Selector-F SE SS SD SI) → FP (sizes.selector_layer (sizes_selector (bare_selector y))) (selector_layer g (opened_selector (bare_selector y)))
-  selector_most (layer.Field p name) = λ k d l q. at_more (swapped k) (plain_most (then_most (sort_most g p 40 q) (λ x h. field_of_most k p name x l h)))
-  selector_most (layer.Index p e) = λ k d l q. at_more (index_sum k (size_expr e.0)) (plain_most (indexed_most g k (size_expr e.0) s.types p (meant g e.0).fixed.at (sort_most g p 40 q) (value_most _ (meant g e.0) e.1)))
+  selector_most (layer.Field p name) = λ k d l q. at_more (swapped k) (plain_most (then_most (sort_most g p rule.WrongType q) (λ x h. field_of_most k p name x l h)))
+  selector_most (layer.Index p e) = λ k d l q. at_more (index_sum k (size_expr e.0)) (plain_most (indexed_most g k (size_expr e.0) s.types p (meant g e.0).fixed.at (sort_most g p rule.WrongType q) (value_most _ (meant g e.0) e.1)))
 
   name_sum : (n : ℕ) → 3 + n ≤ 1 + (2 + n)
   name_sum n = omega arith

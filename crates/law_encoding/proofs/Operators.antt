@@ -1,6 +1,8 @@
 -- Operators, components and what places take count no more than what they are made of.
 use Rattle.std.proofs.Common.{◌≡◌, ℕ, ◌+◌, ◌≤◌, pos, Bool, List, [], ◌∷◌, ◌++◌, Option, Some, None, Result, refl, ap, ◌∙◌, arith}
 use Rattle.std.specs.Prelude.{not, ◌&&◌}
+use Rattle.m2_rule.specs.declared.rule.Rule.{Rule}
+use Rattle.m2_rule.specs.declared.rule.Rule.TheVariants as rule
 use Rattle.m2_tree.specs.declared.pos.Pos.{Pos}
 use Rattle.m2_tree.specs.declared.name.Ident.{Ident}
 use Rattle.m2_tree.specs.declared.expr.Sign.{Sign}
@@ -159,29 +161,29 @@ module _ (g : Gathers) where
   one_at_least n = omega arith
 
   signed_scalar_most : (n : ℕ) (o : Sign) (at : Pos) (b : TypeNo) (e : TypedExpr) → size_typed e ≤ n → Value_ (1 + n) (signed_scalar g o at b e)
-  signed_scalar_most n sign.Plus at b e p = where_most g (not (is_numeric b)) at 40 (fine (value.Scalar b b (expr.Plus b e)) (more _ _ n (expr_plus b e) p))
-  signed_scalar_most n sign.Minus at b e p = where_most g (not (is_integer b)) at 40 (fine (value.Scalar b b (expr.Negate e)) (more _ _ n (expr_negate e) p))
+  signed_scalar_most n sign.Plus at b e p = where_most g (not (is_numeric b)) at rule.WrongType (fine (value.Scalar b b (expr.Plus b e)) (more _ _ n (expr_plus b e) p))
+  signed_scalar_most n sign.Minus at b e p = where_most g (not (is_integer b)) at rule.WrongType (fine (value.Scalar b b (expr.Negate e)) (more _ _ n (expr_negate e) p))
 
   signed_value_most : (n : ℕ) (o : Sign) (at : Pos) (x : Computed) → size_value x ≤ n → Value_ (1 + n) (signed_value g o at x)
   signed_value_most n o at (value.Constant v) p = of_value_most (1 + n) _ (one_at_least n)
   signed_value_most n o at (value.Scalar t b e) p = signed_scalar_most n o at b e p
-  signed_value_most n o at (value.Set e) p = reported_most g at 40
-  signed_value_most n o at (value.Routine t e) p = reported_most g at 40
-  signed_value_most n o at (value.Procedure f) p = reported_most g at 40
-  signed_value_most n o at (value.Whole t d) p = reported_most g at 40
-  signed_value_most n o at value.Untaken p = reported_most g at 40
+  signed_value_most n o at (value.Set e) p = reported_most g at rule.WrongType
+  signed_value_most n o at (value.Routine t e) p = reported_most g at rule.WrongType
+  signed_value_most n o at (value.Procedure f) p = reported_most g at rule.WrongType
+  signed_value_most n o at (value.Whole t d) p = reported_most g at rule.WrongType
+  signed_value_most n o at value.Untaken p = reported_most g at rule.WrongType
 
   pub signed_most : (n : ℕ) (o : Sign) (at : Pos) {x : Result Computed g.Reported} → Value_ n x → Value_ (1 + n) (signed g o at x)
   signed_most n o at h = then_most h (λ x p. signed_value_most n o at x p)
 
   negated_value_most : (n : ℕ) (at : Pos) (x : Computed) → size_value x ≤ n → Value_ (1 + n) (negated_value g at x)
   negated_value_most n at (value.Constant v) p = of_value_most (1 + n) _ (one_at_least n)
-  negated_value_most n at (value.Scalar t b e) p = where_most g (not (are_same b boolean)) at 40 (fine (truth_of (expr.Not e)) (more _ _ n (expr_not e) p))
-  negated_value_most n at (value.Set e) p = reported_most g at 40
-  negated_value_most n at (value.Routine t e) p = reported_most g at 40
-  negated_value_most n at (value.Procedure f) p = reported_most g at 40
-  negated_value_most n at (value.Whole t d) p = reported_most g at 40
-  negated_value_most n at value.Untaken p = reported_most g at 40
+  negated_value_most n at (value.Scalar t b e) p = where_most g (not (are_same b boolean)) at rule.WrongType (fine (truth_of (expr.Not e)) (more _ _ n (expr_not e) p))
+  negated_value_most n at (value.Set e) p = reported_most g at rule.WrongType
+  negated_value_most n at (value.Routine t e) p = reported_most g at rule.WrongType
+  negated_value_most n at (value.Procedure f) p = reported_most g at rule.WrongType
+  negated_value_most n at (value.Whole t d) p = reported_most g at rule.WrongType
+  negated_value_most n at value.Untaken p = reported_most g at rule.WrongType
 
   pub negated_most : (n : ℕ) (at : Pos) {x : Result Computed g.Reported} → Value_ n x → Value_ (1 + n) (negated g at x)
   negated_most n at h = then_most h (λ x p. negated_value_most n at x p)
@@ -207,18 +209,18 @@ module _ (g : Gathers) where
   first_less a b c n h l = omega (arith, h, l)
 
   stepped_most : (n : ℕ) (at : Pos) (sort : Option TypeNo) (a b : Amount) (o : Option Step) → size_amount a + size_amount b ≤ n → Value_ (2 + n) (stepped g at sort a b o)
-  stepped_most n at sort a b None p = reported_most g at 40
+  stepped_most n at sort a b None p = reported_most g at rule.WrongType
   stepped_most n at sort a b (Some o) p =
       fine (built (or_cardinal sort) (run_of (or_cardinal sort) a) (run_of (or_cardinal sort) b) o)
       (built_most n (or_cardinal sort) (run_of (or_cardinal sort) a) (run_of (or_cardinal sort) b) o (both_less _ _ _ _ n (run_most (or_cardinal sort) a) (run_most (or_cardinal sort) b) p))
 
   amounts_most : (n : ℕ) (op : BinaryOp) (spot at : Pos) (a : Amount) (at' : Pos) (b : Amount) (o : Option (Option TypeNo)) → size_amount a + size_amount b ≤ n → Value_ (2 + n) (on_amounts g op spot at a at' b o)
-  amounts_most n op spot at a at' b None p = reported_most g spot 40
+  amounts_most n op spot at a at' b None p = reported_most g spot rule.WrongType
   amounts_most n op spot at a at' b (Some sort) p = then_most (any_most (fitting_both g op spot sort at a at' b)) (λ f h. stepped_most n spot sort a b (step_of op) p)
 
   member_most : (n : ℕ) (op : BinaryOp) (spot at : Pos) (a : Amount) (s : TypedExpr) → size_amount a + size_typed s ≤ n → Value_ (2 + n) (member g op spot at a s)
   member_most n op spot at a s p =
-      where_most g (not (is_in op && is_number (sort_of a))) spot 40 (then_most (any_most (element_fits g at a))
+      where_most g (not (is_in op && is_number (sort_of a))) spot rule.WrongType (then_most (any_most (element_fits g at a))
       (λ f h. fine (truth_of (expr.In (run_of (or_cardinal (sort_of a)) a) s))
       (pair _ _ _ n (expr_in (run_of (or_cardinal (sort_of a)) a) s) (first_less _ _ _ n (run_most (or_cardinal (sort_of a)) a) p))))
 
@@ -228,26 +230,26 @@ module _ (g : Gathers) where
   set_built_most n x y (set_step.Include i) p = pair _ _ _ n (expr_include i x y) p
 
   sets_most : (n : ℕ) (at : Pos) (x y : TypedExpr) (o : Option SetStep) → size_typed x + size_typed y ≤ n → Value_ (2 + n) (on_sets g at x y o)
-  sets_most n at x y None p = reported_most g at 40
+  sets_most n at x y None p = reported_most g at rule.WrongType
   sets_most n at x y (Some o) p = fine (set_built x y o) (set_built_most n x y o p)
 
   scalar_most : (n : ℕ) (op : BinaryOp) (spot at : Pos) (a : Amount) (at' : Pos) (y : Option Side) → size_amount a + size_side y ≤ n → Value_ (2 + n) (with_scalar g op spot at a at' y)
-  scalar_most n op spot at a at' None p = reported_most g spot 40
+  scalar_most n op spot at a at' None p = reported_most g spot rule.WrongType
   scalar_most n op spot at a at' (Some (side.Scalar b)) p = amounts_most n op spot at a at' b (common (sort_of a) (sort_of b)) p
   scalar_most n op spot at a at' (Some (side.Set s)) p = member_most n op spot at a s p
-  scalar_most n op spot at a at' (Some (side.Routine t e)) p = reported_most g spot 40
-  scalar_most n op spot at a at' (Some (side.Procedure f)) p = reported_most g spot 40
+  scalar_most n op spot at a at' (Some (side.Routine t e)) p = reported_most g spot rule.WrongType
+  scalar_most n op spot at a at' (Some (side.Procedure f)) p = reported_most g spot rule.WrongType
 
   with_set_most : (n : ℕ) (op : BinaryOp) (spot : Pos) (x : TypedExpr) (y : Option Side) → size_typed x + size_side y ≤ n → Value_ (2 + n) (with_set g op spot x (set_in y))
-  with_set_most n op spot x None p = reported_most g spot 40
-  with_set_most n op spot x (Some (side.Scalar b)) p = reported_most g spot 40
+  with_set_most n op spot x None p = reported_most g spot rule.WrongType
+  with_set_most n op spot x (Some (side.Scalar b)) p = reported_most g spot rule.WrongType
   with_set_most n op spot x (Some (side.Set s)) p = sets_most n spot x s (set_step_of op) p
-  with_set_most n op spot x (Some (side.Routine t e)) p = reported_most g spot 40
-  with_set_most n op spot x (Some (side.Procedure f)) p = reported_most g spot 40
+  with_set_most n op spot x (Some (side.Routine t e)) p = reported_most g spot rule.WrongType
+  with_set_most n op spot x (Some (side.Procedure f)) p = reported_most g spot rule.WrongType
 
   procedures_most : (n : ℕ) (at : Pos) (fit : Bool) (x y : TypedExpr) (o : Option Comparison) → size_typed x + size_typed y ≤ n → Value_ (2 + n) (on_procedures g at fit x y o)
-  procedures_most n at fit x y None p = reported_most g at 40
-  procedures_most n at fit x y (Some c) p = where_most g (not fit) at 40 (fine (truth_of (expr.Compare c x y)) (pair _ _ _ n (expr_compare c x y) p))
+  procedures_most n at fit x y None p = reported_most g at rule.WrongType
+  procedures_most n at fit x y (Some c) p = where_most g (not fit) at rule.WrongType (fine (truth_of (expr.Compare c x y)) (pair _ _ _ n (expr_compare c x y) p))
 
   abbrev size_partner : Option (Bool × TypedExpr) → ℕ
   size_partner None = 0
@@ -268,7 +270,7 @@ module _ (g : Gathers) where
   routine_most types f (Some (side.Procedure h)) = omega arith
 
   with_partner_most : (n : ℕ) (at : Pos) (x : TypedExpr) (c : Option Comparison) (o : Option (Bool × TypedExpr)) → size_typed x + size_partner o ≤ n → Value_ (2 + n) (with_partner g at x c o)
-  with_partner_most n at x c None p = reported_most g at 40
+  with_partner_most n at x c None p = reported_most g at rule.WrongType
   with_partner_most n at x c (Some o) p = procedures_most n at o.0 x o.1 c p
 
   second_less : (a b c n : ℕ) → b ≤ c → a + c ≤ n → a + b ≤ n
@@ -278,7 +280,7 @@ module _ (g : Gathers) where
   known_less a b c n e h l = omega (arith, e, h, l)
 
   between_most : (n : ℕ) (types : Types) (op : BinaryOp) (spot at : Pos) (x : Option Side) (at' : Pos) (y : Option Side) → size_side x + size_side y ≤ n → Value_ (2 + n) (between g types op spot at x at' y)
-  between_most n types op spot at None at' y p = reported_most g spot 40
+  between_most n types op spot at None at' y p = reported_most g spot rule.WrongType
   between_most n types op spot at (Some (side.Scalar a)) at' y p = scalar_most n op spot at a at' y p
   between_most n types op spot at (Some (side.Set e)) at' y p = with_set_most n op spot e y p
   between_most n types op spot at (Some (side.Routine t e)) at' y p = with_partner_most n spot e (equality_of op) (partner_of types t y) (second_less _ _ _ n (partner_most types t y) p)
@@ -301,36 +303,36 @@ module _ (g : Gathers) where
   abbrev Expr_ : ℕ → Result TypedExpr g.Reported → Type 0
   Expr_ n r = AtMost size_typed n r
 
-  scalar_suited_most : (n : ℕ) (number : ℕ) (t : TypeNo) (s : Range) (at : Pos) (x : Option Side) → size_side x ≤ n → Expr_ n (scalar_suited g number t s at x)
-  scalar_suited_most n number t s at None p = reported_most g at number
-  scalar_suited_most n number t s at (Some (side.Scalar (Known a))) p = where_most g _ at number (where_most g _ at 52 (fine (expr.Constant t a.number) (le_trans _ 1 n (le_of _ 1 (expr_constant t a.number)) p)))
-  scalar_suited_most n number t s at (Some (side.Scalar (Run b e))) p = where_most g _ at number (fine e p)
-  scalar_suited_most n number t s at (Some (side.Set e)) p = reported_most g at number
-  scalar_suited_most n number t s at (Some (side.Routine u e)) p = reported_most g at number
-  scalar_suited_most n number t s at (Some (side.Procedure f)) p = reported_most g at number
+  scalar_suited_most : (n : ℕ) (broken : Rule) (t : TypeNo) (s : Range) (at : Pos) (x : Option Side) → size_side x ≤ n → Expr_ n (scalar_suited g broken t s at x)
+  scalar_suited_most n broken t s at None p = reported_most g at broken
+  scalar_suited_most n broken t s at (Some (side.Scalar (Known a))) p = where_most g _ at broken (where_most g _ at rule.OutOfRange (fine (expr.Constant t a.number) (le_trans _ 1 n (le_of _ 1 (expr_constant t a.number)) p)))
+  scalar_suited_most n broken t s at (Some (side.Scalar (Run b e))) p = where_most g _ at broken (fine e p)
+  scalar_suited_most n broken t s at (Some (side.Set e)) p = reported_most g at broken
+  scalar_suited_most n broken t s at (Some (side.Routine u e)) p = reported_most g at broken
+  scalar_suited_most n broken t s at (Some (side.Procedure f)) p = reported_most g at broken
 
-  set_suited_most : (n : ℕ) (number : ℕ) (at : Pos) (x : Option Side) → size_side x ≤ n → Expr_ n (set_suited g number at x)
-  set_suited_most n number at None p = reported_most g at number
-  set_suited_most n number at (Some (side.Scalar a)) p = reported_most g at number
-  set_suited_most n number at (Some (side.Set e)) p = fine e p
-  set_suited_most n number at (Some (side.Routine u e)) p = reported_most g at number
-  set_suited_most n number at (Some (side.Procedure f)) p = reported_most g at number
+  set_suited_most : (n : ℕ) (broken : Rule) (at : Pos) (x : Option Side) → size_side x ≤ n → Expr_ n (set_suited g broken at x)
+  set_suited_most n broken at None p = reported_most g at broken
+  set_suited_most n broken at (Some (side.Scalar a)) p = reported_most g at broken
+  set_suited_most n broken at (Some (side.Set e)) p = fine e p
+  set_suited_most n broken at (Some (side.Routine u e)) p = reported_most g at broken
+  set_suited_most n broken at (Some (side.Procedure f)) p = reported_most g at broken
 
-  procedure_suited_most : (n : ℕ) (number : ℕ) (types : Types) (t : TypeNo) (at : Pos) (x : Option Side) → size_side x ≤ n → Expr_ n (procedure_suited g number types t at x)
-  procedure_suited_most n number types t at None p = reported_most g at number
-  procedure_suited_most n number types t at (Some (side.Scalar a)) p = reported_most g at number
-  procedure_suited_most n number types t at (Some (side.Set e)) p = reported_most g at number
-  procedure_suited_most n number types t at (Some (side.Routine u e)) p = where_most g _ at number (fine e p)
-  procedure_suited_most n number types t at (Some (side.Procedure f)) p = where_most g _ at number (fine (expr.Procedure f) (le_trans _ 1 n (le_of _ 1 (expr_procedure f)) p))
+  procedure_suited_most : (n : ℕ) (broken : Rule) (types : Types) (t : TypeNo) (at : Pos) (x : Option Side) → size_side x ≤ n → Expr_ n (procedure_suited g broken types t at x)
+  procedure_suited_most n broken types t at None p = reported_most g at broken
+  procedure_suited_most n broken types t at (Some (side.Scalar a)) p = reported_most g at broken
+  procedure_suited_most n broken types t at (Some (side.Set e)) p = reported_most g at broken
+  procedure_suited_most n broken types t at (Some (side.Routine u e)) p = where_most g _ at broken (fine e p)
+  procedure_suited_most n broken types t at (Some (side.Procedure f)) p = where_most g _ at broken (fine (expr.Procedure f) (le_trans _ 1 n (le_of _ 1 (expr_procedure f)) p))
 
   value_in_most : (n : ℕ) (number : ℕ) (types : Types) (t : TypeNo) (at : Pos) (x : Option Side) (c : Class) → size_side x ≤ n → Expr_ n (value_in g number types t at x c)
-  value_in_most n number types t at x (class.Scalar s) p = scalar_suited_most n number t s at x p
-  value_in_most n number types t at x class.Set p = set_suited_most n number at x p
-  value_in_most n number types t at x class.Procedure p = procedure_suited_most n number types t at x p
+  value_in_most n broken types t at x (class.Scalar s) p = scalar_suited_most n broken t s at x p
+  value_in_most n broken types t at x class.Set p = set_suited_most n broken at x p
+  value_in_most n broken types t at x class.Procedure p = procedure_suited_most n broken types t at x p
   value_in_most n number types t at x class.Whole p = reported_most g at number
 
-  pub suited_most : (n : ℕ) (number : ℕ) (types : Types) (t : TypeNo) (at : Pos) (x : Computed) → size_value x ≤ n → Expr_ n (value_suited g number types t at x)
-  suited_most n number types t at x p = value_in_most n number types t at (side_of x) (class_at types t) (le_trans _ _ n (side_most x) p)
+  pub suited_most : (n : ℕ) (broken : Rule) (types : Types) (t : TypeNo) (at : Pos) (x : Computed) → size_value x ≤ n → Expr_ n (value_suited g broken types t at x)
+  suited_most n broken types t at x p = value_in_most n broken types t at (side_of x) (class_at types t) (le_trans _ _ n (side_most x) p)
 
   -- ---- components
 
@@ -344,31 +346,31 @@ module _ (g : Gathers) where
   field_most n types at name (designated.Variable t d) p =
       then_most (any_most (record_field g at name (fields_at types t)))
       (λ f h. fine (designated.Variable f.1 (behind d (part.Field t f.0))) (one_component _ _ _ n (behind_size d (part.Field t f.0)) (component_field t f.0) p))
-  field_most n types at name (designated.Value x) p = reported_most g at 40
-  field_most n types at name (designated.Open t slot) p = reported_most g at 40
-  field_most n types at name (designated.Type t) p = reported_most g at 40
-  field_most n types at name (designated.Procedure f) p = reported_most g at 40
-  field_most n types at name (designated.Nested f) p = reported_most g at 40
-  field_most n types at name (designated.Standard f) p = reported_most g at 40
-  field_most n types at name (designated.Module k) p = reported_most g at 40
+  field_most n types at name (designated.Value x) p = reported_most g at rule.WrongType
+  field_most n types at name (designated.Open t slot) p = reported_most g at rule.WrongType
+  field_most n types at name (designated.Type t) p = reported_most g at rule.WrongType
+  field_most n types at name (designated.Procedure f) p = reported_most g at rule.WrongType
+  field_most n types at name (designated.Nested f) p = reported_most g at rule.WrongType
+  field_most n types at name (designated.Standard f) p = reported_most g at rule.WrongType
+  field_most n types at name (designated.Module k) p = reported_most g at rule.WrongType
 
   abbrev size_subscripted : Subscripted → ℕ
   size_subscripted (indexes.Array t i e d) = 1 + size_place d
   size_subscripted (indexes.Open t slot) = 2
 
   array_most : (n : ℕ) (at : Pos) (t : TypeNo) (d : Place) (o : Option (TypeNo × TypeNo)) → 1 + size_place d ≤ n → AtMost size_subscripted n (array_indexed g at t d o)
-  array_most n at t d None p = reported_most g at 40
+  array_most n at t d None p = reported_most g at rule.WrongType
   array_most n at t d (Some a) p = fine (indexes.Array t a.0 a.1 d) p
 
   indices_most : (n : ℕ) (types : Types) (at : Pos) (d : Designated) → size_designated d ≤ n → AtMost size_subscripted n (indices g types at d)
   indices_most n types at (designated.Variable t d) p = array_most n at t d (array_at types t) p
   indices_most n types at (designated.Open t slot) p = fine (indexes.Open t slot) p
-  indices_most n types at (designated.Value x) p = reported_most g at 40
-  indices_most n types at (designated.Type t) p = reported_most g at 40
-  indices_most n types at (designated.Procedure f) p = reported_most g at 40
-  indices_most n types at (designated.Nested f) p = reported_most g at 40
-  indices_most n types at (designated.Standard f) p = reported_most g at 40
-  indices_most n types at (designated.Module k) p = reported_most g at 40
+  indices_most n types at (designated.Value x) p = reported_most g at rule.WrongType
+  indices_most n types at (designated.Type t) p = reported_most g at rule.WrongType
+  indices_most n types at (designated.Procedure f) p = reported_most g at rule.WrongType
+  indices_most n types at (designated.Nested f) p = reported_most g at rule.WrongType
+  indices_most n types at (designated.Standard f) p = reported_most g at rule.WrongType
+  indices_most n types at (designated.Module k) p = reported_most g at rule.WrongType
 
   element_sum : (a d c x s n k : ℕ) → a ≡ d + c → c ≡ 1 + x → 1 + d ≡ s → s + k ≤ n → x ≤ k → 1 + a ≤ 1 + n
   element_sum a d c x s n k e f q l h = omega (arith, e, f, q, l, h)
@@ -385,4 +387,4 @@ module _ (g : Gathers) where
       → Designated_ (1 + (n + k)) (indexed g types (d ▷ indices g types at) at' x)
   indexed_most n k types at at' p q =
       then_most (both_most g (then_most p (λ d h. indices_most n types at d h)) q)
-      (λ v h. then_most (suited_most (size_value v.1) 41 types (asked v.0) at' v.1 (omega arith)) (λ e l. fine (picked e v.0) (picked_most (n + k) (size_value v.1) e v.0 l h)))
+      (λ v h. then_most (suited_most (size_value v.1) rule.NotAssignable types (asked v.0) at' v.1 (omega arith)) (λ e l. fine (picked e v.0) (picked_most (n + k) (size_value v.1) e v.0 l h)))

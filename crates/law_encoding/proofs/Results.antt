@@ -1,5 +1,6 @@
 -- Results that count at most so many.
 use Rattle.std.proofs.Common.{ℕ, ◌+◌, ◌≤◌, Bool, true, false, Result, Ok, Err, arith}
+use Rattle.m2_rule.specs.declared.rule.Rule.{Rule}
 use Rattle.m2_tree.specs.declared.pos.Pos.{Pos}
 use Rattle.check_scope.specs.Elaborated.{Gathers, reported, reported_where, ◌▷◌, both, refusal_beside, reported_beside, ahead, of_sort, of_heading, plain}
 use Rattle.check_scope.specs.declared.meaningless.Meaningless.{Meaningless}
@@ -22,10 +23,10 @@ at_mapped c (fine x p) = fine x (c x p)
 at_mapped c (broken e) = broken e
 
 module _ (g : Gathers) where
-  pub reported_most : {A : Type 0} {f : A → ℕ} {n : ℕ} (at : Pos) (k : ℕ) → AtMost f n (reported g {A = A} at k)
+  pub reported_most : {A : Type 0} {f : A → ℕ} {n : ℕ} (at : Pos) (k : Rule) → AtMost f n (reported g {A = A} at k)
   reported_most at k = broken _
 
-  pub where_most : {A : Type 0} {f : A → ℕ} {n : ℕ} (q : Bool) (at : Pos) (k : ℕ) {r : Result A g.Reported} → AtMost f n r → AtMost f n (reported_where g q at k r)
+  pub where_most : {A : Type 0} {f : A → ℕ} {n : ℕ} (q : Bool) (at : Pos) (k : Rule) {r : Result A g.Reported} → AtMost f n r → AtMost f n (reported_where g q at k r)
   where_most true at k h = broken _
   where_most false at k h = h
 
@@ -40,7 +41,7 @@ module _ (g : Gathers) where
   refused_most e (Ok x) = broken e
   refused_most e (Err f) = broken (g.join e f)
 
-  pub reported_beside_most : {A : Type 0} {f : A → ℕ} {n : ℕ} (at : Pos) (k : ℕ) (rest : Result (Unit {0}) g.Reported) → AtMost f n (reported_beside g {A = A} at k rest)
+  pub reported_beside_most : {A : Type 0} {f : A → ℕ} {n : ℕ} (at : Pos) (k : Rule) (rest : Result (Unit {0}) g.Reported) → AtMost f n (reported_beside g {A = A} at k rest)
   reported_beside_most at k rest = refused_most (g.one (record { pos = at; number = k })) rest
 
   pub ahead_most : {A B : Type 0} {f : A → ℕ} {n : ℕ} {h : B → ℕ} {k : ℕ} {r : Result A g.Reported} (rest : Result (Unit {0}) g.Reported) {q : A → Result B g.Reported}
@@ -48,7 +49,7 @@ module _ (g : Gathers) where
   ahead_most rest (fine x p) c = c x p
   ahead_most rest (broken e) c = refused_most e rest
 
-  pub sort_most : {A : Type 0} {f : A → ℕ} {n : ℕ} (at : Pos) (k : ℕ) {r : Result A (Meaningless g.Reported)} → AtMost f n r → AtMost f n (of_sort g at k r)
+  pub sort_most : {A : Type 0} {f : A → ℕ} {n : ℕ} (at : Pos) (k : Rule) {r : Result A (Meaningless g.Reported)} → AtMost f n r → AtMost f n (of_sort g at k r)
   sort_most at k (fine x p) = fine x p
   sort_most at k (broken (Broken e)) = broken e
   sort_most at k (broken (Headless e)) = reported_most at k

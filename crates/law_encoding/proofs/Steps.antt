@@ -1,6 +1,7 @@
 -- Statements without others inside, and what stands before and around others, count no more than what they are made of.
 use Rattle.std.proofs.Common.{◌≡◌, ℕ, ◌+◌, ◌*◌, ◌≤◌, ℤ, Bool, true, false, List, Option, Some, None, Result, Ok, arith}
 use Rattle.std.specs.Prelude.{not}
+use Rattle.m2_rule.specs.declared.rule.Rule.TheVariants as rule
 use Rattle.m2_tree.specs.declared.pos.Pos.{Pos}
 use Rattle.m2_tree.specs.declared.name.Ident.{Ident}
 use Rattle.typed_tree.specs.declared.computed.Place.{Place}
@@ -63,26 +64,26 @@ module _ (g : Gathers) (s : Scope g.Reported) where
   size_record x = 1 + size_place x.1
 
   record_by_most : (n : ℕ) (at : Pos) (d : Designated) → size_designated d ≤ n → AtMost size_record n (record_by g s.types at d)
-  record_by_most n at (designated.Variable t d) p = where_most g _ at 40 (fine (t, d) p)
-  record_by_most n at (designated.Value x) p = reported_most g at 40
-  record_by_most n at (designated.Open t slot) p = reported_most g at 40
-  record_by_most n at (designated.Type t) p = reported_most g at 40
-  record_by_most n at (designated.Procedure f) p = reported_most g at 40
-  record_by_most n at (designated.Nested f) p = reported_most g at 40
-  record_by_most n at (designated.Standard f) p = reported_most g at 40
-  record_by_most n at (designated.Module k) p = reported_most g at 40
+  record_by_most n at (designated.Variable t d) p = where_most g _ at rule.WrongType (fine (t, d) p)
+  record_by_most n at (designated.Value x) p = reported_most g at rule.WrongType
+  record_by_most n at (designated.Open t slot) p = reported_most g at rule.WrongType
+  record_by_most n at (designated.Type t) p = reported_most g at rule.WrongType
+  record_by_most n at (designated.Procedure f) p = reported_most g at rule.WrongType
+  record_by_most n at (designated.Nested f) p = reported_most g at rule.WrongType
+  record_by_most n at (designated.Standard f) p = reported_most g at rule.WrongType
+  record_by_most n at (designated.Module k) p = reported_most g at rule.WrongType
 
   pub record_most : (n : ℕ) (d : Meant g.Reported) → FM g s n d → AtMost size_record n (record_of g s d)
-  record_most n d p = then_most (sort_most g d.fixed.at 40 p) (λ e k. record_by_most n d.fixed.at e k)
+  record_most n d p = then_most (sort_most g d.fixed.at rule.WrongType p) (λ e k. record_by_most n d.fixed.at e k)
 
   -- ---- conditions, EXIT and RETURN
 
   pub condition_most : (n : ℕ) (x : Meant g.Reported) → FM g s n x → Expr_ n (condition g s x)
-  condition_most n x p = then_most (value_most g s n x p) (λ v k. suited_most g n 40 s.types boolean x.fixed.at v k)
+  condition_most n x p = then_most (value_most g s n x p) (λ v k. suited_most g n rule.WrongType s.types boolean x.fixed.at v k)
 
-  exited_as : (at : Pos) (inside : Bool) → Stmt_ 1 (reported_where g (not inside) at 45 (Ok step.Exit))
+  exited_as : (at : Pos) (inside : Bool) → Stmt_ 1 (reported_where g (not inside) at rule.LonelyExit (Ok step.Exit))
   exited_as at true = fine step.Exit (le_of _ 1 step_exit)
-  exited_as at false = reported_most g at 45
+  exited_as at false = reported_most g at rule.LonelyExit
 
   pub exited_most : (at : Pos) (a : Around g.Reported) → Stmt_ 1 (exited g at a)
   exited_most at a = exited_as at a.in_loop
@@ -93,7 +94,7 @@ module _ (g : Gathers) (s : Scope g.Reported) where
   given_back_most : (n : ℕ) (t : Result TypeNo g.Reported) (at : Pos) {x : Result Computed g.Reported} → AtMost size_value n x → Stmt_ (1 + n) (given_back g s.types t at x)
   given_back_most n t at p =
       then_most (both_most g (any_most t) p)
-      (λ v k. then_most (suited_most g n 41 s.types v.0 at v.1 (second_part _ n k)) (λ e q. fine (step.Give v.0 e) (give_sum _ _ n (step_give v.0 e) q)))
+      (λ v k. then_most (suited_most g n rule.NotAssignable s.types v.0 at v.1 (second_part _ n k)) (λ e q. fine (step.Give v.0 e) (give_sum _ _ n (step_give v.0 e) q)))
 
   abbrev pub KnownIf : ℕ → Option (Meant g.Reported) → Type 0
   KnownIf n None = Unit {0}
@@ -104,8 +105,8 @@ module _ (g : Gathers) (s : Scope g.Reported) where
 
   pub returned_most : (n : ℕ) (at : Pos) (o : Option (Result TypeNo g.Reported)) (x : Option (Meant g.Reported)) → KnownIf n x → Stmt_ (1 + n) (returned g s at o x)
   returned_most n at None None p = fine step.Return (one_of _ n step_return)
-  returned_most n at None (Some x) p = reported_beside_most g at 46 _
-  returned_most n at (Some t) None p = reported_most g at 46
+  returned_most n at None (Some x) p = reported_beside_most g at rule.WrongReturn _
+  returned_most n at (Some t) None p = reported_most g at rule.WrongReturn
   returned_most n at (Some t) (Some x) p = given_back_most n t x.fixed.at (value_most g s n x p)
 
   -- ---- the selector of a CASE
@@ -118,11 +119,11 @@ module _ (g : Gathers) (s : Scope g.Reported) where
   amount_most n (Run b e) p = p
 
   selector_most : (n : ℕ) (at : Pos) (o : Option Side) → size_side o ≤ n → AtMost size_selector n (selector_of g at o)
-  selector_most n at None p = reported_most g at 40
+  selector_most n at None p = reported_most g at rule.WrongType
   selector_most n at (Some (side.Scalar a)) p = fine (selector_amount a) (amount_most n a p)
-  selector_most n at (Some (side.Set e)) p = reported_most g at 40
-  selector_most n at (Some (side.Routine t e)) p = reported_most g at 40
-  selector_most n at (Some (side.Procedure f)) p = reported_most g at 40
+  selector_most n at (Some (side.Set e)) p = reported_most g at rule.WrongType
+  selector_most n at (Some (side.Routine t e)) p = reported_most g at rule.WrongType
+  selector_most n at (Some (side.Procedure f)) p = reported_most g at rule.WrongType
 
   pub selected_most : (n : ℕ) (x : Meant g.Reported) → FM g s n x → AtMost size_selector n (selected g s x)
   selected_most n x p = then_most (value_most g s n x p) (λ v k. selector_most n x.fixed.at (side_of v) (le_trans _ _ n (side_most v) k))
@@ -134,9 +135,9 @@ module _ (g : Gathers) (s : Scope g.Reported) where
 
   controlled_as_most : (at : Pos) (t : TypeNo) (d : Place) (c : Class) → 5 * size_place d ≤ 5 → AtMost size_control 5 (controlled_as g at t d c)
   controlled_as_most at t d (class.Scalar r) p = fine (record { of = t; base = r.base; place = d }) p
-  controlled_as_most at t d class.Set p = reported_most g at 47
-  controlled_as_most at t d class.Procedure p = reported_most g at 47
-  controlled_as_most at t d class.Whole p = reported_most g at 47
+  controlled_as_most at t d class.Set p = reported_most g at rule.WrongControl
+  controlled_as_most at t d class.Procedure p = reported_most g at rule.WrongControl
+  controlled_as_most at t d class.Whole p = reported_most g at rule.WrongControl
 
   five_times : (n : ℕ) → n ≡ 1 → 5 * n ≤ 5
   five_times n e = omega (arith, e)
@@ -145,34 +146,34 @@ module _ (g : Gathers) (s : Scope g.Reported) where
   controlled_most at t r = controlled_as_most at t (rooted r) (class_at s.types t) (five_times _ (rooted_size r))
 
   control_by_most : (at : Pos) (x : Meaning) → AtMost size_control 5 (control_by g s at x)
-  control_by_most at (meaning.Constant v) = reported_most g at 47
-  control_by_most at (meaning.Type t n) = reported_most g at 47
-  control_by_most at (meaning.Variable v) = where_most g _ at 47 (controlled_most at v.of (root.Global v))
-  control_by_most at (meaning.Local v) = where_most g _ at 47 (controlled_most at v.of (root.Local (slot_of s.level v)))
-  control_by_most at (meaning.Field f) = reported_most g at 47
-  control_by_most at (meaning.Procedure f) = reported_most g at 47
-  control_by_most at (meaning.LocalProcedure f) = reported_most g at 47
-  control_by_most at meaning.Ahead = reported_most g at 30
-  control_by_most at (meaning.Standard f) = reported_most g at 47
-  control_by_most at (meaning.Module k) = reported_most g at 47
+  control_by_most at (meaning.Constant v) = reported_most g at rule.WrongControl
+  control_by_most at (meaning.Type t n) = reported_most g at rule.WrongControl
+  control_by_most at (meaning.Variable v) = where_most g _ at rule.WrongControl (controlled_most at v.of (root.Global v))
+  control_by_most at (meaning.Local v) = where_most g _ at rule.WrongControl (controlled_most at v.of (root.Local (slot_of s.level v)))
+  control_by_most at (meaning.Field f) = reported_most g at rule.WrongControl
+  control_by_most at (meaning.Procedure f) = reported_most g at rule.WrongControl
+  control_by_most at (meaning.LocalProcedure f) = reported_most g at rule.WrongControl
+  control_by_most at meaning.Ahead = reported_most g at rule.Undeclared
+  control_by_most at (meaning.Standard f) = reported_most g at rule.WrongControl
+  control_by_most at (meaning.Module k) = reported_most g at rule.WrongControl
 
   control_most : (name : Ident) → AtMost size_control 5 (control_of g s name)
-  control_most name = then_most (sort_most g name.pos 47 (any_most _)) (λ x p. control_by_most name.pos x)
+  control_most name = then_most (sort_most g name.pos rule.WrongControl (any_most _)) (λ x p. control_by_most name.pos x)
 
   start_most : (n : ℕ) (at : Pos) (t : Result TypeNo g.Reported) {x : Result Computed g.Reported} → AtMost size_value n x → Expr_ n (start_at g s.types at t x)
-  start_most n at t p = then_most (both_most g (any_most t) p) (λ v k. suited_most g n 41 s.types v.0 at v.1 (second_part _ n k))
+  start_most n at t p = then_most (both_most g (any_most t) p) (λ v k. suited_most g n rule.NotAssignable s.types v.0 at v.1 (second_part _ n k))
 
   limit_number_most : (n : ℕ) (base : TypeNo) (at : Pos) (i : ℤ) (o : Option TypeNo) → 1 ≤ n → Expr_ n (limit_number g base at i o)
-  limit_number_most n base at i None l = where_most g _ at 52 (fine (expr.Constant base i) (le_trans _ 1 n (le_of _ 1 (expr_constant base i)) l))
+  limit_number_most n base at i None l = where_most g _ at rule.OutOfRange (fine (expr.Constant base i) (le_trans _ 1 n (le_of _ 1 (expr_constant base i)) l))
   limit_number_most n base at i (Some t) l = fine (expr.Constant t i) (le_trans _ 1 n (le_of _ 1 (expr_constant t i)) l)
 
   limit_by_most : (n : ℕ) (base : TypeNo) (at : Pos) (o : Option Side) → size_side o ≤ n → Expr_ n (limit_by g base at o)
-  limit_by_most n base at None p = reported_most g at 41
-  limit_by_most n base at (Some (side.Scalar (Known a))) p = where_most g (not (sort_suits base a.sort)) at 41 (limit_number_most n base at a.number a.sort p)
-  limit_by_most n base at (Some (side.Scalar (Run b e))) p = where_most g (not (bases_suit base b)) at 41 (fine e p)
-  limit_by_most n base at (Some (side.Set e)) p = reported_most g at 41
-  limit_by_most n base at (Some (side.Routine t e)) p = reported_most g at 41
-  limit_by_most n base at (Some (side.Procedure f)) p = reported_most g at 41
+  limit_by_most n base at None p = reported_most g at rule.NotAssignable
+  limit_by_most n base at (Some (side.Scalar (Known a))) p = where_most g (not (sort_suits base a.sort)) at rule.NotAssignable (limit_number_most n base at a.number a.sort p)
+  limit_by_most n base at (Some (side.Scalar (Run b e))) p = where_most g (not (bases_suit base b)) at rule.NotAssignable (fine e p)
+  limit_by_most n base at (Some (side.Set e)) p = reported_most g at rule.NotAssignable
+  limit_by_most n base at (Some (side.Routine t e)) p = reported_most g at rule.NotAssignable
+  limit_by_most n base at (Some (side.Procedure f)) p = reported_most g at rule.NotAssignable
 
   limit_most : (n : ℕ) (at : Pos) (base : Result TypeNo g.Reported) {x : Result Computed g.Reported} → AtMost size_value n x → Expr_ n (limit_at g at base x)
   limit_most n at base p = then_most (both_most g (any_most base) p) (λ v k. limit_by_most n v.0 at (side_of v.1) (le_trans _ _ n (side_most v.1) (second_part _ n k)))

@@ -7,6 +7,7 @@ use Rattle.std.specs.Cmp.Lexicographic.{bytes_decides}
 use Rattle.std.proofs.lemmas.Bool.{false≢true, cases_order, or_parts}
 use Rattle.std.proofs.lemmas.List.{append-nil}
 use Rattle.std.proofs.lemmas.Option.{none-some, same_Some}
+use Rattle.m2_rule.specs.declared.rule.Rule.TheVariants as rule
 use Rattle.m2_tree.specs.declared.decl.Module.{Module}
 use Rattle.m2_tree.specs.declared.name.Ident.{Ident}
 use Rattle.m2_tree.specs.declared.pos.Pos.{Pos}
@@ -56,11 +57,11 @@ filter_none {X} p (y ∷ xs) x e a = step (λ h b. filter_none p xs x h b) (p y)
 fine_one : (modules before : List Module) (given : ℕ) (m : Module) (cycle : List Fault) → least_of (faults_of modules before given m ++ cycle) ≡ None → Fine modules before given m
 fine_one modules before given m cycle e =
     let a = import_faults modules m (imported m) in
-    let b = fault_where (is_repeated before m) m.name.pos 21 in
-    let c = fault_where (is_second_program before m) m.name.pos 23 in
-    let d = fault_where (is_without_program modules before) first_place 23 in
-    let f = fault_where (is_lone modules m) m.name.pos 24 in
-    let g = fault_where (given == max_files) first_place 25 in
+    let b = fault_where (is_repeated before m) m.name.pos rule.SecondFile in
+    let c = fault_where (is_second_program before m) m.name.pos rule.ProgramCount in
+    let d = fault_where (is_without_program modules before) first_place rule.ProgramCount in
+    let f = fault_where (is_lone modules m) m.name.pos rule.LonelyModule in
+    let g = fault_where (given == max_files) first_place rule.FileCount in
     let p = parts_none (faults_of modules before given m) cycle (none_least (faults_of modules before given m ++ cycle) e) in
     let q = parts_none (a ++ b ++ c ++ d ++ f) g p.0 in
     let r = parts_none (a ++ b ++ c ++ d) f q.0 in
@@ -68,10 +69,10 @@ fine_one modules before given m cycle e =
     let t = parts_none (a ++ b) c s.0 in
     let u = parts_none a b t.0 in
     record {
-      imports = λ x i. filter_none (λ (y : Ident). is_bad_import modules m y.name) (imported m) x (map_none (λ (y : Ident). fault y.pos 20) (filter (λ (y : Ident). is_bad_import modules m y.name) (imported m)) u.0) i;
-      first = where_none (is_repeated before m) m.name.pos 21 u.1;
-      whole = where_none (is_lone modules m) m.name.pos 24 r.1;
-      counted = where_none (given == max_files) first_place 25 q.1;
+      imports = λ x i. filter_none (λ (y : Ident). is_bad_import modules m y.name) (imported m) x (map_none (λ (y : Ident). fault y.pos rule.MissingModule) (filter (λ (y : Ident). is_bad_import modules m y.name) (imported m)) u.0) i;
+      first = where_none (is_repeated before m) m.name.pos rule.SecondFile u.1;
+      whole = where_none (is_lone modules m) m.name.pos rule.LonelyModule r.1;
+      counted = where_none (given == max_files) first_place rule.FileCount q.1;
     }
 
 rest_none : (xs ys : List Reported) → xs ++ ys ≡ [] → ys ≡ []

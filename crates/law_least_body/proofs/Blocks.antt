@@ -3,6 +3,7 @@ use Rattle.std.proofs.Common.{◌≡◌, ℕ, Bool, false, List, [], ◌∷◌, 
 use Rattle.std.specs.Prelude.{◌==◌, ◌||◌, not}
 use Rattle.std.specs.List.{fold}
 use Rattle.std.specs.Option.{is_some}
+use Rattle.m2_rule.specs.declared.rule.Rule.TheVariants as rule
 use Rattle.m2_tree.specs.declared.pos.Pos.{Pos}
 use Rattle.m2_tree.specs.declared.name.Ident.{Ident}
 use Rattle.m2_tree.specs.declared.decl.Constant.{Constant}
@@ -137,7 +138,7 @@ with_new_goes : {s : Scope Fault} {s' : Scope (List Fault)} → ScopeBeside s s'
 with_new_goes b name n m = let t = with_made_goes b m in goes (new_procedure_beside t.scope name n t.reported) (nothing_of_reports t.reported)
 
 reported_of_other_reports : (types : Types) (at : Pos) (p : Procedure) (m : Made) → Reports (reported_of_other least types at p m) (reported_of_other every types at p m)
-reported_of_other_reports types at p m = where_reports (not (agree (signature_of (Some m)) (signature_of (made_at types p.heading)))) at 50 (fine tt)
+reported_of_other_reports types at p m = where_reports (not (agree (signature_of (Some m)) (signature_of (made_at types p.heading)))) at rule.OtherHeading (fine tt)
 
 with_awaited_goes : {s : Scope Fault} {s' : Scope (List Fault)} → ScopeBeside s s' → (h : Heading) (p : Procedure) {m : Result Made Fault} {m' : Result Made (List Fault)} → Reports m m' → StateBeside (with_awaited least s h p m) (with_awaited every s' h p m')
 with_awaited_goes (scopes tables types vars procs {level = level} {withs = withs} own outer) h p m =
@@ -149,7 +150,7 @@ nothing_made_reports m = then_reports m (λ x. fine tt)
 headed_as_goes : {s : Scope Fault} {s' : Scope (List Fault)} → ScopeBeside s s' → (h : Heading) (n : ℕ) {m : Result Made Fault} {m' : Result Made (List Fault)} → Reports m m' → (t : Standing) → StateBeside (headed_as least s h n m t) (headed_as every s' h n m' t)
 headed_as_goes b h n m Free = with_new_goes b h.name.name n m
 headed_as_goes b h n m (Awaited p) = with_awaited_goes b h p m
-headed_as_goes b h n m Taken = goes b (beside_reports (nothing_made_reports m) (reported_reports h.name.pos 31))
+headed_as_goes b h n m Taken = goes b (beside_reports (nothing_made_reports m) (reported_reports h.name.pos rule.DeclaredTwice))
 
 with_heading_goes : {s : Scope Fault} {s' : Scope (List Fault)} → ScopeBeside s s' → (n : ℕ) (h : Heading) → StateBeside (with_heading least s n h) (with_heading every s' n h)
 with_heading_goes {s = s} {s' = s'} b n h = join_goes (names_of_reports h)
@@ -245,7 +246,7 @@ lacks_same es = fold_pairwise (λ (a b : Bool). a ≡ b) EntryBeside or_awaited 
 
 reported_of_lack_reports : (at : Pos) {s : Scope Fault} {s' : Scope (List Fault)} → ScopeBeside s s' → Reports (reported_of_lack least at s) (reported_of_lack every at s')
 reported_of_lack_reports at (scopes tables types vars procs {own = names} own outer) =
-    subst (λ (c : Bool). Reports (reported_where least (lacks names) at 51 (Ok tt)) (reported_where every c at 51 (Ok tt))) (lacks_same own) (where_reports (lacks names) at 51 (fine tt))
+    subst (λ (c : Bool). Reports (reported_where least (lacks names) at rule.MissingProcedure (Ok tt)) (reported_where every c at rule.MissingProcedure (Ok tt))) (lacks_same own) (where_reports (lacks names) at rule.MissingProcedure (fine tt))
 
 lack_beside : (at : Pos) {d : Declared Fault} {d' : Declared (List Fault)} → DeclaredBeside d d' → DeclaredBeside (d.0, beside least d.1 (reported_of_lack least at d.0), d.2) (d'.0, beside every d'.1 (reported_of_lack every at d'.0), d'.2)
 lack_beside at (are_declared b r seen) = are_declared b (beside_reports r (reported_of_lack_reports at b)) seen

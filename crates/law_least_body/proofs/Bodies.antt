@@ -2,6 +2,7 @@
 use Rattle.std.proofs.Common.{◌≡◌, ℕ, ◌+◌, false, List, [], ◌∷◌, ◌++◌, Option, Some, None, Result, Ok, Err, refl, sym, ap, subst, ◌∙◌, slice_get}
 use Rattle.std.specs.Prelude.{map, IfOk}
 use Rattle.std.specs.Option.{unwrap_or}
+use Rattle.m2_rule.specs.declared.rule.Rule.TheVariants as rule
 use Rattle.m2_tree.specs.declared.name.Ident.{Ident}
 use Rattle.m2_tree.specs.declared.stmt.Stmt.{Stmt}
 use Rattle.m2_tree.specs.declared.decl.Heading.{Heading}
@@ -305,11 +306,11 @@ module _ {elaborates : Elaborates Fault} {elaborates' : Elaborates (List Fault)}
   of_body_reports (scopes tables types vars procs {level = level} {withs = withs} names outer) own m b = of_walk_reports (numbered_modules tables).0 (scopes tables types vars procs {level = level} {withs = withs} names outer) own m b
 
   of_implementation_reports : (m : Module) (own : Option Table) (tables : List Table) (b : Block) → Reports (of_implementation least elaborates m own tables b) (of_implementation every elaborates' m own tables b)
-  of_implementation_reports m None tables b = reported_reports m.name.pos 24
+  of_implementation_reports m None tables b = reported_reports m.name.pos rule.LonelyModule
   of_implementation_reports m (Some own) tables b = of_body_reports (implementation_scope_beside own tables) (Some own) m b
 
   of_contents_reports : (number : ℕ) (m : Module) (own : Option Table) (tables : List Table) (c : Contents) → Reports (of_contents least elaborates number m own tables c) (of_contents every elaborates' number m own tables c)
-  of_contents_reports number m own tables (contents.Definition defs) = reported_reports m.name.pos 24
+  of_contents_reports number m own tables (contents.Definition defs) = reported_reports m.name.pos rule.LonelyModule
   of_contents_reports number m own tables (contents.Implementation b) = of_implementation_reports m own tables b
   of_contents_reports number m own tables (contents.Program b) = of_body_reports (first_scope_beside number tables) None m b
 

@@ -1,5 +1,6 @@
 -- The course of a FOR.
 use Rattle.std.specs.Prelude.{ℤ, not, ◌&&◌, ◌==◌, List, Option, Some, None, Result}
+use Rattle.m2_rule.specs.declared.rule.Rule.TheVariants as rule
 use Rattle.m2_tree.specs.declared.pos.Pos.{Pos}
 use Rattle.m2_tree.specs.declared.name.Ident.{Ident}
 use Rattle.typed_tree.specs.declared.types.TypeNo.{TypeNo}
@@ -44,49 +45,49 @@ use Rattle.law_least_definition.proofs.Pieces.{MeantBeside, meants}
 
 pub controlled_as_reports : (at : Pos) → (t : TypeNo) → (d : Place) → (p3 : Class) → Reports (controlled_as least at t d p3) (controlled_as every at t d p3)
 controlled_as_reports at t d (class.Scalar s) = fine _
-controlled_as_reports at t d class.Set = reported_reports at 47
-controlled_as_reports at t d class.Procedure = reported_reports at 47
-controlled_as_reports at t d class.Whole = reported_reports at 47
+controlled_as_reports at t d class.Set = reported_reports at rule.WrongControl
+controlled_as_reports at t d class.Procedure = reported_reports at rule.WrongControl
+controlled_as_reports at t d class.Whole = reported_reports at rule.WrongControl
 
 pub controlled_reports : (types : Types) → (at : Pos) → (t : TypeNo) → (d : Place) → Reports (controlled least types at t d) (controlled every types at t d)
 controlled_reports types at t d = controlled_as_reports at t d (class_at types t)
 
 pub control_by_reports : {s : Scope Fault} {s' : Scope (List Fault)} → ScopeBeside s s' → (at : Pos) → (p2 : Meaning) → Reports (control_by least s at p2) (control_by every s' at p2)
-control_by_reports s at (meaning.Constant v) = reported_reports at 47
-control_by_reports s at (meaning.Type t n) = reported_reports at 47
-control_by_reports (scopes tables types vars procs {level = level} {withs = withs} own outer) at (meaning.Variable v) = where_reports (not (v.home == types.home)) at 47 (controlled_reports types at v.of (rooted (root.Global v)))
-control_by_reports (scopes tables types vars procs {level = level} {withs = withs} own outer) at (meaning.Local v) = where_reports (not (is_own v.kind && (v.level == level))) at 47 (controlled_reports types at v.of (rooted (root.Local (slot_of level v))))
-control_by_reports s at (meaning.Field f) = reported_reports at 47
-control_by_reports s at (meaning.Procedure p) = reported_reports at 47
-control_by_reports s at (meaning.LocalProcedure p) = reported_reports at 47
-control_by_reports s at meaning.Ahead = reported_reports at 30
-control_by_reports s at (meaning.Standard f) = reported_reports at 47
-control_by_reports s at (meaning.Module k) = reported_reports at 47
+control_by_reports s at (meaning.Constant v) = reported_reports at rule.WrongControl
+control_by_reports s at (meaning.Type t n) = reported_reports at rule.WrongControl
+control_by_reports (scopes tables types vars procs {level = level} {withs = withs} own outer) at (meaning.Variable v) = where_reports (not (v.home == types.home)) at rule.WrongControl (controlled_reports types at v.of (rooted (root.Global v)))
+control_by_reports (scopes tables types vars procs {level = level} {withs = withs} own outer) at (meaning.Local v) = where_reports (not (is_own v.kind && (v.level == level))) at rule.WrongControl (controlled_reports types at v.of (rooted (root.Local (slot_of level v))))
+control_by_reports s at (meaning.Field f) = reported_reports at rule.WrongControl
+control_by_reports s at (meaning.Procedure p) = reported_reports at rule.WrongControl
+control_by_reports s at (meaning.LocalProcedure p) = reported_reports at rule.WrongControl
+control_by_reports s at meaning.Ahead = reported_reports at rule.Undeclared
+control_by_reports s at (meaning.Standard f) = reported_reports at rule.WrongControl
+control_by_reports s at (meaning.Module k) = reported_reports at rule.WrongControl
 
 pub control_of_reports : {s : Scope Fault} {s' : Scope (List Fault)} → ScopeBeside s s' → (name : Ident) → Reports (control_of least s name) (control_of every s' name)
-control_of_reports s name = then_reports (of_sort_reports name.pos 47 (looked_up_sought name s)) (λ v. control_by_reports s name.pos v)
+control_of_reports s name = then_reports (of_sort_reports name.pos rule.WrongControl (looked_up_sought name s)) (λ v. control_by_reports s name.pos v)
 
 pub start_at_reports : (types : Types) → (at : Pos) → {t : Result TypeNo Fault} {t' : Result TypeNo (List Fault)} → Reports t t' → {x : Result Computed Fault} {x' : Result Computed (List Fault)} → Reports x x' → Reports (start_at least types at t x) (start_at every types at t' x')
-start_at_reports types at t x = then_reports (both_reports t x) (λ p. value_suited_reports 41 types p.0 at p.1)
+start_at_reports types at t x = then_reports (both_reports t x) (λ p. value_suited_reports rule.NotAssignable types p.0 at p.1)
 
 pub limit_number_reports : (base : TypeNo) → (at : Pos) → (n : ℤ) → (p3 : Option TypeNo) → Reports (limit_number least base at n p3) (limit_number every base at n p3)
-limit_number_reports base at n None = where_reports (not (fits (Some base) n)) at 52 (fine _)
+limit_number_reports base at n None = where_reports (not (fits (Some base) n)) at rule.OutOfRange (fine _)
 limit_number_reports base at n (Some t) = fine _
 
 pub limit_by_reports : (base : TypeNo) → (at : Pos) → (p2 : Option Side) → Reports (limit_by least base at p2) (limit_by every base at p2)
-limit_by_reports base at None = reported_reports at 41
-limit_by_reports base at (Some (side.Scalar (Known a))) = where_reports (not (sort_suits base a.sort)) at 41 (limit_number_reports base at a.number a.sort)
-limit_by_reports base at (Some (side.Scalar (Run b e))) = where_reports (not (bases_suit base b)) at 41 (fine e)
-limit_by_reports base at (Some (side.Set e)) = reported_reports at 41
-limit_by_reports base at (Some (side.Routine t e)) = reported_reports at 41
-limit_by_reports base at (Some (side.Procedure p)) = reported_reports at 41
+limit_by_reports base at None = reported_reports at rule.NotAssignable
+limit_by_reports base at (Some (side.Scalar (Known a))) = where_reports (not (sort_suits base a.sort)) at rule.NotAssignable (limit_number_reports base at a.number a.sort)
+limit_by_reports base at (Some (side.Scalar (Run b e))) = where_reports (not (bases_suit base b)) at rule.NotAssignable (fine e)
+limit_by_reports base at (Some (side.Set e)) = reported_reports at rule.NotAssignable
+limit_by_reports base at (Some (side.Routine t e)) = reported_reports at rule.NotAssignable
+limit_by_reports base at (Some (side.Procedure p)) = reported_reports at rule.NotAssignable
 
 pub limit_at_reports : (at : Pos) → {base : Result TypeNo Fault} {base' : Result TypeNo (List Fault)} → Reports base base' → {x : Result Computed Fault} {x' : Result Computed (List Fault)} → Reports x x' → Reports (limit_at least at base x) (limit_at every at base' x')
 limit_at_reports at base x = then_reports (both_reports base x) (λ p. limit_by_reports p.0 at (side_of p.1))
 
 pub step_number_reports : (at : Pos) → (p1 : Option Ordinal) → Reports (step_number least at p1) (step_number every at p1)
-step_number_reports at None = reported_reports at 40
-step_number_reports at (Some a) = where_reports (is_zero a.number) at 48 (fine _)
+step_number_reports at None = reported_reports at rule.WrongType
+step_number_reports at (Some a) = where_reports (is_zero a.number) at rule.ZeroStep (fine _)
 
 pub step_by_reports : (at : Pos) → (v : Value) → Reports (step_by least at v) (step_by every at v)
 step_by_reports at v = step_number_reports at (whole_number v)

@@ -1,5 +1,6 @@
 -- Labels of CASE.
 use Rattle.std.specs.Prelude.{ℤ, Bool, false, not, int_lt, List, [], Option, Some, None, Result}
+use Rattle.m2_rule.specs.declared.rule.Rule.TheVariants as rule
 use Rattle.m2_tree.specs.declared.pos.Pos.{Pos}
 use Rattle.m2_tree.specs.declared.expr.Item.{Item, out-Item}
 use Rattle.typed_tree.specs.declared.types.TypeNo.{TypeNo}
@@ -37,15 +38,15 @@ use Rattle.law_least_definition.specs.Least.{is_refused}
 use Rattle.law_least_definition.proofs.Making.{KeptBeside, is_kept}
 
 pub ordinal_in_reports : (at : Pos) → (p1 : Option Operand) → Reports (ordinal_in least at p1) (ordinal_in every at p1)
-ordinal_in_reports at None = reported_reports at 40
-ordinal_in_reports at (Some (operand.Set bits)) = reported_reports at 40
+ordinal_in_reports at None = reported_reports at rule.WrongType
+ordinal_in_reports at (Some (operand.Set bits)) = reported_reports at rule.WrongType
 ordinal_in_reports at (Some (operand.Scalar a)) = fine a
 
 pub of_type_reports : (alike : Bool) → (at : Pos) → Reports (of_type least alike at) (of_type every alike at)
-of_type_reports alike at = where_reports (not alike) at 40 (fine tt)
+of_type_reports alike at = where_reports (not alike) at rule.WrongType (fine tt)
 
 pub no_constant_reports : (alike : Bool) → (label : Pos) → (at : Pos) → Reports (no_constant least alike label at) (no_constant every alike label at)
-no_constant_reports alike label at = then_reports (both_reports (of_type_reports alike at) (reported_reports label 49)) (λ p. fine _)
+no_constant_reports alike label at = then_reports (both_reports (of_type_reports alike at) (reported_reports label rule.WrongLabel)) (λ p. fine _)
 
 pub value_bound_reports : (base : Option TypeNo) → (label : Pos) → (at : Pos) → (p3 : Computed) → Reports (value_bound least base label at p3) (value_bound every base label at p3)
 value_bound_reports base label at (value.Constant v) = ordinal_in_reports at (operand_of v)
@@ -68,8 +69,8 @@ bound_by_reports types base label at (designated.Variable t d) = variable_bound_
 bound_by_reports types base label at (designated.Open t slot) = no_constant_reports false label at
 bound_by_reports types base label at (designated.Type t) = no_constant_reports false label at
 bound_by_reports types base label at (designated.Procedure p) = no_constant_reports false label at
-bound_by_reports types base label at (designated.Nested p) = reported_reports at 53
-bound_by_reports types base label at (designated.Standard f) = reported_reports at 53
+bound_by_reports types base label at (designated.Nested p) = reported_reports at rule.NoProcedureValue
+bound_by_reports types base label at (designated.Standard f) = reported_reports at rule.NoProcedureValue
 bound_by_reports types base label at (designated.Module k) = no_constant_reports false label at
 
 pub bound_in_reports : (types : Types) → (base : Option TypeNo) → (label : Pos) → (at : Pos) → {d : Result Designated (Meaningless Fault)} {d' : Result Designated (Meaningless (List Fault))} → SoughtBeside d d' → Reports (bound_in least types base label at d) (bound_in every types base label at d')
@@ -81,12 +82,12 @@ pub bound_of_reports : {s : Scope Fault} {s' : Scope (List Fault)} → ScopeBesi
 bound_of_reports (scopes tables types vars procs {level = level} {withs = withs} own outer) base label (meants (parts x_at x_p x_n) x_m) = bound_in_reports types base label x_at (x_m _ _ (scopes tables types vars procs {level = level} {withs = withs} own outer))
 
 pub number_fits_reports : (base : TypeNo) → (at : Pos) → (a : Ordinal) → (p3 : Option TypeNo) → Reports (number_fits least base at a p3) (number_fits every base at a p3)
-number_fits_reports base at a None = where_reports (not (fits (Some base) a.number)) at 52 (fine tt)
+number_fits_reports base at a None = where_reports (not (fits (Some base) a.number)) at rule.OutOfRange (fine tt)
 number_fits_reports base at a (Some t) = fine tt
 
 pub suits_base_reports : (base : Option TypeNo) → (at : Pos) → (a : Ordinal) → Reports (suits_base least base at a) (suits_base every base at a)
 suits_base_reports None at a = fine tt
-suits_base_reports (Some base) at a = where_reports (not (is_of_base base a.sort)) at 40 (number_fits_reports base at a a.sort)
+suits_base_reports (Some base) at a = where_reports (not (is_of_base base a.sort)) at rule.WrongType (number_fits_reports base at a a.sort)
 
 pub bound_suits_reports : (base : Option TypeNo) → (at : Pos) → {a : Result Ordinal Fault} {a' : Result Ordinal (List Fault)} → Reports a a' → Reports (bound_suits least base at a) (bound_suits every base at a')
 bound_suits_reports base at a = then_reports a (λ v. suits_base_reports base at v)
@@ -96,7 +97,7 @@ single_reports base at a = then_reports (both_reports a (bound_suits_reports bas
 
 pub ordered_if_reports : (at : Pos) → (a : Ordinal) → (b : Ordinal) → (p3 : Option (Option TypeNo)) → Reports (ordered_if least at a b p3) (ordered_if every at a b p3)
 ordered_if_reports at a b None = fine tt
-ordered_if_reports at a b (Some sort) = where_reports (int_lt b.number a.number) at 35 (fine tt)
+ordered_if_reports at a b (Some sort) = where_reports (int_lt b.number a.number) at rule.EmptyRange (fine tt)
 
 pub are_ordered_reports : (at : Pos) → {a : Result Ordinal Fault} {a' : Result Ordinal (List Fault)} → Reports a a' → {b : Result Ordinal Fault} {b' : Result Ordinal (List Fault)} → Reports b b' → Reports (are_ordered least at a b) (are_ordered every at a' b')
 are_ordered_reports at a b = then_reports (both_reports a b) (λ p. ordered_if_reports at p.0 p.1 (common p.0.sort p.1.sort))
@@ -109,7 +110,7 @@ label_between_reports s base (meants (parts low_at low_p low_n) low_m) nothing =
 label_between_reports s base (meants (parts low_at low_p low_n) low_m) (something (meants (parts high_at high_p high_n) high_m)) = spanned_reports base low_at (bound_of_reports s base low_at (meants (parts low_at low_p low_n) low_m)) high_at (bound_of_reports s base low_at (meants (parts high_at high_p high_n) high_m))
 
 with_new_kept : (at : Pos) → {st : Labels Fault} {st' : Labels (List Fault)} → KeptBeside st st' → (l : Label) → KeptBeside (with_new least at st l) (with_new every at st' l)
-with_new_kept at (is_kept ranges so) l = is_kept (taken l.low l.high ranges).0 (with_next_reports so (where_reports (not (taken l.low l.high ranges).1) at 49 (fine l)))
+with_new_kept at (is_kept ranges so) l = is_kept (taken l.low l.high ranges).0 (with_next_reports so (where_reports (not (taken l.low l.high ranges).1) at rule.WrongLabel (fine l)))
 
 with_label_kept : (at : Pos) → {st : Labels Fault} {st' : Labels (List Fault)} → KeptBeside st st' → {l : Result Label Fault} {l' : Result Label (List Fault)} → Reports l l' → KeptBeside (with_label least at st l) (with_label every at st' l')
 with_label_kept at st (fine l) = with_new_kept at st l

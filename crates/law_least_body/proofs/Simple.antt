@@ -1,6 +1,7 @@
 -- Statements without others inside.
 use Rattle.std.proofs.Common.{◌≡◌, not, List, Option, Some, None, Result, refl, ap, ◌∙◌}
 use Rattle.std.specs.Option.{is_some}
+use Rattle.m2_rule.specs.declared.rule.Rule.TheVariants as rule
 use Rattle.m2_tree.specs.declared.pos.Pos.{Pos}
 use Rattle.m2_tree.specs.declared.expr.Expr.{Expr}
 use Rattle.m2_tree.specs.declared.expr.Expr.TheOpen as layer
@@ -35,45 +36,45 @@ use Rattle.law_least_definition.proofs.Pieces.{MeantBeside, meants}
 use Rattle.law_least_body.proofs.Arounds.{AroundBeside, arounds}
 
 pub exited_reports : (at : Pos) → {w : Around Fault} {w' : Around (List Fault)} → AroundBeside w w' → Reports (exited least at w) (exited every at w')
-exited_reports at (arounds w_g w_l) = where_reports (not w_l) at 45 (fine _)
+exited_reports at (arounds w_g w_l) = where_reports (not w_l) at rule.LonelyExit (fine _)
 
 pub given_back_reports : (types : Types) → {t : Result TypeNo Fault} {t' : Result TypeNo (List Fault)} → Reports t t' → (at : Pos) → {x : Result Computed Fault} {x' : Result Computed (List Fault)} → Reports x x' → Reports (given_back least types t at x) (given_back every types t' at x')
-given_back_reports types t at x = then_reports (both_reports t x) (λ p. then_reports (value_suited_reports 41 types p.0 at p.1) (λ e. fine _))
+given_back_reports types t at x = then_reports (both_reports t x) (λ p. then_reports (value_suited_reports rule.NotAssignable types p.0 at p.1) (λ e. fine _))
 
 pub returned_reports : {s : Scope Fault} {s' : Scope (List Fault)} → ScopeBeside s s' → (at : Pos) → {p2 : Option (Result TypeNo Fault)} {p2' : Option (Result TypeNo (List Fault))} → Optionwise Reports p2 p2' → {p3 : Option (Meant Fault)} {p3' : Option (Meant (List Fault))} → Optionwise MeantBeside p3 p3' → Reports (returned least s at p2 p3) (returned every s' at p2' p3')
 returned_reports s at nothing nothing = fine _
-returned_reports s at nothing (something x) = reported_beside_reports at 46 (then_reports (value_of_reports s x) (λ v. fine tt))
-returned_reports s at (something t) nothing = reported_reports at 46
+returned_reports s at nothing (something x) = reported_beside_reports at rule.WrongReturn (then_reports (value_of_reports s x) (λ v. fine tt))
+returned_reports s at (something t) nothing = reported_reports at rule.WrongReturn
 returned_reports (scopes tables types vars procs {level = level} {withs = withs} own outer) at (something t) (something (meants (parts x_at x_p x_n) x_m)) = given_back_reports types t x_at (value_of_reports (scopes tables types vars procs {level = level} {withs = withs} own outer) (meants (parts x_at x_p x_n) x_m))
 
 pub condition_reports : {s : Scope Fault} {s' : Scope (List Fault)} → ScopeBeside s s' → {x : Meant Fault} {x' : Meant (List Fault)} → MeantBeside x x' → Reports (condition least s x) (condition every s' x')
-condition_reports (scopes tables types vars procs {level = level} {withs = withs} own outer) (meants (parts x_at x_p x_n) x_m) = then_reports (value_of_reports (scopes tables types vars procs {level = level} {withs = withs} own outer) (meants (parts x_at x_p x_n) x_m)) (λ v. value_suited_reports 40 types boolean x_at v)
+condition_reports (scopes tables types vars procs {level = level} {withs = withs} own outer) (meants (parts x_at x_p x_n) x_m) = then_reports (value_of_reports (scopes tables types vars procs {level = level} {withs = withs} own outer) (meants (parts x_at x_p x_n) x_m)) (λ v. value_suited_reports rule.WrongType types boolean x_at v)
 
 pub assignment_reports : {s : Scope Fault} {s' : Scope (List Fault)} → ScopeBeside s s' → {d : Meant Fault} {d' : Meant (List Fault)} → MeantBeside d d' → {x : Meant Fault} {x' : Meant (List Fault)} → MeantBeside x x' → Reports (assignment least s d x) (assignment every s' d' x')
 assignment_reports (scopes tables types vars procs {level = level} {withs = withs} own outer) (meants (parts d_at d_p d_n) d_m) (meants (parts x_at x_p x_n) x_m) = assigned_reports types (target_at_reports d_at (d_m _ _ (scopes tables types vars procs {level = level} {withs = withs} own outer))) x_at (value_of_reports (scopes tables types vars procs {level = level} {withs = withs} own outer) (meants (parts x_at x_p x_n) x_m))
 
 pub selector_of_reports : (at : Pos) → (p1 : Option Side) → Reports (selector_of least at p1) (selector_of every at p1)
-selector_of_reports at None = reported_reports at 40
+selector_of_reports at None = reported_reports at rule.WrongType
 selector_of_reports at (Some (side.Scalar a)) = fine _
-selector_of_reports at (Some (side.Set e)) = reported_reports at 40
-selector_of_reports at (Some (side.Routine t e)) = reported_reports at 40
-selector_of_reports at (Some (side.Procedure p)) = reported_reports at 40
+selector_of_reports at (Some (side.Set e)) = reported_reports at rule.WrongType
+selector_of_reports at (Some (side.Routine t e)) = reported_reports at rule.WrongType
+selector_of_reports at (Some (side.Procedure p)) = reported_reports at rule.WrongType
 
 pub selected_reports : {s : Scope Fault} {s' : Scope (List Fault)} → ScopeBeside s s' → {x : Meant Fault} {x' : Meant (List Fault)} → MeantBeside x x' → Reports (selected least s x) (selected every s' x')
 selected_reports s (meants (parts x_at x_p x_n) x_m) = then_reports (value_of_reports s (meants (parts x_at x_p x_n) x_m)) (λ v. selector_of_reports x_at (side_of v))
 
 pub record_by_reports : (types : Types) → (at : Pos) → (p2 : Designated) → Reports (record_by least types at p2) (record_by every types at p2)
-record_by_reports types at (designated.Variable t d) = where_reports (not (is_some (fields_at types t))) at 40 (fine _)
-record_by_reports types at (designated.Value x) = reported_reports at 40
-record_by_reports types at (designated.Open t slot) = reported_reports at 40
-record_by_reports types at (designated.Type t) = reported_reports at 40
-record_by_reports types at (designated.Procedure p) = reported_reports at 40
-record_by_reports types at (designated.Nested p) = reported_reports at 40
-record_by_reports types at (designated.Standard f) = reported_reports at 40
-record_by_reports types at (designated.Module k) = reported_reports at 40
+record_by_reports types at (designated.Variable t d) = where_reports (not (is_some (fields_at types t))) at rule.WrongType (fine _)
+record_by_reports types at (designated.Value x) = reported_reports at rule.WrongType
+record_by_reports types at (designated.Open t slot) = reported_reports at rule.WrongType
+record_by_reports types at (designated.Type t) = reported_reports at rule.WrongType
+record_by_reports types at (designated.Procedure p) = reported_reports at rule.WrongType
+record_by_reports types at (designated.Nested p) = reported_reports at rule.WrongType
+record_by_reports types at (designated.Standard f) = reported_reports at rule.WrongType
+record_by_reports types at (designated.Module k) = reported_reports at rule.WrongType
 
 pub record_of_reports : {s : Scope Fault} {s' : Scope (List Fault)} → ScopeBeside s s' → {d : Meant Fault} {d' : Meant (List Fault)} → MeantBeside d d' → Reports (record_of least s d) (record_of every s' d')
-record_of_reports (scopes tables types vars procs {level = level} {withs = withs} own outer) (meants (parts d_at d_p d_n) d_m) = then_reports (of_sort_reports d_at 40 (d_m _ _ (scopes tables types vars procs {level = level} {withs = withs} own outer))) (λ v. record_by_reports types d_at v)
+record_of_reports (scopes tables types vars procs {level = level} {withs = withs} own outer) (meants (parts d_at d_p d_n) d_m) = then_reports (of_sort_reports d_at rule.WrongType (d_m _ _ (scopes tables types vars procs {level = level} {withs = withs} own outer))) (λ v. record_by_reports types d_at v)
 
 -- ---- the record type that a WITH opens is the same in both
 

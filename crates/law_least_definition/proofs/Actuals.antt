@@ -1,5 +1,6 @@
 -- Arguments and formals.
 use Rattle.std.specs.Prelude.{not, List, Result}
+use Rattle.m2_rule.specs.declared.rule.Rule.TheVariants as rule
 use Rattle.m2_tree.specs.declared.pos.Pos.{Pos}
 use Rattle.typed_tree.specs.declared.types.TypeNo.{TypeNo}
 use Rattle.typed_tree.specs.declared.computed.Argument.{Argument}
@@ -24,62 +25,62 @@ use Rattle.law_least_definition.proofs.Taken.{taken_reports}
 use Rattle.law_least_definition.proofs.Suits.{value_suited_reports}
 
 pub variable_passed_reports : (t : TypeNo) → (at : Pos) → (p2 : Designated) → Reports (variable_passed least t at p2) (variable_passed every t at p2)
-variable_passed_reports t at (designated.Variable u d) = where_reports (not (are_same u t)) at 44 (fine _)
-variable_passed_reports t at (designated.Value x) = reported_reports at 44
-variable_passed_reports t at (designated.Open u slot) = reported_reports at 44
-variable_passed_reports t at (designated.Type u) = reported_reports at 44
-variable_passed_reports t at (designated.Procedure p) = reported_reports at 44
-variable_passed_reports t at (designated.Nested p) = reported_reports at 44
-variable_passed_reports t at (designated.Standard f) = reported_reports at 44
-variable_passed_reports t at (designated.Module k) = reported_reports at 44
+variable_passed_reports t at (designated.Variable u d) = where_reports (not (are_same u t)) at rule.NoVariable (fine _)
+variable_passed_reports t at (designated.Value x) = reported_reports at rule.NoVariable
+variable_passed_reports t at (designated.Open u slot) = reported_reports at rule.NoVariable
+variable_passed_reports t at (designated.Type u) = reported_reports at rule.NoVariable
+variable_passed_reports t at (designated.Procedure p) = reported_reports at rule.NoVariable
+variable_passed_reports t at (designated.Nested p) = reported_reports at rule.NoVariable
+variable_passed_reports t at (designated.Standard f) = reported_reports at rule.NoVariable
+variable_passed_reports t at (designated.Module k) = reported_reports at rule.NoVariable
 
 pub open_passed_reports : (types : Types) → (t : TypeNo) → (at : Pos) → (p3 : Designated) → Reports (open_passed least types t at p3) (open_passed every types t at p3)
-open_passed_reports types t at (designated.Variable u d) = where_reports (not (elements_suit types t u)) at 44 (fine _)
-open_passed_reports types t at (designated.Open u slot) = where_reports (not (are_same u t)) at 44 (fine _)
-open_passed_reports types t at (designated.Value x) = reported_reports at 44
-open_passed_reports types t at (designated.Type u) = reported_reports at 44
-open_passed_reports types t at (designated.Procedure p) = reported_reports at 44
-open_passed_reports types t at (designated.Nested p) = reported_reports at 44
-open_passed_reports types t at (designated.Standard f) = reported_reports at 44
-open_passed_reports types t at (designated.Module k) = reported_reports at 44
+open_passed_reports types t at (designated.Variable u d) = where_reports (not (elements_suit types t u)) at rule.NoVariable (fine _)
+open_passed_reports types t at (designated.Open u slot) = where_reports (not (are_same u t)) at rule.NoVariable (fine _)
+open_passed_reports types t at (designated.Value x) = reported_reports at rule.NoVariable
+open_passed_reports types t at (designated.Type u) = reported_reports at rule.NoVariable
+open_passed_reports types t at (designated.Procedure p) = reported_reports at rule.NoVariable
+open_passed_reports types t at (designated.Nested p) = reported_reports at rule.NoVariable
+open_passed_reports types t at (designated.Standard f) = reported_reports at rule.NoVariable
+open_passed_reports types t at (designated.Module k) = reported_reports at rule.NoVariable
 
 pub text_argument_reports : (t : TypeNo) → (at : Pos) → (p2 : Value) → Reports (text_argument least t at p2) (text_argument every t at p2)
-text_argument_reports t at (constant.Text text) = where_reports (not (are_same t char)) at 43 (fine _)
-text_argument_reports t at (constant.Number n) = reported_reports at 43
-text_argument_reports t at (constant.Scalar s) = reported_reports at 43
-text_argument_reports t at (constant.Set bits) = reported_reports at 43
+text_argument_reports t at (constant.Text text) = where_reports (not (are_same t char)) at rule.WrongArgument (fine _)
+text_argument_reports t at (constant.Number n) = reported_reports at rule.WrongArgument
+text_argument_reports t at (constant.Scalar s) = reported_reports at rule.WrongArgument
+text_argument_reports t at (constant.Set bits) = reported_reports at rule.WrongArgument
 
 pub text_passed_reports : (t : TypeNo) → (at : Pos) → (p2 : Computed) → Reports (text_passed least t at p2) (text_passed every t at p2)
 text_passed_reports t at (value.Constant v) = text_argument_reports t at v
-text_passed_reports t at (value.Scalar u b e) = reported_reports at 43
-text_passed_reports t at (value.Set e) = reported_reports at 43
-text_passed_reports t at (value.Routine u e) = reported_reports at 43
-text_passed_reports t at (value.Procedure p) = reported_reports at 43
-text_passed_reports t at (value.Whole u d) = reported_reports at 43
-text_passed_reports t at value.Untaken = reported_reports at 43
+text_passed_reports t at (value.Scalar u b e) = reported_reports at rule.WrongArgument
+text_passed_reports t at (value.Set e) = reported_reports at rule.WrongArgument
+text_passed_reports t at (value.Routine u e) = reported_reports at rule.WrongArgument
+text_passed_reports t at (value.Procedure p) = reported_reports at rule.WrongArgument
+text_passed_reports t at (value.Whole u d) = reported_reports at rule.WrongArgument
+text_passed_reports t at value.Untaken = reported_reports at rule.WrongArgument
 
 pub open_value_reports : (types : Types) → (t : TypeNo) → (at : Pos) → (p3 : Designated) → Reports (open_value least types t at p3) (open_value every types t at p3)
-open_value_reports types t at (designated.Variable u d) = where_reports (not (elements_suit types t u)) at 43 (fine _)
-open_value_reports types t at (designated.Open u slot) = where_reports (not (are_same u t)) at 43 (fine _)
+open_value_reports types t at (designated.Variable u d) = where_reports (not (elements_suit types t u)) at rule.WrongArgument (fine _)
+open_value_reports types t at (designated.Open u slot) = where_reports (not (are_same u t)) at rule.WrongArgument (fine _)
 open_value_reports types t at (designated.Value x) = text_passed_reports t at x
-open_value_reports types t at (designated.Type u) = reported_reports at 40
-open_value_reports types t at (designated.Procedure p) = reported_reports at 43
-open_value_reports types t at (designated.Nested p) = reported_reports at 53
-open_value_reports types t at (designated.Standard f) = reported_reports at 53
-open_value_reports types t at (designated.Module k) = reported_reports at 40
+open_value_reports types t at (designated.Type u) = reported_reports at rule.WrongType
+open_value_reports types t at (designated.Procedure p) = reported_reports at rule.WrongArgument
+open_value_reports types t at (designated.Nested p) = reported_reports at rule.NoProcedureValue
+open_value_reports types t at (designated.Standard f) = reported_reports at rule.NoProcedureValue
+open_value_reports types t at (designated.Module k) = reported_reports at rule.WrongType
 
 pub whole_passed_reports : (t : TypeNo) → (at : Pos) → (p2 : Designated) → Reports (whole_passed least t at p2) (whole_passed every t at p2)
-whole_passed_reports t at (designated.Variable u d) = where_reports (not (are_same u t)) at 43 (fine _)
-whole_passed_reports t at (designated.Value x) = reported_reports at 43
-whole_passed_reports t at (designated.Open u slot) = reported_reports at 43
-whole_passed_reports t at (designated.Type u) = reported_reports at 40
-whole_passed_reports t at (designated.Procedure p) = reported_reports at 43
-whole_passed_reports t at (designated.Nested p) = reported_reports at 53
-whole_passed_reports t at (designated.Standard f) = reported_reports at 53
-whole_passed_reports t at (designated.Module k) = reported_reports at 40
+whole_passed_reports t at (designated.Variable u d) = where_reports (not (are_same u t)) at rule.WrongArgument (fine _)
+whole_passed_reports t at (designated.Value x) = reported_reports at rule.WrongArgument
+whole_passed_reports t at (designated.Open u slot) = reported_reports at rule.WrongArgument
+whole_passed_reports t at (designated.Type u) = reported_reports at rule.WrongType
+whole_passed_reports t at (designated.Procedure p) = reported_reports at rule.WrongArgument
+whole_passed_reports t at (designated.Nested p) = reported_reports at rule.NoProcedureValue
+whole_passed_reports t at (designated.Standard f) = reported_reports at rule.NoProcedureValue
+whole_passed_reports t at (designated.Module k) = reported_reports at rule.WrongType
 
 pub simple_passed_reports : (types : Types) → (t : TypeNo) → (at : Pos) → (d : Designated) → Reports (simple_passed least types t at d) (simple_passed every types t at d)
-simple_passed_reports types t at d = then_reports (taken_reports types at d) (λ x. then_reports (value_suited_reports 43 types t at x) (λ e. fine _))
+simple_passed_reports types t at d = then_reports (taken_reports types at d) (λ x. then_reports (value_suited_reports rule.WrongArgument types t at x) (λ e. fine _))
 
 pub passed_as_reports : (types : Types) → (t : TypeNo) → (at : Pos) → (d : Designated) → (p4 : Class) → Reports (passed_as least types t at d p4) (passed_as every types t at d p4)
 passed_as_reports types t at d (class.Scalar s) = simple_passed_reports types t at d

@@ -1,6 +1,7 @@
 -- Constant expressions.
 use Rattle.std.proofs.Common.{ℕ, List, Option, Some, None, Result}
 use Rattle.std.specs.Prelude.{slice_get, not}
+use Rattle.m2_rule.specs.declared.rule.Rule.TheVariants as rule
 use Rattle.m2_tree.specs.declared.pos.Pos.{Pos}
 use Rattle.m2_tree.specs.declared.name.Ident.{Ident}
 use Rattle.m2_tree.specs.declared.expr.MulOp.{MulOp}
@@ -48,11 +49,11 @@ denoted_of_reports (is_headless f fs p) = fine denoted.Procedure
 
 as_constant_reports : (at : Pos) (d : Denoted) → Reports (as_constant least at d) (as_constant every at d)
 as_constant_reports at (denoted.Value v) = fine v
-as_constant_reports at (denoted.Type t) = reported_reports at 34
-as_constant_reports at denoted.Variable = reported_reports at 34
-as_constant_reports at denoted.Procedure = reported_reports at 34
-as_constant_reports at (denoted.Standard f) = reported_reports at 34
-as_constant_reports at (denoted.Module k) = reported_reports at 34
+as_constant_reports at (denoted.Type t) = reported_reports at rule.NoConstant
+as_constant_reports at denoted.Variable = reported_reports at rule.NoConstant
+as_constant_reports at denoted.Procedure = reported_reports at rule.NoConstant
+as_constant_reports at (denoted.Standard f) = reported_reports at rule.NoConstant
+as_constant_reports at (denoted.Module k) = reported_reports at rule.NoConstant
 
 pub constant_by_reports : (at : Pos) {d : Result Denoted Fault} {d' : Result Denoted (List Fault)} → Reports d d' → Reports (constant_by least at d) (constant_by every at d')
 constant_by_reports at p = then_reports p (λ d. as_constant_reports at d)
@@ -61,27 +62,27 @@ pub of_value_reports : {v : Result Value Fault} {v' : Result Value (List Fault)}
 of_value_reports p = then_reports p (λ x. fine (denoted.Value x))
 
 pub is_bitset_reports : (at : Pos) (m : Meaning) → Reports (is_bitset least at m) (is_bitset every at m)
-is_bitset_reports at (meaning.Type t n) = where_reports (not (are_same t bitset)) at 33 (fine tt)
-is_bitset_reports at (meaning.Constant v) = reported_reports at 33
-is_bitset_reports at (meaning.Variable v) = reported_reports at 33
-is_bitset_reports at (meaning.Local v) = reported_reports at 33
-is_bitset_reports at (meaning.Field f) = reported_reports at 33
-is_bitset_reports at (meaning.Procedure p) = reported_reports at 33
-is_bitset_reports at (meaning.LocalProcedure p) = reported_reports at 33
-is_bitset_reports at meaning.Ahead = reported_reports at 33
-is_bitset_reports at (meaning.Standard f) = reported_reports at 33
-is_bitset_reports at (meaning.Module k) = reported_reports at 33
+is_bitset_reports at (meaning.Type t n) = where_reports (not (are_same t bitset)) at rule.NoType (fine tt)
+is_bitset_reports at (meaning.Constant v) = reported_reports at rule.NoType
+is_bitset_reports at (meaning.Variable v) = reported_reports at rule.NoType
+is_bitset_reports at (meaning.Local v) = reported_reports at rule.NoType
+is_bitset_reports at (meaning.Field f) = reported_reports at rule.NoType
+is_bitset_reports at (meaning.Procedure p) = reported_reports at rule.NoType
+is_bitset_reports at (meaning.LocalProcedure p) = reported_reports at rule.NoType
+is_bitset_reports at meaning.Ahead = reported_reports at rule.NoType
+is_bitset_reports at (meaning.Standard f) = reported_reports at rule.NoType
+is_bitset_reports at (meaning.Module k) = reported_reports at rule.NoType
 
 pub component_reports : (at : Pos) (d : Denoted) → Reports (component least at d) (component every at d)
 component_reports at denoted.Variable = fine denoted.Variable
-component_reports at (denoted.Value v) = reported_reports at 40
+component_reports at (denoted.Value v) = reported_reports at rule.WrongType
 component_reports at (denoted.Type t) = fine denoted.Variable
 component_reports at denoted.Procedure = fine denoted.Variable
 component_reports at (denoted.Standard f) = fine denoted.Variable
-component_reports at (denoted.Module k) = reported_reports at 40
+component_reports at (denoted.Module k) = reported_reports at rule.WrongType
 
 exported_reports : (at : Pos) (m : Option Meaning) → Reports (exported least at m) (exported every at m)
-exported_reports at None = reported_reports at 32
+exported_reports at None = reported_reports at rule.NotExported
 exported_reports at (Some m) = fine m
 
 pub member_reports : (tables : List Table) (k : ℕ) (name : Ident) → Reports (member least tables k name) (member every tables k name)
@@ -90,11 +91,11 @@ member_reports tables k name = exported_reports name.pos (exported_by name.name 
 -- ---- standard procedures
 
 pub scalar_type_reports : (at : Pos) (t : TypeNo) (s : Option Scalar) → Reports (scalar_type least at t s) (scalar_type every at t s)
-scalar_type_reports at t None = reported_reports at 33
+scalar_type_reports at t None = reported_reports at rule.NoType
 scalar_type_reports at t (Some s) = fine (t, s)
 
 named_scalar_reports : (types : Types) (at : Pos) (t : Option TypeNo) → Reports (named_scalar least types at t) (named_scalar every types at t)
-named_scalar_reports types at None = reported_reports at 33
+named_scalar_reports types at None = reported_reports at rule.NoType
 named_scalar_reports types at (Some t) = scalar_type_reports at t (scalar_at types t)
 
 type_argument_reports : (types : Types) (at : Pos) {t : Result (Option TypeNo) Fault} {t' : Result (Option TypeNo) (List Fault)} → Reports t t' → Reports (type_argument least types at t) (type_argument every types at t')
@@ -106,16 +107,16 @@ unary_of_reports standard.Cap at v = capital_reports at v
 unary_of_reports standard.Chr at v = character_reports at v
 unary_of_reports standard.Odd at v = is_odd_reports at v
 unary_of_reports standard.Ord at v = ordinal_of_reports at v
-unary_of_reports standard.High at v = reported_reports at 34
-unary_of_reports standard.Max at v = reported_reports at 34
-unary_of_reports standard.Min at v = reported_reports at 34
-unary_of_reports standard.Val at v = reported_reports at 34
-unary_of_reports standard.Inc at v = reported_reports at 34
-unary_of_reports standard.Dec at v = reported_reports at 34
-unary_of_reports standard.Incl at v = reported_reports at 34
-unary_of_reports standard.Excl at v = reported_reports at 34
-unary_of_reports standard.Halt at v = reported_reports at 34
-unary_of_reports standard.Put at v = reported_reports at 34
+unary_of_reports standard.High at v = reported_reports at rule.NoConstant
+unary_of_reports standard.Max at v = reported_reports at rule.NoConstant
+unary_of_reports standard.Min at v = reported_reports at rule.NoConstant
+unary_of_reports standard.Val at v = reported_reports at rule.NoConstant
+unary_of_reports standard.Inc at v = reported_reports at rule.NoConstant
+unary_of_reports standard.Dec at v = reported_reports at rule.NoConstant
+unary_of_reports standard.Incl at v = reported_reports at rule.NoConstant
+unary_of_reports standard.Excl at v = reported_reports at rule.NoConstant
+unary_of_reports standard.Halt at v = reported_reports at rule.NoConstant
+unary_of_reports standard.Put at v = reported_reports at rule.NoConstant
 
 unary_reports : (f : Standard) {x : Result (Pos × Value) Fault} {x' : Result (Pos × Value) (List Fault)} → Reports x x' → Reports (unary least f x) (unary every f x')
 unary_reports f p = then_reports p (λ x. unary_of_reports f x.0 x.1)
@@ -158,36 +159,36 @@ constant_reports {s = s} {s' = s'} b (parts at d d_n) = constant_by_reports at (
 -- ---- calls
 
 one_reports : {s : Scope Fault} {s' : Scope (List Fault)} → ScopeBeside s s' → (at : Pos) {xs : List (Part Fault)} {xs' : List (Part (List Fault))} → Pairwise PartBeside xs xs' → Reports (one least s at xs) (one every s' at xs')
-one_reports b at none = reported_reports at 42
+one_reports b at none = reported_reports at rule.ArgumentCount
 one_reports b at (more (parts p d d_n) none) = then_reports (constant_reports b (parts p d d_n)) (λ x. fine (p, x))
-one_reports b at (more x (more y zs)) = reported_reports at 42
+one_reports b at (more x (more y zs)) = reported_reports at rule.ArgumentCount
 
 type_only_reports : {s : Scope Fault} {s' : Scope (List Fault)} → ScopeBeside s s' → (at : Pos) {xs : List (Part Fault)} {xs' : List (Part (List Fault))} → Pairwise PartBeside xs xs' → Reports (type_only least s at xs) (type_only every s' at xs')
-type_only_reports b at none = reported_reports at 42
+type_only_reports b at none = reported_reports at rule.ArgumentCount
 type_only_reports (scopes t types v h own outer) at (more (parts p d d_n) none) = type_argument_reports types p (d_n _ _ (scopes t types v h own outer))
-type_only_reports b at (more x (more y zs)) = reported_reports at 42
+type_only_reports b at (more x (more y zs)) = reported_reports at rule.ArgumentCount
 
 conversion_reports : {s : Scope Fault} {s' : Scope (List Fault)} → ScopeBeside s s' → (at : Pos) {xs : List (Part Fault)} {xs' : List (Part (List Fault))} → Pairwise PartBeside xs xs' → Reports (conversion least s at xs) (conversion every s' at xs')
-conversion_reports b at none = reported_reports at 42
-conversion_reports b at (more x none) = reported_reports at 42
+conversion_reports b at none = reported_reports at rule.ArgumentCount
+conversion_reports b at (more x none) = reported_reports at rule.ArgumentCount
 conversion_reports (scopes t types v h own outer) at (more (parts p d d_n) (more (parts q e e_n) none)) =
     converted_by_reports (type_argument_reports types p (d_n _ _ (scopes t types v h own outer))) q (constant_reports (scopes t types v h own outer) (parts q e e_n))
-conversion_reports b at (more x (more y (more z zs))) = reported_reports at 42
+conversion_reports b at (more x (more y (more z zs))) = reported_reports at rule.ArgumentCount
 
 by_sort_reports : {s : Scope Fault} {s' : Scope (List Fault)} → ScopeBeside s s' → (at : Pos) (f : Standard) {xs : List (Part Fault)} {xs' : List (Part (List Fault))} → Pairwise PartBeside xs xs' → (c : Sort)
     → Reports (by_sort least s at f xs c) (by_sort every s' at f xs' c)
 by_sort_reports b at f xs Unary = unary_reports f (one_reports b at xs)
 by_sort_reports b at f xs Bound = bound_reports f (type_only_reports b at xs)
 by_sort_reports b at f xs Conversion = conversion_reports b at xs
-by_sort_reports b at f xs Never = reported_reports at 34
+by_sort_reports b at f xs Never = reported_reports at rule.NoConstant
 
 called_as_reports : {s : Scope Fault} {s' : Scope (List Fault)} → ScopeBeside s s' → (at : Pos) (d : Denoted) {xs : List (Part Fault)} {xs' : List (Part (List Fault))} → Pairwise PartBeside xs xs' → Reports (called_as least s at d xs) (called_as every s' at d xs')
 called_as_reports b at (denoted.Standard f) xs = by_sort_reports b at f xs (sort_of f)
-called_as_reports b at (denoted.Value v) xs = reported_reports at 34
-called_as_reports b at (denoted.Type t) xs = reported_reports at 34
-called_as_reports b at denoted.Variable xs = reported_reports at 34
-called_as_reports b at denoted.Procedure xs = reported_reports at 34
-called_as_reports b at (denoted.Module k) xs = reported_reports at 34
+called_as_reports b at (denoted.Value v) xs = reported_reports at rule.NoConstant
+called_as_reports b at (denoted.Type t) xs = reported_reports at rule.NoConstant
+called_as_reports b at denoted.Variable xs = reported_reports at rule.NoConstant
+called_as_reports b at denoted.Procedure xs = reported_reports at rule.NoConstant
+called_as_reports b at (denoted.Module k) xs = reported_reports at rule.NoConstant
 
 used_with_beside : {d : Part Fault} {d' : Part (List Fault)} → PartBeside d d' → {xs : Option (List (Part Fault))} {xs' : Option (List (Part (List Fault)))} → Optionwise (Pairwise PartBeside) xs xs' → PartBeside (used_with least d xs) (used_with every d' xs')
 used_with_beside d nothing = d
@@ -218,7 +219,7 @@ added_reports b (parts at d d_n) (something (parts at' e e_n)) =
 
 set_type_reports : {s : Scope Fault} {s' : Scope (List Fault)} → ScopeBeside s s' → (name : Option Ident) → Reports (set_type least s name) (set_type every s' name)
 set_type_reports b None = fine tt
-set_type_reports b (Some name) = then_reports (of_sort_reports name.pos 33 (looked_up_sought name b)) (λ m. is_bitset_reports name.pos m)
+set_type_reports b (Some name) = then_reports (of_sort_reports name.pos rule.NoType (looked_up_sought name b)) (λ m. is_bitset_reports name.pos m)
 
 -- ---- designators
 

@@ -1,5 +1,6 @@
 -- Calls as statements.
 use Rattle.std.proofs.Common.{ℕ, List, length, Result, subst}
+use Rattle.m2_rule.specs.declared.rule.Rule.TheVariants as rule
 use Rattle.m2_tree.specs.declared.pos.Pos.{Pos}
 use Rattle.typed_tree.specs.declared.types.TypeNo.{TypeNo}
 use Rattle.typed_tree.specs.declared.computed.Argument.{Argument}
@@ -38,7 +39,7 @@ routine_done_reports (scopes tables types vars procs {level = level} {withs = wi
     (λ u. call_done_reports c (actuals_reports (scopes tables types vars procs {level = level} {withs = withs} own outer) (formals_of (signature_at types h)) args))
 
 changed_in_reports : {s : Scope Fault} {s' : Scope (List Fault)} → ScopeBeside s s' → {x : Meant Fault} {x' : Meant (List Fault)} → MeantBeside x x' → Reports (changed_in least s x) (changed_in every s' x')
-changed_in_reports (scopes tables types vars procs {level = level} {withs = withs} own outer) (meants (parts x_at x_p x_n) x_m) = then_reports (of_sort_reports x_at 44 (x_m _ _ (scopes tables types vars procs {level = level} {withs = withs} own outer))) (λ v. changed_reports types x_at v)
+changed_in_reports (scopes tables types vars procs {level = level} {withs = withs} own outer) (meants (parts x_at x_p x_n) x_m) = then_reports (of_sort_reports x_at rule.NoVariable (x_m _ _ (scopes tables types vars procs {level = level} {withs = withs} own outer))) (λ v. changed_reports types x_at v)
 
 pub changed_by_reports : {s : Scope Fault} {s' : Scope (List Fault)} → ScopeBeside s s' → (at : Pos) → (o : Change) → {p3 : List (Meant Fault)} {p3' : List (Meant (List Fault))} → Pairwise MeantBeside p3 p3' → Reports (changed_by least s at o p3) (changed_by every s' at o p3')
 changed_by_reports s at o none = miscounted_reports s at none
@@ -47,7 +48,7 @@ changed_by_reports s at o (more v (more (meants (parts n_at n_p n_n) n_m) none))
 changed_by_reports s at o (more v (more n (more x xs))) = miscounted_reports s at (more v (more n (more x xs)))
 
 set_in_reports : {s : Scope Fault} {s' : Scope (List Fault)} → ScopeBeside s s' → {x : Meant Fault} {x' : Meant (List Fault)} → MeantBeside x x' → Reports (set_in least s x) (set_in every s' x')
-set_in_reports (scopes tables types vars procs {level = level} {withs = withs} own outer) (meants (parts x_at x_p x_n) x_m) = then_reports (of_sort_reports x_at 44 (x_m _ _ (scopes tables types vars procs {level = level} {withs = withs} own outer))) (λ v. set_variable_reports types x_at v)
+set_in_reports (scopes tables types vars procs {level = level} {withs = withs} own outer) (meants (parts x_at x_p x_n) x_m) = then_reports (of_sort_reports x_at rule.NoVariable (x_m _ _ (scopes tables types vars procs {level = level} {withs = withs} own outer))) (λ v. set_variable_reports types x_at v)
 
 pub member_by_reports : {s : Scope Fault} {s' : Scope (List Fault)} → ScopeBeside s s' → (at : Pos) → (o : Membership) → {p3 : List (Meant Fault)} {p3' : List (Meant (List Fault))} → Pairwise MeantBeside p3 p3' → Reports (member_by least s at o p3) (member_by every s' at o p3')
 member_by_reports s at o none = miscounted_reports s at none
@@ -65,7 +66,7 @@ put_by_reports (scopes tables types vars procs {level = level} {withs = withs} o
 put_by_reports s at (more x (more y xs)) = miscounted_reports s at (more x (more y xs))
 
 function_done_reports : {s : Scope Fault} {s' : Scope (List Fault)} → ScopeBeside s s' → (at : Pos) → {args : List (Meant Fault)} {args' : List (Meant (List Fault))} → Pairwise MeantBeside args args' → Reports (function_done least s at args) (function_done every s' at args')
-function_done_reports s at args = reported_beside_reports at 40 (looked_at_reports s args)
+function_done_reports s at args = reported_beside_reports at rule.WrongType (looked_at_reports s args)
 
 pub standard_done_reports : {s : Scope Fault} {s' : Scope (List Fault)} → ScopeBeside s s' → (at : Pos) → {args : List (Meant Fault)} {args' : List (Meant (List Fault))} → Pairwise MeantBeside args args' → (p3 : Standard) → Reports (standard_done least s at args p3) (standard_done every s' at args' p3)
 standard_done_reports s at args Abs = function_done_reports s at args

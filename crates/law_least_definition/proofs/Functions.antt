@@ -1,5 +1,6 @@
 -- Standard functions.
 use Rattle.std.specs.Prelude.{not, Result, List}
+use Rattle.m2_rule.specs.declared.rule.Rule.TheVariants as rule
 use Rattle.m2_tree.specs.declared.pos.Pos.{Pos}
 use Rattle.typed_tree.specs.declared.types.TypeNo.{TypeNo}
 use Rattle.typed_tree.specs.declared.computed.TypedExpr.{TypedExpr}
@@ -23,51 +24,51 @@ use Rattle.law_least_definition.proofs.Operations.{of_value_reports}
 use Rattle.law_least_definition.proofs.Constants.{scalar_type_reports, unary_of_reports}
 
 pub unary_scalar_reports : (u : Unary) → (at : Pos) → (b : TypeNo) → (e : TypedExpr) → Reports (unary_scalar least u at b e) (unary_scalar every u at b e)
-unary_scalar_reports u at b e = where_reports (not (unary_takes u b)) at 43 (fine _)
+unary_scalar_reports u at b e = where_reports (not (unary_takes u b)) at rule.WrongArgument (fine _)
 
 pub unary_at_reports : (f : Standard) → (u : Unary) → (at : Pos) → (p3 : Computed) → Reports (unary_at least f u at p3) (unary_at every f u at p3)
 unary_at_reports f u at (value.Constant v) = of_value_reports (unary_of_reports f at v)
 unary_at_reports f u at (value.Scalar t b e) = unary_scalar_reports u at b e
-unary_at_reports f u at (value.Set e) = reported_reports at 43
-unary_at_reports f u at (value.Routine t e) = reported_reports at 43
-unary_at_reports f u at (value.Procedure p) = reported_reports at 43
-unary_at_reports f u at (value.Whole t d) = reported_reports at 43
-unary_at_reports f u at value.Untaken = reported_reports at 43
+unary_at_reports f u at (value.Set e) = reported_reports at rule.WrongArgument
+unary_at_reports f u at (value.Routine t e) = reported_reports at rule.WrongArgument
+unary_at_reports f u at (value.Procedure p) = reported_reports at rule.WrongArgument
+unary_at_reports f u at (value.Whole t d) = reported_reports at rule.WrongArgument
+unary_at_reports f u at value.Untaken = reported_reports at rule.WrongArgument
 
 pub type_named_reports : (types : Types) → (at : Pos) → (p2 : Designated) → Reports (type_named least types at p2) (type_named every types at p2)
 type_named_reports types at (designated.Type t) = scalar_type_reports at t (scalar_at types t)
-type_named_reports types at (designated.Value x) = reported_reports at 33
-type_named_reports types at (designated.Variable t d) = reported_reports at 33
-type_named_reports types at (designated.Open t slot) = reported_reports at 33
-type_named_reports types at (designated.Procedure p) = reported_reports at 33
-type_named_reports types at (designated.Nested p) = reported_reports at 33
-type_named_reports types at (designated.Standard f) = reported_reports at 33
-type_named_reports types at (designated.Module k) = reported_reports at 33
+type_named_reports types at (designated.Value x) = reported_reports at rule.NoType
+type_named_reports types at (designated.Variable t d) = reported_reports at rule.NoType
+type_named_reports types at (designated.Open t slot) = reported_reports at rule.NoType
+type_named_reports types at (designated.Procedure p) = reported_reports at rule.NoType
+type_named_reports types at (designated.Nested p) = reported_reports at rule.NoType
+type_named_reports types at (designated.Standard f) = reported_reports at rule.NoType
+type_named_reports types at (designated.Module k) = reported_reports at rule.NoType
 
 pub bound_at_reports : (f : Standard) → {x : Result (TypeNo × Range) Fault} {x' : Result (TypeNo × Range) (List Fault)} → Reports x x' → Reports (bound_at f x) (bound_at f x')
 bound_at_reports f x = then_reports x (λ p. fine _)
 
 pub converted_scalar_reports : (t : TypeNo) → (s : Range) → (at : Pos) → (b : TypeNo) → (e : TypedExpr) → Reports (converted_scalar least t s at b e) (converted_scalar every t s at b e)
-converted_scalar_reports t s at b e = where_reports (not (is_numeric b)) at 43 (fine _)
+converted_scalar_reports t s at b e = where_reports (not (is_numeric b)) at rule.WrongArgument (fine _)
 
 pub converted_value_reports : (t : TypeNo) → (s : Range) → (at : Pos) → (p3 : Computed) → Reports (converted_value least t s at p3) (converted_value every t s at p3)
 converted_value_reports t s at (value.Constant v) = of_value_reports (converted_reports t s at v)
 converted_value_reports t s at (value.Scalar u b e) = converted_scalar_reports t s at b e
-converted_value_reports t s at (value.Set e) = reported_reports at 43
-converted_value_reports t s at (value.Routine u e) = reported_reports at 43
-converted_value_reports t s at (value.Procedure p) = reported_reports at 43
-converted_value_reports t s at (value.Whole u d) = reported_reports at 43
-converted_value_reports t s at value.Untaken = reported_reports at 43
+converted_value_reports t s at (value.Set e) = reported_reports at rule.WrongArgument
+converted_value_reports t s at (value.Routine u e) = reported_reports at rule.WrongArgument
+converted_value_reports t s at (value.Procedure p) = reported_reports at rule.WrongArgument
+converted_value_reports t s at (value.Whole u d) = reported_reports at rule.WrongArgument
+converted_value_reports t s at value.Untaken = reported_reports at rule.WrongArgument
 
 pub conversion_at_reports : {to : Result (TypeNo × Range) Fault} {to' : Result (TypeNo × Range) (List Fault)} → Reports to to' → (at : Pos) → {x : Result Computed Fault} {x' : Result Computed (List Fault)} → Reports x x' → Reports (conversion_at least to at x) (conversion_at every to' at x')
 conversion_at_reports to at x = then_reports (both_reports to x) (λ p. converted_value_reports p.0.0 p.0.1 at p.1)
 
 pub high_of_reports : (at : Pos) → (p1 : Designated) → Reports (high_of least at p1) (high_of every at p1)
 high_of_reports at (designated.Open t slot) = fine _
-high_of_reports at (designated.Value x) = reported_reports at 43
-high_of_reports at (designated.Variable t d) = reported_reports at 43
-high_of_reports at (designated.Type t) = reported_reports at 40
-high_of_reports at (designated.Procedure p) = reported_reports at 43
-high_of_reports at (designated.Nested p) = reported_reports at 53
-high_of_reports at (designated.Standard f) = reported_reports at 53
-high_of_reports at (designated.Module k) = reported_reports at 40
+high_of_reports at (designated.Value x) = reported_reports at rule.WrongArgument
+high_of_reports at (designated.Variable t d) = reported_reports at rule.WrongArgument
+high_of_reports at (designated.Type t) = reported_reports at rule.WrongType
+high_of_reports at (designated.Procedure p) = reported_reports at rule.WrongArgument
+high_of_reports at (designated.Nested p) = reported_reports at rule.NoProcedureValue
+high_of_reports at (designated.Standard f) = reported_reports at rule.NoProcedureValue
+high_of_reports at (designated.Module k) = reported_reports at rule.WrongType

@@ -2,6 +2,7 @@
 use Rattle.std.proofs.Common.{ℕ, not, List, Option, Some, None, Result}
 use Rattle.std.specs.Prelude.{take, drop, slice_get}
 use Rattle.std.specs.List.{fold}
+use Rattle.m2_rule.specs.declared.rule.Rule.TheVariants as rule
 use Rattle.m2_tree.specs.declared.pos.Pos.{Pos}
 use Rattle.m2_tree.specs.declared.name.Ident.{Ident}
 use Rattle.m2_tree.specs.declared.decl.Import.{Import}
@@ -60,7 +61,7 @@ pub join_goes : {r : Result (Unit {0}) Fault} {r' : Result (Unit {0}) (List Faul
 join_goes t p = goes p.scope (beside_reports t p.reported)
 
 module_found_reports : (at : Pos) (k : Option ℕ) → Reports (module_found least at k) (module_found every at k)
-module_found_reports at None = reported_reports at 20
+module_found_reports at None = reported_reports at rule.MissingModule
 module_found_reports at (Some k) = fine k
 
 module_named_reports : (modules : List (List ℕ × ℕ)) (name : Ident) → Reports (module_named least modules name) (module_named every modules name)
@@ -82,9 +83,9 @@ reported_of_taken_beside : (at : Pos) (k : ℕ) {o : Option (Known Fault)} {o' :
 reported_of_taken_beside at k nothing = nothing
 reported_of_taken_beside at k (something known_later) = nothing
 reported_of_taken_beside at k (something known_ahead) = nothing
-reported_of_taken_beside at k (something known_begun) = something (reported_reports at 31)
-reported_of_taken_beside at k (something (known_headed m)) = something (reported_reports at 31)
-reported_of_taken_beside at k (something (known_declared o m)) = something (where_reports (not (is_one_origin o (Export k))) at 31 (fine tt))
+reported_of_taken_beside at k (something known_begun) = something (reported_reports at rule.DeclaredTwice)
+reported_of_taken_beside at k (something (known_headed m)) = something (reported_reports at rule.DeclaredTwice)
+reported_of_taken_beside at k (something (known_declared o m)) = something (where_reports (not (is_one_origin o (Export k))) at rule.DeclaredTwice (fine tt))
 
 unless_taken_goes : {s : Scope Fault} {s' : Scope (List Fault)} → ScopeBeside s s' → (at : Pos) (k : ℕ) (es : List (List ℕ × Meaning)) (i : ℕ) {o : Option (Result (Unit {0}) Fault)} {o' : Option (Result (Unit {0}) (List Fault))} → Optionwise Reports o o'
     → StateBeside (unless_taken least s at k es i o) (unless_taken every s' at k es i o')
@@ -92,7 +93,7 @@ unless_taken_goes b at k es i (something t) = goes b t
 unless_taken_goes b at k es i nothing = fold_keeps StateBeside (with_entry least at k) (with_entry every at k) (λ st st' e p. with_entry_goes at k p e) (take (brings_in (slice_get es i)) (drop i es)) _ _ (goes b (fine tt))
 
 from_place_goes : {s : Scope Fault} {s' : Scope (List Fault)} → ScopeBeside s s' → (name : Ident) (k : ℕ) (es : List (List ℕ × Meaning)) (i : Option ℕ) → StateBeside (from_place least s name k es i) (from_place every s' name k es i)
-from_place_goes b name k es None = goes b (reported_reports name.pos 32)
+from_place_goes b name k es None = goes b (reported_reports name.pos rule.NotExported)
 from_place_goes b name k es (Some i) = unless_taken_goes b name.pos k es i (reported_of_taken_beside name.pos k (own_beside name.name b))
 
 with_from_goes : (k : ℕ) (es : List (List ℕ × Meaning)) {st : Scope Fault × Result (Unit {0}) Fault} {st' : Scope (List Fault) × Result (Unit {0}) (List Fault)} → StateBeside st st' → (name : Ident)

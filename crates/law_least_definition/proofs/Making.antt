@@ -3,6 +3,7 @@ use Rattle.std.proofs.Common.{ℕ, ℤ, pos, Bool, not, List, [], Option, Some, 
 use Rattle.std.specs.Prelude.{int_lt, slice_get, ◌+◌}
 use Rattle.std.specs.List.{fold}
 use Rattle.std.specs.Option.{is_some}
+use Rattle.m2_rule.specs.declared.rule.Rule.TheVariants as rule
 use Rattle.m2_tree.specs.declared.pos.Pos.{Pos}
 use Rattle.m2_tree.specs.declared.name.Ident.{Ident}
 use Rattle.m2_tree.specs.declared.expr.Qualified.{Qualified}
@@ -46,31 +47,31 @@ use Rattle.law_least_definition.proofs.Constants.{member_reports}
 
 type_meant_reports : (at : Pos) (m : Meaning) → Reports (type_meant least at m) (type_meant every at m)
 type_meant_reports at (meaning.Type t n) = fine t
-type_meant_reports at (meaning.Constant v) = reported_reports at 33
-type_meant_reports at (meaning.Variable v) = reported_reports at 33
-type_meant_reports at (meaning.Local v) = reported_reports at 33
-type_meant_reports at (meaning.Field f) = reported_reports at 33
-type_meant_reports at (meaning.Procedure p) = reported_reports at 33
-type_meant_reports at (meaning.LocalProcedure p) = reported_reports at 33
-type_meant_reports at meaning.Ahead = reported_reports at 33
-type_meant_reports at (meaning.Standard f) = reported_reports at 33
-type_meant_reports at (meaning.Module k) = reported_reports at 33
+type_meant_reports at (meaning.Constant v) = reported_reports at rule.NoType
+type_meant_reports at (meaning.Variable v) = reported_reports at rule.NoType
+type_meant_reports at (meaning.Local v) = reported_reports at rule.NoType
+type_meant_reports at (meaning.Field f) = reported_reports at rule.NoType
+type_meant_reports at (meaning.Procedure p) = reported_reports at rule.NoType
+type_meant_reports at (meaning.LocalProcedure p) = reported_reports at rule.NoType
+type_meant_reports at meaning.Ahead = reported_reports at rule.NoType
+type_meant_reports at (meaning.Standard f) = reported_reports at rule.NoType
+type_meant_reports at (meaning.Module k) = reported_reports at rule.NoType
 
 in_module_reports : {s : Scope Fault} {s' : Scope (List Fault)} → ScopeBeside s s' → (at : Pos) (name : Ident) (m : Meaning) → Reports (in_module least s at name m) (in_module every s' at name m)
 in_module_reports (scopes t types v p own outer) at name (meaning.Module k) = then_reports (member_reports t k name) (λ m. type_meant_reports at m)
-in_module_reports b at name (meaning.Type t n) = reported_reports at 33
-in_module_reports b at name (meaning.Constant v) = reported_reports at 33
-in_module_reports b at name (meaning.Variable v) = reported_reports at 33
-in_module_reports b at name (meaning.Local v) = reported_reports at 33
-in_module_reports b at name (meaning.Field f) = reported_reports at 33
-in_module_reports b at name (meaning.Procedure p) = reported_reports at 33
-in_module_reports b at name (meaning.LocalProcedure p) = reported_reports at 33
-in_module_reports b at name meaning.Ahead = reported_reports at 33
-in_module_reports b at name (meaning.Standard f) = reported_reports at 33
+in_module_reports b at name (meaning.Type t n) = reported_reports at rule.NoType
+in_module_reports b at name (meaning.Constant v) = reported_reports at rule.NoType
+in_module_reports b at name (meaning.Variable v) = reported_reports at rule.NoType
+in_module_reports b at name (meaning.Local v) = reported_reports at rule.NoType
+in_module_reports b at name (meaning.Field f) = reported_reports at rule.NoType
+in_module_reports b at name (meaning.Procedure p) = reported_reports at rule.NoType
+in_module_reports b at name (meaning.LocalProcedure p) = reported_reports at rule.NoType
+in_module_reports b at name meaning.Ahead = reported_reports at rule.NoType
+in_module_reports b at name (meaning.Standard f) = reported_reports at rule.NoType
 
 of_module_reports : {s : Scope Fault} {s' : Scope (List Fault)} → ScopeBeside s s' → (home : Option Ident) (name : Ident) → Reports (of_module least s home name) (of_module every s' home name)
-of_module_reports b None name = then_reports (of_sort_reports name.pos 33 (looked_up_sought name b)) (λ m. type_meant_reports name.pos m)
-of_module_reports b (Some home) name = then_reports (of_sort_reports home.pos 33 (looked_up_sought home b)) (λ m. in_module_reports b home.pos name m)
+of_module_reports b None name = then_reports (of_sort_reports name.pos rule.NoType (looked_up_sought name b)) (λ m. type_meant_reports name.pos m)
+of_module_reports b (Some home) name = then_reports (of_sort_reports home.pos rule.NoType (looked_up_sought home b)) (λ m. in_module_reports b home.pos name m)
 
 pub named_type_reports : {s : Scope Fault} {s' : Scope (List Fault)} → ScopeBeside s s' → (q : Qualified) → Reports (named_type least s q) (named_type every s' q)
 named_type_reports b q = of_module_reports b q.module q.name
@@ -78,25 +79,25 @@ named_type_reports b q = of_module_reports b q.module q.name
 -- ---- subranges
 
 ordinal_in_reports : (at : Pos) (x : Option Operand) → Reports (ordinal_in least at x) (ordinal_in every at x)
-ordinal_in_reports at None = reported_reports at 40
-ordinal_in_reports at (Some (operands.Set bits)) = reported_reports at 40
+ordinal_in_reports at None = reported_reports at rule.WrongType
+ordinal_in_reports at (Some (operands.Set bits)) = reported_reports at rule.WrongType
 ordinal_in_reports at (Some (operands.Scalar a)) = fine a
 
 pub bound_of_reports : (at : Pos) {v : Result Value Fault} {v' : Result Value (List Fault)} → Reports v v' → Reports (bound_of least at v) (bound_of every at v')
 bound_of_reports at p = then_reports p (λ x. ordinal_in_reports at (operand_of x))
 
 ordered_reports : (at : Pos) (low high : ℤ) → Reports (ordered least at low high) (ordered every at low high)
-ordered_reports at low high = where_reports (int_lt high low) at 35 (fine tt)
+ordered_reports at low high = where_reports (int_lt high low) at rule.EmptyRange (fine tt)
 
 fits_at_reports : (at : Pos) (base : TypeNo) (sort : Option TypeNo) (n : ℤ) → Reports (fits_at least at base sort n) (fits_at every at base sort n)
 fits_at_reports at base (Some t) n = fine tt
-fits_at_reports at base None n = where_reports (not (fits (Some base) n)) at 52 (fine tt)
+fits_at_reports at base None n = where_reports (not (fits (Some base) n)) at rule.OutOfRange (fine tt)
 
 based_reports : (at : Pos) (a : Ordinal) (at' : Pos) (b : Ordinal) (base : TypeNo) → Reports (based least at a at' b base) (based every at a at' b base)
 based_reports at a at' b base = then_reports (beside_reports (ordered_reports at a.number b.number) (beside_reports (fits_at_reports at base a.sort a.number) (fits_at_reports at' base b.sort b.number))) (λ u. fine _)
 
 between_reports : (at : Pos) (a : Ordinal) (at' : Pos) (b : Ordinal) (sort : Option (Option TypeNo)) → Reports (between least at a at' b sort) (between every at a at' b sort)
-between_reports at a at' b None = reported_reports at' 40
+between_reports at a at' b None = reported_reports at' rule.WrongType
 between_reports at a at' b (Some sort) = based_reports at a at' b (base_of sort a.number)
 
 pub unnamed_reports : (at : Pos) {a : Result Ordinal Fault} {a' : Result Ordinal (List Fault)} → Reports a a' → (at' : Pos) {b : Result Ordinal Fault} {b' : Result Ordinal (List Fault)} → Reports b b'
@@ -104,7 +105,7 @@ pub unnamed_reports : (at : Pos) {a : Result Ordinal Fault} {a' : Result Ordinal
 unnamed_reports at p at' q = then_reports (both_reports p q) (λ x. between_reports at x.0 at' x.1 (common x.0.sort x.1.sort))
 
 is_of_reports : (of : Scalar) (at : Pos) (a : Ordinal) → Reports (is_of least of at a) (is_of every of at a)
-is_of_reports of at a = where_reports (not (is_of_base of.base a.sort)) at 40 (where_reports (not (is_between of.low a.number of.high)) at 52 (fine tt))
+is_of_reports of at a = where_reports (not (is_of_base of.base a.sort)) at rule.WrongType (where_reports (not (is_between of.low a.number of.high)) at rule.OutOfRange (fine tt))
 
 bound_in_reports : {of : Result Scalar Fault} {of' : Result Scalar (List Fault)} → Reports of of' → (at : Pos) {a : Result Ordinal Fault} {a' : Result Ordinal (List Fault)} → Reports a a' → Reports (bound_in least of at a) (bound_in every of' at a')
 bound_in_reports p at q = then_reports (both_reports p q) (λ x. is_of_reports x.0 at x.1)
@@ -133,7 +134,7 @@ pub reported_of : {X A : Type 0} {st : X × Result A Fault} {st' : X × Result A
 reported_of (is_kept x t) = t
 
 with_field_kept : (t : TypeNo) (cells : ℕ) (fs : Fields) (name : Ident) → KeptBeside (with_field least t cells fs name) (with_field every t cells fs name)
-with_field_kept t cells fs name = cond_keeps KeptBeside (is_some (found name.name fs.names)) (is_kept fs (reported_reports name.pos 31)) (is_kept _ (fine tt))
+with_field_kept t cells fs name = cond_keeps KeptBeside (is_some (found name.name fs.names)) (is_kept fs (reported_reports name.pos rule.DeclaredTwice)) (is_kept _ (fine tt))
 
 with_name_kept : (t : TypeNo) (cells : ℕ) {st : Fields × Result (Unit {0}) Fault} {st' : Fields × Result (Unit {0}) (List Fault)} → KeptBeside st st' → (name : Ident) → KeptBeside (with_name least t cells st name) (with_name every t cells st' name)
 with_name_kept t cells (is_kept fs u) name = join_kept u (with_field_kept t cells fs name)
@@ -148,7 +149,7 @@ pub formal_of_reports : {s : Scope Fault} {s' : Scope (List Fault)} → ScopeBes
 formal_of_reports b is_var f = then_reports (named_type_reports b f.of) (λ t. fine _)
 
 result_in_reports : (types : Types) (at : Pos) (t : TypeNo) → Reports (result_in least types at t) (result_in every types at t)
-result_in_reports types at t = where_reports (not (is_result types t)) at 33 (fine (Some t))
+result_in_reports types at t = where_reports (not (is_result types t)) at rule.NoType (fine (Some t))
 
 pub result_of_reports : {s : Scope Fault} {s' : Scope (List Fault)} → ScopeBeside s s' → (q : Option Qualified) → Reports (result_of least s q) (result_of every s' q)
 result_of_reports b None = fine None
@@ -193,7 +194,7 @@ with_made_goes b (is_refused f fs l) = goes b (is_refused f fs l)
 
 reported_at_reports : (name : Option Ident) → Reports (reported_at least name) (reported_at every name)
 reported_at_reports None = fine tt
-reported_at_reports (Some name) = reported_reports name.pos 37
+reported_at_reports (Some name) = reported_reports name.pos rule.ConstantCount
 
 data ListedBeside : Scope Fault × ℕ × Result (Unit {0}) Fault → Scope (List Fault) × ℕ × Result (Unit {0}) (List Fault) → Type 0 where
   listed_so : (n : ℕ) {s : Scope Fault} {s' : Scope (List Fault)} → ScopeBeside s s' → {r : Result (Unit {0}) Fault} {r' : Result (Unit {0}) (List Fault)} → Reports r r' → ListedBeside (s, n, r) (s', n, r')

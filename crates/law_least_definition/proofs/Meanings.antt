@@ -1,5 +1,6 @@
 -- What expressions of bodies mean.
 use Rattle.std.proofs.Common.{ℕ, List, [], length, Option, Some, None, Result, subst}
+use Rattle.m2_rule.specs.declared.rule.Rule.TheVariants as rule
 use Rattle.m2_tree.specs.declared.pos.Pos.{Pos}
 use Rattle.m2_tree.specs.declared.name.Ident.{Ident}
 use Rattle.m2_tree.specs.declared.expr.MulOp.{MulOp}
@@ -80,19 +81,19 @@ field_of_reports (scopes tables types vars procs {level = level} {withs = withs}
 field_of_reports (scopes tables types vars procs {level = level} {withs = withs} own outer) at name (designated.Standard f) = field_reports types at name (designated.Standard f)
 
 pub field_at_sought : {s : Scope Fault} {s' : Scope (List Fault)} → ScopeBeside s s' → (at : Pos) → (name : Ident) → {d : Result Designated (Meaningless Fault)} {d' : Result Designated (Meaningless (List Fault))} → SoughtBeside d d' → SoughtBeside (field_at least s at name d) (field_at every s' at name d')
-field_at_sought s at name d = plain_sought (then_reports (of_sort_reports at 40 d) (λ v. field_of_reports s at name v))
+field_at_sought s at name d = plain_sought (then_reports (of_sort_reports at rule.WrongType d) (λ v. field_of_reports s at name v))
 
 pub index_at_sought : (types : Types) → (at : Pos) → {d : Result Designated (Meaningless Fault)} {d' : Result Designated (Meaningless (List Fault))} → SoughtBeside d d' → (at' : Pos) → {x : Result Computed Fault} {x' : Result Computed (List Fault)} → Reports x x' → SoughtBeside (index_at least types at d at' x) (index_at every types at d' at' x')
-index_at_sought types at d at' x = plain_sought (indexed_reports types (then_reports (of_sort_reports at 40 d) (λ v. indices_reports types at v)) at' x)
+index_at_sought types at d at' x = plain_sought (indexed_reports types (then_reports (of_sort_reports at rule.WrongType d) (λ v. indices_reports types at v)) at' x)
 
 pub type_of_reports : (at : Pos) → {d : Result Designated (Meaningless Fault)} {d' : Result Designated (Meaningless (List Fault))} → SoughtBeside d d' → Reports (type_of least at d) (type_of every at d')
-type_of_reports at d = then_reports (of_sort_reports at 33 d) (λ v. fine _)
+type_of_reports at d = then_reports (of_sort_reports at rule.NoType d) (λ v. fine _)
 
 pub passed_for_reports : (f : Formal) → (at : Pos) → {d : Result Designated (Meaningless Fault)} {d' : Result Designated (Meaningless (List Fault))} → SoughtBeside d d' → Reports (passed_for least f at d) (passed_for every f at d')
-passed_for_reports f at d = cond_keeps Reports f.is_var (of_sort_reports at 44 d) (of_heading_reports d)
+passed_for_reports f at d = cond_keeps Reports f.is_var (of_sort_reports at rule.NoVariable d) (of_heading_reports d)
 
 pub argument_by_reports : (types : Types) → (p1 : Option Formal) → (at : Pos) → {d : Result Designated (Meaningless Fault)} {d' : Result Designated (Meaningless (List Fault))} → SoughtBeside d d' → Reports (argument_by least types p1 at d) (argument_by every types p1 at d')
-argument_by_reports types None at d = reported_reports at 42
+argument_by_reports types None at d = reported_reports at rule.ArgumentCount
 argument_by_reports types (Some f) at d = then_reports (passed_for_reports f at d) (λ v. actual_reports types f at v)
 
 pub call_given_reports : (types : Types) → (t : TypeNo) → (c : Callee) → {args : Result (List Argument) Fault} {args' : Result (List Argument) (List Fault)} → Reports args args' → Reports (call_given least types t c args) (call_given every types t c args')
@@ -113,7 +114,7 @@ pub looked_at_reports : {s : Scope Fault} {s' : Scope (List Fault)} → ScopeBes
 looked_at_reports {s = s} {s' = s'} b args = fold_pairwise Reports MeantBeside (with_look least s) (with_look every s') (λ so so' x x' p q. with_look_reports b p q) args _ _ (fine tt)
 
 pub miscounted_reports : {A : Type 0} {s : Scope Fault} {s' : Scope (List Fault)} → ScopeBeside s s' → (at : Pos) → {args : List (Meant Fault)} {args' : List (Meant (List Fault))} → Pairwise MeantBeside args args' → Reports {A = A} (miscounted least s at args) (miscounted every s' at args')
-miscounted_reports s at args = reported_beside_reports at 42 (looked_at_reports s args)
+miscounted_reports s at args = reported_beside_reports at rule.ArgumentCount (looked_at_reports s args)
 
 pub with_actual_kept : {s : Scope Fault} {s' : Scope (List Fault)} → ScopeBeside s s' → {st : List Formal × Result (List Argument) Fault} {st' : List Formal × Result (List Argument) (List Fault)} → KeptBeside st st' → {x : Meant Fault} {x' : Meant (List Fault)} → MeantBeside x x'
     → KeptBeside (with_actual least s st x) (with_actual every s' st' x')
@@ -134,7 +135,7 @@ unary_reports s at f u (more (meants (parts x_at x_p x_n) x_m) none) = then_repo
 unary_reports s at f u (more x (more y xs)) = miscounted_reports s at (more x (more y xs))
 
 pub scalar_named_reports : {s : Scope Fault} {s' : Scope (List Fault)} → ScopeBeside s s' → {x : Meant Fault} {x' : Meant (List Fault)} → MeantBeside x x' → Reports (scalar_named least s x) (scalar_named every s' x')
-scalar_named_reports (scopes tables types vars procs {level = level} {withs = withs} own outer) (meants (parts x_at x_p x_n) x_m) = then_reports (of_sort_reports x_at 33 (x_m _ _ (scopes tables types vars procs {level = level} {withs = withs} own outer))) (λ v. type_named_reports types x_at v)
+scalar_named_reports (scopes tables types vars procs {level = level} {withs = withs} own outer) (meants (parts x_at x_p x_n) x_m) = then_reports (of_sort_reports x_at rule.NoType (x_m _ _ (scopes tables types vars procs {level = level} {withs = withs} own outer))) (λ v. type_named_reports types x_at v)
 
 pub bound_reports : {s : Scope Fault} {s' : Scope (List Fault)} → ScopeBeside s s' → (at : Pos) → (f : Standard) → {p3 : List (Meant Fault)} {p3' : List (Meant (List Fault))} → Pairwise MeantBeside p3 p3' → Reports (bound least s at f p3) (bound every s' at f p3')
 bound_reports s at f none = miscounted_reports s at none
@@ -149,7 +150,7 @@ conversion_reports s at (more t (more x (more y xs))) = miscounted_reports s at 
 
 pub high_reports : {s : Scope Fault} {s' : Scope (List Fault)} → ScopeBeside s s' → (at : Pos) → {p2 : List (Meant Fault)} {p2' : List (Meant (List Fault))} → Pairwise MeantBeside p2 p2' → Reports (high least s at p2) (high every s' at p2')
 high_reports s at none = miscounted_reports s at none
-high_reports s at (more (meants (parts x_at x_p x_n) x_m) none) = then_reports (of_sort_reports x_at 43 (x_m _ _ s)) (λ v. high_of_reports x_at v)
+high_reports s at (more (meants (parts x_at x_p x_n) x_m) none) = then_reports (of_sort_reports x_at rule.WrongArgument (x_m _ _ s)) (λ v. high_of_reports x_at v)
 high_reports s at (more x (more y xs)) = miscounted_reports s at (more x (more y xs))
 
 pub by_form_reports : {s : Scope Fault} {s' : Scope (List Fault)} → ScopeBeside s s' → (at : Pos) → (f : Standard) → {args : List (Meant Fault)} {args' : List (Meant (List Fault))} → Pairwise MeantBeside args args' → (p4 : Form) → Reports (by_form least s at f args p4) (by_form every s' at f args' p4)
@@ -157,7 +158,7 @@ by_form_reports s at f args (form.Unary u) = unary_reports s at f u args
 by_form_reports s at f args form.Bound = bound_reports s at f args
 by_form_reports s at f args form.Conversion = conversion_reports s at args
 by_form_reports s at f args form.High = high_reports s at args
-by_form_reports s at f args form.Proper = reported_beside_reports at 40 (looked_at_reports s args)
+by_form_reports s at f args form.Proper = reported_beside_reports at rule.WrongType (looked_at_reports s args)
 
 pub called_as_reports : {s : Scope Fault} {s' : Scope (List Fault)} → ScopeBeside s s' → (at : Pos) → {args : List (Meant Fault)} {args' : List (Meant (List Fault))} → Pairwise MeantBeside args args' → (p3 : Called) → Reports (called_as least s at args p3) (called_as every s' at args' p3)
 called_as_reports s at args (called.Routine h c) = routine_called_reports s at h c args

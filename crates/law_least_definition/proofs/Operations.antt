@@ -1,5 +1,6 @@
 -- What operators make of values.
 use Rattle.std.specs.Prelude.{pos, Bool, not, ◌&&◌, Option, Some, None, Result, List}
+use Rattle.m2_rule.specs.declared.rule.Rule.TheVariants as rule
 use Rattle.m2_tree.specs.declared.pos.Pos.{Pos}
 use Rattle.typed_tree.specs.declared.types.TypeNo.{TypeNo}
 use Rattle.typed_tree.specs.declared.computed.Comparison.{Comparison}
@@ -40,48 +41,48 @@ divisor_of_reports op spot (Known b) = divisor_reports op spot b.number
 divisor_of_reports op spot (Run b e) = fine tt
 
 pub fitting_both_reports : (op : BinaryOp) → (spot : Pos) → (sort : Option TypeNo) → (at : Pos) → (a : Amount) → (at' : Pos) → (b : Amount) → Reports (fitting_both least op spot sort at a at' b) (fitting_both every op spot sort at a at' b)
-fitting_both_reports op spot sort at a at' b = where_reports (not (takes op sort)) spot 40 (beside_reports (divisor_of_reports op spot b) (beside_reports (fitting_of_reports sort at a) (fitting_of_reports sort at' b)))
+fitting_both_reports op spot sort at a at' b = where_reports (not (takes op sort)) spot rule.WrongType (beside_reports (divisor_of_reports op spot b) (beside_reports (fitting_of_reports sort at a) (fitting_of_reports sort at' b)))
 
 pub stepped_reports : (spot : Pos) → (sort : Option TypeNo) → (a : Amount) → (b : Amount) → (p4 : Option Step) → Reports (stepped least spot sort a b p4) (stepped every spot sort a b p4)
-stepped_reports spot sort a b None = reported_reports spot 40
+stepped_reports spot sort a b None = reported_reports spot rule.WrongType
 stepped_reports spot sort a b (Some o) = fine _
 
 pub on_amounts_reports : (op : BinaryOp) → (spot : Pos) → (at : Pos) → (a : Amount) → (at' : Pos) → (b : Amount) → (p6 : Option (Option TypeNo)) → Reports (on_amounts least op spot at a at' b p6) (on_amounts every op spot at a at' b p6)
-on_amounts_reports op spot at a at' b None = reported_reports spot 40
+on_amounts_reports op spot at a at' b None = reported_reports spot rule.WrongType
 on_amounts_reports op spot at a at' b (Some sort) = then_reports (fitting_both_reports op spot sort at a at' b) (λ u. stepped_reports spot sort a b (step_of op))
 
 pub element_fits_reports : (at : Pos) → (p1 : Amount) → Reports (element_fits least at p1) (element_fits every at p1)
-element_fits_reports at (Known a) = where_reports (not (is_between (pos 0) a.number (pos 31))) at 52 (fine tt)
+element_fits_reports at (Known a) = where_reports (not (is_between (pos 0) a.number (pos 31))) at rule.OutOfRange (fine tt)
 element_fits_reports at (Run b e) = fine tt
 
 pub member_reports : (op : BinaryOp) → (spot : Pos) → (at : Pos) → (a : Amount) → (s : TypedExpr) → Reports (member least op spot at a s) (member every op spot at a s)
-member_reports op spot at a s = where_reports (not (is_in op && is_number (sort_of a))) spot 40 (then_reports (element_fits_reports at a) (λ u. fine _))
+member_reports op spot at a s = where_reports (not (is_in op && is_number (sort_of a))) spot rule.WrongType (then_reports (element_fits_reports at a) (λ u. fine _))
 
 pub on_sets_reports : (spot : Pos) → (x : TypedExpr) → (y : TypedExpr) → (p3 : Option SetStep) → Reports (on_sets least spot x y p3) (on_sets every spot x y p3)
-on_sets_reports spot x y None = reported_reports spot 40
+on_sets_reports spot x y None = reported_reports spot rule.WrongType
 on_sets_reports spot x y (Some o) = fine _
 
 pub on_procedures_reports : (spot : Pos) → (fit : Bool) → (x : TypedExpr) → (y : TypedExpr) → (p4 : Option Comparison) → Reports (on_procedures least spot fit x y p4) (on_procedures every spot fit x y p4)
-on_procedures_reports spot fit x y None = reported_reports spot 40
-on_procedures_reports spot fit x y (Some c) = where_reports (not fit) spot 40 (fine _)
+on_procedures_reports spot fit x y None = reported_reports spot rule.WrongType
+on_procedures_reports spot fit x y (Some c) = where_reports (not fit) spot rule.WrongType (fine _)
 
 pub with_scalar_reports : (op : BinaryOp) → (spot : Pos) → (at : Pos) → (a : Amount) → (at' : Pos) → (p5 : Option Side) → Reports (with_scalar least op spot at a at' p5) (with_scalar every op spot at a at' p5)
-with_scalar_reports op spot at a at' None = reported_reports spot 40
+with_scalar_reports op spot at a at' None = reported_reports spot rule.WrongType
 with_scalar_reports op spot at a at' (Some (side.Scalar b)) = on_amounts_reports op spot at a at' b (common (sort_of a) (sort_of b))
 with_scalar_reports op spot at a at' (Some (side.Set s)) = member_reports op spot at a s
-with_scalar_reports op spot at a at' (Some (side.Routine t e)) = reported_reports spot 40
-with_scalar_reports op spot at a at' (Some (side.Procedure p)) = reported_reports spot 40
+with_scalar_reports op spot at a at' (Some (side.Routine t e)) = reported_reports spot rule.WrongType
+with_scalar_reports op spot at a at' (Some (side.Procedure p)) = reported_reports spot rule.WrongType
 
 pub with_set_reports : (op : BinaryOp) → (spot : Pos) → (x : TypedExpr) → (p3 : Option TypedExpr) → Reports (with_set least op spot x p3) (with_set every op spot x p3)
-with_set_reports op spot x None = reported_reports spot 40
+with_set_reports op spot x None = reported_reports spot rule.WrongType
 with_set_reports op spot x (Some s) = on_sets_reports spot x s (set_step_of op)
 
 pub with_partner_reports : (spot : Pos) → (x : TypedExpr) → (c : Option Comparison) → (p3 : Option (Bool × TypedExpr)) → Reports (with_partner least spot x c p3) (with_partner every spot x c p3)
-with_partner_reports spot x c None = reported_reports spot 40
+with_partner_reports spot x c None = reported_reports spot rule.WrongType
 with_partner_reports spot x c (Some p) = on_procedures_reports spot p.0 x p.1 c
 
 pub between_reports : (types : Types) → (op : BinaryOp) → (spot : Pos) → (at : Pos) → (p4 : Option Side) → (at' : Pos) → (y : Option Side) → Reports (between least types op spot at p4 at' y) (between every types op spot at p4 at' y)
-between_reports types op spot at None at' y = reported_reports spot 40
+between_reports types op spot at None at' y = reported_reports spot rule.WrongType
 between_reports types op spot at (Some (side.Scalar a)) at' y = with_scalar_reports op spot at a at' y
 between_reports types op spot at (Some (side.Set e)) at' y = with_set_reports op spot e (set_in y)
 between_reports types op spot at (Some (side.Routine t e)) at' y = with_partner_reports spot e (equality_of op) (partner_of types t y)

@@ -2,6 +2,7 @@
 use Rattle.std.proofs.Common.{◌≡◌, ◌∙◌, ℕ, zero, suc, ◌+◌, Bool, true, not, cond, List, length, Option, Some, None, Result, refl, ap, subst, nat_lt, slice_get}
 use Rattle.std.specs.List.{position_or_len}
 use Rattle.std.specs.Option.{option_map}
+use Rattle.m2_rule.specs.declared.rule.Rule.TheVariants as rule
 use Rattle.m2_tree.specs.declared.pos.Pos.{Pos}
 use Rattle.m2_tree.specs.declared.name.Ident.{Ident}
 use Rattle.typed_tree.specs.declared.meaning.Meaning.{Meaning}
@@ -89,14 +90,14 @@ heading_means_sought (fine m) = is_found m
 heading_means_sought (is_refused f fs p) = is_headless f fs p
 
 pub means_seen_sought : (at : Pos) (seen : Bool) {k : Known Fault} {k' : Known (List Fault)} → KnownBeside k k' → SoughtBeside (means_seen least at k seen) (means_seen every at k' seen)
-means_seen_sought at seen known_later = plain_sought (reported_reports at 30)
+means_seen_sought at seen known_later = plain_sought (reported_reports at rule.Undeclared)
 means_seen_sought at seen known_ahead = is_found meaning.Ahead
-means_seen_sought at seen known_begun = plain_sought (reported_reports at 30)
+means_seen_sought at seen known_begun = plain_sought (reported_reports at rule.Undeclared)
 means_seen_sought at seen (known_headed m) = heading_means_sought m
-means_seen_sought at seen (known_declared o m) = plain_sought (cond_keeps Reports seen m (reported_reports at 30))
+means_seen_sought at seen (known_declared o m) = plain_sought (cond_keeps Reports seen m (reported_reports at rule.Undeclared))
 
 means_as_sought : (at : Pos) {k : Sight Fault} {k' : Sight (List Fault)} → Optionwise SightBeside k k' → SoughtBeside (means_as least at k) (means_as every at k')
-means_as_sought at nothing = plain_sought (reported_reports at 30)
+means_as_sought at nothing = plain_sought (reported_reports at rule.Undeclared)
 means_as_sought at (something (sight seen k)) = means_seen_sought at seen k
 
 means_or_sought : (f : Option OpenedField) {m : Result Meaning (Meaningless Fault)} {m' : Result Meaning (Meaningless (List Fault))} → SoughtBeside m m' → SoughtBeside (means_or f m) (means_or f m')
@@ -139,7 +140,7 @@ pub own_beside : (name : List ℕ) {s : Scope Fault} {s' : Scope (List Fault)} �
 own_beside name (scopes t ty v p own outer) = found_beside name own
 
 pub unless_declared_goes : (name : Ident) {k : Known Fault} {k' : Known (List Fault)} → KnownBeside k k' → {s : Scope Fault} {s' : Scope (List Fault)} → ScopeBeside s s' → StateBeside (unless_declared least s name k) (unless_declared every s' name k')
-unless_declared_goes name k b = cond_same StateBeside (is_free_same (own_beside name.name b)) (goes (with_known_beside name.name k b) (fine tt)) (goes b (reported_reports name.pos 31))
+unless_declared_goes name k b = cond_same StateBeside (is_free_same (own_beside name.name b)) (goes (with_known_beside name.name k b) (fine tt)) (goes b (reported_reports name.pos rule.DeclaredTwice))
 
 pub declared_goes : (name : Ident) {m : Result Meaning Fault} {m' : Result Meaning (List Fault)} → Reports m m' → {s : Scope Fault} {s' : Scope (List Fault)} → ScopeBeside s s' → StateBeside (declared least s name m) (declared every s' name m')
 declared_goes name m b = unless_declared_goes name (known_declared Here m) b
@@ -155,7 +156,7 @@ finished_beside name m b = cond_same ScopeBeside (is_begun_same (own_beside name
 pub imported_goes : (at : Pos) (name : List ℕ) (o : Origin) {m : Result Meaning Fault} {m' : Result Meaning (List Fault)} → Reports m m' → {s : Scope Fault} {s' : Scope (List Fault)} → ScopeBeside s s'
     → StateBeside (imported least s at name o m) (imported every s' at name o m')
 imported_goes at name o m b = cond_same StateBeside (is_again_same o (own_beside name b)) (goes b (fine tt))
-    (cond_same StateBeside (is_free_same (own_beside name b)) (goes (with_known_beside name (known_declared o m) b) (fine tt)) (goes b (reported_reports at 31)))
+    (cond_same StateBeside (is_free_same (own_beside name b)) (goes (with_known_beside name (known_declared o m) b) (fine tt)) (goes b (reported_reports at rule.DeclaredTwice)))
 
 -- ---- names that a block declares
 

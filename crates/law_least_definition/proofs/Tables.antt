@@ -1,5 +1,6 @@
 -- The table of a definition, or what is reported of it.
 use Rattle.std.proofs.Common.{◌≡◌, ℕ, List, [], ◌∷◌, ◌++◌, IfOk, Result, Ok, Err, refl, sym, ap, subst}
+use Rattle.m2_rule.specs.declared.rule.Rule.TheVariants as rule
 use Rattle.m2_tree.specs.declared.decl.Def.{Def}
 use Rattle.m2_tree.specs.declared.decl.Contents.{Contents}
 use Rattle.m2_tree.specs.declared.decl.Contents.TheVariants as contents
@@ -58,8 +59,8 @@ of_definition_reports number m tables defs =
 
 of_contents_reports : (number : ℕ) (m : Module) (tables : List Table) (c : Contents) → Reports (of_contents least number m tables c) (of_contents every number m tables c)
 of_contents_reports number m tables (contents.Definition defs) = of_definition_reports number m tables defs
-of_contents_reports number m tables (contents.Implementation b) = reported_reports m.name.pos 24
-of_contents_reports number m tables (contents.Program b) = reported_reports m.name.pos 24
+of_contents_reports number m tables (contents.Implementation b) = reported_reports m.name.pos rule.LonelyModule
+of_contents_reports number m tables (contents.Program b) = reported_reports m.name.pos rule.LonelyModule
 
 -- what is reported of a definition is the least of all rules that are broken in it
 pub compiled_reports : (number : ℕ) (m : Module) (imports : List Table) → Reports (compiled least number m imports) (compiled every number m imports)

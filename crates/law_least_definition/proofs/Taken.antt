@@ -1,5 +1,6 @@
 -- What names stand for in bodies, and what is taken as a value.
 use Rattle.std.specs.Prelude.{ℕ}
+use Rattle.m2_rule.specs.declared.rule.Rule.TheVariants as rule
 use Rattle.m2_tree.specs.declared.pos.Pos.{Pos}
 use Rattle.typed_tree.specs.declared.meaning.Meaning.{Meaning}
 use Rattle.typed_tree.specs.declared.meaning.Meaning.TheVariants as meaning
@@ -19,7 +20,7 @@ designated_by_reports level at (meaning.Local v) = fine _
 designated_by_reports level at (meaning.Field f) = fine _
 designated_by_reports level at (meaning.Procedure p) = fine _
 designated_by_reports level at (meaning.LocalProcedure p) = fine _
-designated_by_reports level at meaning.Ahead = reported_reports at 30
+designated_by_reports level at meaning.Ahead = reported_reports at rule.Undeclared
 designated_by_reports level at (meaning.Standard f) = fine _
 designated_by_reports level at (meaning.Module k) = fine _
 
@@ -27,8 +28,8 @@ pub taken_reports : (types : Types) → (at : Pos) → (p2 : Designated) → Rep
 taken_reports types at (designated.Value x) = fine x
 taken_reports types at (designated.Variable t d) = fine _
 taken_reports types at (designated.Open t slot) = fine _
-taken_reports types at (designated.Type t) = reported_reports at 40
+taken_reports types at (designated.Type t) = reported_reports at rule.WrongType
 taken_reports types at (designated.Procedure p) = fine _
-taken_reports types at (designated.Nested p) = reported_reports at 53
-taken_reports types at (designated.Standard f) = reported_reports at 53
-taken_reports types at (designated.Module k) = reported_reports at 40
+taken_reports types at (designated.Nested p) = reported_reports at rule.NoProcedureValue
+taken_reports types at (designated.Standard f) = reported_reports at rule.NoProcedureValue
+taken_reports types at (designated.Module k) = reported_reports at rule.WrongType

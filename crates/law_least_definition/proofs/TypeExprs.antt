@@ -1,6 +1,7 @@
 -- Type expressions, by induction.
 use Rattle.std.proofs.Common.{◌≡◌, ℕ, not, List, Option, Some, None, Result, sym, ap, ◌∙◌}
 use Rattle.std.specs.Prelude.{nat_lt, ◌*◌}
+use Rattle.m2_rule.specs.declared.rule.Rule.TheVariants as rule
 use Rattle.m2_tree.specs.declared.pos.Pos.{Pos}
 use Rattle.m2_tree.specs.declared.name.Ident.{Ident}
 use Rattle.m2_tree.specs.declared.expr.Qualified.{Qualified}
@@ -34,7 +35,7 @@ use Rattle.law_least_definition.proofs.Making.{named_type_reports, bound_of_repo
 -- ---- simple types
 
 scalar_or_reports : (at : Pos) (x : Option Scalar) → Reports (scalar_or least at x) (scalar_or every at x)
-scalar_or_reports at None = reported_reports at 33
+scalar_or_reports at None = reported_reports at rule.NoType
 scalar_or_reports at (Some sc) = fine sc
 
 scalar_named_reports : {s : Scope Fault} {s' : Scope (List Fault)} → ScopeBeside s s' → (q : Qualified) → Reports (scalar_named least s q) (scalar_named every s' q)
@@ -53,10 +54,10 @@ simple_type_goes b (simple.Subrange of at low high) = with_made_goes b (then_rep
 -- ---- arrays
 
 index_in_reports : {s : Scope Fault} {s' : Scope (List Fault)} → ScopeBeside s s' → (at : Pos) {t : Result TypeNo Fault} {t' : Result TypeNo (List Fault)} → Reports t t' → Reports (index_in least s.types at t) (index_in every s'.types at t')
-index_in_reports (scopes t types v p own outer) at u = then_reports u (λ x. where_reports (not (is_index types x)) at 36 (fine x))
+index_in_reports (scopes t types v p own outer) at u = then_reports u (λ x. where_reports (not (is_index types x)) at rule.NoIndex (fine x))
 
 array_cells_reports : (at : Pos) (count cells : ℕ) → Reports (array_cells least at count cells) (array_cells every at count cells)
-array_cells_reports at count cells = where_reports (nat_lt 131072 (count * cells)) at 38 (fine (count * cells))
+array_cells_reports at count cells = where_reports (nat_lt 131072 (count * cells)) at rule.LargeType (fine (count * cells))
 
 array_in_reports : (types : Types) (at : Pos) (i e : TypeNo) → Reports (array_in least types at i e) (array_in every types at i e)
 array_in_reports types at i e = then_reports (array_cells_reports at (count_at types i) (cells_at types e)) (λ n. fine _)
@@ -92,7 +93,7 @@ fields_named_at (scopes tables types v p own outer) (fine t) names fs u = fields
 fields_named_at (scopes tables types v p own outer) (is_refused f gs l) names fs u = fields_of_both (scopes tables types v p own outer) (names_kept integer (cells_at types integer) names fs (beside_reports u (is_refused f gs l)))
 
 record_of_reports : (at : Pos) (fs : Fields) {r : Result (Unit {0}) Fault} {r' : Result (Unit {0}) (List Fault)} → Reports r r' → Reports (record_of least at fs r) (record_of every at fs r')
-record_of_reports at fs u = then_reports u (λ v. where_reports (nat_lt 131072 fs.cells) at 38 (fine _))
+record_of_reports at fs u = then_reports u (λ v. where_reports (nat_lt 131072 fs.cells) at rule.LargeType (fine _))
 
 -- ---- layers
 

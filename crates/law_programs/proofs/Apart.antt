@@ -4,6 +4,7 @@ use Rattle.std.specs.Prelude.{slice_get}
 use Rattle.std.specs.List.{fold}
 use Rattle.std.proofs.lemmas.List.{length-append}
 use Rattle.std.proofs.lemmas.Option.{same_Some}
+use Rattle.m2_rule.specs.declared.rule.Rule.TheVariants as rule
 use Rattle.m2_tree.specs.declared.decl.Heading.{Heading}
 use Rattle.m2_tree.specs.declared.decl.Decl.{Decl, Decl-F, out-Decl}
 use Rattle.m2_tree.specs.declared.decl.Decl.TheOpen as layer
@@ -110,7 +111,7 @@ module _ (g : Gathers) (ends : List ℕ) where
   unfolding HeadNumber
   number_by s h n made Free e l q = made_number s h.name.name n made l q
   number_by s h n made (Awaited p) e l q = (p, (found_self h.name.name (Headed (Ok (meaning.Procedure p))) s.own, inl e))
-  number_by s h n made Taken e l q = let z : reported g {A = Unit {0}} h.name.pos 31 ≡ Ok tt = beside_right g (nothing_made made) (reported g h.name.pos 31) q in absurd cc
+  number_by s h n made Taken e l q = let z : reported g {A = Unit {0}} h.name.pos rule.DeclaredTwice ≡ Ok tt = beside_right g (nothing_made made) (reported g h.name.pos rule.DeclaredTwice) q in absurd cc
 
   head_number : (s : Scope g.Reported) (h : Heading) (n : ℕ) → (s.level == 0) ≡ true → (with_heading g s n h).1 ≡ Ok tt → HeadNumber s (with_heading g s n h).0 h.name.name
   head_number s h n l q =

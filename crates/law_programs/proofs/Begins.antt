@@ -2,6 +2,7 @@
 use Rattle.std.proofs.Common.{◌≡◌, ℕ, ◌==◌, Bool, true, false, ◌||◌, cond, List, [], ◌∷◌, length, Option, Some, None, Result, Ok, Err, refl, sym, ap, subst, ◌∙◌}
 use Rattle.std.specs.Prelude.{take, drop, slice_get}
 use Rattle.std.specs.List.{fold}
+use Rattle.m2_rule.specs.declared.rule.Rule.TheVariants as rule
 use Rattle.m2_tree.specs.declared.pos.Pos.{Pos}
 use Rattle.m2_tree.specs.declared.name.Ident.{Ident}
 use Rattle.m2_tree.specs.declared.decl.Import.{Import}
@@ -84,8 +85,8 @@ module _ {T : Type 0} where
 module _ (g : Gathers) where
   imported_stays : (s : Scope g.Reported) (at : Pos) (name : List ℕ) (o : Origin) (m : Result Meaning g.Reported) → standing_known (Declared o m) ≡ Taken → Stays s (imported g s at name o m).0
   imported_stays s at name o m t =
-      either s (is_again (found name s.own) o) (s, Ok tt) (cond (is_free (found name s.own)) (with_known name (Declared o m) s, Ok tt) (s, reported g at 31)) (same_stays s)
-      (either s (is_free (found name s.own)) (with_known name (Declared o m) s, Ok tt) (s, reported g at 31) (known_stays name (Declared o m) s t) (same_stays s))
+      either s (is_again (found name s.own) o) (s, Ok tt) (cond (is_free (found name s.own)) (with_known name (Declared o m) s, Ok tt) (s, reported g at rule.DeclaredTwice)) (same_stays s)
+      (either s (is_free (found name s.own)) (with_known name (Declared o m) s, Ok tt) (s, reported g at rule.DeclaredTwice) (known_stays name (Declared o m) s t) (same_stays s))
 
   module_as_stays : (s : Scope g.Reported) (name : Ident) (r : Result ℕ g.Reported) → Stays s (with_module_as g s name r).0
   module_as_stays s name (Ok k) = imported_stays s name.pos name.name (Module k) _ refl

@@ -3,6 +3,7 @@ use Rattle.std.proofs.Common.{◌≡◌, ℕ, zero, suc, ◌==◌, Bool, List, [
 use Rattle.std.specs.Prelude.{map, slice_get}
 use Rattle.std.specs.List.{fold}
 use Rattle.std.proofs.lemmas.Option.{same_Some}
+use Rattle.m2_rule.specs.declared.rule.Rule.TheVariants as rule
 use Rattle.m2_tree.specs.declared.stmt.Stmt.{Stmt}
 use Rattle.m2_tree.specs.declared.decl.Decl.{Decl}
 use Rattle.m2_tree.specs.declared.decl.Block.{Block, out-Block}
@@ -244,7 +245,7 @@ module _ (g : Gathers) where
     module _ (number : ℕ) (m : Module) (tables : List Table) where
       own_begun : (own : Option Table) (b : Block) → AreForOwn own tables
           → Holds (λ t. (o : Table) × (own ≡ Some o) × HasBegun g (implementation_scope o (tables ++ console ∷ [])) m b o.exported t) (of_implementation g elaborates m own (tables ++ console ∷ []) b)
-      own_begun None b k = reported_holds g m.name.pos 24
+      own_begun None b k = reported_holds g m.name.pos rule.LonelyModule
       own_begun (Some o) b k =
           weaker (body_begun (implementation_scope o (tables ++ console ∷ [])) (Some o) m b tables o.exported
           (record { tables_are = refl; outer = refl; level = refl; withs = refl; own = refl; procedures = refl; exports = k.0.exports; numbers = k.0.numbers; others = k.1 })) (λ t h. (o, refl, h))
@@ -254,7 +255,7 @@ module _ (g : Gathers) where
           weaker (broken e) f = broken e
 
       contents_begun : (own : Option Table) (c : Contents) → AreFor number own tables c → Holds (λ t. BegunAt number m own (tables ++ console ∷ []) t c) (of_contents g elaborates number m own (tables ++ console ∷ []) c)
-      contents_begun own (contents.Definition defs) k = reported_holds g m.name.pos 24
+      contents_begun own (contents.Definition defs) k = reported_holds g m.name.pos rule.LonelyModule
       contents_begun own (contents.Implementation b) k = own_begun own b k
       contents_begun own (contents.Program b) k =
           body_begun (first_scope number (tables ++ console ∷ [])) None m b tables []

@@ -2,6 +2,7 @@
 use Rattle.std.proofs.Common.{◌≡◌, ℕ, zero, suc, ◌==◌, Bool, true, false, cond, List, [], ◌∷◌, take, drop, Option, Some, None, Result, Ok, Err, sym, subst}
 use Rattle.std.specs.Prelude.{slice_get}
 use Rattle.std.specs.List.{AllByRecursion, fold}
+use Rattle.m2_rule.specs.declared.rule.Rule.TheVariants as rule
 use Rattle.m2_tree.specs.declared.pos.Pos.{Pos}
 use Rattle.m2_tree.specs.declared.name.Ident.{Ident}
 use Rattle.m2_tree.specs.declared.decl.Decl.{Decl}
@@ -101,7 +102,7 @@ module _ (F : Meaning → Type 0) where
 
     -- ---- imports
 
-    free_by : (s : Scope g.Reported) (at : Pos) (name : List ℕ) (k : Known g.Reported) (b : Bool) → KnownBrought F k → IsBrought s → IsBrought (cond {A = State (Unit {0}) g.Reported} b (with_known name k s, Ok tt) (s, reported g at 31)).0
+    free_by : (s : Scope g.Reported) (at : Pos) (name : List ℕ) (k : Known g.Reported) (b : Bool) → KnownBrought F k → IsBrought s → IsBrought (cond {A = State (Unit {0}) g.Reported} b (with_known name k s, Ok tt) (s, reported g at rule.DeclaredTwice)).0
     free_by s at name k true p h = known_brought s name k p h
     free_by s at name k false p h = h
 

@@ -1,6 +1,7 @@
 -- Values, arguments, calls and standard functions.
 use Rattle.std.proofs.Common.{◌≡◌, ℕ, ◌≤◌, ◌^◌, ◌≤ℤ◌, ℤ, Bool, true, false, List, length, Option, Some, None, Result, refl, sym, ap, subst, ◌∙◌}
 use Rattle.std.specs.Prelude.{not, cond, if◌then◌else◌}
+use Rattle.m2_rule.specs.declared.rule.Rule.TheVariants as rule
 use Rattle.m2_tree.specs.declared.pos.Pos.{Pos}
 use Rattle.typed_tree.specs.declared.computed.Argument.{Argument}
 use Rattle.typed_tree.specs.declared.computed.Argument.TheVariants as argument
@@ -113,11 +114,11 @@ module _ (x : Context) (ws : List Ty) (h : TypesTyped x.home.types) (g : Gathers
   taken_typed at (designated.Value v) p = fine v p
   taken_typed at (designated.Variable t d) p = fine (loaded scope t d) (loaded_typed t d (class_at scope t) (class_is scope types grows t) p)
   taken_typed at (designated.Open t slot) p = fine value.Untaken tt
-  taken_typed at (designated.Type t) p = reported_holds g at 40
+  taken_typed at (designated.Type t) p = reported_holds g at rule.WrongType
   taken_typed at (designated.Procedure f) p = fine (value.Procedure f) p
-  taken_typed at (designated.Nested f) p = reported_holds g at 53
-  taken_typed at (designated.Standard f) p = reported_holds g at 53
-  taken_typed at (designated.Module k) p = reported_holds g at 40
+  taken_typed at (designated.Nested f) p = reported_holds g at rule.NoProcedureValue
+  taken_typed at (designated.Standard f) p = reported_holds g at rule.NoProcedureValue
+  taken_typed at (designated.Module k) p = reported_holds g at rule.WrongType
 
   -- ---- arguments
 
@@ -128,14 +129,14 @@ module _ (x : Context) (ws : List Ty) (h : TypesTyped x.home.types) (g : Gathers
   same_place u t d k p = subst (λ (z : TypeNo). PlaceTyped x ws d (tree types z)) (same_types u t k) p
 
   variable_typed : (t : TypeNo) (at : Pos) (d : Designated) → DesignatedTyped x ws opens d → For (ByName (tree types t)) (variable_passed g t at d)
-  variable_typed t at (designated.Variable u d) p = where_not g (are_same u t) at 44 (λ k. fine (argument.Place d) (made.name_typed x ws d (tree types t) (same_place u t d k p)))
-  variable_typed t at (designated.Value v) p = reported_holds g at 44
-  variable_typed t at (designated.Open u slot) p = reported_holds g at 44
-  variable_typed t at (designated.Type u) p = reported_holds g at 44
-  variable_typed t at (designated.Procedure f) p = reported_holds g at 44
-  variable_typed t at (designated.Nested f) p = reported_holds g at 44
-  variable_typed t at (designated.Standard f) p = reported_holds g at 44
-  variable_typed t at (designated.Module k) p = reported_holds g at 44
+  variable_typed t at (designated.Variable u d) p = where_not g (are_same u t) at rule.NoVariable (λ k. fine (argument.Place d) (made.name_typed x ws d (tree types t) (same_place u t d k p)))
+  variable_typed t at (designated.Value v) p = reported_holds g at rule.NoVariable
+  variable_typed t at (designated.Open u slot) p = reported_holds g at rule.NoVariable
+  variable_typed t at (designated.Type u) p = reported_holds g at rule.NoVariable
+  variable_typed t at (designated.Procedure f) p = reported_holds g at rule.NoVariable
+  variable_typed t at (designated.Nested f) p = reported_holds g at rule.NoVariable
+  variable_typed t at (designated.Standard f) p = reported_holds g at rule.NoVariable
+  variable_typed t at (designated.Module k) p = reported_holds g at rule.NoVariable
 
   array_by : (v : Bool) (t u : TypeNo) (d : Place) (o : Option (TypeNo × TypeNo)) → array_at scope u ≡ o → elements_suit_in scope t o ≡ true → PlaceTyped x ws d (tree types u) → ArgumentTyped x ws (argument.Array u d) (ByArray v (tree types t))
   array_by v t u d None e k p = absurd cc
@@ -149,61 +150,61 @@ module _ (x : Context) (ws : List Ty) (h : TypesTyped x.home.types) (g : Gathers
   open_slot v t u slot k p = subst (λ (z : TypeNo). ArgumentTyped x ws (argument.Open slot) (ByArray v (tree types z))) (same_types u t k) (made.open_typed x ws slot v (tree types u) p)
 
   open_typed : (v : Bool) (t : TypeNo) (at : Pos) (d : Designated) → DesignatedTyped x ws opens d → For (ByArray v (tree types t)) (open_passed g scope t at d)
-  open_typed v t at (designated.Variable u d) p = where_not g (elements_suit scope t u) at 44 (λ k. fine (argument.Array u d) (array_by v t u d (array_at scope u) refl k p))
-  open_typed v t at (designated.Open u slot) p = where_not g (are_same u t) at 44 (λ k. fine (argument.Open slot) (open_slot v t u slot k p))
-  open_typed v t at (designated.Value y) p = reported_holds g at 44
-  open_typed v t at (designated.Type u) p = reported_holds g at 44
-  open_typed v t at (designated.Procedure f) p = reported_holds g at 44
-  open_typed v t at (designated.Nested f) p = reported_holds g at 44
-  open_typed v t at (designated.Standard f) p = reported_holds g at 44
-  open_typed v t at (designated.Module k) p = reported_holds g at 44
+  open_typed v t at (designated.Variable u d) p = where_not g (elements_suit scope t u) at rule.NoVariable (λ k. fine (argument.Array u d) (array_by v t u d (array_at scope u) refl k p))
+  open_typed v t at (designated.Open u slot) p = where_not g (are_same u t) at rule.NoVariable (λ k. fine (argument.Open slot) (open_slot v t u slot k p))
+  open_typed v t at (designated.Value y) p = reported_holds g at rule.NoVariable
+  open_typed v t at (designated.Type u) p = reported_holds g at rule.NoVariable
+  open_typed v t at (designated.Procedure f) p = reported_holds g at rule.NoVariable
+  open_typed v t at (designated.Nested f) p = reported_holds g at rule.NoVariable
+  open_typed v t at (designated.Standard f) p = reported_holds g at rule.NoVariable
+  open_typed v t at (designated.Module k) p = reported_holds g at rule.NoVariable
 
   module _ (room : length x.characters ≤ 2 ^ 32) where
     text_argument_typed : (t : TypeNo) (at : Pos) (v : Value) → For (ByArray false (tree types t)) (text_argument g t at v)
-    text_argument_typed t at (constant.Text text) = where_not g (are_same t char) at 43 (λ k. fine (argument.Text text) (subst (λ (z : TypeNo). ArgumentTyped x ws (argument.Text text) (ByArray false (tree types z))) (sym (same_types t char k)) (made.text_typed x ws text room)))
-    text_argument_typed t at (constant.Number n) = reported_holds g at 43
-    text_argument_typed t at (constant.Scalar s) = reported_holds g at 43
-    text_argument_typed t at (constant.Set bits) = reported_holds g at 43
+    text_argument_typed t at (constant.Text text) = where_not g (are_same t char) at rule.WrongArgument (λ k. fine (argument.Text text) (subst (λ (z : TypeNo). ArgumentTyped x ws (argument.Text text) (ByArray false (tree types z))) (sym (same_types t char k)) (made.text_typed x ws text room)))
+    text_argument_typed t at (constant.Number n) = reported_holds g at rule.WrongArgument
+    text_argument_typed t at (constant.Scalar s) = reported_holds g at rule.WrongArgument
+    text_argument_typed t at (constant.Set bits) = reported_holds g at rule.WrongArgument
 
     text_typed : (t : TypeNo) (at : Pos) (v : Computed) → For (ByArray false (tree types t)) (text_passed g t at v)
     text_typed t at (value.Constant v) = text_argument_typed t at v
-    text_typed t at (value.Scalar u b e) = reported_holds g at 43
-    text_typed t at (value.Set e) = reported_holds g at 43
-    text_typed t at (value.Routine u e) = reported_holds g at 43
-    text_typed t at (value.Procedure f) = reported_holds g at 43
-    text_typed t at (value.Whole u d) = reported_holds g at 43
-    text_typed t at value.Untaken = reported_holds g at 43
+    text_typed t at (value.Scalar u b e) = reported_holds g at rule.WrongArgument
+    text_typed t at (value.Set e) = reported_holds g at rule.WrongArgument
+    text_typed t at (value.Routine u e) = reported_holds g at rule.WrongArgument
+    text_typed t at (value.Procedure f) = reported_holds g at rule.WrongArgument
+    text_typed t at (value.Whole u d) = reported_holds g at rule.WrongArgument
+    text_typed t at value.Untaken = reported_holds g at rule.WrongArgument
 
     open_value_typed : (t : TypeNo) (at : Pos) (d : Designated) → DesignatedTyped x ws opens d → For (ByArray false (tree types t)) (open_value g scope t at d)
-    open_value_typed t at (designated.Variable u d) p = where_not g (elements_suit scope t u) at 43 (λ k. fine (argument.Array u d) (array_by false t u d (array_at scope u) refl k p))
-    open_value_typed t at (designated.Open u slot) p = where_not g (are_same u t) at 43 (λ k. fine (argument.Open slot) (open_slot false t u slot k p))
+    open_value_typed t at (designated.Variable u d) p = where_not g (elements_suit scope t u) at rule.WrongArgument (λ k. fine (argument.Array u d) (array_by false t u d (array_at scope u) refl k p))
+    open_value_typed t at (designated.Open u slot) p = where_not g (are_same u t) at rule.WrongArgument (λ k. fine (argument.Open slot) (open_slot false t u slot k p))
     open_value_typed t at (designated.Value v) p = text_typed t at v
-    open_value_typed t at (designated.Type u) p = reported_holds g at 40
-    open_value_typed t at (designated.Procedure f) p = reported_holds g at 43
-    open_value_typed t at (designated.Nested f) p = reported_holds g at 53
-    open_value_typed t at (designated.Standard f) p = reported_holds g at 53
-    open_value_typed t at (designated.Module k) p = reported_holds g at 40
+    open_value_typed t at (designated.Type u) p = reported_holds g at rule.WrongType
+    open_value_typed t at (designated.Procedure f) p = reported_holds g at rule.WrongArgument
+    open_value_typed t at (designated.Nested f) p = reported_holds g at rule.NoProcedureValue
+    open_value_typed t at (designated.Standard f) p = reported_holds g at rule.NoProcedureValue
+    open_value_typed t at (designated.Module k) p = reported_holds g at rule.WrongType
 
     whole_typed : (t : TypeNo) (at : Pos) (d : Designated) → value_form (tree types t) ≡ ByCopy (tree types t) → DesignatedTyped x ws opens d → For (value_form (tree types t)) (whole_passed g t at d)
-    whole_typed t at (designated.Variable u d) c p = where_not g (are_same u t) at 43 (λ k. fine (argument.Place d) (subst (λ (f : Form). ArgumentTyped x ws (argument.Place d) f) (sym c) (made.copy_typed x ws d (tree types t) (same_place u t d k p))))
-    whole_typed t at (designated.Value v) c p = reported_holds g at 43
-    whole_typed t at (designated.Open u slot) c p = reported_holds g at 43
-    whole_typed t at (designated.Type u) c p = reported_holds g at 40
-    whole_typed t at (designated.Procedure f) c p = reported_holds g at 43
-    whole_typed t at (designated.Nested f) c p = reported_holds g at 53
-    whole_typed t at (designated.Standard f) c p = reported_holds g at 53
-    whole_typed t at (designated.Module k) c p = reported_holds g at 40
+    whole_typed t at (designated.Variable u d) c p = where_not g (are_same u t) at rule.WrongArgument (λ k. fine (argument.Place d) (subst (λ (f : Form). ArgumentTyped x ws (argument.Place d) f) (sym c) (made.copy_typed x ws d (tree types t) (same_place u t d k p))))
+    whole_typed t at (designated.Value v) c p = reported_holds g at rule.WrongArgument
+    whole_typed t at (designated.Open u slot) c p = reported_holds g at rule.WrongArgument
+    whole_typed t at (designated.Type u) c p = reported_holds g at rule.WrongType
+    whole_typed t at (designated.Procedure f) c p = reported_holds g at rule.WrongArgument
+    whole_typed t at (designated.Nested f) c p = reported_holds g at rule.NoProcedureValue
+    whole_typed t at (designated.Standard f) c p = reported_holds g at rule.NoProcedureValue
+    whole_typed t at (designated.Module k) c p = reported_holds g at rule.WrongType
 
     simple_typed : (t : TypeNo) (at : Pos) (d : Designated) → HasCell types t → DesignatedTyped x ws opens d → For (value_form (tree types t)) (simple_passed g scope t at d)
     simple_typed t at d c p =
         then_holds (taken_typed at d p) (λ v k.
-        then_holds (suited_typed x ws h g scope grows 43 t at v k) (λ e j.
+        then_holds (suited_typed x ws h g scope grows rule.WrongArgument t at v k) (λ e j.
         fine (argument.Value t e) (subst (λ (f : Form). ArgumentTyped x ws (argument.Value t e) f) (sym (ap value_form c.is.is)) (made.value_typed x ws t j.of c.cell e j.typed c.is j.taken))))
 
     routine_typed : (t : TypeNo) (at : Pos) (d : Designated) (i : IsRoutine types t) → class_at scope t ≡ class.Procedure → DesignatedTyped x ws opens d → For (value_form (tree types t)) (simple_passed g scope t at d)
     routine_typed t at d i q p =
         then_holds (taken_typed at d p) (λ v k.
-        then_holds (procedure_suited_typed x ws h g scope grows 43 t at v i q k) (λ e j.
+        then_holds (procedure_suited_typed x ws h g scope grows rule.WrongArgument t at v i q k) (λ e j.
         fine (argument.Value t e) (subst (λ (f : Form). ArgumentTyped x ws (argument.Value t e) f) (sym (ap value_form (routine_tree types h t i))) (made.procedure_actual_typed x ws t i.heading e j i.none))))
 
     passed_typed : (t : TypeNo) (at : Pos) (d : Designated) (c : Class) → is_known scope t ≡ true → class_at scope t ≡ c → ClassIs types t c → DesignatedTyped x ws opens d → For (value_form (tree types t)) (passed_as g scope t at d c)
@@ -236,19 +237,19 @@ module _ (x : Context) (ws : List Ty) (h : TypesTyped x.home.types) (g : Gathers
 
   held_typed : (at : Pos) (t : TypeNo) (d : Place) (c : Class) → ClassIs types t c → PlaceTyped x ws d (tree types t) → Holds CalledTyped (held_by g at t d c)
   held_typed at t d class.Procedure i p = fine (called.Routine t (callee.Variable t d)) (p, i, refl)
-  held_typed at t d (class.Scalar s) i p = reported_holds g at 40
-  held_typed at t d class.Set i p = reported_holds g at 40
-  held_typed at t d class.Whole i p = reported_holds g at 40
+  held_typed at t d (class.Scalar s) i p = reported_holds g at rule.WrongType
+  held_typed at t d class.Set i p = reported_holds g at rule.WrongType
+  held_typed at t d class.Whole i p = reported_holds g at rule.WrongType
 
   pub callee_typed : (at : Pos) (d : Designated) → DesignatedTyped x ws opens d → Holds CalledTyped (callee_of g scope at d)
   callee_typed at (designated.Procedure f) p = fine (called.Routine f.heading (callee.Module f)) (p, refl)
   callee_typed at (designated.Nested f) p = fine (called.Routine f.heading (callee.Nested f)) (p, refl)
   callee_typed at (designated.Variable t d) p = held_typed at t d (class_at scope t) (class_is scope types grows t) p
   callee_typed at (designated.Standard f) p = fine (called.Standard f) tt
-  callee_typed at (designated.Value v) p = reported_holds g at 40
-  callee_typed at (designated.Open t slot) p = reported_holds g at 40
-  callee_typed at (designated.Type t) p = reported_holds g at 40
-  callee_typed at (designated.Module k) p = reported_holds g at 40
+  callee_typed at (designated.Value v) p = reported_holds g at rule.WrongType
+  callee_typed at (designated.Open t slot) p = reported_holds g at rule.WrongType
+  callee_typed at (designated.Type t) p = reported_holds g at rule.WrongType
+  callee_typed at (designated.Module k) p = reported_holds g at rule.WrongType
 
   pub call_typed : (c : Callee) (t : TypeNo) (gs : List Argument) → CalleeTyped t c → made.ArgumentsTyped x ws gs (forms_of types t) → CallTyped x ws (call_by gs c) (result_of types t)
   call_typed (callee.Module f) t gs k p = subst (λ (u : TypeNo). CallTyped x ws (call.Module f gs) (result_of types u)) k.1 (made.module_call_typed x ws f gs k.0 (subst (λ (u : TypeNo). made.ArgumentsTyped x ws gs (forms_of types u)) (sym k.1) p))
@@ -275,12 +276,12 @@ module _ (x : Context) (ws : List Ty) (h : TypesTyped x.home.types) (g : Gathers
 
   pub unary_typed : (f : Standard) (u : Unary) (at : Pos) (v : Computed) → ValueTyped x ws v → Value_ (unary_at g f u at v)
   unary_typed f u at (value.Constant v) p = of_value_typed x ws h g (holds_both (unary_of g f at v) (unary_ranged g types f (fine (at, v) p.0)) (unary_words g f at v))
-  unary_typed f u at (value.Scalar t b e) p = where_not g (unary_takes u b) at 43 (λ k. fine (unary_built u b e) (unary_made u t b e k p))
-  unary_typed f u at (value.Set e) p = reported_holds g at 43
-  unary_typed f u at (value.Routine t e) p = reported_holds g at 43
-  unary_typed f u at (value.Procedure q) p = reported_holds g at 43
-  unary_typed f u at (value.Whole t d) p = reported_holds g at 43
-  unary_typed f u at value.Untaken p = reported_holds g at 43
+  unary_typed f u at (value.Scalar t b e) p = where_not g (unary_takes u b) at rule.WrongArgument (λ k. fine (unary_built u b e) (unary_made u t b e k p))
+  unary_typed f u at (value.Set e) p = reported_holds g at rule.WrongArgument
+  unary_typed f u at (value.Routine t e) p = reported_holds g at rule.WrongArgument
+  unary_typed f u at (value.Procedure q) p = reported_holds g at rule.WrongArgument
+  unary_typed f u at (value.Whole t d) p = reported_holds g at rule.WrongArgument
+  unary_typed f u at value.Untaken p = reported_holds g at rule.WrongArgument
 
   -- ---- standard functions of a type
 
@@ -289,18 +290,18 @@ module _ (x : Context) (ws : List Ty) (h : TypesTyped x.home.types) (g : Gathers
   TypeIs p = scalar_at types p.0 ≡ Some p.1
 
   scalar_is : (at : Pos) (t : TypeNo) (o : Option Range) → scalar_at scope t ≡ o → Holds TypeIs (scalar_type g at t o)
-  scalar_is at t None e = reported_holds g at 33
+  scalar_is at t None e = reported_holds g at rule.NoType
   scalar_is at t (Some r) e = fine (t, r) (scalar_known scope types grows t r e)
 
   pub type_is : (at : Pos) (d : Designated) → Holds TypeIs (type_named g scope at d)
   type_is at (designated.Type t) = scalar_is at t (scalar_at scope t) refl
-  type_is at (designated.Value v) = reported_holds g at 33
-  type_is at (designated.Variable t d) = reported_holds g at 33
-  type_is at (designated.Open t slot) = reported_holds g at 33
-  type_is at (designated.Procedure f) = reported_holds g at 33
-  type_is at (designated.Nested f) = reported_holds g at 33
-  type_is at (designated.Standard f) = reported_holds g at 33
-  type_is at (designated.Module k) = reported_holds g at 33
+  type_is at (designated.Value v) = reported_holds g at rule.NoType
+  type_is at (designated.Variable t d) = reported_holds g at rule.NoType
+  type_is at (designated.Open t slot) = reported_holds g at rule.NoType
+  type_is at (designated.Procedure f) = reported_holds g at rule.NoType
+  type_is at (designated.Nested f) = reported_holds g at rule.NoType
+  type_is at (designated.Standard f) = reported_holds g at rule.NoType
+  type_is at (designated.Module k) = reported_holds g at rule.NoType
 
   number_constant : (t : TypeNo) (r : Range) (n : ℤ) → scalar_at types t ≡ Some r → r.low ≤ℤ n → n ≤ℤ r.high → ValueRanged types (bound_of t r n)
   number_constant t r n e l u =
@@ -334,27 +335,27 @@ module _ (x : Context) (ws : List Ty) (h : TypesTyped x.home.types) (g : Gathers
   bound_typed f p = then_holds p (λ t k. fine (value.Constant (bound_by f t.0 t.1)) (bound_constant f t.0 t.1 k, bound_word g f t.0 t.1))
 
   converted_constant : (t : TypeNo) (r : Range) (at : Pos) (o : Option Ordinal) → scalar_at types t ≡ Some r → Holds (IsConstant types) (converted_part g t r at o)
-  converted_constant t r at None e = reported_holds g at 43
-  converted_constant t r at (Some a) e = where_not g (is_between r.low a.number r.high) at 52 (λ k. let b = between_in r.low a.number r.high k in fine (bound_of t r a.number) (number_constant t r a.number e b.0 b.1, tt))
+  converted_constant t r at None e = reported_holds g at rule.WrongArgument
+  converted_constant t r at (Some a) e = where_not g (is_between r.low a.number r.high) at rule.OutOfRange (λ k. let b = between_in r.low a.number r.high k in fine (bound_of t r a.number) (number_constant t r a.number e b.0 b.1, tt))
 
   converted_typed : (t : TypeNo) (r : Range) (at : Pos) (v : Computed) → scalar_at types t ≡ Some r → ValueTyped x ws v → Value_ (converted_value g t r at v)
   converted_typed t r at (value.Constant v) e p = of_value_typed x ws h g (converted_constant t r at (whole_number v) e)
-  converted_typed t r at (value.Scalar u b f) e p = where_holds g (not (is_numeric b)) at 43 (fine (value.Scalar t r.base (expr.Val t f)) (scalar_typed x ws h g t r.base (expr.Val t f) (made.val_typed x ws t u f p.typed (λ k. let z : None ≡ Some r = sym k ∙ e in cc z)) (has_base types h t r e) (made.run_val m t f)))
-  converted_typed t r at (value.Set f) e p = reported_holds g at 43
-  converted_typed t r at (value.Routine u f) e p = reported_holds g at 43
-  converted_typed t r at (value.Procedure f) e p = reported_holds g at 43
-  converted_typed t r at (value.Whole u d) e p = reported_holds g at 43
-  converted_typed t r at value.Untaken e p = reported_holds g at 43
+  converted_typed t r at (value.Scalar u b f) e p = where_holds g (not (is_numeric b)) at rule.WrongArgument (fine (value.Scalar t r.base (expr.Val t f)) (scalar_typed x ws h g t r.base (expr.Val t f) (made.val_typed x ws t u f p.typed (λ k. let z : None ≡ Some r = sym k ∙ e in cc z)) (has_base types h t r e) (made.run_val m t f)))
+  converted_typed t r at (value.Set f) e p = reported_holds g at rule.WrongArgument
+  converted_typed t r at (value.Routine u f) e p = reported_holds g at rule.WrongArgument
+  converted_typed t r at (value.Procedure f) e p = reported_holds g at rule.WrongArgument
+  converted_typed t r at (value.Whole u d) e p = reported_holds g at rule.WrongArgument
+  converted_typed t r at value.Untaken e p = reported_holds g at rule.WrongArgument
 
   pub conversion_typed : {to : Result (TypeNo × Range) g.Reported} (at : Pos) {v : Result Computed g.Reported} → Holds TypeIs to → Value_ v → Value_ (conversion_at g to at v)
   conversion_typed at p q = then_holds (both_holds g p q) (λ v k. converted_typed v.0.0 v.0.1 at v.1 k.0 k.1)
 
   pub high_typed : (at : Pos) (d : Designated) → DesignatedTyped x ws opens d → Value_ (high_of g at d)
   high_typed at (designated.Open t slot) p = fine (value.Scalar cardinal cardinal (expr.High slot)) (scalar_typed x ws h g cardinal cardinal (expr.High slot) (made.high_typed x ws slot (tree types t) p) (has_base types h cardinal _ refl) (made.run_high m slot))
-  high_typed at (designated.Value v) p = reported_holds g at 43
-  high_typed at (designated.Variable t d) p = reported_holds g at 43
-  high_typed at (designated.Type t) p = reported_holds g at 40
-  high_typed at (designated.Procedure f) p = reported_holds g at 43
-  high_typed at (designated.Nested f) p = reported_holds g at 53
-  high_typed at (designated.Standard f) p = reported_holds g at 53
-  high_typed at (designated.Module k) p = reported_holds g at 40
+  high_typed at (designated.Value v) p = reported_holds g at rule.WrongArgument
+  high_typed at (designated.Variable t d) p = reported_holds g at rule.WrongArgument
+  high_typed at (designated.Type t) p = reported_holds g at rule.WrongType
+  high_typed at (designated.Procedure f) p = reported_holds g at rule.WrongArgument
+  high_typed at (designated.Nested f) p = reported_holds g at rule.NoProcedureValue
+  high_typed at (designated.Standard f) p = reported_holds g at rule.NoProcedureValue
+  high_typed at (designated.Module k) p = reported_holds g at rule.WrongType

@@ -3,6 +3,7 @@ use Rattle.std.proofs.Common.{◌≡◌, ℕ, zero, suc, ◌==◌, Bool, true, f
 use Rattle.std.specs.Prelude.{slice_get, nat_eq}
 use Rattle.std.specs.Map.{lookup}
 use Rattle.std.specs.Option.{is_some}
+use Rattle.m2_rule.specs.declared.rule.Rule.TheVariants as rule
 use Rattle.m2_tree.specs.declared.pos.Pos.{Pos}
 use Rattle.m2_tree.specs.declared.name.Ident.{Ident}
 use Rattle.typed_tree.specs.declared.known_types.Types.{Types}
@@ -215,7 +216,7 @@ known_carries s name k p w z = record {
 }
 
 module _ (g : Gathers) (s : Scope g.Reported) where
-  pub free_carries : (at : Pos) (name : List ℕ) (k : Known g.Reported) (b : Bool) → KnownPlaced s.types.home s.variables k → (ScopeWords s → KnownWord k) → SlotFor s k → Carries s (cond {A = State (Unit {0}) g.Reported} b (with_known name k s, Ok tt) (s, reported g at 31)).0
+  pub free_carries : (at : Pos) (name : List ℕ) (k : Known g.Reported) (b : Bool) → KnownPlaced s.types.home s.variables k → (ScopeWords s → KnownWord k) → SlotFor s k → Carries s (cond {A = State (Unit {0}) g.Reported} b (with_known name k s, Ok tt) (s, reported g at rule.DeclaredTwice)).0
   free_carries at name k true p w z = known_carries s name k p w z
   free_carries at name k false p w z = carries_refl s
 

@@ -4,6 +4,7 @@ use Rattle.std.proofs.lemmas.List.{append-nil, append_assoc}
 use Rattle.std.specs.Prelude.{slice_get}
 use Rattle.std.specs.List.{AllByRecursion, fold}
 use Rattle.std.specs.Option.{is_some, unwrap_or}
+use Rattle.m2_rule.specs.declared.rule.Rule.TheVariants as rule
 use Rattle.m2_tree.specs.declared.decl.Module.{Module}
 use Rattle.m2_tree.specs.declared.decl.Contents.{Contents}
 use Rattle.m2_tree.specs.declared.decl.Contents.TheVariants as contents
@@ -191,7 +192,7 @@ module _ (g : Gathers) (elaborates : Elaborates g.Reported) (types_of : ℕ → 
 
   own_known : (own : Option Table) (ts : List Table) (b : Block) → fits_block b ≡ true → OwnFormed types_of number own → TablesFormed types_of number ts
       → Holds (λ t. (o : Table) × (own ≡ Some o) × IsKnownBy m (Some o) o.number ts t) (of_implementation g elaborates m own ts b)
-  own_known None ts b e f p = reported_holds g m.name.pos 24
+  own_known None ts b e f p = reported_holds g m.name.pos rule.LonelyModule
   own_known (Some o) ts b e f p =
       let base : Types = begun_types types_of number o ts f.0 f.1 p in
       then_holds_of (body_in g elaborates base (implementation_scope o ts) (Some o) m b e (implementation_formed types_of number o ts f.0 f.1 p)) (λ t h. (
@@ -212,7 +213,7 @@ module _ (g : Gathers) (elaborates : Elaborates g.Reported) (types_of : ℕ → 
       then_holds_of (broken e) k = broken e
 
   contents_known : (own : Option Table) (ts : List Table) (c : Contents) → fits_contents c ≡ true → OwnFormed types_of number own → TablesFormed types_of number ts → Holds (λ t. IsKnown m own number ts t c) (of_contents g elaborates number m own ts c)
-  contents_known own ts (contents.Definition ds) e f p = reported_holds g m.name.pos 24
+  contents_known own ts (contents.Definition ds) e f p = reported_holds g m.name.pos rule.LonelyModule
   contents_known own ts (contents.Implementation b) e f p = own_known own ts b e f p
   contents_known own ts (contents.Program b) e f p = program_known ts b e p
 

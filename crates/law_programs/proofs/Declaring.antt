@@ -4,6 +4,7 @@ use Rattle.std.specs.Prelude.{map, nat_lt, slice_get}
 use Rattle.std.proofs.lemmas.List.{length-map, length-drop}
 use Rattle.std.specs.List.{fold}
 use Rattle.std.specs.Option.{is_some}
+use Rattle.m2_rule.specs.declared.rule.Rule.TheVariants as rule
 use Rattle.m2_tree.specs.declared.pos.Pos.{Pos}
 use Rattle.m2_tree.specs.declared.name.Ident.{Ident}
 use Rattle.m2_tree.specs.declared.decl.Constant.{Constant}
@@ -156,7 +157,7 @@ module _ (g : Gathers) where
   index_is : (s : Scope g.Reported) (t : Simple) → Holds (IsScalar (index_type g s t).0.types) (index_type g s t).1
   index_is s t =
       let i : State TypeNo g.Reported = simple_type g s t in
-      then_holds (any_holds i.1) (λ u k. where_not g (is_index i.0.types u) (simple_place t) 36 (λ e. fine u (index_scalar i.0.types u (scalar_at i.0.types u) refl e)))
+      then_holds (any_holds i.1) (λ u k. where_not g (is_index i.0.types u) (simple_place t) rule.NoIndex (λ e. fine u (index_scalar i.0.types u (scalar_at i.0.types u) refl e)))
 
   array_indexed : (a b : Scope g.Reported) (at : Pos) (i e : Result TypeNo g.Reported) → Carries a b → Holds (IsScalar a.types) i → Holds (λ (m : Made). ShapeIndexed b.types m.shape) (array_of g b.types at i e)
   array_indexed a b at i e c p =
@@ -164,7 +165,7 @@ module _ (g : Gathers) where
       then_holds (any_holds (array_cells g at (count_at b.types u.0) (cells_at b.types u.1))) (λ n j. fine _ k.0))
 
   record_plain : (types : Types) (at : Pos) (fs : Fields) (elaborated : Result (Unit {0}) g.Reported) → Holds (λ (m : Made). ShapeIndexed types m.shape) (record_of g at fs elaborated)
-  record_plain types at fs elaborated = then_holds (any_holds elaborated) (λ u k. where_holds g (nat_lt 131072 fs.cells) at 38 (fine (record { shape = shape.Record fs.names; cells = fs.cells }) tt))
+  record_plain types at fs elaborated = then_holds (any_holds elaborated) (λ u k. where_holds g (nat_lt 131072 fs.cells) at rule.LargeType (fine (record { shape = shape.Record fs.names; cells = fs.cells }) tt))
 
   procedure_plain : (types : Types) (formals : Result (List Formal) g.Reported) (of : Result (Option TypeNo) g.Reported) → Holds (λ (m : Made). ShapeIndexed types m.shape) (procedure_made g formals of)
   procedure_plain types formals of = then_holds (any_holds (both g formals of)) (λ p k. fine _ tt)

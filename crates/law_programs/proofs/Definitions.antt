@@ -4,6 +4,7 @@ use Rattle.std.specs.Prelude.{map}
 use Rattle.std.specs.List.{fold, AllByRecursion}
 use Rattle.std.proofs.lemmas.List.{append-nil, append_assoc}
 use Rattle.std.proofs.lemmas.List.Folds.{list_any-append}
+use Rattle.m2_rule.specs.declared.rule.Rule.TheVariants as rule
 use Rattle.m2_tree.specs.declared.name.Ident.{Ident}
 use Rattle.m2_tree.specs.declared.decl.Def.{Def}
 use Rattle.m2_tree.specs.declared.decl.Def.TheVariants as def
@@ -115,7 +116,7 @@ module _ (g : Gathers) where
   begun_reported [] st e = e
   begun_reported (x ∷ xs) st e = beside_left g st.1 _ (begun_reported xs (begun_name g st x) e)
 
-  free_if : (b : Bool) (s t : Scope g.Reported) (name : Ident) → (cond {A = State (Unit {0}) g.Reported} b (t, Ok tt) (s, reported g name.pos 31)).1 ≡ Ok tt → b ≡ true
+  free_if : (b : Bool) (s t : Scope g.Reported) (name : Ident) → (cond {A = State (Unit {0}) g.Reported} b (t, Ok tt) (s, reported g name.pos rule.DeclaredTwice)).1 ≡ Ok tt → b ≡ true
   free_if true s t name e = refl
   free_if false s t name e = absurd cc
 
@@ -150,7 +151,7 @@ module _ (g : Gathers) where
     once : Once names
 
   begun_is : (s : Scope g.Reported) (name : Ident) → is_free (found name.name s.own) ≡ true → (begun g s name).0 ≡ with_known name.name Begun s
-  begun_is s name f = ap (λ (st : State (Unit {0}) g.Reported). st.0) (cond_true (is_free (found name.name s.own)) (with_known name.name Begun s, Ok tt) (s, reported g name.pos 31) f)
+  begun_is s name f = ap (λ (st : State (Unit {0}) g.Reported). st.0) (cond_true (is_free (found name.name s.own)) (with_known name.name Begun s, Ok tt) (s, reported g name.pos rule.DeclaredTwice) f)
 
   wider : (x : List ℕ) (names : List (List ℕ)) (s b c : Scope g.Reported) → Stays (x ∷ []) s b → Stays names b c → Stays (x ∷ names) s c
   wider x names s b c p q = record {
@@ -360,7 +361,7 @@ module _ (g : Gathers) where
       let t : Scope g.Reported = with_procedure_type s (Ok x) in
       let to : Scope g.Reported = with_known h.name.name (Declared Here (procedure_meaning s.types.home (length s.procedures) (Ok x))) t in
       let f : is_free (found h.name.name s.own) ≡ true = free_if (is_free (found h.name.name s.own)) t to h.name q in
-      subst (λ (s : Scope g.Reported). Begins end s (marked h.name Ahead s0)) (sym (ap (λ (st : State (Unit {0}) g.Reported). st.0) (cond_true (is_free (found h.name.name s.own)) (to, Ok tt) (t, reported g h.name.pos 31) f))) (next_procedure end s s0 h x k f b)
+      subst (λ (s : Scope g.Reported). Begins end s (marked h.name Ahead s0)) (sym (ap (λ (st : State (Unit {0}) g.Reported). st.0) (cond_true (is_free (found h.name.name s.own)) (to, Ok tt) (t, reported g h.name.pos rule.DeclaredTwice) f))) (next_procedure end s s0 h x k f b)
 
   procedure_begins : (end : Scope g.Reported) (st : State (Unit {0}) g.Reported) (s0 : Scope g.Reported) (h : Heading) → Keeps (marked h.name Ahead s0) end → (with_procedure g st h).1 ≡ Ok tt → Begins end st.0 s0 → Begins end (with_procedure g st h).0 (marked h.name Ahead s0)
   procedure_begins end st s0 h k e b =

@@ -3,6 +3,7 @@ use Rattle.std.proofs.Common.{◌≡◌, ℕ, zero, suc, pos, Bool, true, false,
 use Rattle.std.specs.Prelude.{nat_lt, slice_get}
 use Rattle.std.specs.List.{fold}
 use Rattle.std.specs.Option.{option_map}
+use Rattle.m2_rule.specs.declared.rule.Rule.TheVariants as rule
 use Rattle.m2_tree.specs.declared.pos.Pos.{Pos}
 use Rattle.m2_tree.specs.declared.name.Ident.{Ident}
 use Rattle.m2_tree.specs.declared.expr.MulOp.{MulOp}
@@ -99,19 +100,19 @@ module _ (g : Gathers) where
   abbrev Means_ : {T : Type 0} → Result Meaning T → Type 0
   Means_ r = Holds (MeaningWord) r
 
-  declared_means : (at : Pos) (seen : Bool) (r : Result Meaning g.Reported) → Means_ r → Means_ (cond seen r (reported g at 30))
+  declared_means : (at : Pos) (seen : Bool) (r : Result Meaning g.Reported) → Means_ r → Means_ (cond seen r (reported g at rule.Undeclared))
   declared_means at true r p = p
-  declared_means at false r p = reported_holds g at 30
+  declared_means at false r p = reported_holds g at rule.Undeclared
 
   seen_means : (at : Pos) (k : Known g.Reported) (seen : Bool) → KnownWord k → Means_ (means_seen g at k seen)
-  seen_means at Later seen p = plain_holds (reported_holds g at 30)
+  seen_means at Later seen p = plain_holds (reported_holds g at rule.Undeclared)
   seen_means at Ahead seen p = fine meaning.Ahead tt
-  seen_means at Begun seen p = plain_holds (reported_holds g at 30)
+  seen_means at Begun seen p = plain_holds (reported_holds g at rule.Undeclared)
   seen_means at (Headed r) seen p = heading_means_holds p
   seen_means at (Declared o r) seen p = plain_holds (declared_means at seen r p)
 
   means_words : (at : Pos) (o : Sight g.Reported) → WordSight o → Means_ (means_as g at o)
-  means_words at None p = plain_holds (reported_holds g at 30)
+  means_words at None p = plain_holds (reported_holds g at rule.Undeclared)
   means_words at (Some k) p = seen_means at k.0 k.1 p
 
   field_or : {T : Type 0} (o : Option OpenedField) (r : Result Meaning T) → Means_ r → Means_ (means_or o r)
@@ -138,7 +139,7 @@ module _ (g : Gathers) where
   export_at name (t ∷ ts) (suc k) all = export_at name ts k all.1
 
   exported_means : (at : Pos) (o : Option Meaning) → ExportIf o → Means_ (exported g at o)
-  exported_means at None p = reported_holds g at 32
+  exported_means at None p = reported_holds g at rule.NotExported
   exported_means at (Some m) p = fine m p
 
 module _ (g : Gathers) (s : Scope g.Reported) (h : ScopeWords s) where
@@ -202,11 +203,11 @@ module _ (g : Gathers) (s : Scope g.Reported) (h : ScopeWords s) where
 
   component_words : (at : Pos) (d : Denoted) → D_ (component g at d)
   component_words at denoted.Variable = fine denoted.Variable tt
-  component_words at (denoted.Value v) = reported_holds g at 40
+  component_words at (denoted.Value v) = reported_holds g at rule.WrongType
   component_words at (denoted.Type t) = fine denoted.Variable tt
   component_words at denoted.Procedure = fine denoted.Variable tt
   component_words at (denoted.Standard f) = fine denoted.Variable tt
-  component_words at (denoted.Module k) = reported_holds g at 40
+  component_words at (denoted.Module k) = reported_holds g at rule.WrongType
 
   field_words : (at : Pos) (name : Ident) (d : Denoted) → D_ (field_of g s at name d)
   field_words at name (denoted.Module k) = then_holds (member_means k name) (λ m p. fine (denoted_by m) (by_meaning m p))
@@ -218,11 +219,11 @@ module _ (g : Gathers) (s : Scope g.Reported) (h : ScopeWords s) where
 
   as_constant_words : (at : Pos) (d : Denoted) → DenotedWord d → V_ (as_constant g at d)
   as_constant_words at (denoted.Value v) p = fine v p
-  as_constant_words at (denoted.Type t) p = reported_holds g at 34
-  as_constant_words at denoted.Variable p = reported_holds g at 34
-  as_constant_words at denoted.Procedure p = reported_holds g at 34
-  as_constant_words at (denoted.Standard f) p = reported_holds g at 34
-  as_constant_words at (denoted.Module k) p = reported_holds g at 34
+  as_constant_words at (denoted.Type t) p = reported_holds g at rule.NoConstant
+  as_constant_words at denoted.Variable p = reported_holds g at rule.NoConstant
+  as_constant_words at denoted.Procedure p = reported_holds g at rule.NoConstant
+  as_constant_words at (denoted.Standard f) p = reported_holds g at rule.NoConstant
+  as_constant_words at (denoted.Module k) p = reported_holds g at rule.NoConstant
 
   pub constant_words : (x : Part g.Reported) → FM x → V_ (constant g s x)
   constant_words x p = then_holds p (λ d k. as_constant_words x.at d k)
@@ -238,23 +239,23 @@ module _ (g : Gathers) (s : Scope g.Reported) (h : ScopeWords s) where
   sorted_words at f args Conversion = conversion_words at args
     where
       converted_words : (t : TypeNo) (r : Range) (at : Pos) (o : Option Ordinal) → V_ (converted_part g t r at o)
-      converted_words t r at None = reported_holds g at 43
-      converted_words t r at (Some a) = where_holds g _ at 52 (fine (bound_of t r a.number) tt)
+      converted_words t r at None = reported_holds g at rule.WrongArgument
+      converted_words t r at (Some a) = where_holds g _ at rule.OutOfRange (fine (bound_of t r a.number) tt)
 
       conversion_words : (at : Pos) (args : List (Part g.Reported)) → V_ (conversion g s at args)
-      conversion_words at [] = reported_holds g at 42
-      conversion_words at (t ∷ []) = reported_holds g at 42
+      conversion_words at [] = reported_holds g at rule.ArgumentCount
+      conversion_words at (t ∷ []) = reported_holds g at rule.ArgumentCount
       conversion_words at (t ∷ x ∷ []) = then_holds (any_holds (both g (type_argument g s.types t.at (t.names s)) (constant g s x))) (λ p k. converted_words p.0.0 p.0.1 x.at (whole_number p.1))
-      conversion_words at (t ∷ x ∷ y ∷ xs) = reported_holds g at 42
-  sorted_words at f args Never = reported_holds g at 34
+      conversion_words at (t ∷ x ∷ y ∷ xs) = reported_holds g at rule.ArgumentCount
+  sorted_words at f args Never = reported_holds g at rule.NoConstant
 
   called_as_words : (at : Pos) (d : Denoted) (args : List (Part g.Reported)) → V_ (called_as g s at d args)
   called_as_words at (denoted.Standard f) args = sorted_words at f args (sort_of f)
-  called_as_words at (denoted.Value v) args = reported_holds g at 34
-  called_as_words at (denoted.Type t) args = reported_holds g at 34
-  called_as_words at denoted.Variable args = reported_holds g at 34
-  called_as_words at denoted.Procedure args = reported_holds g at 34
-  called_as_words at (denoted.Module k) args = reported_holds g at 34
+  called_as_words at (denoted.Value v) args = reported_holds g at rule.NoConstant
+  called_as_words at (denoted.Type t) args = reported_holds g at rule.NoConstant
+  called_as_words at denoted.Variable args = reported_holds g at rule.NoConstant
+  called_as_words at denoted.Procedure args = reported_holds g at rule.NoConstant
+  called_as_words at (denoted.Module k) args = reported_holds g at rule.NoConstant
 
   called_words : (at : Pos) (d : Result Denoted g.Reported) (args : List (Part g.Reported)) → V_ (called g s at d args)
   called_words at d args = then_holds (any_holds d) (λ x k. called_as_words at x args)

@@ -4,6 +4,8 @@ use Rattle.std.specs.Prelude.{◌≤◌, ◌-ℤ◌, not, nat_lt, unsigned_abs}
 use Rattle.std.specs.Option.{option_map}
 use Rattle.std.proofs.lemmas.Bool.{eqb-true}
 use Rattle.std.proofs.lemmas.Int.{ints}
+use Rattle.m2_rule.specs.declared.rule.Rule.{Rule}
+use Rattle.m2_rule.specs.declared.rule.Rule.TheVariants as rule
 use Rattle.m2_tree.specs.declared.pos.Pos.{Pos}
 use Rattle.typed_tree.specs.declared.computed.Place.{Place}
 use Rattle.typed_tree.specs.declared.computed.TypedExpr.{TypedExpr}
@@ -107,12 +109,12 @@ module _ (g : Gathers) (x : Context) (ws : List Ty) (opens : ℕ → Bool) (s : 
   target_of_typed : (at : Pos) (d : Designated) → DesignatedTyped x ws opens d → Holds TargetTyped (target_of g at d)
   target_of_typed at (designated.Variable t d) p = fine (target.Variable t d) p
   target_of_typed at (designated.Open t slot) p = fine target.Open tt
-  target_of_typed at (designated.Value v) p = reported_holds g at 40
-  target_of_typed at (designated.Type t) p = reported_holds g at 40
-  target_of_typed at (designated.Procedure f) p = reported_holds g at 40
-  target_of_typed at (designated.Nested f) p = reported_holds g at 40
-  target_of_typed at (designated.Standard f) p = reported_holds g at 40
-  target_of_typed at (designated.Module k) p = reported_holds g at 40
+  target_of_typed at (designated.Value v) p = reported_holds g at rule.WrongType
+  target_of_typed at (designated.Type t) p = reported_holds g at rule.WrongType
+  target_of_typed at (designated.Procedure f) p = reported_holds g at rule.WrongType
+  target_of_typed at (designated.Nested f) p = reported_holds g at rule.WrongType
+  target_of_typed at (designated.Standard f) p = reported_holds g at rule.WrongType
+  target_of_typed at (designated.Module k) p = reported_holds g at rule.WrongType
 
   -- an array of characters with room for a text
   record HasPlace (t : TypeNo) (text : List ℕ) : Type 0 where
@@ -144,13 +146,13 @@ module _ (g : Gathers) (x : Context) (ws : List Ty) (opens : ℕ → Bool) (s : 
             (both_right (are_same a.1 char) (text_within (length text) (scalar_at s.types a.0)) k);
       }
 
-  text_accepted : (number : ℕ) (t : TypeNo) (at : Pos) (v : Value) → Holds (AcceptedTyped t) (text_suited g number s.types t at v)
+  text_accepted : (broken : Rule) (t : TypeNo) (at : Pos) (v : Value) → Holds (AcceptedTyped t) (text_suited g broken s.types t at v)
   text_accepted number t at (constant.Number n) = reported_holds g at number
   text_accepted number t at (constant.Scalar n) = reported_holds g at number
   text_accepted number t at (constant.Set bits) = reported_holds g at number
   text_accepted number t at (constant.Text text) = where_not g (text_fits s.types t (length text)) at number (λ k. fine (accepted.Text text) (place_by t text (array_at s.types t) refl k))
 
-  whole_accepted : (number : ℕ) (t : TypeNo) (at : Pos) (v : Computed) → ValueTyped x ws v → Holds (AcceptedTyped t) (whole_suited g number s.types t at v)
+  whole_accepted : (broken : Rule) (t : TypeNo) (at : Pos) (v : Computed) → ValueTyped x ws v → Holds (AcceptedTyped t) (whole_suited g broken s.types t at v)
   whole_accepted number t at (value.Constant v) p = text_accepted number t at v
   whole_accepted number t at (value.Whole u d) p = where_not g (are_same u t) at number (λ k. fine (accepted.Whole d) (subst (λ (z : TypeNo). PlaceTyped x ws d (tree types z)) (same_types u t k) p))
   whole_accepted number t at (value.Scalar u b e) p = reported_holds g at number
@@ -159,13 +161,13 @@ module _ (g : Gathers) (x : Context) (ws : List Ty) (opens : ℕ → Bool) (s : 
   whole_accepted number t at (value.Procedure f) p = reported_holds g at number
   whole_accepted number t at value.Untaken p = reported_holds g at number
 
-  given : (number : ℕ) (t : TypeNo) (at : Pos) (v : Computed) → ValueTyped x ws v → Holds (λ e. GivenTyped x ws e t) (value_suited g number s.types t at v)
-  given number t at v p = suited_typed x ws h.all g s.types h.types number t at v p
+  given : (broken : Rule) (t : TypeNo) (at : Pos) (v : Computed) → ValueTyped x ws v → Holds (λ e. GivenTyped x ws e t) (value_suited g broken s.types t at v)
+  given broken t at v p = suited_typed x ws h.all g s.types h.types broken t at v p
 
-  value_accepted : (number : ℕ) (t : TypeNo) (at : Pos) (v : Computed) → ValueTyped x ws v → Holds (AcceptedTyped t) (of_expr (value_suited g number s.types t at v))
-  value_accepted number t at v p = then_holds (place_suited_typed x ws h.all g s.types h.types number t at v p) (λ e q. fine (accepted.Value e) q)
+  value_accepted : (broken : Rule) (t : TypeNo) (at : Pos) (v : Computed) → ValueTyped x ws v → Holds (AcceptedTyped t) (of_expr (value_suited g broken s.types t at v))
+  value_accepted broken t at v p = then_holds (place_suited_typed x ws h.all g s.types h.types broken t at v p) (λ e q. fine (accepted.Value e) q)
 
-  accepted_in : (number : ℕ) (t : TypeNo) (at : Pos) (v : Computed) (c : Class) → ClassIs types t c → ValueTyped x ws v → Holds (AcceptedTyped t) (suited_in g number s.types t at v c)
+  accepted_in : (broken : Rule) (t : TypeNo) (at : Pos) (v : Computed) (c : Class) → ClassIs types t c → ValueTyped x ws v → Holds (AcceptedTyped t) (suited_in g broken s.types t at v c)
   accepted_in number t at v (class.Scalar r) k p = value_accepted number t at v p
   accepted_in number t at v class.Set k p = value_accepted number t at v p
   accepted_in number t at v class.Procedure k p = value_accepted number t at v p
@@ -179,12 +181,12 @@ module _ (g : Gathers) (x : Context) (ws : List Ty) (opens : ℕ → Bool) (s : 
   stored_typed t d (accepted.Text text) p q = copy_text_typed x result ws looped d t q.count text q.is q.room p
 
   assigned_to_typed : (a : Target) (at : Pos) (v : Computed) → TargetTyped a → ValueTyped x ws v → Stmt_ (assigned_to g s.types a at v)
-  assigned_to_typed target.Open at v p q = reported_holds g at 41
-  assigned_to_typed (target.Variable t d) at v p q = then_holds (accepted_in 41 t at v (class_at s.types t) (class_of t) q) (λ a k. fine (stored t d a) (stored_typed t d a p k))
+  assigned_to_typed target.Open at v p q = reported_holds g at rule.NotAssignable
+  assigned_to_typed (target.Variable t d) at v p q = then_holds (accepted_in rule.NotAssignable t at v (class_at s.types t) (class_of t) q) (λ a k. fine (stored t d a) (stored_typed t d a p k))
 
   pub assignment_typed : (d : Meant g.Reported) (at : Pos) (y : Meant g.Reported) → FM g x ws opens s h d → FM g x ws opens s h y → Stmt_ (assigned g s.types (target_at g d.fixed.at (d.means s)) at (value_of g s y))
   assignment_typed d at y p q =
-      then_holds (both_holds g (then_holds (sort_holds g d.fixed.at 40 p) (λ e k. target_of_typed d.fixed.at e k)) (value_typed g x ws opens s h y q)) (λ v k. assigned_to_typed v.0 at v.1 k.0 k.1)
+      then_holds (both_holds g (then_holds (sort_holds g d.fixed.at rule.WrongType p) (λ e k. target_of_typed d.fixed.at e k)) (value_typed g x ws opens s h y q)) (λ v k. assigned_to_typed v.0 at v.1 k.0 k.1)
 
   -- ---- INC and DEC
 
@@ -196,40 +198,40 @@ module _ (g : Gathers) (x : Context) (ws : List Ty) (opens : ℕ → Bool) (s : 
 
   changed_as_typed : (at : Pos) (t : TypeNo) (d : Place) (c : Class) → ClassIs types t c → PlaceTyped x ws d (tree types t) → Holds VariableTyped (changed_as g at t d c)
   changed_as_typed at t d (class.Scalar r) k p = fine (t, d) (record { range = r; at = k; place = p })
-  changed_as_typed at t d class.Set k p = reported_holds g at 44
-  changed_as_typed at t d class.Procedure k p = reported_holds g at 44
-  changed_as_typed at t d class.Whole k p = reported_holds g at 44
+  changed_as_typed at t d class.Set k p = reported_holds g at rule.NoVariable
+  changed_as_typed at t d class.Procedure k p = reported_holds g at rule.NoVariable
+  changed_as_typed at t d class.Whole k p = reported_holds g at rule.NoVariable
 
   changed_typed : (at : Pos) (d : Designated) → DesignatedTyped x ws opens d → Holds VariableTyped (changed g s.types at d)
   changed_typed at (designated.Variable t d) p = changed_as_typed at t d (class_at s.types t) (class_of t) p
-  changed_typed at (designated.Value v) p = reported_holds g at 44
-  changed_typed at (designated.Open t slot) p = reported_holds g at 44
-  changed_typed at (designated.Type t) p = reported_holds g at 44
-  changed_typed at (designated.Procedure f) p = reported_holds g at 44
-  changed_typed at (designated.Nested f) p = reported_holds g at 44
-  changed_typed at (designated.Standard f) p = reported_holds g at 44
-  changed_typed at (designated.Module k) p = reported_holds g at 44
+  changed_typed at (designated.Value v) p = reported_holds g at rule.NoVariable
+  changed_typed at (designated.Open t slot) p = reported_holds g at rule.NoVariable
+  changed_typed at (designated.Type t) p = reported_holds g at rule.NoVariable
+  changed_typed at (designated.Procedure f) p = reported_holds g at rule.NoVariable
+  changed_typed at (designated.Nested f) p = reported_holds g at rule.NoVariable
+  changed_typed at (designated.Standard f) p = reported_holds g at rule.NoVariable
+  changed_typed at (designated.Module k) p = reported_holds g at rule.NoVariable
 
   untyped_typed : (a : Ordinal) → SortRanged types a.sort a.number → Some_ (expr.Constant (untyped a.number a.sort) a.number)
   untyped_typed a p = record { of = untyped a.number a.sort; typed = made.constant_typed x ws (untyped a.number a.sort) a.number (untyped_value types a.sort a.number p) }
 
   known_if : (at : Pos) (a : Ordinal) (b : Bool) → SortRanged types a.sort a.number → Holds Some_ (known_amount g at (cond b (Some a) None))
   known_if at a true p = fine (expr.Constant (untyped a.number a.sort) a.number) (untyped_typed a p)
-  known_if at a false p = reported_holds g at 43
+  known_if at a false p = reported_holds g at rule.WrongArgument
 
   known_typed : (at : Pos) (o : Option Operand) → OperandRanged types o → Holds Some_ (known_amount g at (if_number (scalar_part o)))
-  known_typed at None p = reported_holds g at 43
-  known_typed at (Some (operand.Set bits)) p = reported_holds g at 43
+  known_typed at None p = reported_holds g at rule.WrongArgument
+  known_typed at (Some (operand.Set bits)) p = reported_holds g at rule.WrongArgument
   known_typed at (Some (operand.Scalar a)) p = known_if at a (is_number a.sort) p
 
   amount_typed : (at : Pos) (v : Computed) → ValueTyped x ws v → Holds Some_ (amount g at v)
   amount_typed at (value.Constant v) p = known_typed at (operand_of v) (operand_ranged types v p.0)
-  amount_typed at (value.Scalar t b e) p = where_not g (is_numeric b) at 43 (λ k. fine e (record { of = t; typed = p.typed }))
-  amount_typed at (value.Set e) p = reported_holds g at 43
-  amount_typed at (value.Routine t e) p = reported_holds g at 43
-  amount_typed at (value.Procedure f) p = reported_holds g at 43
-  amount_typed at (value.Whole t d) p = reported_holds g at 43
-  amount_typed at value.Untaken p = reported_holds g at 43
+  amount_typed at (value.Scalar t b e) p = where_not g (is_numeric b) at rule.WrongArgument (λ k. fine e (record { of = t; typed = p.typed }))
+  amount_typed at (value.Set e) p = reported_holds g at rule.WrongArgument
+  amount_typed at (value.Routine t e) p = reported_holds g at rule.WrongArgument
+  amount_typed at (value.Procedure f) p = reported_holds g at rule.WrongArgument
+  amount_typed at (value.Whole t d) p = reported_holds g at rule.WrongArgument
+  amount_typed at value.Untaken p = reported_holds g at rule.WrongArgument
 
   changed_of : (o : Change) (v : TypeNo × Place) (e : TypedExpr) → VariableTyped v → Some_ e → StmtTyped x result ws looped (step.Change o v.1 v.0 e)
   changed_of o v e k p =
@@ -255,13 +257,13 @@ module _ (g : Gathers) (x : Context) (ws : List Ty) (opens : ℕ → Bool) (s : 
   one_typed = record { of = cardinal; typed = made.constant_typed x ws cardinal (pos 1) (omega (arith, ints), omega (arith, ints)) }
 
   changed_in_typed : (v : Meant g.Reported) → Known_ v → Holds VariableTyped (changed_in g s v)
-  changed_in_typed v p = then_holds (sort_holds g v.fixed.at 44 p) (λ d k. changed_typed v.fixed.at d k)
+  changed_in_typed v p = then_holds (sort_holds g v.fixed.at rule.NoVariable p) (λ d k. changed_typed v.fixed.at d k)
 
   changed_by_typed : (at : Pos) (o : Change) (args : List (Meant g.Reported)) → AllKnown args → Stmt_ (changed_by g s at o args)
-  changed_by_typed at o [] all = reported_beside_holds g at 42 (looked_at g s [])
+  changed_by_typed at o [] all = reported_beside_holds g at rule.ArgumentCount (looked_at g s [])
   changed_by_typed at o (v ∷ []) all = change_by_typed o (changed_in_typed v all.0) (fine (expr.Constant cardinal (pos 1)) one_typed)
   changed_by_typed at o (v ∷ n ∷ []) all = change_by_typed o (changed_in_typed v all.0) (then_holds (value_of_typed n all.1.0) (λ y k. amount_typed n.fixed.at y k))
-  changed_by_typed at o (v ∷ n ∷ y ∷ ys) all = reported_beside_holds g at 42 _
+  changed_by_typed at o (v ∷ n ∷ y ∷ ys) all = reported_beside_holds g at rule.ArgumentCount _
 
   -- ---- INCL and EXCL
 
@@ -270,37 +272,37 @@ module _ (g : Gathers) (x : Context) (ws : List Ty) (opens : ℕ → Bool) (s : 
 
   set_as_typed : (at : Pos) (t : TypeNo) (d : Place) (c : Class) → ClassIs types t c → PlaceTyped x ws d (tree types t) → Holds SetTyped (set_as g at d c)
   set_as_typed at t d class.Set k p = fine d (subst (λ (u : Ty). PlaceTyped x ws d u) (set_tree_is types t k.none k.result k.headless) p)
-  set_as_typed at t d (class.Scalar r) k p = reported_holds g at 44
-  set_as_typed at t d class.Procedure k p = reported_holds g at 44
-  set_as_typed at t d class.Whole k p = reported_holds g at 44
+  set_as_typed at t d (class.Scalar r) k p = reported_holds g at rule.NoVariable
+  set_as_typed at t d class.Procedure k p = reported_holds g at rule.NoVariable
+  set_as_typed at t d class.Whole k p = reported_holds g at rule.NoVariable
 
   set_typed : (at : Pos) (d : Designated) → DesignatedTyped x ws opens d → Holds SetTyped (set_variable g s.types at d)
   set_typed at (designated.Variable t d) p = set_as_typed at t d (class_at s.types t) (class_of t) p
-  set_typed at (designated.Value v) p = reported_holds g at 44
-  set_typed at (designated.Open t slot) p = reported_holds g at 44
-  set_typed at (designated.Type t) p = reported_holds g at 44
-  set_typed at (designated.Procedure f) p = reported_holds g at 44
-  set_typed at (designated.Nested f) p = reported_holds g at 44
-  set_typed at (designated.Standard f) p = reported_holds g at 44
-  set_typed at (designated.Module k) p = reported_holds g at 44
+  set_typed at (designated.Value v) p = reported_holds g at rule.NoVariable
+  set_typed at (designated.Open t slot) p = reported_holds g at rule.NoVariable
+  set_typed at (designated.Type t) p = reported_holds g at rule.NoVariable
+  set_typed at (designated.Procedure f) p = reported_holds g at rule.NoVariable
+  set_typed at (designated.Nested f) p = reported_holds g at rule.NoVariable
+  set_typed at (designated.Standard f) p = reported_holds g at rule.NoVariable
+  set_typed at (designated.Module k) p = reported_holds g at rule.NoVariable
 
   element_if : (at : Pos) (a : Ordinal) (b : Bool) → SortRanged types a.sort a.number → Holds Some_ (element_known g at (cond b (Some a) None))
-  element_if at a true p = where_not g (is_between (pos 0) a.number (pos 31)) at 52 (λ k. fine (expr.Constant (untyped a.number a.sort) a.number) (untyped_typed a p))
-  element_if at a false p = reported_holds g at 43
+  element_if at a true p = where_not g (is_between (pos 0) a.number (pos 31)) at rule.OutOfRange (λ k. fine (expr.Constant (untyped a.number a.sort) a.number) (untyped_typed a p))
+  element_if at a false p = reported_holds g at rule.WrongArgument
 
   element_part : (at : Pos) (o : Option Operand) → OperandRanged types o → Holds Some_ (element_known g at (if_number (scalar_part o)))
-  element_part at None p = reported_holds g at 43
-  element_part at (Some (operand.Set bits)) p = reported_holds g at 43
+  element_part at None p = reported_holds g at rule.WrongArgument
+  element_part at (Some (operand.Set bits)) p = reported_holds g at rule.WrongArgument
   element_part at (Some (operand.Scalar a)) p = element_if at a (is_number a.sort) p
 
   element_typed : (at : Pos) (v : Computed) → ValueTyped x ws v → Holds Some_ (element g at v)
   element_typed at (value.Constant v) p = element_part at (operand_of v) (operand_ranged types v p.0)
-  element_typed at (value.Scalar t b e) p = where_not g (is_numeric b) at 43 (λ k. fine e (record { of = t; typed = p.typed }))
-  element_typed at (value.Set e) p = reported_holds g at 43
-  element_typed at (value.Routine t e) p = reported_holds g at 43
-  element_typed at (value.Procedure f) p = reported_holds g at 43
-  element_typed at (value.Whole t d) p = reported_holds g at 43
-  element_typed at value.Untaken p = reported_holds g at 43
+  element_typed at (value.Scalar t b e) p = where_not g (is_numeric b) at rule.WrongArgument (λ k. fine e (record { of = t; typed = p.typed }))
+  element_typed at (value.Set e) p = reported_holds g at rule.WrongArgument
+  element_typed at (value.Routine t e) p = reported_holds g at rule.WrongArgument
+  element_typed at (value.Procedure f) p = reported_holds g at rule.WrongArgument
+  element_typed at (value.Whole t d) p = reported_holds g at rule.WrongArgument
+  element_typed at value.Untaken p = reported_holds g at rule.WrongArgument
 
   bitset_cell : IsCell types bitset (Natural 4294967295)
   bitset_cell = set_is types bitset refl refl refl
@@ -309,35 +311,35 @@ module _ (g : Gathers) (x : Context) (ws : List Ty) (opens : ℕ → Bool) (s : 
   membership_typed o p q = then_holds (both_holds g p q) (λ v k. fine (step.Membership o v.0 v.1) (member_typed x result ws looped o v.0 k.1.of (Natural 4294967295) v.1 bitset_cell k.0 k.1.typed))
 
   set_in_typed : (v : Meant g.Reported) → Known_ v → Holds SetTyped (set_in g s v)
-  set_in_typed v p = then_holds (sort_holds g v.fixed.at 44 p) (λ d k. set_typed v.fixed.at d k)
+  set_in_typed v p = then_holds (sort_holds g v.fixed.at rule.NoVariable p) (λ d k. set_typed v.fixed.at d k)
 
   member_by_typed : (at : Pos) (o : Membership) (args : List (Meant g.Reported)) → AllKnown args → Stmt_ (member_by g s at o args)
-  member_by_typed at o [] all = reported_beside_holds g at 42 (looked_at g s [])
-  member_by_typed at o (v ∷ []) all = reported_beside_holds g at 42 _
+  member_by_typed at o [] all = reported_beside_holds g at rule.ArgumentCount (looked_at g s [])
+  member_by_typed at o (v ∷ []) all = reported_beside_holds g at rule.ArgumentCount _
   member_by_typed at o (v ∷ n ∷ []) all = membership_typed o (set_in_typed v all.0) (then_holds (value_of_typed n all.1.0) (λ y k. element_typed n.fixed.at y k))
-  member_by_typed at o (v ∷ n ∷ y ∷ ys) all = reported_beside_holds g at 42 _
+  member_by_typed at o (v ∷ n ∷ y ∷ ys) all = reported_beside_holds g at rule.ArgumentCount _
 
   -- ---- HALT and Put
 
   halted_typed : (at : Pos) (args : List (Meant g.Reported)) → Stmt_ (halted g s at args)
   halted_typed at [] = fine step.Halt (halt_typed x result ws looped)
-  halted_typed at (y ∷ ys) = reported_beside_holds g at 42 _
+  halted_typed at (y ∷ ys) = reported_beside_holds g at rule.ArgumentCount _
 
   put_by_typed : (at : Pos) (args : List (Meant g.Reported)) → AllKnown args → Stmt_ (put_by g s at args)
-  put_by_typed at [] all = reported_beside_holds g at 42 (looked_at g s [])
-  put_by_typed at (y ∷ []) all = then_holds (value_of_typed y all.0) (λ v k. then_holds (given 43 char y.fixed.at v k) (λ e q. fine (step.Put e) (put_typed x result ws looped e q)))
-  put_by_typed at (y ∷ z ∷ zs) all = reported_beside_holds g at 42 _
+  put_by_typed at [] all = reported_beside_holds g at rule.ArgumentCount (looked_at g s [])
+  put_by_typed at (y ∷ []) all = then_holds (value_of_typed y all.0) (λ v k. then_holds (given rule.WrongArgument char y.fixed.at v k) (λ e q. fine (step.Put e) (put_typed x result ws looped e q)))
+  put_by_typed at (y ∷ z ∷ zs) all = reported_beside_holds g at rule.ArgumentCount _
 
   standard_typed : (at : Pos) (args : List (Meant g.Reported)) (f : Standard) → AllKnown args → Stmt_ (standard_done g s at args f)
-  standard_typed at args Abs all = reported_beside_holds g at 40 _
-  standard_typed at args Cap all = reported_beside_holds g at 40 _
-  standard_typed at args Chr all = reported_beside_holds g at 40 _
-  standard_typed at args High all = reported_beside_holds g at 40 _
-  standard_typed at args Max all = reported_beside_holds g at 40 _
-  standard_typed at args Min all = reported_beside_holds g at 40 _
-  standard_typed at args Odd all = reported_beside_holds g at 40 _
-  standard_typed at args Ord all = reported_beside_holds g at 40 _
-  standard_typed at args Val all = reported_beside_holds g at 40 _
+  standard_typed at args Abs all = reported_beside_holds g at rule.WrongType _
+  standard_typed at args Cap all = reported_beside_holds g at rule.WrongType _
+  standard_typed at args Chr all = reported_beside_holds g at rule.WrongType _
+  standard_typed at args High all = reported_beside_holds g at rule.WrongType _
+  standard_typed at args Max all = reported_beside_holds g at rule.WrongType _
+  standard_typed at args Min all = reported_beside_holds g at rule.WrongType _
+  standard_typed at args Odd all = reported_beside_holds g at rule.WrongType _
+  standard_typed at args Ord all = reported_beside_holds g at rule.WrongType _
+  standard_typed at args Val all = reported_beside_holds g at rule.WrongType _
   standard_typed at args Inc all = changed_by_typed at Increase args all
   standard_typed at args Dec all = changed_by_typed at Decrease args all
   standard_typed at args Incl all = member_by_typed at Include args all
@@ -355,7 +357,7 @@ module _ (g : Gathers) (x : Context) (ws : List Ty) (opens : ℕ → Bool) (s : 
         (call_typed x result ws looped (call_by gs c) (subst (λ (r : Gives). CallTyped x ws (call_by gs c) r) (ap (λ (o : Option TypeNo). option_map (tree types) o) q) (call_made g x ws opens s h at t c args there all k e gs p))))
 
     by_count : (k : Signature) (q : Bool) → (length k.formals == length args) ≡ q → signature_at s.types t ≡ Some k → k.result ≡ None
-        → Stmt_ (ahead g (reported_where g {A = Unit {0}} (not q) at 42 (Ok (tt {0}))) (looked_at g s args) (λ fine. call_done c (actuals g s k.formals args)))
+        → Stmt_ (ahead g (reported_where g {A = Unit {0}} (not q) at rule.ArgumentCount (Ok (tt {0}))) (looked_at g s args) (λ fine. call_done c (actuals g s k.formals args)))
     by_count k true count e q = proper_call k e q (eqb-true (length k.formals) (length args) count)
     by_count k false count e q = refused_holds g _ (looked_at g s args)
 

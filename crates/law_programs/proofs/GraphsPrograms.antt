@@ -5,6 +5,7 @@ use Rattle.std.specs.List.{AllByRecursion, fold, list_all, position_or_len, pref
 use Rattle.std.specs.Option.{unwrap_or}
 use Rattle.std.proofs.lemmas.Option.{slice_get_within}
 use Rattle.std.proofs.lemmas.Bool.{eqb-true, lt-ltb}
+use Rattle.m2_rule.specs.declared.rule.Rule.TheVariants as rule
 use Rattle.m2_tree.specs.declared.pos.Pos.{Pos}
 use Rattle.m2_tree.specs.declared.decl.Def.{Def}
 use Rattle.m2_tree.specs.declared.decl.Contents.{Contents}
@@ -120,8 +121,8 @@ module _ (g : Gathers) (m : Module) where
 
     contents_listed : (tables : List Table) → AreMade IsMade tables → (c : Contents) → Holds (λ t. AreListed IsMade t.imports) (types.of_contents g home m tables c)
     contents_listed tables made (contents.Definition defs) = definition_listed tables made defs
-    contents_listed tables made (contents.Implementation b) = reported_holds g m.name.pos 24
-    contents_listed tables made (contents.Program b) = reported_holds g m.name.pos 24
+    contents_listed tables made (contents.Implementation b) = reported_holds g m.name.pos rule.LonelyModule
+    contents_listed tables made (contents.Program b) = reported_holds g m.name.pos rule.LonelyModule
 
 module _ (trees : List Module) (files : List ℕ) (jobs : List (List ℕ)) (fit : list_all fits_module trees ≡ true) where
   abbrev one : ℕ → Compiled

@@ -2,6 +2,7 @@
 use Rattle.std.proofs.Common.{◌≡◌, ℕ, Bool, true, false, ◌||◌, cond, List, [], ◌∷◌, Option, Some, None, Result, Ok, Err, refl, sym, ap, subst, ◌∙◌}
 use Rattle.std.specs.Prelude.{map, take, drop, slice_get}
 use Rattle.std.specs.List.{fold}
+use Rattle.m2_rule.specs.declared.rule.Rule.TheVariants as rule
 use Rattle.m2_tree.specs.declared.pos.Pos.{Pos}
 use Rattle.m2_tree.specs.declared.name.Ident.{Ident}
 use Rattle.m2_tree.specs.declared.decl.Constant.{Constant}
@@ -212,11 +213,11 @@ module _ (T : Type 0) where
 
 module _ (g : Gathers) where
   unless_stays : (s : Scope g.Reported) (name : Ident) (k : Known g.Reported) → counted_of k ≡ [] → is_begun (Some k) ≡ false → Stays [] s (unless_declared g s name k).0
-  unless_stays s name k n b = either [] s (is_free (found name.name s.own)) (with_known name.name k s, Ok tt) (s, reported g name.pos 31) (λ e. free_stays name.name k s n b e) (same_stays [] s)
+  unless_stays s name k n b = either [] s (is_free (found name.name s.own)) (with_known name.name k s, Ok tt) (s, reported g name.pos rule.DeclaredTwice) (λ e. free_stays name.name k s n b e) (same_stays [] s)
 
   pub begun_stays : (s : Scope g.Reported) (name : Ident) → Stays (name.name ∷ []) s (begun g s name).0
   begun_stays s name =
-      either (name.name ∷ []) s (is_free (found name.name s.own)) (with_known name.name Begun s, Ok tt) (s, reported g name.pos 31) (λ e. own_stays name.name Begun s refl (free_unsettled (found name.name s.own) e)) (same_stays (name.name ∷ []) s)
+      either (name.name ∷ []) s (is_free (found name.name s.own)) (with_known name.name Begun s, Ok tt) (s, reported g name.pos rule.DeclaredTwice) (λ e. own_stays name.name Begun s refl (free_unsettled (found name.name s.own) e)) (same_stays (name.name ∷ []) s)
 
   listed_stays : (t : TypeNo) (l : Scope g.Reported × ℕ × Result (Unit {0}) g.Reported) (x : Ident) → Stays [] l.0 (listed g t l x).0
   listed_stays t l x = unless_stays l.0 x _ refl refl
@@ -356,7 +357,7 @@ module _ (g : Gathers) where
   imported_stays : (s : Scope g.Reported) (at : Pos) (name : List ℕ) (o : Origin) (m : Result Meaning g.Reported) → counted_of (Declared o m) ≡ [] → Stays [] s (imported g s at name o m).0
   imported_stays s at name o m n =
       again_by s (is_again (found name s.own) o) _
-      (either [] s (is_free (found name s.own)) (with_known name (Declared o m) s, Ok tt) (s, reported g at 31) (λ e. free_stays name (Declared o m) s n refl e) (same_stays [] s))
+      (either [] s (is_free (found name s.own)) (with_known name (Declared o m) s, Ok tt) (s, reported g at rule.DeclaredTwice) (λ e. free_stays name (Declared o m) s n refl e) (same_stays [] s))
 
   module_as_stays : (s : Scope g.Reported) (name : Ident) (r : Result ℕ g.Reported) → Stays [] s (with_module_as g s name r).0
   module_as_stays s name (Ok k) = imported_stays s name.pos name.name (Module k) _ refl

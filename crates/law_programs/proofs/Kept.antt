@@ -2,6 +2,7 @@
 use Rattle.std.proofs.Common.{◌≡◌, ℕ, ◌==◌, pos, Bool, true, false, cond, List, [], ◌∷◌, length, Option, Some, None, Result, Ok, Err, sym, ap, subst, ◌∙◌}
 use Rattle.std.specs.Prelude.{map, take, drop, slice_get}
 use Rattle.std.specs.List.{fold}
+use Rattle.m2_rule.specs.declared.rule.Rule.TheVariants as rule
 use Rattle.m2_tree.specs.declared.pos.Pos.{Pos}
 use Rattle.m2_tree.specs.declared.name.Ident.{Ident}
 use Rattle.m2_tree.specs.declared.decl.Constant.{Constant}
@@ -144,7 +145,7 @@ module _ (g : Gathers) (P : Scope g.Reported → Type 0) (named : (s : Scope g.R
 
   -- ---- imports
 
-  free_keeps : (s : Scope g.Reported) (at : Pos) (name : List ℕ) (k : Known g.Reported) (b : Bool) → P s → P (cond {A = State (Unit {0}) g.Reported} b (with_known name k s, Ok tt) (s, reported g at 31)).0
+  free_keeps : (s : Scope g.Reported) (at : Pos) (name : List ℕ) (k : Known g.Reported) (b : Bool) → P s → P (cond {A = State (Unit {0}) g.Reported} b (with_known name k s, Ok tt) (s, reported g at rule.DeclaredTwice)).0
   free_keeps s at name k true h = named s name k h
   free_keeps s at name k false h = h
 

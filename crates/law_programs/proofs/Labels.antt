@@ -2,6 +2,7 @@
 use Rattle.std.proofs.Common.{◌≡◌, ℕ, ℤ, Bool, true, false, List, [], ◌∷◌, ◌++◌, Option, Some, None, Result, Ok, Err, refl, sym, ap, subst, ◌∙◌}
 use Rattle.std.specs.Prelude.{◌≤ℤ◌, int_lt, if◌then◌else◌}
 use Rattle.std.specs.List.{fold, list_all}
+use Rattle.m2_rule.specs.declared.rule.Rule.TheVariants as rule
 use Rattle.m2_tree.specs.declared.pos.Pos.{Pos}
 use Rattle.m2_tree.specs.declared.expr.Expr.{Expr}
 use Rattle.m2_tree.specs.declared.expr.Item.{Item, out-Item}
@@ -72,12 +73,12 @@ module _ (g : Gathers) (x : Context) (ws : List Ty) (opens : ℕ → Bool) (s : 
   -- ---- bounds
 
   ordinal_typed : (at : Pos) (o : Option Operand) → OperandRanged types o → Holds InSort (ordinal_in g at o)
-  ordinal_typed at None p = reported_holds g at 40
-  ordinal_typed at (Some (operand.Set bits)) p = reported_holds g at 40
+  ordinal_typed at None p = reported_holds g at rule.WrongType
+  ordinal_typed at (Some (operand.Set bits)) p = reported_holds g at rule.WrongType
   ordinal_typed at (Some (operand.Scalar a)) p = fine a p
 
-  reported_label : (label : Pos) → Holds (λ (a : Ordinal). ⊥) (reported g {A = Ordinal} label 49)
-  reported_label label = reported_holds g label 49
+  reported_label : (label : Pos) → Holds (λ (a : Ordinal). ⊥) (reported g {A = Ordinal} label rule.WrongLabel)
+  reported_label label = reported_holds g label rule.WrongLabel
 
   none_typed : (alike : Bool) (label at : Pos) → Holds InSort (no_constant g alike label at)
   none_typed alike label at = then_holds (both_holds g (any_holds (of_type g alike at)) (reported_label label)) (λ v k. absurd k.1)
@@ -103,8 +104,8 @@ module _ (g : Gathers) (x : Context) (ws : List Ty) (opens : ℕ → Bool) (s : 
   bound_by_typed base label at (designated.Open t slot) p = none_typed false label at
   bound_by_typed base label at (designated.Type t) p = none_typed false label at
   bound_by_typed base label at (designated.Procedure f) p = none_typed false label at
-  bound_by_typed base label at (designated.Nested f) p = reported_holds g at 53
-  bound_by_typed base label at (designated.Standard f) p = reported_holds g at 53
+  bound_by_typed base label at (designated.Nested f) p = reported_holds g at rule.NoProcedureValue
+  bound_by_typed base label at (designated.Standard f) p = reported_holds g at rule.NoProcedureValue
   bound_by_typed base label at (designated.Module k) p = none_typed false label at
 
   abbrev Known_ : Meant g.Reported → Type 0
@@ -127,7 +128,7 @@ module _ (g : Gathers) (x : Context) (ws : List Ty) (opens : ℕ → Bool) (s : 
   single_typed base at {a = a} p = then_holds (both_holds g p (any_holds (bound_suits g (Some base) at a))) (λ v k. fine (record { low = v.0.number; high = v.0.number }) (label_of v.0 v.0 k.0 k.0 (at_itself v.0.number)))
 
   suits_typed : (base : TypeNo) (at : Pos) (a : Ordinal) → Holds (λ u. is_of_base base a.sort ≡ true) (suits_base g (Some base) at a)
-  suits_typed base at a = where_not g (is_of_base base a.sort) at 40 (λ e. then_any e (number_fits g base at a a.sort)) where
+  suits_typed base at a = where_not g (is_of_base base a.sort) at rule.WrongType (λ e. then_any e (number_fits g base at a a.sort)) where
     then_any : {P : Type 0} → P → (r : Result (Unit {0}) g.Reported) → Holds (λ u. P) r
     then_any p (Ok u) = fine u p
     then_any p (Err e) = broken e
@@ -143,8 +144,8 @@ module _ (g : Gathers) (x : Context) (ws : List Ty) (opens : ℕ → Bool) (s : 
   ordered_typed : (at : Pos) (a b : Ordinal) (o : Option (Option TypeNo)) → Holds (λ u. Ordered a b o) (ordered_if g at a b o)
   ordered_typed at a b None = fine tt tt
   ordered_typed at a b (Some sort) = by (int_lt b.number a.number) refl where
-    by : (q : Bool) → int_lt b.number a.number ≡ q → Holds (λ u. a.number ≤ℤ b.number) (reported_where g {A = Unit {0}} q at 35 (Ok (tt {0})))
-    by true e = reported_holds g at 35
+    by : (q : Bool) → int_lt b.number a.number ≡ q → Holds (λ u. a.number ≤ℤ b.number) (reported_where g {A = Unit {0}} q at rule.EmptyRange (Ok (tt {0})))
+    by true e = reported_holds g at rule.EmptyRange
     by false e = fine tt (not_less b.number a.number e)
 
   abbrev Third : TypeNo → Pos → Pos → Ordinal → Ordinal → Result (Unit {0}) g.Reported
@@ -193,7 +194,7 @@ module _ (g : Gathers) (x : Context) (ws : List Ty) (opens : ℕ → Bool) (s : 
   next_label p q = then_holds (both_holds g p q) (λ v k. fine (v.0 ++ v.1 ∷ []) (labels_more v.0 v.1 k.0 k.1))
 
   with_typed : (at : Pos) (st : Labels g.Reported) (r : Result Label g.Reported) → Holds AreLabels st.1 → Holds IsLabel r → Holds AreLabels (with_label g at st r).1
-  with_typed at st (Ok l) p q = next_label p (where_not g _ at 49 (λ e. q))
+  with_typed at st (Ok l) p q = next_label p (where_not g _ at rule.WrongLabel (λ e. q))
   with_typed at st (Err e) p q = next_label p (broken e)
 
   module _ (exprs : ExpressionsAreTyped g) where

@@ -2,6 +2,7 @@
 use Rattle.std.proofs.Common.{◌≡◌, ℕ, ◌==◌, Bool, true, false, cond, List, [], ◌∷◌, Option, Some, None, Result, Ok, Err, refl, sym, ap, subst, ◌∙◌, pos}
 use Rattle.std.specs.Prelude.{map}
 use Rattle.std.specs.List.{fold}
+use Rattle.m2_rule.specs.declared.rule.Rule.TheVariants as rule
 use Rattle.m2_tree.specs.declared.name.Ident.{Ident}
 use Rattle.m2_tree.specs.declared.decl.Simple.{Simple}
 use Rattle.m2_tree.specs.declared.decl.Simple.TheVariants as simple
@@ -64,7 +65,7 @@ known_stays : {T : Type 0} (s : Scope T) (name : List ℕ) (k : Known T) → (Na
 known_stays s name k p = record { locals = λ h. entered_local name k s.own (p h) h }
 
 module _ (g : Gathers) (s : Scope g.Reported) (name : Ident) where
-  unless_by : (b : Bool) (k : Known g.Reported) → (NamesLocal s.own → KnownLocal k) → Stays s (cond {A = State (Unit {0}) g.Reported} b (with_known name.name k s, Ok tt) (s, reported g name.pos 31)).0
+  unless_by : (b : Bool) (k : Known g.Reported) → (NamesLocal s.own → KnownLocal k) → Stays s (cond {A = State (Unit {0}) g.Reported} b (with_known name.name k s, Ok tt) (s, reported g name.pos rule.DeclaredTwice)).0
   unless_by true k p = known_stays s name.name k p
   unless_by false k p = stays_refl s
 

@@ -6,6 +6,7 @@ use Rattle.std.specs.List.{fold, list_all}
 use Rattle.std.specs.Option.{option_map}
 use Rattle.std.proofs.lemmas.Bool.{eqb-true}
 use Rattle.std.proofs.lemmas.List.{append-nil}
+use Rattle.m2_rule.specs.declared.rule.Rule.TheVariants as rule
 use Rattle.m2_tree.specs.declared.pos.Pos.{Pos}
 use Rattle.m2_tree.specs.declared.name.Ident.{Ident}
 use Rattle.m2_tree.specs.declared.expr.MulOp.{MulOp}
@@ -126,11 +127,11 @@ module _ (g : Gathers) (x : Context) (ws : List Ty) (opens : ℕ → Bool) (s : 
 
   constant_of_typed : (at : Pos) (d : Denoted) → DenotedTyped d → Holds (IsConstant types) (constant_of g at d)
   constant_of_typed at (denoted.Value v) p = fine v p
-  constant_of_typed at (denoted.Type t) p = reported_holds g at 34
-  constant_of_typed at denoted.Variable p = reported_holds g at 34
-  constant_of_typed at denoted.Procedure p = reported_holds g at 34
-  constant_of_typed at (denoted.Standard f) p = reported_holds g at 34
-  constant_of_typed at (denoted.Module k) p = reported_holds g at 34
+  constant_of_typed at (denoted.Type t) p = reported_holds g at rule.NoConstant
+  constant_of_typed at denoted.Variable p = reported_holds g at rule.NoConstant
+  constant_of_typed at denoted.Procedure p = reported_holds g at rule.NoConstant
+  constant_of_typed at (denoted.Standard f) p = reported_holds g at rule.NoConstant
+  constant_of_typed at (denoted.Module k) p = reported_holds g at rule.NoConstant
 
   constant_meant : (y : Part g.Reported) → Holds DenotedTyped (y.denotes s) → Designated_ (as_constant g s y)
   constant_meant y p = plain_holds (then_holds (then_holds p (λ d k. constant_of_typed y.at d k)) (λ v k. fine (designated.Value (value.Constant v)) k))
@@ -152,7 +153,7 @@ module _ (g : Gathers) (x : Context) (ws : List Ty) (opens : ℕ → Bool) (s : 
       fine _ (made.behind_typed x ws (rooted (root.With f.with)) (part.Field f.whole f.number) (tree types f.whole) (tree types f.of) (made.rooted_typed x ws (root.With f.with) (tree types f.whole) (WithRoot f.with (tree types f.whole) p.0)) (made.field_typed x ws f.whole f.number (tree types f.of) p.1))
   by_meaning at (meaning.Procedure f) p = fine (designated.Procedure f) p
   by_meaning at (meaning.LocalProcedure f) p = fine _ p
-  by_meaning at meaning.Ahead p = reported_holds g at 30
+  by_meaning at meaning.Ahead p = reported_holds g at rule.Undeclared
   by_meaning at (meaning.Standard f) p = fine (designated.Standard f) tt
   by_meaning at (meaning.Module k) p = fine (designated.Module k) p
 
@@ -177,8 +178,8 @@ module _ (g : Gathers) (x : Context) (ws : List Ty) (opens : ℕ → Bool) (s : 
   abbrev pub Arguments_ : Forms → Result (List Argument) g.Reported → Type 0
   Arguments_ fs r = Holds (λ gs. made.ArgumentsTyped x ws gs fs) r
 
-  passed_by : (is_var : Bool) (at : Pos) {d : Result Designated (Meaningless g.Reported)} → Designated_ d → Designated_ (cond is_var (of_sort g at 44 d) (of_heading d))
-  passed_by true at p = sort_holds g at 44 p
+  passed_by : (is_var : Bool) (at : Pos) {d : Result Designated (Meaningless g.Reported)} → Designated_ d → Designated_ (cond is_var (of_sort g at rule.NoVariable d) (of_heading d))
+  passed_by true at p = sort_holds g at rule.NoVariable p
   passed_by false at p = of_heading_holds p
 
   passed_typed : (f : Formal) (at : Pos) {d : Result Designated (Meaningless g.Reported)} → Designated_ d → Designated_ (passed_for g f at d)
@@ -213,7 +214,7 @@ module _ (g : Gathers) (x : Context) (ws : List Ty) (opens : ℕ → Bool) (s : 
         (given_typed x ws h.all g opens s.types h.types r (call_by gs c) (subst (CallTyped x ws (call_by gs c)) (ap (option_map (tree types)) q) (call_made k e gs p))))
 
     by_count : (k : Signature) (r : TypeNo) (q : Bool) → (length k.formals == length args) ≡ q → signature_at s.types t ≡ Some k → k.result ≡ Some r
-        → Value_ (ahead g (reported_where g {A = Unit {0}} (not q) at 42 (Ok (tt {0})) ▷ λ fine. Ok r) (looked_at g s args) (λ r. call_given g s.types r c (actuals g s k.formals args)))
+        → Value_ (ahead g (reported_where g {A = Unit {0}} (not q) at rule.ArgumentCount (Ok (tt {0})) ▷ λ fine. Ok r) (looked_at g s args) (λ r. call_given g s.types r c (actuals g s k.formals args)))
     by_count k r true count e q = given_call k r e q (eqb-true (length k.formals) (length args) count)
     by_count k r false count e q = refused_holds g _ (looked_at g s args)
 
@@ -232,35 +233,35 @@ module _ (g : Gathers) (x : Context) (ws : List Ty) (opens : ℕ → Bool) (s : 
   -- ---- standard functions
 
   unary_all : (at : Pos) (f : Standard) (u : Unary) (args : List (Meant g.Reported)) → AllM args → Value_ (unary g s at f u args)
-  unary_all at f u [] all = reported_beside_holds g at 42 (looked_at g s [])
+  unary_all at f u [] all = reported_beside_holds g at rule.ArgumentCount (looked_at g s [])
   unary_all at f u (y ∷ []) all = then_holds (value_typed y all.0) (λ v p. unary_typed x ws h.all g opens s.types h.types f u y.fixed.at v p)
-  unary_all at f u (y ∷ z ∷ ys) all = reported_beside_holds g at 42 _
+  unary_all at f u (y ∷ z ∷ ys) all = reported_beside_holds g at rule.ArgumentCount _
 
   named_type : (at : Pos) (d : Result Designated g.Reported) → Holds (TypeIs x ws h.all g opens s.types h.types) (d ▷ type_named g s.types at)
   named_type at d = then_holds (any_holds d) (λ y k. type_is x ws h.all g opens s.types h.types at y)
 
   bound_all : (at : Pos) (f : Standard) (args : List (Meant g.Reported)) → Value_ (bound g s at f args)
-  bound_all at f [] = reported_beside_holds g at 42 (looked_at g s [])
-  bound_all at f (y ∷ []) = bound_typed x ws h.all g opens s.types h.types f (named_type y.fixed.at (of_sort g y.fixed.at 33 (y.means s)))
-  bound_all at f (y ∷ z ∷ ys) = reported_beside_holds g at 42 _
+  bound_all at f [] = reported_beside_holds g at rule.ArgumentCount (looked_at g s [])
+  bound_all at f (y ∷ []) = bound_typed x ws h.all g opens s.types h.types f (named_type y.fixed.at (of_sort g y.fixed.at rule.NoType (y.means s)))
+  bound_all at f (y ∷ z ∷ ys) = reported_beside_holds g at rule.ArgumentCount _
 
   conversion_all : (at : Pos) (args : List (Meant g.Reported)) → AllM args → Value_ (conversion g s at args)
-  conversion_all at [] all = reported_beside_holds g at 42 (looked_at g s [])
-  conversion_all at (t ∷ []) all = reported_beside_holds g at 42 _
-  conversion_all at (t ∷ y ∷ []) all = conversion_typed x ws h.all g opens s.types h.types y.fixed.at (named_type t.fixed.at (of_sort g t.fixed.at 33 (t.means s))) (value_typed y all.1.0)
-  conversion_all at (t ∷ y ∷ z ∷ ys) all = reported_beside_holds g at 42 _
+  conversion_all at [] all = reported_beside_holds g at rule.ArgumentCount (looked_at g s [])
+  conversion_all at (t ∷ []) all = reported_beside_holds g at rule.ArgumentCount _
+  conversion_all at (t ∷ y ∷ []) all = conversion_typed x ws h.all g opens s.types h.types y.fixed.at (named_type t.fixed.at (of_sort g t.fixed.at rule.NoType (t.means s))) (value_typed y all.1.0)
+  conversion_all at (t ∷ y ∷ z ∷ ys) all = reported_beside_holds g at rule.ArgumentCount _
 
   high_all : (at : Pos) (args : List (Meant g.Reported)) → AllM args → Value_ (high g s at args)
-  high_all at [] all = reported_beside_holds g at 42 (looked_at g s [])
-  high_all at (y ∷ []) all = then_holds (sort_holds g y.fixed.at 43 all.0) (λ d p. high_typed x ws h.all g opens s.types h.types y.fixed.at d p)
-  high_all at (y ∷ z ∷ ys) all = reported_beside_holds g at 42 _
+  high_all at [] all = reported_beside_holds g at rule.ArgumentCount (looked_at g s [])
+  high_all at (y ∷ []) all = then_holds (sort_holds g y.fixed.at rule.WrongArgument all.0) (λ d p. high_typed x ws h.all g opens s.types h.types y.fixed.at d p)
+  high_all at (y ∷ z ∷ ys) all = reported_beside_holds g at rule.ArgumentCount _
 
   form_typed : (at : Pos) (f : Standard) (args : List (Meant g.Reported)) (o : Form) → AllM args → Value_ (by_form g s at f args o)
   form_typed at f args (form.Unary u) all = unary_all at f u args all
   form_typed at f args form.Bound all = bound_all at f args
   form_typed at f args form.Conversion all = conversion_all at args all
   form_typed at f args form.High all = high_all at args all
-  form_typed at f args form.Proper all = reported_beside_holds g at 40 _
+  form_typed at f args form.Proper all = reported_beside_holds g at rule.WrongType _
 
   called_as_typed : (at : Pos) (args : List (Meant g.Reported)) (y : Called) → CalledTyped x ws h.all g opens s.types h.types y → AllM args → Value_ (called_as g s at args y)
   called_as_typed at args (called.Routine t c) p all = routine_typed at t c args p all
@@ -431,8 +432,8 @@ module _ (g : Gathers) (x : Context) (ws : List Ty) (opens : ℕ → Bool) (s : 
   expr_typed (layer.Relation a o b) e = computed_typed (relation_typed (meant g a.0) o (meant g b.0) (a.1 (both_left (fits_whole a.0) (fits_whole b.0) e)) (b.1 (both_right (fits_whole a.0) (fits_whole b.0) e)))
 
   selector_typed : (y : Selector-F SE SS SD SI) → fits_selector (fitting_selector (bare_selector y)) ≡ true → FP (selector_layer g (opened_selector (bare_selector y)))
-  selector_typed (layer.Field p name) e = λ d q. plain_holds (then_holds (sort_holds g p 40 q) (λ z k. field_of_typed p name z k))
-  selector_typed (layer.Index p y) e = λ d q. plain_holds (indexed_typed x ws h.all g s.types h.types opens p (meant g y.0).fixed.at (sort_holds g p 40 q) (value_typed (meant g y.0) (y.1 e)))
+  selector_typed (layer.Field p name) e = λ d q. plain_holds (then_holds (sort_holds g p rule.WrongType q) (λ z k. field_of_typed p name z k))
+  selector_typed (layer.Index p y) e = λ d q. plain_holds (indexed_typed x ws h.all g s.types h.types opens p (meant g y.0).fixed.at (sort_holds g p rule.WrongType q) (value_typed (meant g y.0) (y.1 e)))
 
   designator_typed : (y : Designator-F SE SS SD SI) → fits_designator (fitting_designator (bare_designator y)) ≡ true → FM (designator_layer g (opened_designator (bare_designator y)))
   designator_typed y e = picks_typed (map (picks g) (map (λ (e : SS). e.0) y.selectors)) (named g s y.name) (named_typed y.name) (all_picks y.selectors e)

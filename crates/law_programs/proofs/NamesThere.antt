@@ -3,6 +3,7 @@ use Rattle.std.proofs.Common.{◌≡◌, ◌⊎◌, inl, inr, ℕ, zero, suc, �
 use Rattle.std.specs.Prelude.{slice_get, codes}
 use Rattle.std.specs.List.{AllByRecursion, list_any, list_all}
 use Rattle.std.proofs.lemmas.Option.{same_Some}
+use Rattle.m2_rule.specs.declared.rule.Rule.TheVariants as rule
 use Rattle.m2_tree.specs.declared.pos.Pos.{Pos}
 use Rattle.m2_tree.specs.declared.name.Ident.{Ident}
 use Rattle.m2_tree.specs.declared.decl.Decl.{Decl}
@@ -208,11 +209,11 @@ module _ (fs : List (List ℕ × Tree)) (files : List ℕ) (jobs : List (List �
   found_by at false v o h k = k
 
   found_there : (at : Pos) (name : List ℕ) (es : List (List ℕ × Meaning)) → AllStand es → Holds (MeaningThere x opens 0) (exported least at (found name es))
-  found_there at name [] k = reported_holds least at 32
+  found_there at name [] k = reported_holds least at rule.NotExported
   found_there at name (e ∷ es) k = found_by at (same_name name e.0) e.1 (found name es) k.0.0 (found_there at name es k.1)
 
   member_by : (name : Ident) (o : Option Table) → AllStand (exports_of o) → Holds (MeaningThere x opens 0) (exported least name.pos (exported_by name.name o))
-  member_by name None k = reported_holds least name.pos 32
+  member_by name None k = reported_holds least name.pos rule.NotExported
   member_by name (Some u) k = found_there name.pos name.name u.exported k
 
   member_there : (k : ℕ) (name : Ident) → opens k ≡ true → Holds (MeaningThere x opens 0) (member least ts k name)

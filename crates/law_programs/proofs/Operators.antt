@@ -3,6 +3,8 @@ use Rattle.std.proofs.Common.{◌≡◌, ◌⊎◌, inl, inr, ⊎_elim, ℕ, zer
 use Rattle.std.proofs.lemmas.Int.{ints}
 use Rattle.std.specs.Prelude.{not, ◌&&◌, ◌||◌, slice_get, if◌then◌else◌}
 use Rattle.std.specs.Option.{option_map, is_some}
+use Rattle.m2_rule.specs.declared.rule.Rule.{Rule}
+use Rattle.m2_rule.specs.declared.rule.Rule.TheVariants as rule
 use Rattle.m2_tree.specs.declared.pos.Pos.{Pos}
 use Rattle.m2_tree.specs.declared.name.Ident.{Ident}
 use Rattle.m2_tree.specs.declared.expr.RelOp.{RelOp}
@@ -81,11 +83,11 @@ use Rattle.law_programs.proofs.Constructs as made
 
 -- ---- tests
 
-pub where_not : (g : Gathers) {A : Type 0} {P : A → Type 0} (b : Bool) (at : Pos) (n : ℕ) {r : Result A g.Reported} → (b ≡ true → Holds P r) → Holds P (reported_where g (not b) at n r)
+pub where_not : (g : Gathers) {A : Type 0} {P : A → Type 0} (b : Bool) (at : Pos) (n : Rule) {r : Result A g.Reported} → (b ≡ true → Holds P r) → Holds P (reported_where g (not b) at n r)
 where_not g true at n k = k refl
 where_not g false at n k = broken _
 
-not_so : (g : Gathers) (b : Bool) (at : Pos) (n : ℕ) → Holds (λ x. b ≡ true) (reported_where g {A = Unit {0}} (not b) at n (Ok tt))
+not_so : (g : Gathers) (b : Bool) (at : Pos) (n : Rule) → Holds (λ x. b ≡ true) (reported_where g {A = Unit {0}} (not b) at n (Ok tt))
 not_so g b at n = where_not g b at n (λ e. fine tt e)
 
 one_type : (t u : TypeNo) → Some t ≡ Some u → t ≡ u
@@ -334,8 +336,8 @@ module _ (x : Context) (ws : List Ty) (h : TypesTyped x.home.types) where
     -- ---- signs
 
     signed_scalar_typed : (o : Sign) (at : Pos) (t b : TypeNo) (e : TypedExpr) → ScalarTyped x ws t b e → Value_ (signed_scalar g o at b e)
-    signed_scalar_typed sign.Plus at t b e p = where_not g (is_numeric b) at 40 (λ k. fine (value.Scalar b b (expr.Plus b e)) (scalar_typed b b (expr.Plus b e) (made.plus_typed x ws b t e p.typed (among_base types t b p.based)) (numeric_is b k).base (made.run_plus m b e)))
-    signed_scalar_typed sign.Minus at t b e p = where_not g (is_integer b) at 40 (λ k. fine (value.Scalar b b (expr.Negate e)) (subst (λ (w : TypeNo). ValueTyped x ws (value.Scalar w w (expr.Negate e))) (sym (same_types b integer k)) (scalar_typed integer integer (expr.Negate e) (made.negate_typed x ws t e p.typed) integer_base (made.run_negate m e))))
+    signed_scalar_typed sign.Plus at t b e p = where_not g (is_numeric b) at rule.WrongType (λ k. fine (value.Scalar b b (expr.Plus b e)) (scalar_typed b b (expr.Plus b e) (made.plus_typed x ws b t e p.typed (among_base types t b p.based)) (numeric_is b k).base (made.run_plus m b e)))
+    signed_scalar_typed sign.Minus at t b e p = where_not g (is_integer b) at rule.WrongType (λ k. fine (value.Scalar b b (expr.Negate e)) (subst (λ (w : TypeNo). ValueTyped x ws (value.Scalar w w (expr.Negate e))) (sym (same_types b integer k)) (scalar_typed integer integer (expr.Negate e) (made.negate_typed x ws t e p.typed) integer_base (made.run_negate m e))))
 
     constants : {v : Result Value g.Reported} → Holds (ValueRanged types) v → Holds IsWord v → Holds (IsConstant types) v
     constants {v} p q = holds_both v p q
@@ -343,11 +345,11 @@ module _ (x : Context) (ws : List Ty) (h : TypesTyped x.home.types) where
     signed_value_typed : (o : Sign) (at : Pos) (v : Computed) → ValueTyped x ws v → Value_ (signed_value g o at v)
     signed_value_typed o at (value.Constant v) p = of_value_typed (constants (signed_ranged g types o at (fine v p.0)) (signed_words g o at (operand_of v)))
     signed_value_typed o at (value.Scalar t b e) p = signed_scalar_typed o at t b e p
-    signed_value_typed o at (value.Set e) p = reported_holds g at 40
-    signed_value_typed o at (value.Routine t e) p = reported_holds g at 40
-    signed_value_typed o at (value.Procedure f) p = reported_holds g at 40
-    signed_value_typed o at (value.Whole t d) p = reported_holds g at 40
-    signed_value_typed o at value.Untaken p = reported_holds g at 40
+    signed_value_typed o at (value.Set e) p = reported_holds g at rule.WrongType
+    signed_value_typed o at (value.Routine t e) p = reported_holds g at rule.WrongType
+    signed_value_typed o at (value.Procedure f) p = reported_holds g at rule.WrongType
+    signed_value_typed o at (value.Whole t d) p = reported_holds g at rule.WrongType
+    signed_value_typed o at value.Untaken p = reported_holds g at rule.WrongType
 
     pub signed_typed : (o : Sign) (at : Pos) {v : Result Computed g.Reported} → Value_ v → Value_ (signed g o at v)
     signed_typed o at p = then_holds p (λ v k. signed_value_typed o at v k)
@@ -355,12 +357,12 @@ module _ (x : Context) (ws : List Ty) (h : TypesTyped x.home.types) where
     negated_value_typed : (at : Pos) (v : Computed) → ValueTyped x ws v → Value_ (negated_value g at v)
     negated_value_typed at (value.Constant v) p = of_value_typed (constants (negated_ranged g types at (Ok v)) (negated_words g at (operand_of v)))
     negated_value_typed at (value.Scalar t b e) p =
-        where_not g (are_same b boolean) at 40 (λ k. fine (truth_of (expr.Not e)) (truth_typed (expr.Not e) (made.not_typed x ws t e p.typed (subst (λ (w : TypeNo). AreAmong types t w) (same_types b boolean k) (among_base types t b p.based))) (made.run_not m e)))
-    negated_value_typed at (value.Set e) p = reported_holds g at 40
-    negated_value_typed at (value.Routine t e) p = reported_holds g at 40
-    negated_value_typed at (value.Procedure f) p = reported_holds g at 40
-    negated_value_typed at (value.Whole t d) p = reported_holds g at 40
-    negated_value_typed at value.Untaken p = reported_holds g at 40
+        where_not g (are_same b boolean) at rule.WrongType (λ k. fine (truth_of (expr.Not e)) (truth_typed (expr.Not e) (made.not_typed x ws t e p.typed (subst (λ (w : TypeNo). AreAmong types t w) (same_types b boolean k) (among_base types t b p.based))) (made.run_not m e)))
+    negated_value_typed at (value.Set e) p = reported_holds g at rule.WrongType
+    negated_value_typed at (value.Routine t e) p = reported_holds g at rule.WrongType
+    negated_value_typed at (value.Procedure f) p = reported_holds g at rule.WrongType
+    negated_value_typed at (value.Whole t d) p = reported_holds g at rule.WrongType
+    negated_value_typed at value.Untaken p = reported_holds g at rule.WrongType
 
     pub negated_typed : (at : Pos) {v : Result Computed g.Reported} → Value_ v → Value_ (negated g at v)
     negated_typed at p = then_holds p (λ v k. negated_value_typed at v k)
@@ -405,13 +407,13 @@ module _ (x : Context) (ws : List Ty) (h : TypesTyped x.home.types) where
     relation_typed at w a b rel.AtMost p q = fine _ (compared_typed w (run_of w a) (run_of w b) p q _)
     relation_typed at w a b rel.Greater p q = fine _ (compared_typed w (run_of w a) (run_of w b) p q _)
     relation_typed at w a b rel.AtLeast p q = fine _ (compared_typed w (run_of w a) (run_of w b) p q _)
-    relation_typed at w a b rel.In p q = reported_holds g at 40
+    relation_typed at w a b rel.In p q = reported_holds g at rule.WrongType
 
     stepped_typed : (op : BinaryOp) (at : Pos) (w : TypeNo) (a b : Amount) → takes op (Some w) ≡ true → AmongTyped w (run_of w a) → AmongTyped w (run_of w b) → Value_ (stepped g at (Some w) a b (step_of op))
     stepped_typed Plus at w a b k p q = fine _ (sum_made w (run_of w a) (run_of w b) p q k)
     stepped_typed Minus at w a b k p q = fine _ (difference_made w (run_of w a) (run_of w b) p q k)
     stepped_typed Times at w a b k p q = fine _ (product_made w (run_of w a) (run_of w b) p q k)
-    stepped_typed Over at w a b k p q = reported_holds g at 40
+    stepped_typed Over at w a b k p q = reported_holds g at rule.WrongType
     stepped_typed Div at w a b k p q = fine _ (quotient_made w (run_of w a) (run_of w b) p q k)
     stepped_typed Mod at w a b k p q = fine _ (remainder_made w (run_of w a) (run_of w b) p q k)
     stepped_typed And at w a b k p q = fine _ (and_made w (run_of w a) (run_of w b) p q k)
@@ -419,16 +421,16 @@ module _ (x : Context) (ws : List Ty) (h : TypesTyped x.home.types) where
     stepped_typed (Relation r) at w a b k p q = relation_typed at w a b r p q
 
     fits_typed : (sort : Option TypeNo) (at : Pos) (a : Amount) → Holds (λ y. FitsAmount sort a) (fitting_of g sort at a)
-    fits_typed sort at (Known a) = test_holds g (is_misfit sort a.sort a.number) at 52
+    fits_typed sort at (Known a) = test_holds g (is_misfit sort a.sort a.number) at rule.OutOfRange
     fits_typed sort at (Run b e) = fine tt tt
 
     both_fit : (op : BinaryOp) (spot : Pos) (sort : Option TypeNo) (at : Pos) (a : Amount) (at' : Pos) (b : Amount) → Holds (λ y. (takes op sort ≡ true) × FitsAmount sort a × FitsAmount sort b) (fitting_both g op spot sort at a at' b)
     both_fit op spot sort at a at' b =
-        where_not g (takes op sort) spot 40 (λ k.
+        where_not g (takes op sort) spot rule.WrongType (λ k.
         holds_weaker (λ y j. (k, j.1.0, j.1.1)) (beside_holds g {P = Unit {0}} {Q = FitsAmount sort a × FitsAmount sort b} (any_holds (divisor_of g op spot b)) (beside_holds g (fits_typed sort at a) (fits_typed sort at' b))))
 
     amounts_typed : (op : BinaryOp) (spot at : Pos) (a : Amount) (at' : Pos) (b : Amount) (o : Option (Option TypeNo)) → common (sort_of a) (sort_of b) ≡ o → Sorted (sort_of a) ⊎ Sorted (sort_of b) → AmountTyped a → AmountTyped b → Value_ (on_amounts g op spot at a at' b o)
-    amounts_typed op spot at a at' b None e s p q = reported_holds g spot 40
+    amounts_typed op spot at a at' b None e s p q = reported_holds g spot rule.WrongType
     amounts_typed op spot at a at' b (Some None) e s p q = absurd (common_some (sort_of a) (sort_of b) s e)
     amounts_typed op spot at a at' b (Some (Some w)) e s p q =
         then_holds (both_fit op spot (Some w) at a at' b) (λ f k.
@@ -441,7 +443,7 @@ module _ (x : Context) (ws : List Ty) (h : TypesTyped x.home.types) where
     InSet (Run b e) = Unit {0}
 
     in_set : (at : Pos) (a : Amount) → Holds (λ y. InSet a) (element_fits g at a)
-    in_set at (Known a) = not_so g (is_between (pos 0) a.number (pos 31)) at 52
+    in_set at (Known a) = not_so g (is_between (pos 0) a.number (pos 31)) at rule.OutOfRange
     in_set at (Run b e) = fine tt tt
 
     element_constant : (s : Option TypeNo) (n : ℤ) → SortRanged types s n → is_between (pos 0) n (pos 31) ≡ true → IsValue types (or_cardinal s) n
@@ -462,7 +464,7 @@ module _ (x : Context) (ws : List Ty) (h : TypesTyped x.home.types) where
 
     member_typed : (op : BinaryOp) (spot at : Pos) (a : Amount) (s : TypedExpr) → AmountTyped a → WordTyped x ws s → Value_ (member g op spot at a s)
     member_typed op spot at a s p q =
-        where_holds g (not (is_in op && is_number (sort_of a))) spot 40 (then_holds (in_set at a) (λ f k. fine (truth_of (expr.In (run_of (or_cardinal (sort_of a)) a) s)) (member_made (run_of (or_cardinal (sort_of a)) a) s (element_some a p k) q)))
+        where_holds g (not (is_in op && is_number (sort_of a))) spot rule.WrongType (then_holds (in_set at a) (λ f k. fine (truth_of (expr.In (run_of (or_cardinal (sort_of a)) a) s)) (member_made (run_of (or_cardinal (sort_of a)) a) s (element_some a p k) q)))
 
     set_made_typed : (e f : TypedExpr) (o : SetStep) → WordTyped x ws e → WordTyped x ws f → ValueTyped x ws (set_built e f o)
     set_made_typed e f (set_step.Combine o) p q = record {
@@ -474,15 +476,15 @@ module _ (x : Context) (ws : List Ty) (h : TypesTyped x.home.types) where
     set_made_typed e f (set_step.Include i) p q = truth_typed (expr.Include i e f) (made.include_typed x ws p.of q.of i e f p.typed (word_among e p) q.typed (word_among f q)) (made.run_include m i e f)
 
     sets_typed : (at : Pos) (e f : TypedExpr) (o : Option SetStep) → WordTyped x ws e → WordTyped x ws f → Value_ (on_sets g at e f o)
-    sets_typed at e f None p q = reported_holds g at 40
+    sets_typed at e f None p q = reported_holds g at rule.WrongType
     sets_typed at e f (Some o) p q = fine (set_built e f o) (set_made_typed e f o p q)
 
     with_set_typed : (op : BinaryOp) (spot : Pos) (e : TypedExpr) (y : Option Side) → WordTyped x ws e → SideTyped y → Value_ (with_set g op spot e (set_in y))
-    with_set_typed op spot e None p q = reported_holds g spot 40
-    with_set_typed op spot e (Some (side.Scalar b)) p q = reported_holds g spot 40
+    with_set_typed op spot e None p q = reported_holds g spot rule.WrongType
+    with_set_typed op spot e (Some (side.Scalar b)) p q = reported_holds g spot rule.WrongType
     with_set_typed op spot e (Some (side.Set s)) p q = sets_typed spot e s (set_step_of op) p q
-    with_set_typed op spot e (Some (side.Routine t f)) p q = reported_holds g spot 40
-    with_set_typed op spot e (Some (side.Procedure f)) p q = reported_holds g spot 40
+    with_set_typed op spot e (Some (side.Routine t f)) p q = reported_holds g spot rule.WrongType
+    with_set_typed op spot e (Some (side.Procedure f)) p q = reported_holds g spot rule.WrongType
 
     -- ---- scalars, on either side
 
@@ -494,11 +496,11 @@ module _ (x : Context) (ws : List Ty) (h : TypesTyped x.home.types) where
     SideSorted (Some (side.Procedure f)) = Unit {0}
 
     with_scalar_typed : (op : BinaryOp) (spot at : Pos) (a : Amount) (at' : Pos) (y : Option Side) → Sorted (sort_of a) ⊎ SideSorted y → AmountTyped a → SideTyped y → Value_ (with_scalar g op spot at a at' y)
-    with_scalar_typed op spot at a at' None s p q = reported_holds g spot 40
+    with_scalar_typed op spot at a at' None s p q = reported_holds g spot rule.WrongType
     with_scalar_typed op spot at a at' (Some (side.Scalar b)) s p q = amounts_typed op spot at a at' b (common (sort_of a) (sort_of b)) refl s p q
     with_scalar_typed op spot at a at' (Some (side.Set e)) s p q = member_typed op spot at a e p q
-    with_scalar_typed op spot at a at' (Some (side.Routine t e)) s p q = reported_holds g spot 40
-    with_scalar_typed op spot at a at' (Some (side.Procedure f)) s p q = reported_holds g spot 40
+    with_scalar_typed op spot at a at' (Some (side.Routine t e)) s p q = reported_holds g spot rule.WrongType
+    with_scalar_typed op spot at a at' (Some (side.Procedure f)) s p q = reported_holds g spot rule.WrongType
 
     operand_sorted : (v : Value) → operand_of v ≡ None → SideSorted (constant_side (operand_of v))
     operand_sorted v e = subst (λ (o : Option Operand). SideSorted (constant_side o)) (sym e) tt
@@ -519,12 +521,12 @@ module _ (x : Context) (ws : List Ty) (h : TypesTyped x.home.types) where
     PairTyped e (Some p) = p.0 ≡ true → SomeTyped e × SomeTyped p.1
 
     procedures_typed : (at : Pos) (fit : Bool) (e f : TypedExpr) (o : Option Comparison) → (fit ≡ true → SomeTyped e × SomeTyped f) → Value_ (on_procedures g at fit e f o)
-    procedures_typed at fit e f None k = reported_holds g at 40
+    procedures_typed at fit e f None k = reported_holds g at rule.WrongType
     procedures_typed at fit e f (Some c) k =
-        where_not g fit at 40 (λ q. let p = k q in fine (truth_of (expr.Compare c e f)) (truth_typed (expr.Compare c e f) (made.compare_typed x ws p.0.of p.1.of c e f p.0.typed p.1.typed) (made.run_compare m c e f)))
+        where_not g fit at rule.WrongType (λ q. let p = k q in fine (truth_of (expr.Compare c e f)) (truth_typed (expr.Compare c e f) (made.compare_typed x ws p.0.of p.1.of c e f p.0.typed p.1.typed) (made.run_compare m c e f)))
 
     partner_typed : (at : Pos) (e : TypedExpr) (c : Option Comparison) (o : Option (Bool × TypedExpr)) → PairTyped e o → Value_ (with_partner g at e c o)
-    partner_typed at e c None p = reported_holds g at 40
+    partner_typed at e c None p = reported_holds g at rule.WrongType
     partner_typed at e c (Some o) p = procedures_typed at o.0 e o.1 c p
 
     -- ---- what is made of two constants
@@ -584,7 +586,7 @@ module _ (x : Context) (ws : List Ty) (h : TypesTyped x.home.types) where
       routine_pair f (Some (side.Procedure h)) p q = tt
 
       between_typed : (op : BinaryOp) (spot at : Pos) (v : Option Side) (at' : Pos) (y : Option Side) → SideSorted v ⊎ SideSorted y → SideTyped v → SideTyped y → Value_ (between g scope op spot at v at' y)
-      between_typed op spot at None at' y s p q = reported_holds g spot 40
+      between_typed op spot at None at' y s p q = reported_holds g spot rule.WrongType
       between_typed op spot at (Some (side.Scalar a)) at' y s p q = with_scalar_typed op spot at a at' y s p q
       between_typed op spot at (Some (side.Set e)) at' y s p q = with_set_typed op spot e y p q
       between_typed op spot at (Some (side.Routine t e)) at' y s p q = partner_typed spot e (equality_of op) (partner_of scope t y) (partner_pair t e y p q)
@@ -622,15 +624,15 @@ module _ (x : Context) (ws : List Ty) (h : TypesTyped x.home.types) where
         };
       }
 
-      scalar_given : (number : ℕ) (t : TypeNo) (s : Range) (at : Pos) (v : Option Side) → scalar_at types t ≡ Some s → SideTyped v → Given_ t (scalar_suited g number t s at v)
+      scalar_given : (broken : Rule) (t : TypeNo) (s : Range) (at : Pos) (v : Option Side) → scalar_at types t ≡ Some s → SideTyped v → Given_ t (scalar_suited g broken t s at v)
       scalar_given number t s at None e p = reported_holds g at number
-      scalar_given number t s at (Some (side.Scalar (Known a))) e p = where_holds g _ at number (where_not g (is_between s.low a.number s.high) at 52 (λ k. fine (expr.Constant t a.number) (known_given t s a e k)))
+      scalar_given number t s at (Some (side.Scalar (Known a))) e p = where_holds g _ at number (where_not g (is_between s.low a.number s.high) at rule.OutOfRange (λ k. fine (expr.Constant t a.number) (known_given t s a e k)))
       scalar_given number t s at (Some (side.Scalar (Run b f))) e p = where_holds g _ at number (fine f (run_given t s b f e p))
       scalar_given number t s at (Some (side.Set f)) e p = reported_holds g at number
       scalar_given number t s at (Some (side.Routine u f)) e p = reported_holds g at number
       scalar_given number t s at (Some (side.Procedure f)) e p = reported_holds g at number
 
-      set_given : (number : ℕ) (t : TypeNo) (at : Pos) (v : Option Side) → scalar_at types t ≡ None → SideTyped v → Given_ t (set_suited g number at v)
+      set_given : (broken : Rule) (t : TypeNo) (at : Pos) (v : Option Side) → scalar_at types t ≡ None → SideTyped v → Given_ t (set_suited g broken at v)
       set_given number t at None e p = reported_holds g at number
       set_given number t at (Some (side.Scalar a)) e p = reported_holds g at number
       set_given number t at (Some (side.Set f)) e p = fine f (given_among t p.of f p.typed (among_words types p.of t p.word e))
@@ -644,7 +646,7 @@ module _ (x : Context) (ws : List Ty) (h : TypesTyped x.home.types) where
       one_heading : (a b : Heading) → Some a ≡ Some b → a ≡ b
       one_heading a b e = cc
 
-      procedure_given : (number : ℕ) (t : TypeNo) (at : Pos) (v : Option Side) (i : IsRoutine types t) → SideTyped v → Procedure_ i.heading (procedure_suited g number scope t at v)
+      procedure_given : (broken : Rule) (t : TypeNo) (at : Pos) (v : Option Side) (i : IsRoutine types t) → SideTyped v → Procedure_ i.heading (procedure_suited g broken scope t at v)
       procedure_given number t at None e p = reported_holds g at number
       procedure_given number t at (Some (side.Scalar a)) e p = reported_holds g at number
       procedure_given number t at (Some (side.Set f)) e p = reported_holds g at number
@@ -660,7 +662,7 @@ module _ (x : Context) (ws : List Ty) (h : TypesTyped x.home.types) where
           fine (expr.Procedure f) (made.procedure_typed x ws f e.heading p (two ∙ ap (λ (z : Heading). Some z) (sym (j.same (known_trees types))) ∙ sym one ∙ e.is)))
 
       -- and as one of its own type, the values of which are the same numbers
-      routine_given : (number : ℕ) (t : TypeNo) (at : Pos) (v : Option Side) → scalar_at types t ≡ None → SideTyped v → Given_ t (procedure_suited g number scope t at v)
+      routine_given : (broken : Rule) (t : TypeNo) (at : Pos) (v : Option Side) → scalar_at types t ≡ None → SideTyped v → Given_ t (procedure_suited g broken scope t at v)
       unfolding routine_some named_some
       routine_given number t at None e p = reported_holds g at number
       routine_given number t at (Some (side.Scalar a)) e p = reported_holds g at number
@@ -677,20 +679,20 @@ module _ (x : Context) (ws : List Ty) (h : TypesTyped x.home.types) where
       value_given number t at v class.Procedure e p = routine_given number t at v e.none p
       value_given number t at v class.Whole e p = reported_holds g at number
 
-      pub suited_typed : (number : ℕ) (t : TypeNo) (at : Pos) (v : Computed) → ValueTyped x ws v → Given_ t (value_suited g number scope t at v)
-      suited_typed number t at v p = value_given number t at (side_of v) (class_at scope t) (class_is scope types grows t) (side_typed v p)
+      pub suited_typed : (broken : Rule) (t : TypeNo) (at : Pos) (v : Computed) → ValueTyped x ws v → Given_ t (value_suited g broken scope t at v)
+      suited_typed broken t at v p = value_given broken t at (side_of v) (class_at scope t) (class_is scope types grows t) (side_typed v p)
 
-      place_suited : (number : ℕ) (t : TypeNo) (at : Pos) (v : Option Side) (c : Class) → ClassIs types t c → SideTyped v → Holds (IsSuited t) (value_in g number scope t at v c)
-      place_suited number t at v (class.Scalar s) e p = holds_weaker (λ f k. SuitsCell (ranged_cell types h t s e) k) (scalar_given number t s at v e p)
-      place_suited number t at v class.Set e p = holds_weaker (λ f k. SuitsCell (bits_cell types t e) k) (set_given number t at v e.none p)
-      place_suited number t at v class.Procedure e p = holds_weaker (λ f k. SuitsProcedure e k) (procedure_given number t at v e p)
-      place_suited number t at v class.Whole e p = reported_holds g at number
+      place_suited : (broken : Rule) (t : TypeNo) (at : Pos) (v : Option Side) (c : Class) → ClassIs types t c → SideTyped v → Holds (IsSuited t) (value_in g broken scope t at v c)
+      place_suited broken t at v (class.Scalar s) e p = holds_weaker (λ f k. SuitsCell (ranged_cell types h t s e) k) (scalar_given broken t s at v e p)
+      place_suited broken t at v class.Set e p = holds_weaker (λ f k. SuitsCell (bits_cell types t e) k) (set_given broken t at v e.none p)
+      place_suited broken t at v class.Procedure e p = holds_weaker (λ f k. SuitsProcedure e k) (procedure_given broken t at v e p)
+      place_suited broken t at v class.Whole e p = reported_holds g at broken
 
-      pub place_suited_typed : (number : ℕ) (t : TypeNo) (at : Pos) (v : Computed) → ValueTyped x ws v → Holds (IsSuited t) (value_suited g number scope t at v)
-      place_suited_typed number t at v p = place_suited number t at (side_of v) (class_at scope t) (class_is scope types grows t) (side_typed v p)
+      pub place_suited_typed : (broken : Rule) (t : TypeNo) (at : Pos) (v : Computed) → ValueTyped x ws v → Holds (IsSuited t) (value_suited g broken scope t at v)
+      place_suited_typed broken t at v p = place_suited broken t at (side_of v) (class_at scope t) (class_is scope types grows t) (side_typed v p)
 
-      pub procedure_suited_typed : (number : ℕ) (t : TypeNo) (at : Pos) (v : Computed) (i : IsRoutine types t) → class_at scope t ≡ class.Procedure → ValueTyped x ws v → Procedure_ i.heading (value_suited g number scope t at v)
-      procedure_suited_typed number t at v i q p = subst (λ (c : Class). Procedure_ i.heading (value_in g number scope t at (side_of v) c)) (sym q) (procedure_given number t at (side_of v) i (side_typed v p))
+      pub procedure_suited_typed : (broken : Rule) (t : TypeNo) (at : Pos) (v : Computed) (i : IsRoutine types t) → class_at scope t ≡ class.Procedure → ValueTyped x ws v → Procedure_ i.heading (value_suited g broken scope t at v)
+      procedure_suited_typed broken t at v i q p = subst (λ (c : Class). Procedure_ i.heading (value_in g broken scope t at (side_of v) c)) (sym q) (procedure_given broken t at (side_of v) i (side_typed v p))
 
       -- ---- components
 
@@ -704,45 +706,45 @@ module _ (x : Context) (ws : List Ty) (h : TypesTyped x.home.types) where
 
         field_found : (t : TypeNo) (fs : List (List ℕ × TypeNo)) (n : ℕ) (at : Pos) (o : Option (List ℕ × TypeNo)) → MadeSo types t fields_shape fs → slice_get fs n ≡ o
             → Holds (IsField t) (field_named g at (option_map (λ (e : List ℕ × TypeNo). (n, e.1)) o))
-        field_found t fs n at None k q = reported_holds g at 30
+        field_found t fs n at None k q = reported_holds g at rule.Undeclared
         field_found t fs n at (Some e) k q = fine (n, e.1) (ap (λ (u : Ty). component u (n ∷ [])) (record_is types h t fs k) ∙ field_in_row (tree types) fs n e q)
 
         field_at : (t : TypeNo) (fs : List (List ℕ × TypeNo)) (at : Pos) (o : Option ℕ) → MadeSo types t fields_shape fs → Holds (IsField t) (field_named g at (typed_field fs o))
-        field_at t fs at None k = reported_holds g at 30
+        field_at t fs at None k = reported_holds g at rule.Undeclared
         field_at t fs at (Some n) k = field_found t fs n at (slice_get fs n) k refl
 
         fields_by : (t : TypeNo) (at : Pos) (name : Ident) (o : Option (List (List ℕ × TypeNo))) → fields_at scope t ≡ o → Holds (IsField t) (record_field g at name o)
-        fields_by t at name None e = reported_holds g at 40
+        fields_by t at name None e = reported_holds g at rule.WrongType
         fields_by t at name (Some fs) e = field_at t fs name.pos (place_of name.name fs) (fields_known scope types grows t fs e)
 
         pub field_typed : (at : Pos) (name : Ident) (d : Designated) → DesignatedTyped x ws opens d → Designated_ (field g scope at name d)
         field_typed at name (designated.Variable t d) p =
             then_holds (fields_by t at name (fields_at scope t) refl) (λ f k. fine (designated.Variable f.1 (behind d (part.Field t f.0))) (made.behind_typed x ws d (part.Field t f.0) (tree types t) (tree types f.1) p (made.field_typed x ws t f.0 (tree types f.1) k)))
-        field_typed at name (designated.Value v) p = reported_holds g at 40
-        field_typed at name (designated.Open t slot) p = reported_holds g at 40
-        field_typed at name (designated.Type t) p = reported_holds g at 40
-        field_typed at name (designated.Procedure f) p = reported_holds g at 40
-        field_typed at name (designated.Nested f) p = reported_holds g at 40
-        field_typed at name (designated.Standard f) p = reported_holds g at 40
-        field_typed at name (designated.Module k) p = reported_holds g at 40
+        field_typed at name (designated.Value v) p = reported_holds g at rule.WrongType
+        field_typed at name (designated.Open t slot) p = reported_holds g at rule.WrongType
+        field_typed at name (designated.Type t) p = reported_holds g at rule.WrongType
+        field_typed at name (designated.Procedure f) p = reported_holds g at rule.WrongType
+        field_typed at name (designated.Nested f) p = reported_holds g at rule.WrongType
+        field_typed at name (designated.Standard f) p = reported_holds g at rule.WrongType
+        field_typed at name (designated.Module k) p = reported_holds g at rule.WrongType
 
         abbrev SubscriptedTyped : Subscripted → Type 0
         SubscriptedTyped (indexes.Array t i e d) = PlaceTyped x ws d (tree types t) × IsArray types h t i e
         SubscriptedTyped (indexes.Open t slot) = kind_at x.kinds slot ≡ Some (Open (tree types t))
 
         array_typed : (at : Pos) (t : TypeNo) (d : Place) (o : Option (TypeNo × TypeNo)) → array_at scope t ≡ o → PlaceTyped x ws d (tree types t) → Holds SubscriptedTyped (array_indexed g at t d o)
-        array_typed at t d None e p = reported_holds g at 40
+        array_typed at t d None e p = reported_holds g at rule.WrongType
         array_typed at t d (Some a) e p = fine (indexes.Array t a.0 a.1 d) (p, array_is types h t a (array_known scope types grows t a e))
 
         indices_typed : (at : Pos) (d : Designated) → DesignatedTyped x ws opens d → Holds SubscriptedTyped (indices g scope at d)
         indices_typed at (designated.Variable t d) p = array_typed at t d (array_at scope t) refl p
         indices_typed at (designated.Open t slot) p = fine (indexes.Open t slot) p
-        indices_typed at (designated.Value v) p = reported_holds g at 40
-        indices_typed at (designated.Type t) p = reported_holds g at 40
-        indices_typed at (designated.Procedure f) p = reported_holds g at 40
-        indices_typed at (designated.Nested f) p = reported_holds g at 40
-        indices_typed at (designated.Standard f) p = reported_holds g at 40
-        indices_typed at (designated.Module k) p = reported_holds g at 40
+        indices_typed at (designated.Value v) p = reported_holds g at rule.WrongType
+        indices_typed at (designated.Type t) p = reported_holds g at rule.WrongType
+        indices_typed at (designated.Procedure f) p = reported_holds g at rule.WrongType
+        indices_typed at (designated.Nested f) p = reported_holds g at rule.WrongType
+        indices_typed at (designated.Standard f) p = reported_holds g at rule.WrongType
+        indices_typed at (designated.Module k) p = reported_holds g at rule.WrongType
 
         picked_typed : (t : TypeNo) (e : TypedExpr) (a : Subscripted) → GivenTyped x ws e t → SubscriptedTyped a → DesignatedTyped x ws opens (picked e a)
         picked_typed t e (indexes.Array u i z d) p q = made.behind_typed x ws d (part.Element u e) (tree types u) (tree types z) q.0 (made.element_typed x ws u p.of q.1.range (tree types z) e q.1.index q.1.elements p.typed)
@@ -751,4 +753,4 @@ module _ (x : Context) (ws : List Ty) (h : TypesTyped x.home.types) where
         pub indexed_typed : (at : Pos) {d : Result Designated g.Reported} (at' : Pos) {v : Result Computed g.Reported} → Designated_ d → Value_ v → Designated_ (indexed g scope (d ▷ indices g scope at) at' v)
         indexed_typed at at' p q =
             then_holds (both_holds g (then_holds p (λ d k. indices_typed at d k)) q)
-            (λ v k. then_holds (suited_typed 41 (asked v.0) at' v.1 k.1) (λ e j. fine (picked e v.0) (picked_typed (asked v.0) e v.0 j k.0)))
+            (λ v k. then_holds (suited_typed rule.NotAssignable (asked v.0) at' v.1 k.1) (λ e j. fine (picked e v.0) (picked_typed (asked v.0) e v.0 j k.0)))

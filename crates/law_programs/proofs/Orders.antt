@@ -5,6 +5,7 @@ use Rattle.std.specs.List.{fold, list_any}
 use Rattle.std.proofs.lemmas.Bool.{or_left, or_right, eq-eqb}
 use Rattle.std.proofs.lemmas.List.Folds.{list_any-append}
 use Rattle.std.proofs.lemmas.Option.{same_Some}
+use Rattle.m2_rule.specs.declared.rule.Rule.TheVariants as rule
 use Rattle.m2_tree.specs.declared.name.Ident.{Ident}
 use Rattle.m2_tree.specs.declared.stmt.Stmt.{Stmt}
 use Rattle.m2_tree.specs.declared.decl.Heading.{Heading}
@@ -234,11 +235,11 @@ module _ (g : Gathers) (elaborates : Elaborates g.Reported) where
       result_ordered modules own m (walked g elaborates modules ends s m b) (walk_ordered modules ends s m b)
 
   implementation_ordered : (m : Module) (own : Option Table) (tables : List Table) (b : Block) → Holds AreOrdered (of_implementation g elaborates m own tables b)
-  implementation_ordered m None tables b = reported_holds g m.name.pos 24
+  implementation_ordered m None tables b = reported_holds g m.name.pos rule.LonelyModule
   implementation_ordered m (Some t) tables b = body_ordered (implementation_scope t tables) (Some t) m b
 
   contents_ordered : (number : ℕ) (m : Module) (own : Option Table) (tables : List Table) (c : Contents) → Holds AreOrdered (of_contents g elaborates number m own tables c)
-  contents_ordered number m own tables (contents.Definition defs) = reported_holds g m.name.pos 24
+  contents_ordered number m own tables (contents.Definition defs) = reported_holds g m.name.pos rule.LonelyModule
   contents_ordered number m own tables (contents.Implementation b) = implementation_ordered m own tables b
   contents_ordered number m own tables (contents.Program b) = body_ordered (first_scope number tables) None m b
 

@@ -4,6 +4,7 @@ use Rattle.std.specs.Prelude.{map, slice_get, nat_lt}
 use Rattle.std.specs.List.{fold}
 use Rattle.std.specs.Option.{option_map}
 use Rattle.std.proofs.lemmas.Option.{same_Some}
+use Rattle.m2_rule.specs.declared.rule.Rule.TheVariants as rule
 use Rattle.m2_tree.specs.declared.pos.Pos.{Pos}
 use Rattle.m2_tree.specs.declared.name.Ident.{Ident}
 use Rattle.typed_tree.specs.declared.meaning.Meaning.{Meaning}
@@ -111,19 +112,19 @@ module _ (x : Context) (opens : ℕ → Bool) (g : Gathers) where
     abbrev Means_ : {T : Type 0} → Result Meaning T → Type 0
     Means_ r = Holds (MeaningTyped x [] opens level) r
 
-    declared_means : (at : Pos) (seen : Bool) (r : Result Meaning g.Reported) → Means_ r → Means_ (cond seen r (reported g at 30))
+    declared_means : (at : Pos) (seen : Bool) (r : Result Meaning g.Reported) → Means_ r → Means_ (cond seen r (reported g at rule.Undeclared))
     declared_means at true r p = p
-    declared_means at false r p = reported_holds g at 30
+    declared_means at false r p = reported_holds g at rule.Undeclared
 
     seen_means : (at : Pos) (k : Known g.Reported) (seen : Bool) → KnownThere x opens level k → Means_ (means_seen g at k seen)
-    seen_means at Later seen p = plain_holds (reported_holds g at 30)
+    seen_means at Later seen p = plain_holds (reported_holds g at rule.Undeclared)
     seen_means at Ahead seen p = fine meaning.Ahead tt
-    seen_means at Begun seen p = plain_holds (reported_holds g at 30)
+    seen_means at Begun seen p = plain_holds (reported_holds g at rule.Undeclared)
     seen_means at (Headed r) seen p = heading_means_holds (holds_weaker (λ m q. q.0) p)
     seen_means at (Declared o r) seen p = plain_holds (declared_means at seen r (holds_weaker (λ m q. q.0) p))
 
     means_there : (at : Pos) (o : Sight g.Reported) → ThereSight x opens level o → Means_ (means_as g at o)
-    means_there at None p = plain_holds (reported_holds g at 30)
+    means_there at None p = plain_holds (reported_holds g at rule.Undeclared)
     means_there at (Some k) p = seen_means at k.0 k.1 p
 
   -- types that are the module's, names that are there, and modules that are open

@@ -3,6 +3,7 @@ use Rattle.std.proofs.Common.{◌≡◌, ℕ, zero, suc, ◌-◌, ◌+◌, ◌�
 use Rattle.std.specs.Prelude.{slice_get, nat_lt, drop}
 use Rattle.std.specs.List.{fold}
 use Rattle.std.specs.Option.{option_map}
+use Rattle.m2_rule.specs.declared.rule.Rule.TheVariants as rule
 use Rattle.m2_tree.specs.declared.pos.Pos.{Pos}
 use Rattle.m2_tree.specs.declared.name.Ident.{Ident}
 use Rattle.typed_tree.specs.declared.meaning.LocalKind.{LocalKind}
@@ -91,19 +92,19 @@ module _ (P : Meaning → Type 0) (ahead : P meaning.Ahead) where
     around_has (Some k) far p q = p
 
   module _ (g : Gathers) where
-    declared_has : (at : Pos) (seen : Bool) (r : Result Meaning g.Reported) → Holds P r → Holds P (cond seen r (reported g at 30))
+    declared_has : (at : Pos) (seen : Bool) (r : Result Meaning g.Reported) → Holds P r → Holds P (cond seen r (reported g at rule.Undeclared))
     declared_has at true r p = p
-    declared_has at false r p = reported_holds g at 30
+    declared_has at false r p = reported_holds g at rule.Undeclared
 
     means_has : (at : Pos) (k : Known g.Reported) (seen : Bool) → KnownHas k → Holds P (means_seen g at k seen)
-    means_has at Later seen p = plain_holds (reported_holds g at 30)
+    means_has at Later seen p = plain_holds (reported_holds g at rule.Undeclared)
     means_has at Ahead seen p = fine meaning.Ahead ahead
-    means_has at Begun seen p = plain_holds (reported_holds g at 30)
+    means_has at Begun seen p = plain_holds (reported_holds g at rule.Undeclared)
     means_has at (Headed r) seen p = heading_means_holds p
     means_has at (Declared o r) seen p = plain_holds (declared_has at seen r p)
 
     sight_has : (at : Pos) (o : Sight g.Reported) → SightHas o → Holds P (means_as g at o)
-    sight_has at None p = plain_holds (reported_holds g at 30)
+    sight_has at None p = plain_holds (reported_holds g at rule.Undeclared)
     sight_has at (Some k) p = means_has at k.0 k.1 p
 
     looked_has : (s : Scope g.Reported) → s.withs ≡ [] → NamesHave s.own → BlocksHave s.outer → (name : Ident) → Holds P (looked_up g s name)

@@ -2,6 +2,7 @@
 use Rattle.std.proofs.Common.{◌≡◌, ℕ, ℤ, pos, negsuc, ◌==◌, Bool, true, false, ◌&&◌, ◌||◌, cond, List, Option, Some, None, Result, Ok, Err, refl, sym, ap, subst, ◌∙◌, arith}
 use Rattle.std.specs.Prelude.{◌≤ℤ◌, not, int_lt}
 use Rattle.std.proofs.lemmas.Int.{ints}
+use Rattle.m2_rule.specs.declared.rule.Rule.TheVariants as rule
 use Rattle.m2_tree.specs.declared.pos.Pos.{Pos}
 use Rattle.m2_tree.specs.declared.name.Ident.{Ident}
 use Rattle.m2_tree.specs.declared.expr.Expr.{Expr}
@@ -100,17 +101,17 @@ module _ (g : Gathers) (x : Context) (ws : List Ty) (opens : ℕ → Bool) (s : 
   RecordTyped r = PlaceTyped x ws r.1 (tree types r.0)
 
   record_by_typed : (at : Pos) (d : Designated) → DesignatedTyped x ws opens d → Holds RecordTyped (record_by g s.types at d)
-  record_by_typed at (designated.Variable t d) p = where_not g _ at 40 (λ e. fine (t, d) p)
-  record_by_typed at (designated.Value v) p = reported_holds g at 40
-  record_by_typed at (designated.Open t slot) p = reported_holds g at 40
-  record_by_typed at (designated.Type t) p = reported_holds g at 40
-  record_by_typed at (designated.Procedure f) p = reported_holds g at 40
-  record_by_typed at (designated.Nested f) p = reported_holds g at 40
-  record_by_typed at (designated.Standard f) p = reported_holds g at 40
-  record_by_typed at (designated.Module k) p = reported_holds g at 40
+  record_by_typed at (designated.Variable t d) p = where_not g _ at rule.WrongType (λ e. fine (t, d) p)
+  record_by_typed at (designated.Value v) p = reported_holds g at rule.WrongType
+  record_by_typed at (designated.Open t slot) p = reported_holds g at rule.WrongType
+  record_by_typed at (designated.Type t) p = reported_holds g at rule.WrongType
+  record_by_typed at (designated.Procedure f) p = reported_holds g at rule.WrongType
+  record_by_typed at (designated.Nested f) p = reported_holds g at rule.WrongType
+  record_by_typed at (designated.Standard f) p = reported_holds g at rule.WrongType
+  record_by_typed at (designated.Module k) p = reported_holds g at rule.WrongType
 
   pub record_typed : (d : Meant g.Reported) → Known_ d → Holds RecordTyped (record_of g s d)
-  record_typed d p = then_holds (sort_holds g d.fixed.at 40 p) (λ e k. record_by_typed d.fixed.at e k)
+  record_typed d p = then_holds (sort_holds g d.fixed.at rule.WrongType p) (λ e k. record_by_typed d.fixed.at e k)
 
   -- ---- conditions
 
@@ -120,22 +121,22 @@ module _ (g : Gathers) (x : Context) (ws : List Ty) (opens : ℕ → Bool) (s : 
     by true q = refl
     by false q = absurd cc
 
-  test_amount : (at : Pos) (a : Amount) → AmountTyped x ws h.all a → Holds (λ e. TestTyped x ws e) (scalar_suited g 40 boolean (record { base = boolean; low = pos 0; high = pos 1 }) at (Some (side.Scalar a)))
+  test_amount : (at : Pos) (a : Amount) → AmountTyped x ws h.all a → Holds (λ e. TestTyped x ws e) (scalar_suited g rule.WrongType boolean (record { base = boolean; low = pos 0; high = pos 1 }) at (Some (side.Scalar a)))
   test_amount at (Known a) p =
-      where_not g (sort_suits boolean a.sort) at 40 (λ e. where_not g (is_between (pos 0) a.number (pos 1)) at 52 (λ f.
+      where_not g (sort_suits boolean a.sort) at rule.WrongType (λ e. where_not g (is_between (pos 0) a.number (pos 1)) at rule.OutOfRange (λ f.
       fine (expr.Constant boolean a.number) (record { of = boolean; typed = made.constant_typed x ws boolean a.number (between_in (pos 0) a.number (pos 1) f); among = λ v k. k })))
   test_amount at (Run b e) p =
-      where_not g (bases_suit boolean b) at 40 (λ q.
+      where_not g (bases_suit boolean b) at rule.WrongType (λ q.
       fine e (record { of = p.of; typed = p.scalar.typed; among = subst (λ (t : TypeNo). AreAmong types p.of t) (sym (boolean_only b q)) (among_base types p.of b p.scalar.based) }))
 
-  test_side : (at : Pos) (o : Option Side) → SideTyped x ws h.all o → Holds (λ e. TestTyped x ws e) (scalar_suited g 40 boolean (record { base = boolean; low = pos 0; high = pos 1 }) at o)
-  test_side at None p = reported_holds g at 40
+  test_side : (at : Pos) (o : Option Side) → SideTyped x ws h.all o → Holds (λ e. TestTyped x ws e) (scalar_suited g rule.WrongType boolean (record { base = boolean; low = pos 0; high = pos 1 }) at o)
+  test_side at None p = reported_holds g at rule.WrongType
   test_side at (Some (side.Scalar a)) p = test_amount at a p
-  test_side at (Some (side.Set e)) p = reported_holds g at 40
-  test_side at (Some (side.Routine t e)) p = reported_holds g at 40
-  test_side at (Some (side.Procedure f)) p = reported_holds g at 40
+  test_side at (Some (side.Set e)) p = reported_holds g at rule.WrongType
+  test_side at (Some (side.Routine t e)) p = reported_holds g at rule.WrongType
+  test_side at (Some (side.Procedure f)) p = reported_holds g at rule.WrongType
 
-  pub condition_typed : (at : Pos) {v : Result Computed g.Reported} → Value_ v → Holds (λ e. TestTyped x ws e) (v ▷ value_suited g 40 s.types boolean at)
+  pub condition_typed : (at : Pos) {v : Result Computed g.Reported} → Value_ v → Holds (λ e. TestTyped x ws e) (v ▷ value_suited g rule.WrongType s.types boolean at)
   condition_typed at p = then_holds p (λ v k. test_side at (side_of v) (side_typed x ws h.all v k))
 
   -- ---- the selector of a CASE
@@ -148,11 +149,11 @@ module _ (g : Gathers) (x : Context) (ws : List Ty) (opens : ℕ → Bool) (s : 
   selector_amount_typed (Run b e) p = record { of = p.of; typed = p.scalar.typed }
 
   selector_typed : (at : Pos) (o : Option Side) → SideTyped x ws h.all o → Holds SelectorTyped (selector_of g at o)
-  selector_typed at None p = reported_holds g at 40
+  selector_typed at None p = reported_holds g at rule.WrongType
   selector_typed at (Some (side.Scalar a)) p = fine (selector_amount a) (selector_amount_typed a p)
-  selector_typed at (Some (side.Set e)) p = reported_holds g at 40
-  selector_typed at (Some (side.Routine t e)) p = reported_holds g at 40
-  selector_typed at (Some (side.Procedure f)) p = reported_holds g at 40
+  selector_typed at (Some (side.Set e)) p = reported_holds g at rule.WrongType
+  selector_typed at (Some (side.Routine t e)) p = reported_holds g at rule.WrongType
+  selector_typed at (Some (side.Procedure f)) p = reported_holds g at rule.WrongType
 
   pub selected_typed : (y : Meant g.Reported) → Value_ (value_of g s y) → Holds SelectorTyped (selected g s y)
   selected_typed y p = then_holds p (λ v k. selector_typed y.fixed.at (side_of v) (side_typed x ws h.all v k))
@@ -160,9 +161,9 @@ module _ (g : Gathers) (x : Context) (ws : List Ty) (opens : ℕ → Bool) (s : 
   -- ---- EXIT and RETURN
 
   module _ (result : Gives) where
-    exited_as : (at : Pos) (looped : Bool) → Holds (StmtTyped x result ws looped) (reported_where g (not looped) at 45 (Ok step.Exit))
+    exited_as : (at : Pos) (looped : Bool) → Holds (StmtTyped x result ws looped) (reported_where g (not looped) at rule.LonelyExit (Ok step.Exit))
     exited_as at true = fine step.Exit (exit_typed x result ws)
-    exited_as at false = reported_holds g at 45
+    exited_as at false = reported_holds g at rule.LonelyExit
 
     pub exited_typed : (at : Pos) (a : Around g.Reported) → Holds (StmtTyped x result ws a.in_loop) (exited g at a)
     exited_typed at a = exited_as at a.in_loop
@@ -172,7 +173,7 @@ module _ (g : Gathers) (x : Context) (ws : List Ty) (opens : ℕ → Bool) (s : 
     given_as looped t y e (SuitsProcedure i q) = give_procedure_typed x result ws looped t i.heading y (e ∙ ap (λ (u : Ty). Some u) (routine_tree types h.all t i)) i.none q
 
     given_back_typed : (t : Result TypeNo g.Reported) (at : Pos) (looped : Bool) {v : Result Computed g.Reported} → AreReturned types (Some t) result → Value_ v → Holds (StmtTyped x result ws looped) (given_back g s.types t at v)
-    given_back_typed (Ok t) at looped e (fine v k) = then_holds (place_suited_typed x ws h.all g s.types h.types 41 t at v k) (λ y q. fine (step.Give t y) (given_as looped t y e q))
+    given_back_typed (Ok t) at looped e (fine v k) = then_holds (place_suited_typed x ws h.all g s.types h.types rule.NotAssignable t at v k) (λ y q. fine (step.Give t y) (given_as looped t y e q))
     given_back_typed (Ok t) at looped e (broken z) = broken z
     given_back_typed (Err y) at looped e (fine v k) = broken y
     given_back_typed (Err y) at looped e (broken z) = broken (g.join y z)
@@ -183,8 +184,8 @@ module _ (g : Gathers) (x : Context) (ws : List Ty) (opens : ℕ → Bool) (s : 
 
     pub returned_typed : (at : Pos) (looped : Bool) (o : Option (Result TypeNo g.Reported)) (y : Option (Meant g.Reported)) → AreReturned types o result → ValueIf y → Holds (StmtTyped x result ws looped) (returned g s at o y)
     returned_typed at looped None None e p = fine step.Return (return_typed x result ws looped e)
-    returned_typed at looped None (Some y) e p = reported_beside_holds g at 46 _
-    returned_typed at looped (Some t) None e p = reported_holds g at 46
+    returned_typed at looped None (Some y) e p = reported_beside_holds g at rule.WrongReturn _
+    returned_typed at looped (Some t) None e p = reported_holds g at rule.WrongReturn
     returned_typed at looped (Some t) (Some y) e p = given_back_typed t y.fixed.at looped e p
 
   -- ---- FOR: the control variable
@@ -202,9 +203,9 @@ module _ (g : Gathers) (x : Context) (ws : List Ty) (opens : ℕ → Bool) (s : 
       let one = ranged_cell types h.all t k e in
       fine (record { of = t; base = k.base; place = rooted r })
       (record { root = r; place = refl; cell = one.cell; one = one.is; base = has_base types h.all t k e; control = subst (λ (u : Ty). IsControl x (rooted r) u) one.is.is p })
-  controlled_as_typed at t r class.Set e p = reported_holds g at 47
-  controlled_as_typed at t r class.Procedure e p = reported_holds g at 47
-  controlled_as_typed at t r class.Whole e p = reported_holds g at 47
+  controlled_as_typed at t r class.Set e p = reported_holds g at rule.WrongControl
+  controlled_as_typed at t r class.Procedure e p = reported_holds g at rule.WrongControl
+  controlled_as_typed at t r class.Whole e p = reported_holds g at rule.WrongControl
 
   controlled_typed : (at : Pos) (t : TypeNo) (r : Root) → IsControl x (rooted r) (tree types t) → Holds ControlTyped (controlled g s.types at t (rooted r))
   controlled_typed at t r p = controlled_as_typed at t r (class_at s.types t) (class_is s.types types h.types t) p
@@ -216,22 +217,22 @@ module _ (g : Gathers) (x : Context) (ws : List Ty) (opens : ℕ → Bool) (s : 
   own_kind t kind.Open e = absurd cc
 
   control_by_typed : (at : Pos) (y : Meaning) → MeaningTyped x ws opens s.level y → Holds ControlTyped (control_by g s at y)
-  control_by_typed at (meaning.Constant v) p = reported_holds g at 47
-  control_by_typed at (meaning.Type t n) p = reported_holds g at 47
-  control_by_typed at (meaning.Variable v) p = where_not g (v.home == s.types.home) at 47 (λ e. controlled_typed at v.of (root.Global v) (OfModule (rooted (root.Global v)) v (tree types v.of) refl refl p))
+  control_by_typed at (meaning.Constant v) p = reported_holds g at rule.WrongControl
+  control_by_typed at (meaning.Type t n) p = reported_holds g at rule.WrongControl
+  control_by_typed at (meaning.Variable v) p = where_not g (v.home == s.types.home) at rule.WrongControl (λ e. controlled_typed at v.of (root.Global v) (OfModule (rooted (root.Global v)) v (tree types v.of) refl refl p))
   control_by_typed at (meaning.Local v) p =
-      where_not g (is_own v.kind && (v.level == s.level)) at 47 (λ e.
+      where_not g (is_own v.kind && (v.level == s.level)) at rule.WrongControl (λ e.
       controlled_typed at v.of (root.Local (slot_of s.level v))
       (OfFrame (rooted (root.Local (slot_of s.level v))) (slot_of s.level v) (tree types v.of) refl refl (p ∙ ap (λ k. Some k) (own_kind v.of v.kind (both_left (is_own v.kind) (v.level == s.level) e)))))
-  control_by_typed at (meaning.Field f) p = reported_holds g at 47
-  control_by_typed at (meaning.Procedure f) p = reported_holds g at 47
-  control_by_typed at (meaning.LocalProcedure f) p = reported_holds g at 47
-  control_by_typed at meaning.Ahead p = reported_holds g at 30
-  control_by_typed at (meaning.Standard f) p = reported_holds g at 47
-  control_by_typed at (meaning.Module k) p = reported_holds g at 47
+  control_by_typed at (meaning.Field f) p = reported_holds g at rule.WrongControl
+  control_by_typed at (meaning.Procedure f) p = reported_holds g at rule.WrongControl
+  control_by_typed at (meaning.LocalProcedure f) p = reported_holds g at rule.WrongControl
+  control_by_typed at meaning.Ahead p = reported_holds g at rule.Undeclared
+  control_by_typed at (meaning.Standard f) p = reported_holds g at rule.WrongControl
+  control_by_typed at (meaning.Module k) p = reported_holds g at rule.WrongControl
 
   control_typed : (name : Ident) → Holds ControlTyped (control_of g s name)
-  control_typed name = then_holds (sort_holds g name.pos 47 (h.names name)) (λ y p. control_by_typed name.pos y p)
+  control_typed name = then_holds (sort_holds g name.pos rule.WrongControl (h.names name)) (λ y p. control_by_typed name.pos y p)
 
   -- ---- FOR: the limit
 
@@ -240,16 +241,16 @@ module _ (g : Gathers) (x : Context) (ws : List Ty) (opens : ℕ → Bool) (s : 
 
   limit_number_typed : (base : TypeNo) (at : Pos) (n : ℤ) (sort : Option TypeNo) → SortRanged types sort n → sort_suits base sort ≡ true → Holds Some_ (limit_number g base at n sort)
   limit_number_typed base at n None p q =
-      where_not g (number_fits (Some base) n) at 52 (λ e. fine (expr.Constant base n) (record { of = base; typed = made.constant_typed x ws base n (number_value types base base n (fits_number types base n q e)) }))
+      where_not g (number_fits (Some base) n) at rule.OutOfRange (λ e. fine (expr.Constant base n) (record { of = base; typed = made.constant_typed x ws base n (number_value types base base n (fits_number types base n q e)) }))
   limit_number_typed base at n (Some t) p q = fine (expr.Constant t n) (record { of = t; typed = made.constant_typed x ws t n (number_value types t t n p) })
 
   limit_by_typed : (base : TypeNo) (at : Pos) (o : Option Side) → SideTyped x ws h.all o → Holds Some_ (limit_by g base at o)
-  limit_by_typed base at None p = reported_holds g at 41
-  limit_by_typed base at (Some (side.Scalar (Known a))) p = where_not g (sort_suits base a.sort) at 41 (λ e. limit_number_typed base at a.number a.sort p e)
-  limit_by_typed base at (Some (side.Scalar (Run b e))) p = where_not g (bases_suit base b) at 41 (λ q. fine e (record { of = p.of; typed = p.scalar.typed }))
-  limit_by_typed base at (Some (side.Set e)) p = reported_holds g at 41
-  limit_by_typed base at (Some (side.Routine t e)) p = reported_holds g at 41
-  limit_by_typed base at (Some (side.Procedure f)) p = reported_holds g at 41
+  limit_by_typed base at None p = reported_holds g at rule.NotAssignable
+  limit_by_typed base at (Some (side.Scalar (Known a))) p = where_not g (sort_suits base a.sort) at rule.NotAssignable (λ e. limit_number_typed base at a.number a.sort p e)
+  limit_by_typed base at (Some (side.Scalar (Run b e))) p = where_not g (bases_suit base b) at rule.NotAssignable (λ q. fine e (record { of = p.of; typed = p.scalar.typed }))
+  limit_by_typed base at (Some (side.Set e)) p = reported_holds g at rule.NotAssignable
+  limit_by_typed base at (Some (side.Routine t e)) p = reported_holds g at rule.NotAssignable
+  limit_by_typed base at (Some (side.Procedure f)) p = reported_holds g at rule.NotAssignable
 
   limit_typed : (at : Pos) (base : Result TypeNo g.Reported) {v : Result Computed g.Reported} → Value_ v → Holds Some_ (limit_at g at base v)
   limit_typed at base p = then_holds (both_holds g (any_holds base) p) (λ v k. limit_by_typed v.0 at (side_of v.1) (side_typed x ws h.all v.1 k.1))
@@ -262,14 +263,14 @@ module _ (g : Gathers) (x : Context) (ws : List Ty) (opens : ℕ → Bool) (s : 
   module _ (ranged : ScopeRanged s) where
     step_if : (at : Pos) (a : Ordinal) (b : Bool) → SortRanged s.types a.sort a.number → Holds InWord (step_number g at (cond b (Some a) None))
     step_if at a true p = by (is_zero a.number) where
-      by : (c : Bool) → Holds InWord (reported_where g c at 48 (Ok a.number))
-      by true = reported_holds g at 48
+      by : (c : Bool) → Holds InWord (reported_where g c at rule.ZeroStep (Ok a.number))
+      by true = reported_holds g at rule.ZeroStep
       by false = fine a.number (small s.types ranged.types a.sort a.number p)
-    step_if at a false p = reported_holds g at 40
+    step_if at a false p = reported_holds g at rule.WrongType
 
     step_part : (at : Pos) (o : Option Operand) → OperandRanged s.types o → Holds InWord (step_number g at (if_number (scalar_part o)))
-    step_part at None p = reported_holds g at 40
-    step_part at (Some (operand.Set bits)) p = reported_holds g at 40
+    step_part at None p = reported_holds g at rule.WrongType
+    step_part at (Some (operand.Set bits)) p = reported_holds g at rule.WrongType
     step_part at (Some (operand.Scalar a)) p = step_if at a (is_number a.sort) p
 
     step_constant : (e : Expr) → fits e ≡ true → Holds InWord (step_of g s (Some (meant g e)))
@@ -289,7 +290,7 @@ module _ (g : Gathers) (x : Context) (ws : List Ty) (opens : ℕ → Bool) (s : 
       pub by : InWord c.by
 
     start_typed : (at : Pos) (t : TypeNo) {v : Result Computed g.Reported} → Value_ v → Holds (λ e. GivenTyped x ws e t) (start_at g s.types at (Ok t) v)
-    start_typed at t (fine v k) = suited_typed x ws h.all g s.types h.types 41 t at v k
+    start_typed at t (fine v k) = suited_typed x ws h.all g s.types h.types rule.NotAssignable t at v k
     start_typed at t (broken e) = broken e
 
     course_is : (c : Control) → ControlTyped c → (d : Course) → d.control ≡ c → GivenTyped x ws d.start c.of → Some_ d.limit → InWord d.by → CourseTyped d

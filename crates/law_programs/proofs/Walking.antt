@@ -3,6 +3,7 @@ use Rattle.std.proofs.Common.{◌≡◌, ℕ, ◌==◌, Bool, true, false, cond,
 use Rattle.std.specs.Prelude.{map, slice_get}
 use Rattle.std.specs.List.{AllByRecursion, fold}
 use Rattle.std.specs.Option.{unwrap_or}
+use Rattle.m2_rule.specs.declared.rule.Rule.TheVariants as rule
 use Rattle.m2_tree.specs.declared.stmt.Stmt.{Stmt}
 use Rattle.m2_tree.specs.declared.decl.Heading.{Heading}
 use Rattle.m2_tree.specs.declared.decl.Module.{Module}
@@ -192,8 +193,8 @@ module _ (g : Gathers) (elaborates : Elaborates g.Reported) where
   body_indexed s own m b e p = then_holds (any_holds _) (λ x k. fine _ (walked_indexed g elaborates (procedure_ends (out-Block b).decls) (numbered_modules s.tables).0 s m b e p))
 
   contents_indexed : (number : ℕ) (m : Module) (own : Option Table) (ts : List Table) (c : Contents) → BodyBegins number own ts c → Holds ModuleIndexed (of_contents g elaborates number m own ts c)
-  contents_indexed number m own ts (contents.Definition ds) p = reported_holds g m.name.pos 24
-  contents_indexed number m None ts (contents.Implementation b) p = reported_holds g m.name.pos 24
+  contents_indexed number m own ts (contents.Definition ds) p = reported_holds g m.name.pos rule.LonelyModule
+  contents_indexed number m None ts (contents.Implementation b) p = reported_holds g m.name.pos rule.LonelyModule
   contents_indexed number m (Some t) ts (contents.Implementation b) p = body_indexed (implementation_scope t ts) (Some t) m b p.1 p.0
   contents_indexed number m own ts (contents.Program b) p = body_indexed (first_scope number ts) None m b p.1 p.0
 

@@ -3,6 +3,7 @@ use Rattle.std.proofs.Common.{◌≡◌, ◌⊎◌, inl, inr, ℕ, zero, suc, �
 use Rattle.std.specs.Prelude.{slice_get, slice_index_or, codes, All}
 use Rattle.std.specs.List.{AllByRecursion, fold, list_all}
 use Rattle.std.proofs.lemmas.Option.{same_Some}
+use Rattle.m2_rule.specs.declared.rule.Rule.TheVariants as rule
 use Rattle.m2_tree.specs.Names.{is_console}
 use Rattle.m2_tree.specs.declared.decl.Def.{Def}
 use Rattle.m2_tree.specs.declared.decl.Contents.{Contents}
@@ -86,8 +87,8 @@ module _ (g : Gathers) (m : Module) where
 
     contents_listed : (tables : List Table) → AreMade IsMade tables → (c : Contents) → Holds (λ t. AreListed IsMade t.imports) (types.of_contents g home m tables c)
     contents_listed tables made (contents.Definition defs) = definition_listed tables made defs
-    contents_listed tables made (contents.Implementation b) = reported_holds g m.name.pos 24
-    contents_listed tables made (contents.Program b) = reported_holds g m.name.pos 24
+    contents_listed tables made (contents.Implementation b) = reported_holds g m.name.pos rule.LonelyModule
+    contents_listed tables made (contents.Program b) = reported_holds g m.name.pos rule.LonelyModule
 
 module _ (fs : List (List ℕ × Module)) (files : List ℕ) (jobs : List (List ℕ)) (starts : List ℕ) (graph : IsGraph (numbered 0 fs) files jobs starts) (each : CompileEach (numbered 0 fs) files) (fit : list_all fits_module (trees_of fs) ≡ true) where
   abbrev trees : List Module

@@ -3,6 +3,7 @@ use Rattle.std.proofs.Common.{ℕ, ◌<◌, ◌≤◌, ◌^◌, ◌/◌, ℤ, po
 use Rattle.std.proofs.lemmas.Nat.{and_le_l, or_lt, xor_lt}
 use Rattle.std.specs.Prelude.{bit_and, bit_or, bit_xor, ◌-◌, cond, int_lt}
 use Rattle.std.specs.List.{fold}
+use Rattle.m2_rule.specs.declared.rule.Rule.TheVariants as rule
 use Rattle.m2_tree.specs.declared.pos.Pos.{Pos}
 use Rattle.m2_tree.specs.declared.expr.RelOp.{RelOp}
 use Rattle.m2_tree.specs.declared.expr.RelOp.TheVariants as rel
@@ -85,7 +86,7 @@ module _ (g : Gathers) where
   valued_word (Some t) n = tt
 
   number_words : (at : Pos) (sort : Option TypeNo) (n : ℤ) → W_ (number_at g at sort n)
-  number_words at sort n = where_holds g _ at 52 (fine (valued sort n) (valued_word sort n))
+  number_words at sort n = where_holds g _ at rule.OutOfRange (fine (valued sort n) (valued_word sort n))
 
   truth_words : (b : Bool) → W_ (Ok (truth b))
   truth_words b = fine (truth b) tt
@@ -94,7 +95,7 @@ module _ (g : Gathers) where
   applied_words Plus spot sort x y = number_words spot sort (evaluated Plus x y)
   applied_words Minus spot sort x y = number_words spot sort (evaluated Minus x y)
   applied_words Times spot sort x y = number_words spot sort (evaluated Times x y)
-  applied_words Over spot sort x y = reported_holds g spot 40
+  applied_words Over spot sort x y = reported_holds g spot rule.WrongType
   applied_words Div spot sort x y = number_words spot sort (quotient x y)
   applied_words Mod spot sort x y = number_words spot sort (remainder x y)
   applied_words And spot sort x y = truth_words _
@@ -102,71 +103,71 @@ module _ (g : Gathers) where
   applied_words (Relation r) spot sort x y = truth_words _
 
   operated_words : (op : BinaryOp) (spot : Pos) (sort : Option TypeNo) (at : Pos) (a : Ordinal) (at' : Pos) (b : Ordinal) → W_ (operated g op spot sort at a at' b)
-  operated_words op spot sort at a at' b = where_holds g _ spot 40 (then_holds (any_holds _) (λ x k. applied_words op spot sort a.number b.number))
+  operated_words op spot sort at a at' b = where_holds g _ spot rule.WrongType (then_holds (any_holds _) (λ x k. applied_words op spot sort a.number b.number))
 
   scalars_words : (op : BinaryOp) (spot at : Pos) (a : Ordinal) (at' : Pos) (b : Ordinal) (o : Option (Option TypeNo)) → W_ (on_scalars g op spot at a at' b o)
-  scalars_words op spot at a at' b None = reported_holds g spot 40
+  scalars_words op spot at a at' b None = reported_holds g spot rule.WrongType
   scalars_words op spot at a at' b (Some sort) = operated_words op spot sort at a at' b
 
   member_words : (op : BinaryOp) (spot at : Pos) (a : Ordinal) (bits : ℕ) → W_ (member g op spot at a bits)
-  member_words Plus spot at a bits = reported_holds g spot 40
-  member_words Minus spot at a bits = reported_holds g spot 40
-  member_words Times spot at a bits = reported_holds g spot 40
-  member_words Over spot at a bits = reported_holds g spot 40
-  member_words Div spot at a bits = reported_holds g spot 40
-  member_words Mod spot at a bits = reported_holds g spot 40
-  member_words And spot at a bits = reported_holds g spot 40
-  member_words Or spot at a bits = reported_holds g spot 40
-  member_words (Relation rel.Equal) spot at a bits = reported_holds g spot 40
-  member_words (Relation rel.Unequal) spot at a bits = reported_holds g spot 40
-  member_words (Relation rel.Less) spot at a bits = reported_holds g spot 40
-  member_words (Relation rel.AtMost) spot at a bits = reported_holds g spot 40
-  member_words (Relation rel.Greater) spot at a bits = reported_holds g spot 40
-  member_words (Relation rel.AtLeast) spot at a bits = reported_holds g spot 40
-  member_words (Relation rel.In) spot at a bits = where_holds g _ spot 40 (where_holds g _ at 52 (truth_words _))
+  member_words Plus spot at a bits = reported_holds g spot rule.WrongType
+  member_words Minus spot at a bits = reported_holds g spot rule.WrongType
+  member_words Times spot at a bits = reported_holds g spot rule.WrongType
+  member_words Over spot at a bits = reported_holds g spot rule.WrongType
+  member_words Div spot at a bits = reported_holds g spot rule.WrongType
+  member_words Mod spot at a bits = reported_holds g spot rule.WrongType
+  member_words And spot at a bits = reported_holds g spot rule.WrongType
+  member_words Or spot at a bits = reported_holds g spot rule.WrongType
+  member_words (Relation rel.Equal) spot at a bits = reported_holds g spot rule.WrongType
+  member_words (Relation rel.Unequal) spot at a bits = reported_holds g spot rule.WrongType
+  member_words (Relation rel.Less) spot at a bits = reported_holds g spot rule.WrongType
+  member_words (Relation rel.AtMost) spot at a bits = reported_holds g spot rule.WrongType
+  member_words (Relation rel.Greater) spot at a bits = reported_holds g spot rule.WrongType
+  member_words (Relation rel.AtLeast) spot at a bits = reported_holds g spot rule.WrongType
+  member_words (Relation rel.In) spot at a bits = where_holds g _ spot rule.WrongType (where_holds g _ at rule.OutOfRange (truth_words _))
 
   related_words : (spot : Pos) (r : RelOp) (a b : ℕ) → W_ (set_related g spot r a b)
   related_words spot rel.Equal a b = truth_words _
   related_words spot rel.Unequal a b = truth_words _
-  related_words spot rel.Less a b = reported_holds g spot 40
+  related_words spot rel.Less a b = reported_holds g spot rule.WrongType
   related_words spot rel.AtMost a b = truth_words _
-  related_words spot rel.Greater a b = reported_holds g spot 40
+  related_words spot rel.Greater a b = reported_holds g spot rule.WrongType
   related_words spot rel.AtLeast a b = truth_words _
-  related_words spot rel.In a b = reported_holds g spot 40
+  related_words spot rel.In a b = reported_holds g spot rule.WrongType
 
   sets_words : (op : BinaryOp) (spot : Pos) (a b : ℕ) → Small a → Small b → W_ (on_sets g op spot a b)
   sets_words Plus spot a b p q = fine (value.Set (bit_or a b)) (or_lt 32 a b p q)
   sets_words Minus spot a b p q = fine (value.Set (without a b)) (without_small a b p)
   sets_words Times spot a b p q = fine (value.Set (bit_and a b)) (let e = and_le_l a b in omega (arith, p, e))
   sets_words Over spot a b p q = fine (value.Set (bit_xor a b)) (xor_lt 32 a b p q)
-  sets_words Div spot a b p q = reported_holds g spot 40
-  sets_words Mod spot a b p q = reported_holds g spot 40
-  sets_words And spot a b p q = reported_holds g spot 40
-  sets_words Or spot a b p q = reported_holds g spot 40
+  sets_words Div spot a b p q = reported_holds g spot rule.WrongType
+  sets_words Mod spot a b p q = reported_holds g spot rule.WrongType
+  sets_words And spot a b p q = reported_holds g spot rule.WrongType
+  sets_words Or spot a b p q = reported_holds g spot rule.WrongType
   sets_words (Relation r) spot a b p q = related_words spot r a b
 
   pub binary_words : (op : BinaryOp) (spot at : Pos) (x : Option Operand) (at' : Pos) (y : Option Operand) → OperandWord x → OperandWord y → W_ (binary g op spot at x at' y)
   binary_words op spot at (Some (operands.Scalar a)) at' (Some (operands.Scalar b)) p q = scalars_words op spot at a at' b (common a.sort b.sort)
   binary_words op spot at (Some (operands.Scalar a)) at' (Some (operands.Set b)) p q = member_words op spot at a b
-  binary_words op spot at (Some (operands.Scalar a)) at' None p q = reported_holds g spot 40
-  binary_words op spot at (Some (operands.Set a)) at' (Some (operands.Scalar b)) p q = reported_holds g spot 40
+  binary_words op spot at (Some (operands.Scalar a)) at' None p q = reported_holds g spot rule.WrongType
+  binary_words op spot at (Some (operands.Set a)) at' (Some (operands.Scalar b)) p q = reported_holds g spot rule.WrongType
   binary_words op spot at (Some (operands.Set a)) at' (Some (operands.Set b)) p q = sets_words op spot a b p q
-  binary_words op spot at (Some (operands.Set a)) at' None p q = reported_holds g spot 40
-  binary_words op spot at None at' y p q = reported_holds g spot 40
+  binary_words op spot at (Some (operands.Set a)) at' None p q = reported_holds g spot rule.WrongType
+  binary_words op spot at None at' y p q = reported_holds g spot rule.WrongType
 
   signed_scalar_words : (o : Sign) (spot : Pos) (a : Ordinal) → W_ (signed_scalar g o spot a)
-  signed_scalar_words sign.Plus spot a = where_holds g _ spot 40 (fine (valued a.sort a.number) (valued_word a.sort a.number))
-  signed_scalar_words sign.Minus spot a = where_holds g _ spot 40 (number_words spot a.sort (evaluated Minus (pos 0) a.number))
+  signed_scalar_words sign.Plus spot a = where_holds g _ spot rule.WrongType (fine (valued a.sort a.number) (valued_word a.sort a.number))
+  signed_scalar_words sign.Minus spot a = where_holds g _ spot rule.WrongType (number_words spot a.sort (evaluated Minus (pos 0) a.number))
 
   pub signed_words : (o : Sign) (spot : Pos) (x : Option Operand) → W_ (signed_value g o spot x)
-  signed_words o spot None = reported_holds g spot 40
-  signed_words o spot (Some (operands.Set bits)) = reported_holds g spot 40
+  signed_words o spot None = reported_holds g spot rule.WrongType
+  signed_words o spot (Some (operands.Set bits)) = reported_holds g spot rule.WrongType
   signed_words o spot (Some (operands.Scalar a)) = signed_scalar_words o spot a
 
   pub negated_words : (spot : Pos) (x : Option Operand) → W_ (negated_value g spot x)
-  negated_words spot None = reported_holds g spot 40
-  negated_words spot (Some (operands.Set bits)) = reported_holds g spot 40
-  negated_words spot (Some (operands.Scalar a)) = where_holds g _ spot 40 (truth_words _)
+  negated_words spot None = reported_holds g spot rule.WrongType
+  negated_words spot (Some (operands.Set bits)) = reported_holds g spot rule.WrongType
+  negated_words spot (Some (operands.Scalar a)) = where_holds g _ spot rule.WrongType (truth_words _)
 
   -- ---- standard functions
 
@@ -175,41 +176,41 @@ module _ (g : Gathers) where
   either_words false p q = q
 
   absolute_words : (at : Pos) (o : Option Ordinal) → W_ (absolute_part g at o)
-  absolute_words at None = reported_holds g at 43
+  absolute_words at None = reported_holds g at rule.WrongArgument
   absolute_words at (Some a) = either_words (int_lt a.number (pos 0)) (number_words at a.sort _) (number_words at a.sort a.number)
 
   capital_words : (at : Pos) (o : Option Ordinal) → W_ (capital_part g at o)
-  capital_words at None = reported_holds g at 43
-  capital_words at (Some a) = where_holds g _ at 43 (fine _ tt)
+  capital_words at None = reported_holds g at rule.WrongArgument
+  capital_words at (Some a) = where_holds g _ at rule.WrongArgument (fine _ tt)
 
   character_words : (at : Pos) (o : Option Ordinal) → W_ (character_part g at o)
-  character_words at None = reported_holds g at 43
-  character_words at (Some a) = where_holds g _ at 52 (fine _ tt)
+  character_words at None = reported_holds g at rule.WrongArgument
+  character_words at (Some a) = where_holds g _ at rule.OutOfRange (fine _ tt)
 
   odd_words : (at : Pos) (o : Option Ordinal) → W_ (odd_part g at o)
-  odd_words at None = reported_holds g at 43
+  odd_words at None = reported_holds g at rule.WrongArgument
   odd_words at (Some a) = truth_words _
 
   ordinal_words : (at : Pos) (o : Option Ordinal) → W_ (ordinal_part g at o)
-  ordinal_words at None = reported_holds g at 43
+  ordinal_words at None = reported_holds g at rule.WrongArgument
   ordinal_words at (Some a) = number_words at (Some cardinal) a.number
 
   pub unary_words : (f : Standard) (at : Pos) (v : Value) → W_ (unary_of g f at v)
   unary_words Abs at v = absolute_words at (whole_number v)
   unary_words Cap at v = capital_words at (scalar_part (operand_of v))
   unary_words Chr at v = character_words at (whole_number v)
-  unary_words High at v = reported_holds g at 34
-  unary_words Max at v = reported_holds g at 34
-  unary_words Min at v = reported_holds g at 34
+  unary_words High at v = reported_holds g at rule.NoConstant
+  unary_words Max at v = reported_holds g at rule.NoConstant
+  unary_words Min at v = reported_holds g at rule.NoConstant
   unary_words Odd at v = odd_words at (whole_number v)
   unary_words Ord at v = ordinal_words at (scalar_part (operand_of v))
-  unary_words Val at v = reported_holds g at 34
-  unary_words Inc at v = reported_holds g at 34
-  unary_words Dec at v = reported_holds g at 34
-  unary_words Incl at v = reported_holds g at 34
-  unary_words Excl at v = reported_holds g at 34
-  unary_words Halt at v = reported_holds g at 34
-  unary_words Put at v = reported_holds g at 34
+  unary_words Val at v = reported_holds g at rule.NoConstant
+  unary_words Inc at v = reported_holds g at rule.NoConstant
+  unary_words Dec at v = reported_holds g at rule.NoConstant
+  unary_words Incl at v = reported_holds g at rule.NoConstant
+  unary_words Excl at v = reported_holds g at rule.NoConstant
+  unary_words Halt at v = reported_holds g at rule.NoConstant
+  unary_words Put at v = reported_holds g at rule.NoConstant
 
   pub bound_word : (f : Standard) (t : TypeNo) (r : Range) → IsWord (bound_by f t r)
   bound_word Min t r = tt

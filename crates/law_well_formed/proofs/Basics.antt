@@ -1,5 +1,6 @@
 -- Results that are as a fact says, and types that are kept.
 use Rattle.std.proofs.Common.{◌≡◌, ℕ, Bool, true, false, Option, Some, None, Result, Ok, Err, refl, ap, ◌∙◌}
+use Rattle.m2_rule.specs.declared.rule.Rule.{Rule}
 use Rattle.m2_tree.specs.declared.pos.Pos.{Pos}
 use Rattle.typed_tree.specs.declared.known_types.Types.{Types}
 use Rattle.typed_tree.specs.declared.shape.Made.{Made}
@@ -32,10 +33,10 @@ holds_weaker k (fine x p) = fine x (k x p)
 holds_weaker k (broken e) = broken e
 
 module _ (g : Gathers) where
-  pub reported_holds : {A : Type 0} {P : A → Type 0} (at : Pos) (n : ℕ) → Holds P (reported g {A = A} at n)
+  pub reported_holds : {A : Type 0} {P : A → Type 0} (at : Pos) (n : Rule) → Holds P (reported g {A = A} at n)
   reported_holds at n = broken _
 
-  pub where_holds : {A : Type 0} {P : A → Type 0} (q : Bool) (at : Pos) (n : ℕ) {r : Result A g.Reported} → Holds P r → Holds P (reported_where g q at n r)
+  pub where_holds : {A : Type 0} {P : A → Type 0} (q : Bool) (at : Pos) (n : Rule) {r : Result A g.Reported} → Holds P r → Holds P (reported_where g q at n r)
   where_holds true at n h = broken _
   where_holds false at n h = h
 
@@ -51,7 +52,7 @@ module _ (g : Gathers) where
   refused_holds e (Ok x) = broken e
   refused_holds e (Err f) = broken (g.join e f)
 
-  pub reported_beside_holds : {A : Type 0} {P : A → Type 0} (at : Pos) (n : ℕ) (rest : Result (Unit {0}) g.Reported) → Holds P (reported_beside g {A = A} at n rest)
+  pub reported_beside_holds : {A : Type 0} {P : A → Type 0} (at : Pos) (n : Rule) (rest : Result (Unit {0}) g.Reported) → Holds P (reported_beside g {A = A} at n rest)
   reported_beside_holds at n rest = refused_holds (g.one (record { pos = at; number = n })) rest
 
   pub ahead_holds : {A B : Type 0} {P : A → Type 0} {Q : B → Type 0} {r : Result A g.Reported} (rest : Result (Unit {0}) g.Reported) {f : A → Result B g.Reported} → Holds P r → ((x : A) → P x → Holds Q (f x)) → Holds Q (ahead g r rest f)
@@ -60,7 +61,7 @@ module _ (g : Gathers) where
 
   -- ---- names of procedures in whose headings rules are broken
 
-  pub sort_holds : {A : Type 0} {P : A → Type 0} (at : Pos) (n : ℕ) {r : Result A (Meaningless g.Reported)} → Holds P r → Holds P (of_sort g at n r)
+  pub sort_holds : {A : Type 0} {P : A → Type 0} (at : Pos) (n : Rule) {r : Result A (Meaningless g.Reported)} → Holds P r → Holds P (of_sort g at n r)
   sort_holds at n (fine x p) = fine x p
   sort_holds at n (broken (Broken e)) = broken e
   sort_holds at n (broken (Headless e)) = reported_holds at n

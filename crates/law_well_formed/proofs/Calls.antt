@@ -1,6 +1,7 @@
 -- Values, arguments, calls and standard functions.
 use Rattle.std.proofs.Common.{◌≡◌, ℕ, Bool, true, false, List, [], ◌∷◌, ◌++◌, Result, refl, sym, ap, subst, ◌∙◌}
 use Rattle.std.specs.Prelude.{not, cond}
+use Rattle.m2_rule.specs.declared.rule.Rule.TheVariants as rule
 use Rattle.m2_tree.specs.declared.pos.Pos.{Pos}
 use Rattle.typed_tree.specs.declared.computed.Argument.{Argument}
 use Rattle.typed_tree.specs.declared.computed.Argument.TheVariants as argument
@@ -63,11 +64,11 @@ module _ (g : Gathers) (m : TypedModule) (w : ℕ) (opens : ℕ → Bool) (types
   taken_formed at (designated.Value x) p = fine x p
   taken_formed at (designated.Variable t d) p = fine (loaded types t d) (loaded_as_formed t d (class_at types t) (scalar_kept types m.types grows t) p)
   taken_formed at (designated.Open t slot) p = fine value.Untaken tt
-  taken_formed at (designated.Type t) p = reported_holds g at 40
+  taken_formed at (designated.Type t) p = reported_holds g at rule.WrongType
   taken_formed at (designated.Procedure f) p = fine (value.Procedure f) p
-  taken_formed at (designated.Nested f) p = reported_holds g at 53
-  taken_formed at (designated.Standard f) p = reported_holds g at 53
-  taken_formed at (designated.Module k) p = reported_holds g at 40
+  taken_formed at (designated.Nested f) p = reported_holds g at rule.NoProcedureValue
+  taken_formed at (designated.Standard f) p = reported_holds g at rule.NoProcedureValue
+  taken_formed at (designated.Module k) p = reported_holds g at rule.WrongType
 
   -- ---- arguments
 
@@ -75,62 +76,62 @@ module _ (g : Gathers) (m : TypedModule) (w : ℕ) (opens : ℕ → Bool) (types
   For q r = Holds (λ x. IsArgument m w x q) r
 
   variable_formed : (t : TypeNo) (at : Pos) (d : Designated) → FormedDesignated m opens w d → For false (variable_passed g t at d)
-  variable_formed t at (designated.Variable u d) p = where_holds g _ at 44 (fine (argument.Place d) (Actual d p))
-  variable_formed t at (designated.Value x) p = reported_holds g at 44
-  variable_formed t at (designated.Open u slot) p = reported_holds g at 44
-  variable_formed t at (designated.Type u) p = reported_holds g at 44
-  variable_formed t at (designated.Procedure f) p = reported_holds g at 44
-  variable_formed t at (designated.Nested f) p = reported_holds g at 44
-  variable_formed t at (designated.Standard f) p = reported_holds g at 44
-  variable_formed t at (designated.Module k) p = reported_holds g at 44
+  variable_formed t at (designated.Variable u d) p = where_holds g _ at rule.NoVariable (fine (argument.Place d) (Actual d p))
+  variable_formed t at (designated.Value x) p = reported_holds g at rule.NoVariable
+  variable_formed t at (designated.Open u slot) p = reported_holds g at rule.NoVariable
+  variable_formed t at (designated.Type u) p = reported_holds g at rule.NoVariable
+  variable_formed t at (designated.Procedure f) p = reported_holds g at rule.NoVariable
+  variable_formed t at (designated.Nested f) p = reported_holds g at rule.NoVariable
+  variable_formed t at (designated.Standard f) p = reported_holds g at rule.NoVariable
+  variable_formed t at (designated.Module k) p = reported_holds g at rule.NoVariable
 
   open_formed : (t : TypeNo) (at : Pos) (d : Designated) → FormedDesignated m opens w d → For true (open_passed g types t at d)
-  open_formed t at (designated.Variable u d) p = where_holds g _ at 44 (fine (argument.Array u d) (ActualArray u d p))
-  open_formed t at (designated.Open u slot) p = where_holds g _ at 44 (fine (argument.Open slot) (Open slot))
-  open_formed t at (designated.Value x) p = reported_holds g at 44
-  open_formed t at (designated.Type u) p = reported_holds g at 44
-  open_formed t at (designated.Procedure f) p = reported_holds g at 44
-  open_formed t at (designated.Nested f) p = reported_holds g at 44
-  open_formed t at (designated.Standard f) p = reported_holds g at 44
-  open_formed t at (designated.Module k) p = reported_holds g at 44
+  open_formed t at (designated.Variable u d) p = where_holds g _ at rule.NoVariable (fine (argument.Array u d) (ActualArray u d p))
+  open_formed t at (designated.Open u slot) p = where_holds g _ at rule.NoVariable (fine (argument.Open slot) (Open slot))
+  open_formed t at (designated.Value x) p = reported_holds g at rule.NoVariable
+  open_formed t at (designated.Type u) p = reported_holds g at rule.NoVariable
+  open_formed t at (designated.Procedure f) p = reported_holds g at rule.NoVariable
+  open_formed t at (designated.Nested f) p = reported_holds g at rule.NoVariable
+  open_formed t at (designated.Standard f) p = reported_holds g at rule.NoVariable
+  open_formed t at (designated.Module k) p = reported_holds g at rule.NoVariable
 
   text_argument_formed : (t : TypeNo) (at : Pos) (v : Value) → For true (text_argument g t at v)
-  text_argument_formed t at (constant.Text text) = where_holds g _ at 43 (fine (argument.Text text) (Text text))
-  text_argument_formed t at (constant.Number n) = reported_holds g at 43
-  text_argument_formed t at (constant.Scalar s) = reported_holds g at 43
-  text_argument_formed t at (constant.Set bits) = reported_holds g at 43
+  text_argument_formed t at (constant.Text text) = where_holds g _ at rule.WrongArgument (fine (argument.Text text) (Text text))
+  text_argument_formed t at (constant.Number n) = reported_holds g at rule.WrongArgument
+  text_argument_formed t at (constant.Scalar s) = reported_holds g at rule.WrongArgument
+  text_argument_formed t at (constant.Set bits) = reported_holds g at rule.WrongArgument
 
   text_formed : (t : TypeNo) (at : Pos) (x : Computed) → For true (text_passed g t at x)
   text_formed t at (value.Constant v) = text_argument_formed t at v
-  text_formed t at (value.Scalar u b e) = reported_holds g at 43
-  text_formed t at (value.Set e) = reported_holds g at 43
-  text_formed t at (value.Routine u e) = reported_holds g at 43
-  text_formed t at (value.Procedure f) = reported_holds g at 43
-  text_formed t at (value.Whole u d) = reported_holds g at 43
-  text_formed t at value.Untaken = reported_holds g at 43
+  text_formed t at (value.Scalar u b e) = reported_holds g at rule.WrongArgument
+  text_formed t at (value.Set e) = reported_holds g at rule.WrongArgument
+  text_formed t at (value.Routine u e) = reported_holds g at rule.WrongArgument
+  text_formed t at (value.Procedure f) = reported_holds g at rule.WrongArgument
+  text_formed t at (value.Whole u d) = reported_holds g at rule.WrongArgument
+  text_formed t at value.Untaken = reported_holds g at rule.WrongArgument
 
   open_value_formed : (t : TypeNo) (at : Pos) (d : Designated) → FormedDesignated m opens w d → For true (open_value g types t at d)
-  open_value_formed t at (designated.Variable u d) p = where_holds g _ at 43 (fine (argument.Array u d) (ActualArray u d p))
-  open_value_formed t at (designated.Open u slot) p = where_holds g _ at 43 (fine (argument.Open slot) (Open slot))
+  open_value_formed t at (designated.Variable u d) p = where_holds g _ at rule.WrongArgument (fine (argument.Array u d) (ActualArray u d p))
+  open_value_formed t at (designated.Open u slot) p = where_holds g _ at rule.WrongArgument (fine (argument.Open slot) (Open slot))
   open_value_formed t at (designated.Value x) p = text_formed t at x
-  open_value_formed t at (designated.Type u) p = reported_holds g at 40
-  open_value_formed t at (designated.Procedure f) p = reported_holds g at 43
-  open_value_formed t at (designated.Nested f) p = reported_holds g at 53
-  open_value_formed t at (designated.Standard f) p = reported_holds g at 53
-  open_value_formed t at (designated.Module k) p = reported_holds g at 40
+  open_value_formed t at (designated.Type u) p = reported_holds g at rule.WrongType
+  open_value_formed t at (designated.Procedure f) p = reported_holds g at rule.WrongArgument
+  open_value_formed t at (designated.Nested f) p = reported_holds g at rule.NoProcedureValue
+  open_value_formed t at (designated.Standard f) p = reported_holds g at rule.NoProcedureValue
+  open_value_formed t at (designated.Module k) p = reported_holds g at rule.WrongType
 
   whole_formed : (t : TypeNo) (at : Pos) (d : Designated) → FormedDesignated m opens w d → For false (whole_passed g t at d)
-  whole_formed t at (designated.Variable u d) p = where_holds g _ at 43 (fine (argument.Place d) (Actual d p))
-  whole_formed t at (designated.Value x) p = reported_holds g at 43
-  whole_formed t at (designated.Open u slot) p = reported_holds g at 43
-  whole_formed t at (designated.Type u) p = reported_holds g at 40
-  whole_formed t at (designated.Procedure f) p = reported_holds g at 43
-  whole_formed t at (designated.Nested f) p = reported_holds g at 53
-  whole_formed t at (designated.Standard f) p = reported_holds g at 53
-  whole_formed t at (designated.Module k) p = reported_holds g at 40
+  whole_formed t at (designated.Variable u d) p = where_holds g _ at rule.WrongArgument (fine (argument.Place d) (Actual d p))
+  whole_formed t at (designated.Value x) p = reported_holds g at rule.WrongArgument
+  whole_formed t at (designated.Open u slot) p = reported_holds g at rule.WrongArgument
+  whole_formed t at (designated.Type u) p = reported_holds g at rule.WrongType
+  whole_formed t at (designated.Procedure f) p = reported_holds g at rule.WrongArgument
+  whole_formed t at (designated.Nested f) p = reported_holds g at rule.NoProcedureValue
+  whole_formed t at (designated.Standard f) p = reported_holds g at rule.NoProcedureValue
+  whole_formed t at (designated.Module k) p = reported_holds g at rule.WrongType
 
   simple_formed : (t : TypeNo) (at : Pos) (d : Designated) → FormedDesignated m opens w d → For false (simple_passed g types t at d)
-  simple_formed t at d p = then_holds (taken_formed at d p) (λ x h. then_holds (suited_formed m w g 43 types t at x h) (λ e k. fine (argument.Value t e) (ValueOf t e k)))
+  simple_formed t at d p = then_holds (taken_formed at d p) (λ x h. then_holds (suited_formed m w g rule.WrongArgument types t at x h) (λ e k. fine (argument.Value t e) (ValueOf t e k)))
 
   passed_formed : (t : TypeNo) (at : Pos) (d : Designated) (c : Class) → FormedDesignated m opens w d → For false (passed_as g types t at d c)
   passed_formed t at d (class.Scalar s) p = simple_formed t at d p
@@ -166,19 +167,19 @@ module _ (g : Gathers) (m : TypedModule) (w : ℕ) (opens : ℕ → Bool) (types
 
   held_formed : (at : Pos) (t : TypeNo) (d : Place) (c : Class) → (is_whole c ≡ false → IsScalar m.types t) → IsPlace m w d → Holds FormedCalled (held_by g at t d c)
   held_formed at t d class.Procedure k p = fine (called.Routine t (callee.Variable t d)) (k refl, p, refl)
-  held_formed at t d (class.Scalar s) k p = reported_holds g at 40
-  held_formed at t d class.Set k p = reported_holds g at 40
-  held_formed at t d class.Whole k p = reported_holds g at 40
+  held_formed at t d (class.Scalar s) k p = reported_holds g at rule.WrongType
+  held_formed at t d class.Set k p = reported_holds g at rule.WrongType
+  held_formed at t d class.Whole k p = reported_holds g at rule.WrongType
 
   pub callee_formed : (at : Pos) (d : Designated) → FormedDesignated m opens w d → Holds FormedCalled (callee_of g types at d)
   callee_formed at (designated.Procedure f) p = fine (called.Routine f.heading (callee.Module f)) (p, refl)
   callee_formed at (designated.Nested f) p = fine (called.Routine f.heading (callee.Nested f)) (p, refl)
   callee_formed at (designated.Variable t d) p = held_formed at t d (class_at types t) (scalar_kept types m.types grows t) p
   callee_formed at (designated.Standard f) p = fine (called.Standard f) tt
-  callee_formed at (designated.Value x) p = reported_holds g at 40
-  callee_formed at (designated.Open t slot) p = reported_holds g at 40
-  callee_formed at (designated.Type t) p = reported_holds g at 40
-  callee_formed at (designated.Module k) p = reported_holds g at 40
+  callee_formed at (designated.Value x) p = reported_holds g at rule.WrongType
+  callee_formed at (designated.Open t slot) p = reported_holds g at rule.WrongType
+  callee_formed at (designated.Type t) p = reported_holds g at rule.WrongType
+  callee_formed at (designated.Module k) p = reported_holds g at rule.WrongType
 
   pub call_formed : (c : Callee) (h : TypeNo) (xs : List Argument) (r : Bool) → FormedCallee h c → has_result m.types h ≡ r → AreArguments m w xs (formals_of m.types h) → IsCall m w (call_by xs c) r
   call_formed (callee.Module p) h xs r k e args = OfModule p xs r k.0 (ap (λ (t : TypeNo). has_result m.types t) k.1 ∙ e) (subst (λ (t : TypeNo). AreArguments m w xs (formals_of m.types t)) (sym k.1) args)
@@ -196,34 +197,34 @@ module _ (g : Gathers) (m : TypedModule) (w : ℕ) (opens : ℕ → Bool) (types
 
   pub unary_formed : (f : Standard) (u : Unary) (at : Pos) (x : Computed) → FormedValue m w x → Holds (FormedValue m w) (unary_at g f u at x)
   unary_formed f u at (value.Constant v) p = of_value_formed m w g _
-  unary_formed f u at (value.Scalar t b e) p = where_holds g (not (unary_takes u b)) at 43 (fine (unary_built u b e) (unary_built_formed u b e p))
-  unary_formed f u at (value.Set e) p = reported_holds g at 43
-  unary_formed f u at (value.Routine t e) p = reported_holds g at 43
-  unary_formed f u at (value.Procedure h) p = reported_holds g at 43
-  unary_formed f u at (value.Whole t d) p = reported_holds g at 43
-  unary_formed f u at value.Untaken p = reported_holds g at 43
+  unary_formed f u at (value.Scalar t b e) p = where_holds g (not (unary_takes u b)) at rule.WrongArgument (fine (unary_built u b e) (unary_built_formed u b e p))
+  unary_formed f u at (value.Set e) p = reported_holds g at rule.WrongArgument
+  unary_formed f u at (value.Routine t e) p = reported_holds g at rule.WrongArgument
+  unary_formed f u at (value.Procedure h) p = reported_holds g at rule.WrongArgument
+  unary_formed f u at (value.Whole t d) p = reported_holds g at rule.WrongArgument
+  unary_formed f u at value.Untaken p = reported_holds g at rule.WrongArgument
 
   pub bound_formed : (f : Standard) (x : Result (TypeNo × Range) g.Reported) → Holds (FormedValue m w) (bound_at f x)
   bound_formed f x = then_holds (any_holds x) (λ p h. fine (value.Constant _) tt)
 
   converted_formed : (t : TypeNo) (s : Range) (at : Pos) (x : Computed) → FormedValue m w x → Holds (FormedValue m w) (converted_value g t s at x)
   converted_formed t s at (value.Constant v) p = of_value_formed m w g _
-  converted_formed t s at (value.Scalar u b e) p = where_holds g (not (is_numeric b)) at 43 (fine (value.Scalar t s.base (expr.Val t e)) (Val t e p))
-  converted_formed t s at (value.Set e) p = reported_holds g at 43
-  converted_formed t s at (value.Routine u e) p = reported_holds g at 43
-  converted_formed t s at (value.Procedure h) p = reported_holds g at 43
-  converted_formed t s at (value.Whole u d) p = reported_holds g at 43
-  converted_formed t s at value.Untaken p = reported_holds g at 43
+  converted_formed t s at (value.Scalar u b e) p = where_holds g (not (is_numeric b)) at rule.WrongArgument (fine (value.Scalar t s.base (expr.Val t e)) (Val t e p))
+  converted_formed t s at (value.Set e) p = reported_holds g at rule.WrongArgument
+  converted_formed t s at (value.Routine u e) p = reported_holds g at rule.WrongArgument
+  converted_formed t s at (value.Procedure h) p = reported_holds g at rule.WrongArgument
+  converted_formed t s at (value.Whole u d) p = reported_holds g at rule.WrongArgument
+  converted_formed t s at value.Untaken p = reported_holds g at rule.WrongArgument
 
   pub conversion_formed : (to : Result (TypeNo × Range) g.Reported) (at : Pos) {x : Result Computed g.Reported} → Holds (FormedValue m w) x → Holds (FormedValue m w) (conversion_at g to at x)
   conversion_formed to at p = then_holds (both_holds g (any_holds to) p) (λ v h. converted_formed v.0.0 v.0.1 at v.1 h.1)
 
   pub high_formed : (at : Pos) (d : Designated) → Holds (FormedValue m w) (high_of g at d)
   high_formed at (designated.Open t slot) = fine (value.Scalar cardinal cardinal (expr.High slot)) (High slot)
-  high_formed at (designated.Value x) = reported_holds g at 43
-  high_formed at (designated.Variable t d) = reported_holds g at 43
-  high_formed at (designated.Type t) = reported_holds g at 40
-  high_formed at (designated.Procedure f) = reported_holds g at 43
-  high_formed at (designated.Nested f) = reported_holds g at 53
-  high_formed at (designated.Standard f) = reported_holds g at 53
-  high_formed at (designated.Module k) = reported_holds g at 40
+  high_formed at (designated.Value x) = reported_holds g at rule.WrongArgument
+  high_formed at (designated.Variable t d) = reported_holds g at rule.WrongArgument
+  high_formed at (designated.Type t) = reported_holds g at rule.WrongType
+  high_formed at (designated.Procedure f) = reported_holds g at rule.WrongArgument
+  high_formed at (designated.Nested f) = reported_holds g at rule.NoProcedureValue
+  high_formed at (designated.Standard f) = reported_holds g at rule.NoProcedureValue
+  high_formed at (designated.Module k) = reported_holds g at rule.WrongType

@@ -4,6 +4,7 @@ use Rattle.std.proofs.lemmas.Int.{ints}
 use Rattle.std.specs.Prelude.{◌&&◌, nat_lt, slice_get}
 use Rattle.std.specs.List.{fold, list_all}
 use Rattle.std.specs.Option.{option_map}
+use Rattle.m2_rule.specs.declared.rule.Rule.TheVariants as rule
 use Rattle.m2_tree.specs.declared.pos.Pos.{Pos}
 use Rattle.m2_tree.specs.declared.name.Ident.{Ident}
 use Rattle.m2_tree.specs.declared.expr.MulOp.{MulOp}
@@ -99,19 +100,19 @@ module _ (g : Gathers) (types : Types) where
   abbrev Means_ : {T : Type 0} → Result Meaning T → Type 0
   Means_ r = Holds (MeaningRanged types) r
 
-  declared_means : (at : Pos) (seen : Bool) (r : Result Meaning g.Reported) → Means_ r → Means_ (cond seen r (reported g at 30))
+  declared_means : (at : Pos) (seen : Bool) (r : Result Meaning g.Reported) → Means_ r → Means_ (cond seen r (reported g at rule.Undeclared))
   declared_means at true r p = p
-  declared_means at false r p = reported_holds g at 30
+  declared_means at false r p = reported_holds g at rule.Undeclared
 
   seen_means : (at : Pos) (k : Known g.Reported) (seen : Bool) → KnownRanged types k → Means_ (means_seen g at k seen)
-  seen_means at Later seen p = plain_holds (reported_holds g at 30)
+  seen_means at Later seen p = plain_holds (reported_holds g at rule.Undeclared)
   seen_means at Ahead seen p = fine meaning.Ahead tt
-  seen_means at Begun seen p = plain_holds (reported_holds g at 30)
+  seen_means at Begun seen p = plain_holds (reported_holds g at rule.Undeclared)
   seen_means at (Headed r) seen p = heading_means_holds p
   seen_means at (Declared o r) seen p = plain_holds (declared_means at seen r p)
 
   means_ranged : (at : Pos) (o : Sight g.Reported) → RangedSight types o → Means_ (means_as g at o)
-  means_ranged at None p = plain_holds (reported_holds g at 30)
+  means_ranged at None p = plain_holds (reported_holds g at rule.Undeclared)
   means_ranged at (Some k) p = seen_means at k.0 k.1 p
 
   field_or : {T : Type 0} (o : Option OpenedField) (r : Result Meaning T) → Means_ r → Means_ (means_or o r)
@@ -138,7 +139,7 @@ module _ (g : Gathers) (types : Types) where
   export_at name (t ∷ ts) (suc k) all = export_at name ts k all.1
 
   exported_means : (at : Pos) (o : Option Meaning) → ExportIf o → Means_ (exported g at o)
-  exported_means at None p = reported_holds g at 32
+  exported_means at None p = reported_holds g at rule.NotExported
   exported_means at (Some m) p = fine m p
 
 module _ (g : Gathers) (s : Scope g.Reported) (h : ScopeRanged s) where
@@ -202,11 +203,11 @@ module _ (g : Gathers) (s : Scope g.Reported) (h : ScopeRanged s) where
 
   component_ranged : (at : Pos) (d : Denoted) → D_ (component g at d)
   component_ranged at denoted.Variable = fine denoted.Variable tt
-  component_ranged at (denoted.Value v) = reported_holds g at 40
+  component_ranged at (denoted.Value v) = reported_holds g at rule.WrongType
   component_ranged at (denoted.Type t) = fine denoted.Variable tt
   component_ranged at denoted.Procedure = fine denoted.Variable tt
   component_ranged at (denoted.Standard f) = fine denoted.Variable tt
-  component_ranged at (denoted.Module k) = reported_holds g at 40
+  component_ranged at (denoted.Module k) = reported_holds g at rule.WrongType
 
   field_ranged : (at : Pos) (name : Ident) (d : Denoted) → D_ (field_of g s at name d)
   field_ranged at name (denoted.Module k) = then_holds (member_means k name) (λ m p. fine (denoted_by m) (by_meaning m p))
@@ -218,11 +219,11 @@ module _ (g : Gathers) (s : Scope g.Reported) (h : ScopeRanged s) where
 
   as_constant_ranged : (at : Pos) (d : Denoted) → DenotedRanged d → V_ (as_constant g at d)
   as_constant_ranged at (denoted.Value v) p = fine v p
-  as_constant_ranged at (denoted.Type t) p = reported_holds g at 34
-  as_constant_ranged at denoted.Variable p = reported_holds g at 34
-  as_constant_ranged at denoted.Procedure p = reported_holds g at 34
-  as_constant_ranged at (denoted.Standard f) p = reported_holds g at 34
-  as_constant_ranged at (denoted.Module k) p = reported_holds g at 34
+  as_constant_ranged at (denoted.Type t) p = reported_holds g at rule.NoConstant
+  as_constant_ranged at denoted.Variable p = reported_holds g at rule.NoConstant
+  as_constant_ranged at denoted.Procedure p = reported_holds g at rule.NoConstant
+  as_constant_ranged at (denoted.Standard f) p = reported_holds g at rule.NoConstant
+  as_constant_ranged at (denoted.Module k) p = reported_holds g at rule.NoConstant
 
   pub constant_ranged : (x : Part g.Reported) → FM x → V_ (constant g s x)
   constant_ranged x p = then_holds p (λ d k. as_constant_ranged x.at d k)
@@ -233,45 +234,45 @@ module _ (g : Gathers) (s : Scope g.Reported) (h : ScopeRanged s) where
   -- ---- calls
 
   one_ranged : (at : Pos) (args : List (Part g.Reported)) → AllM args → Holds (λ (p : Pos × Value). ValueRanged s.types p.1) (one g s at args)
-  one_ranged at [] all = reported_holds g at 42
+  one_ranged at [] all = reported_holds g at rule.ArgumentCount
   one_ranged at (x ∷ []) all = then_holds (constant_ranged x all.0) (λ v k. fine (x.at, v) k)
-  one_ranged at (x ∷ y ∷ xs) all = reported_holds g at 42
+  one_ranged at (x ∷ y ∷ xs) all = reported_holds g at rule.ArgumentCount
 
   scalar_is : (at : Pos) (t : TypeNo) (o : Option Range) → scalar_at s.types t ≡ o → Holds (TypeIs g s h) (scalar_type g at t o)
-  scalar_is at t None e = reported_holds g at 33
+  scalar_is at t None e = reported_holds g at rule.NoType
   scalar_is at t (Some r) e = fine (t, r) e
 
   type_is : (at : Pos) (o : Option TypeNo) → Holds (TypeIs g s h) (named_scalar g s.types at o)
-  type_is at None = reported_holds g at 33
+  type_is at None = reported_holds g at rule.NoType
   type_is at (Some t) = scalar_is at t (scalar_at s.types t) refl
 
   argument_is : (at : Pos) (d : Result (Option TypeNo) g.Reported) → Holds (TypeIs g s h) (type_argument g s.types at d)
   argument_is at d = then_holds (any_holds d) (λ x k. type_is at x)
 
   only_is : (at : Pos) (args : List (Part g.Reported)) → Holds (TypeIs g s h) (type_only g s at args)
-  only_is at [] = reported_holds g at 42
+  only_is at [] = reported_holds g at rule.ArgumentCount
   only_is at (x ∷ []) = argument_is x.at (x.names s)
-  only_is at (x ∷ y ∷ xs) = reported_holds g at 42
+  only_is at (x ∷ y ∷ xs) = reported_holds g at rule.ArgumentCount
 
   conversion_ranged : (at : Pos) (args : List (Part g.Reported)) → V_ (conversion g s at args)
-  conversion_ranged at [] = reported_holds g at 42
-  conversion_ranged at (t ∷ []) = reported_holds g at 42
+  conversion_ranged at [] = reported_holds g at rule.ArgumentCount
+  conversion_ranged at (t ∷ []) = reported_holds g at rule.ArgumentCount
   conversion_ranged at (t ∷ x ∷ []) = converted_ranged g s h x.at (constant g s x) (argument_is t.at (t.names s))
-  conversion_ranged at (t ∷ x ∷ y ∷ xs) = reported_holds g at 42
+  conversion_ranged at (t ∷ x ∷ y ∷ xs) = reported_holds g at rule.ArgumentCount
 
   sort_ranged : (at : Pos) (f : Standard) (args : List (Part g.Reported)) (o : Sort) → AllM args → V_ (by_sort g s at f args o)
   sort_ranged at f args Unary all = unary_ranged g s.types f (one_ranged at args all)
   sort_ranged at f args Bound all = bound_ranged g s h f (only_is at args)
   sort_ranged at f args Conversion all = conversion_ranged at args
-  sort_ranged at f args Never all = reported_holds g at 34
+  sort_ranged at f args Never all = reported_holds g at rule.NoConstant
 
   called_as_ranged : (at : Pos) (d : Denoted) (args : List (Part g.Reported)) → AllM args → V_ (called_as g s at d args)
   called_as_ranged at (denoted.Standard f) args all = sort_ranged at f args (sort_of f) all
-  called_as_ranged at (denoted.Value v) args all = reported_holds g at 34
-  called_as_ranged at (denoted.Type t) args all = reported_holds g at 34
-  called_as_ranged at denoted.Variable args all = reported_holds g at 34
-  called_as_ranged at denoted.Procedure args all = reported_holds g at 34
-  called_as_ranged at (denoted.Module k) args all = reported_holds g at 34
+  called_as_ranged at (denoted.Value v) args all = reported_holds g at rule.NoConstant
+  called_as_ranged at (denoted.Type t) args all = reported_holds g at rule.NoConstant
+  called_as_ranged at denoted.Variable args all = reported_holds g at rule.NoConstant
+  called_as_ranged at denoted.Procedure args all = reported_holds g at rule.NoConstant
+  called_as_ranged at (denoted.Module k) args all = reported_holds g at rule.NoConstant
 
   called_ranged : (at : Pos) (d : Result Denoted g.Reported) (args : List (Part g.Reported)) → AllM args → V_ (called g s at d args)
   called_ranged at d args all = then_holds (any_holds d) (λ x k. called_as_ranged at x args all)

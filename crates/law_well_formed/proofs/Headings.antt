@@ -5,6 +5,7 @@ use Rattle.std.specs.Map.{lookup}
 use Rattle.std.specs.List.{fold}
 use lib.Dec.{T, eqb_refl}
 use Rattle.std.proofs.lemmas.List.{append-nil}
+use Rattle.m2_rule.specs.declared.rule.Rule.TheVariants as rule
 use Rattle.m2_tree.specs.declared.name.Ident.{Ident}
 use Rattle.m2_tree.specs.declared.expr.Qualified.{Qualified}
 use Rattle.m2_tree.specs.declared.decl.Block.{Block}
@@ -103,8 +104,8 @@ module _ (g : Gathers) (s inner : Scope g.Reported) (stays : (q : Qualified) (t 
     result_stays : (t : TypeNo) → is_result s.types t ≡ true → is_result inner.types t ≡ true
     result_stays t e = result_home t.home t.number e (λ o m r. made_result t o m r)
 
-    given_by : (at : Pos) (t : TypeNo) (r : Option TypeNo) (b : Bool) → is_result s.types t ≡ b → reported_where g (not b) at 33 (Ok (Some t)) ≡ Ok r → result_in g inner.types at t ≡ Ok r
-    given_by at t r true e k = ap (λ (c : Bool). reported_where g (not c) at 33 (Ok (Some t))) (result_stays t e) ∙ k
+    given_by : (at : Pos) (t : TypeNo) (r : Option TypeNo) (b : Bool) → is_result s.types t ≡ b → reported_where g (not b) at rule.NoType (Ok (Some t)) ≡ Ok r → result_in g inner.types at t ≡ Ok r
+    given_by at t r true e k = ap (λ (c : Bool). reported_where g (not c) at rule.NoType (Ok (Some t))) (result_stays t e) ∙ k
     given_by at t r false e k = absurd cc
 
     pub results_stay : (o : Option Qualified) (r : Option TypeNo) → result_of g s o ≡ Ok r → result_of g inner o ≡ Ok r
@@ -172,7 +173,7 @@ module _ (g : Gathers) where
       let m : Meaning = meaning.LocalProcedure (record { level = s.level; number = n; heading = t }) in
       record { means = m; named = found_self name (Headed (Ok m)) s.own; heading = t; is = refl; made = x; there = e; shape = k }
 
-  agreed : (o : Option Made) (x : Made) (sig : Signature) (at : Pos) (b : Bool) → x.shape ≡ shape.Procedure sig → agree (signature_of (Some x)) (signature_of o) ≡ b → reported_where g {A = Unit {0}} (not b) at 50 (Ok tt) ≡ Ok tt
+  agreed : (o : Option Made) (x : Made) (sig : Signature) (at : Pos) (b : Bool) → x.shape ≡ shape.Procedure sig → agree (signature_of (Some x)) (signature_of o) ≡ b → reported_where g {A = Unit {0}} (not b) at rule.OtherHeading (Ok tt) ≡ Ok tt
       → (y : Made) × ((o ≡ Some y) × (y.shape ≡ shape.Procedure sig))
   agreed o x sig at false k e t = absurd cc
   agreed o x sig at true k e t = agreed_made sig o (sym (ap (λ z. agree (signature_in z) (signature_of o)) k) ∙ e)
@@ -186,14 +187,14 @@ module _ (g : Gathers) where
       let m : Meaning = meaning.Procedure p in
       record { means = m; named = found_self h.name.name (Headed (Ok m)) s.own; heading = p.heading; is = refl; made = y.0; there = y.1.0; shape = y.1.1 }
   left_by s h n (Err x) sig (Awaited p) k e = absurd cc
-  left_by s h n made sig Taken k e = let z : reported g {A = Unit {0}} h.name.pos 31 ≡ Ok tt = beside_right g (nothing_made made) (reported g h.name.pos 31) e in absurd cc
+  left_by s h n made sig Taken k e = let z : reported g {A = Unit {0}} h.name.pos rule.DeclaredTwice ≡ Ok tt = beside_right g (nothing_made made) (reported g h.name.pos rule.DeclaredTwice) e in absurd cc
 
   -- a heading that breaks no rule is made
   made_by : (s : Scope g.Reported) (h : Heading) (n : ℕ) (made : Result Made g.Reported) (o : Standing) → (headed_as g s h n made o).1 ≡ Ok tt → (x : Made) × (made ≡ Ok x)
   made_by s h n (Ok x) o e = (x, refl)
   made_by s h n (Err x) Free e = absurd cc
   made_by s h n (Err x) (Awaited p) e = absurd cc
-  made_by s h n (Err x) Taken e = let z : reported g {A = Unit {0}} h.name.pos 31 ≡ Ok tt = beside_right g (nothing_made (Err x)) (reported g h.name.pos 31) e in absurd cc
+  made_by s h n (Err x) Taken e = let z : reported g {A = Unit {0}} h.name.pos rule.DeclaredTwice ≡ Ok tt = beside_right g (nothing_made (Err x)) (reported g h.name.pos rule.DeclaredTwice) e in absurd cc
 
   reported_back : (ends : List ℕ) (ds : List Decl) (c : Course g.Reported) → (declared_by g ends c ds).1 ≡ Ok tt → c.1 ≡ Ok tt
   reported_back ends [] c e = e

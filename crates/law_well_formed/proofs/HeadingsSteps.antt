@@ -2,6 +2,7 @@
 use Rattle.std.proofs.Common.{◌≡◌, ℕ, ◌==◌, Bool, true, false, not, cond, List, [], ◌∷◌, ◌++◌, Option, Some, None, Result, Ok, Err, refl, sym, ap, subst, ◌∙◌}
 use Rattle.std.specs.Prelude.{slice_get}
 use Rattle.std.specs.List.{fold}
+use Rattle.m2_rule.specs.declared.rule.Rule.TheVariants as rule
 use Rattle.m2_tree.specs.declared.name.Ident.{Ident}
 use Rattle.typed_tree.specs.declared.meaning.Meaning.{Meaning}
 use Rattle.typed_tree.specs.declared.shape.Made.{Made}
@@ -207,7 +208,7 @@ known_changes s name m v u = record {
 }
 
 module _ (g : Gathers) (s : Scope g.Reported) (name : Ident) (m : Known g.Reported) where
-  unless_by : (b : Bool) (v : Known g.Reported) → (b ≡ true → picked is_settled (found name.name s.own) ≡ false) → Changes (λ z. marked name m z) s (cond {A = State (Unit {0}) g.Reported} b (with_known name.name v s, Ok tt) (s, reported g name.pos 31)).0
+  unless_by : (b : Bool) (v : Known g.Reported) → (b ≡ true → picked is_settled (found name.name s.own) ≡ false) → Changes (λ z. marked name m z) s (cond {A = State (Unit {0}) g.Reported} b (with_known name.name v s, Ok tt) (s, reported g name.pos rule.DeclaredTwice)).0
   unless_by true v h = known_changes s name m v (h refl)
   unless_by false v h = changes_refl (λ z. marked name m z) s
 

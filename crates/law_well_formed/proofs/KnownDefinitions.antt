@@ -5,6 +5,7 @@ use Rattle.std.proofs.lemmas.List.{append-nil}
 use Rattle.std.specs.Prelude.{slice_get}
 use Rattle.std.specs.List.{AllByRecursion, fold, list_all}
 use Rattle.std.specs.Option.{is_some}
+use Rattle.m2_rule.specs.declared.rule.Rule.TheVariants as rule
 use Rattle.m2_tree.specs.declared.decl.Contents.{Contents}
 use Rattle.m2_tree.specs.declared.decl.Contents.TheVariants as contents
 use Rattle.m2_tree.specs.declared.decl.Def.{Def}
@@ -206,8 +207,8 @@ module _ (g : Gathers) (types_of : ℕ → List Made) (number : ℕ) (m : Module
   contents_formed : (ts : List Table) → TablesFormed types_of number ts → (c : Contents) → fits_contents c ≡ true → Holds IsFormedTable (of_contents g number m ts c)
   contents_formed ts p (contents.Definition ds) e =
       then_holds (definition_formed ts p ds e) (λ x h. fine _ (h.ordered.started.home, λ k. table_formed g types_of number ts p m (numbered_modules ts).0 (declared_in g m (numbered_modules ts).0 (first_scope number ts) ds).0 h k))
-  contents_formed ts p (contents.Implementation b) e = reported_holds g m.name.pos 24
-  contents_formed ts p (contents.Program b) e = reported_holds g m.name.pos 24
+  contents_formed ts p (contents.Implementation b) e = reported_holds g m.name.pos rule.LonelyModule
+  contents_formed ts p (contents.Program b) e = reported_holds g m.name.pos rule.LonelyModule
 
   pub tables_formed : (ts : List Table) → fits_contents m.contents ≡ true → TablesFormed types_of number ts → Holds IsFormedTable (compiled g number m ts)
   tables_formed ts e p = contents_formed (ts ++ console ∷ []) (each_more (TableFormed types_of number) ts console p (console_formed types_of number)) m.contents e

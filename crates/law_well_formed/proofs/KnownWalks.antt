@@ -3,6 +3,7 @@ use Rattle.std.proofs.Common.{◌≡◌, ℕ, ◌+◌, Bool, true, false, ◌&&�
 use Rattle.std.specs.Prelude.{map, slice_get}
 use Rattle.std.specs.List.{AllByRecursion, fold, list_all}
 use Rattle.std.specs.Option.{unwrap_or}
+use Rattle.m2_rule.specs.declared.rule.Rule.TheVariants as rule
 use Rattle.m2_tree.specs.declared.stmt.Stmt.{Stmt}
 use Rattle.m2_tree.specs.declared.decl.Heading.{Heading}
 use Rattle.m2_tree.specs.declared.decl.Module.{Module}
@@ -254,11 +255,11 @@ module _ (g : Gathers) (elaborates : Elaborates g.Reported) where
 
   module _ (types_of : ℕ → List Made) (number : ℕ) (m : Module) where
     own_formed : (own : Option Table) (ts : List Table) (b : Block) → fits_block b ≡ true → OwnFormed types_of number own → TablesFormed types_of number ts → Holds TypesFormed (of_implementation g elaborates m own ts b)
-    own_formed None ts b e o p = reported_holds g m.name.pos 24
+    own_formed None ts b e o p = reported_holds g m.name.pos rule.LonelyModule
     own_formed (Some t) ts b e o p = body_formed (begun_types types_of number t ts o.0 o.1 p) (implementation_scope t ts) (Some t) m b e (implementation_formed types_of number t ts o.0 o.1 p)
 
     contents_formed : (own : Option Table) (ts : List Table) (c : Contents) → fits_contents c ≡ true → OwnFormed types_of number own → TablesFormed types_of number ts → Holds TypesFormed (of_contents g elaborates number m own ts c)
-    contents_formed own ts (contents.Definition ds) e o p = reported_holds g m.name.pos 24
+    contents_formed own ts (contents.Definition ds) e o p = reported_holds g m.name.pos rule.LonelyModule
     contents_formed own ts (contents.Implementation b) e o p = own_formed own ts b e o p
     contents_formed own ts (contents.Program b) e o p = body_formed (first_types number ts) (first_scope number ts) None m b e (first_formed types_of number ts p)
 

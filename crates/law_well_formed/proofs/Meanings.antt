@@ -4,6 +4,7 @@ use Rattle.std.specs.Prelude.{not, cond}
 use Rattle.std.specs.List.{fold}
 use Rattle.std.proofs.lemmas.Bool.{eqb-true}
 use Rattle.std.proofs.lemmas.List.{append-nil}
+use Rattle.m2_rule.specs.declared.rule.Rule.TheVariants as rule
 use Rattle.m2_tree.specs.declared.pos.Pos.{Pos}
 use Rattle.m2_tree.specs.declared.name.Ident.{Ident}
 use Rattle.m2_tree.specs.declared.expr.MulOp.{MulOp}
@@ -110,7 +111,7 @@ module _ (g : Gathers) (m : TypedModule) (opens : ℕ → Bool) (w : ℕ) (s : S
   by_meaning level at (meaning.Field f) p = fine _ (behind_formed m w (rooted (root.With f.with)) (part.Field f.whole f.number) (rooted_formed m w (root.With f.with) p) (FieldOf f.whole f.number))
   by_meaning level at (meaning.Procedure f) p = fine (designated.Procedure f) p
   by_meaning level at (meaning.LocalProcedure f) p = fine _ p
-  by_meaning level at meaning.Ahead p = reported_holds g at 30
+  by_meaning level at meaning.Ahead p = reported_holds g at rule.Undeclared
   by_meaning level at (meaning.Standard f) p = fine (designated.Standard f) tt
   by_meaning level at (meaning.Module k) p = fine (designated.Module k) p
 
@@ -129,8 +130,8 @@ module _ (g : Gathers) (m : TypedModule) (opens : ℕ → Bool) (w : ℕ) (s : S
 
   -- ---- calls
 
-  passed_by : (is_var : Bool) (at : Pos) {d : Result Designated (Meaningless g.Reported)} → Designated_ d → Designated_ (cond is_var (of_sort g at 44 d) (of_heading d))
-  passed_by true at p = sort_holds g at 44 p
+  passed_by : (is_var : Bool) (at : Pos) {d : Result Designated (Meaningless g.Reported)} → Designated_ d → Designated_ (cond is_var (of_sort g at rule.NoVariable d) (of_heading d))
+  passed_by true at p = sort_holds g at rule.NoVariable p
   passed_by false at p = of_heading_holds p
 
   passed_formed : (f : Formal) (at : Pos) {d : Result Designated (Meaningless g.Reported)} → Designated_ d → Designated_ (passed_for g f at d)
@@ -159,7 +160,7 @@ module _ (g : Gathers) (m : TypedModule) (opens : ℕ → Bool) (w : ℕ) (s : S
         (FunctionCall r (call_by xs c) (call_formed g m w opens s.types h.types c t xs true there (heading.result ∙ ap (λ (o : Option TypeNo). is_there o) q) (subst (λ (fs : List Formal). AreArguments m w xs fs) (sym heading.formals) p)))))
 
     by_count : (k : Signature) (r : TypeNo) (q : Bool) → (length k.formals == length args) ≡ q → signature_at s.types t ≡ Some k → k.result ≡ Some r
-        → Value_ (ahead g (reported_where g {A = Unit {0}} (not q) at 42 (Ok (tt {0})) ▷ λ fine. Ok r) (looked_at g s args) (λ r. call_given g s.types r c (actuals g s k.formals args)))
+        → Value_ (ahead g (reported_where g {A = Unit {0}} (not q) at rule.ArgumentCount (Ok (tt {0})) ▷ λ fine. Ok r) (looked_at g s args) (λ r. call_given g s.types r c (actuals g s k.formals args)))
     by_count k r true count e q = given_call k r e q (eqb-true (length k.formals) (length args) count)
     by_count k r false count e q = refused_holds g _ (looked_at g s args)
 
@@ -178,32 +179,32 @@ module _ (g : Gathers) (m : TypedModule) (opens : ℕ → Bool) (w : ℕ) (s : S
   -- ---- standard functions
 
   unary_all : (at : Pos) (f : Standard) (u : Unary) (args : List (Meant g.Reported)) → AllM args → Value_ (unary g s at f u args)
-  unary_all at f u [] all = reported_beside_holds g at 42 (looked_at g s [])
+  unary_all at f u [] all = reported_beside_holds g at rule.ArgumentCount (looked_at g s [])
   unary_all at f u (x ∷ []) all = then_holds (value_formed x all.0) (λ v p. unary_formed g m w opens s.types h.types f u x.fixed.at v p)
-  unary_all at f u (x ∷ y ∷ xs) all = reported_beside_holds g at 42 _
+  unary_all at f u (x ∷ y ∷ xs) all = reported_beside_holds g at rule.ArgumentCount _
 
   bound_all : (at : Pos) (f : Standard) (args : List (Meant g.Reported)) → Value_ (bound g s at f args)
-  bound_all at f [] = reported_beside_holds g at 42 (looked_at g s [])
+  bound_all at f [] = reported_beside_holds g at rule.ArgumentCount (looked_at g s [])
   bound_all at f (x ∷ []) = bound_formed g m w opens s.types h.types f _
-  bound_all at f (x ∷ y ∷ xs) = reported_beside_holds g at 42 _
+  bound_all at f (x ∷ y ∷ xs) = reported_beside_holds g at rule.ArgumentCount _
 
   conversion_all : (at : Pos) (args : List (Meant g.Reported)) → AllM args → Value_ (conversion g s at args)
-  conversion_all at [] all = reported_beside_holds g at 42 (looked_at g s [])
-  conversion_all at (t ∷ []) all = reported_beside_holds g at 42 _
+  conversion_all at [] all = reported_beside_holds g at rule.ArgumentCount (looked_at g s [])
+  conversion_all at (t ∷ []) all = reported_beside_holds g at rule.ArgumentCount _
   conversion_all at (t ∷ x ∷ []) all = conversion_formed g m w opens s.types h.types _ x.fixed.at (value_formed x all.1.0)
-  conversion_all at (t ∷ x ∷ y ∷ xs) all = reported_beside_holds g at 42 _
+  conversion_all at (t ∷ x ∷ y ∷ xs) all = reported_beside_holds g at rule.ArgumentCount _
 
   high_all : (at : Pos) (args : List (Meant g.Reported)) → AllM args → Value_ (high g s at args)
-  high_all at [] all = reported_beside_holds g at 42 (looked_at g s [])
-  high_all at (x ∷ []) all = then_holds (sort_holds g x.fixed.at 43 all.0) (λ d p. high_formed g m w opens s.types h.types x.fixed.at d)
-  high_all at (x ∷ y ∷ xs) all = reported_beside_holds g at 42 _
+  high_all at [] all = reported_beside_holds g at rule.ArgumentCount (looked_at g s [])
+  high_all at (x ∷ []) all = then_holds (sort_holds g x.fixed.at rule.WrongArgument all.0) (λ d p. high_formed g m w opens s.types h.types x.fixed.at d)
+  high_all at (x ∷ y ∷ xs) all = reported_beside_holds g at rule.ArgumentCount _
 
   form_formed : (at : Pos) (f : Standard) (args : List (Meant g.Reported)) (o : Form) → AllM args → Value_ (by_form g s at f args o)
   form_formed at f args (form.Unary u) all = unary_all at f u args all
   form_formed at f args form.Bound all = bound_all at f args
   form_formed at f args form.Conversion all = conversion_all at args all
   form_formed at f args form.High all = high_all at args all
-  form_formed at f args form.Proper all = reported_beside_holds g at 40 _
+  form_formed at f args form.Proper all = reported_beside_holds g at rule.WrongType _
 
   called_as_formed : (at : Pos) (args : List (Meant g.Reported)) (x : Called) → FormedCalled g m w opens s.types h.types x → AllM args → Value_ (called_as g s at args x)
   called_as_formed at args (called.Routine t c) p all = routine_formed at t c args p all
@@ -315,8 +316,8 @@ module _ (g : Gathers) (m : TypedModule) (opens : ℕ → Bool) (w : ℕ) (s : S
   expr_formed (layer.Relation e o f) = computed_formed (relation_formed (meant g e.0) o (meant g f.0) e.1 f.1)
 
   selector_formed : (y : Selector-F SE SS SD SI) → FP (selector_layer g (opened_selector (bare_selector y)))
-  selector_formed (layer.Field p name) = λ d q. plain_holds (then_holds (sort_holds g p 40 q) (λ x k. field_of_formed p name x k))
-  selector_formed (layer.Index p e) = λ d q. plain_holds (indexed_formed m w g opens s.types p (meant g e.0).fixed.at (sort_holds g p 40 q) (value_formed (meant g e.0) e.1))
+  selector_formed (layer.Field p name) = λ d q. plain_holds (then_holds (sort_holds g p rule.WrongType q) (λ x k. field_of_formed p name x k))
+  selector_formed (layer.Index p e) = λ d q. plain_holds (indexed_formed m w g opens s.types p (meant g e.0).fixed.at (sort_holds g p rule.WrongType q) (value_formed (meant g e.0) e.1))
 
   designator_formed : (y : Designator-F SE SS SD SI) → FM (designator_layer g (opened_designator (bare_designator y)))
   designator_formed y = picks_formed (map (picks g) (map (λ (e : SS). e.0) y.selectors)) (named g s y.name) (named_formed y.name) (all_picks y.selectors)

@@ -2,6 +2,7 @@
 use Rattle.std.proofs.Common.{◌≡◌, ℕ, zero, suc, ◌==◌, Bool, true, false, ◌||◌, cond, List, [], ◌∷◌, ◌++◌, Option, Some, None, Ok, refl, sym, ap, subst, ◌∙◌}
 use Rattle.std.specs.Prelude.{slice_get, codes}
 use Rattle.std.specs.List.{fold, list_any, AllByRecursion}
+use Rattle.m2_rule.specs.declared.rule.Rule.TheVariants as rule
 use Rattle.m2_tree.specs.declared.name.Ident.{Ident}
 use Rattle.m2_tree.specs.declared.pos.Pos.{Pos}
 use Rattle.typed_tree.specs.declared.meaning.Meaning.{Meaning}
@@ -184,11 +185,11 @@ module _ (m : TypedModule) (opens : ℕ → Bool) where
     found_by at false x o p k = k
 
     found_formed : (at : Pos) (name : List ℕ) (es : List (List ℕ × Meaning)) → ExportsFormed m opens es → Holds (FormedMeaning m opens 0) (exported g at (found name es))
-    found_formed at name [] k = reported_holds g at 32
+    found_formed at name [] k = reported_holds g at rule.NotExported
     found_formed at name (e ∷ es) k = found_by at (same_name name e.0) e.1 (found name es) k.0 (found_formed at name es k.1)
 
     member_formed : (name : Ident) (o : Option Table) → ExportsFormed m opens (exports_of o) → Holds (FormedMeaning m opens 0) (exported g name.pos (exported_by name.name o))
-    member_formed name None k = reported_holds g name.pos 32
+    member_formed name None k = reported_holds g name.pos rule.NotExported
     member_formed name (Some t) k = found_formed name.pos name.name t.exported k
 
     pub members_formed : (tables : List Table) → OpenTables m opens g tables → (k : ℕ) (name : Ident) → opens k ≡ true → Holds (FormedMeaning m opens 0) (member g tables k name)

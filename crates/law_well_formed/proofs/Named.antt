@@ -3,6 +3,7 @@ use Rattle.std.proofs.Common.{◌≡◌, ℕ, zero, suc, Bool, true, false, cond
 use Rattle.std.specs.Prelude.{slice_get, nat_lt}
 use Rattle.std.specs.List.{fold}
 use Rattle.std.specs.Option.{option_map}
+use Rattle.m2_rule.specs.declared.rule.Rule.TheVariants as rule
 use Rattle.m2_tree.specs.declared.pos.Pos.{Pos}
 use Rattle.m2_tree.specs.declared.name.Ident.{Ident}
 use Rattle.m2_tree.specs.declared.expr.Qualified.{Qualified}
@@ -86,25 +87,25 @@ module _ (types : Types) where
 
 module _ (g : Gathers) where
   exported_ordered : (types : Types) (at : Pos) (o : Option Meaning) → OptionOrdered types o → Holds (MeaningOrdered types) (exported g at o)
-  exported_ordered types at None p = reported_holds g at 32
+  exported_ordered types at None p = reported_holds g at rule.NotExported
   exported_ordered types at (Some m) p = fine m p
 
   pub member_ordered : (types : Types) (ts : List Table) (k : ℕ) (name : Ident) → TablesOrdered types ts → Holds (MeaningOrdered types) (member g ts k name)
   member_ordered types ts k name h = exported_ordered types name.pos (exported_by name.name (slice_get ts k)) (table_found types name.name ts k h)
 
-  means_by : (types : Types) (at : Pos) (b : Bool) (r : Result Meaning g.Reported) → Holds (MeaningOrdered types) r → Holds (MeaningOrdered types) (cond b r (reported g at 30))
+  means_by : (types : Types) (at : Pos) (b : Bool) (r : Result Meaning g.Reported) → Holds (MeaningOrdered types) r → Holds (MeaningOrdered types) (cond b r (reported g at rule.Undeclared))
   means_by types at true r p = p
-  means_by types at false r p = reported_holds g at 30
+  means_by types at false r p = reported_holds g at rule.Undeclared
 
   means_ordered : (types : Types) (at : Pos) (k : Known g.Reported) (b : Bool) → KnownOrdered types k → Holds (MeaningOrdered types) (means_seen g at k b)
-  means_ordered types at Later b p = plain_holds (reported_holds g at 30)
+  means_ordered types at Later b p = plain_holds (reported_holds g at rule.Undeclared)
   means_ordered types at Ahead b p = fine meaning.Ahead tt
-  means_ordered types at Begun b p = plain_holds (reported_holds g at 30)
+  means_ordered types at Begun b p = plain_holds (reported_holds g at rule.Undeclared)
   means_ordered types at (Headed r) b p = heading_means_holds p
   means_ordered types at (Declared o r) b p = plain_holds (means_by types at b r p)
 
   sight_means : (types : Types) (at : Pos) (o : Sight g.Reported) → SightOrdered types o → Holds (MeaningOrdered types) (means_as g at o)
-  sight_means types at None p = plain_holds (reported_holds g at 30)
+  sight_means types at None p = plain_holds (reported_holds g at rule.Undeclared)
   sight_means types at (Some k) p = means_ordered types at k.0 k.1 p
 
   or_field : {T : Type 0} (types : Types) (o : Option OpenedField) (r : Result Meaning T) → Holds (MeaningOrdered types) r → Holds (MeaningOrdered types) (means_or o r)
@@ -121,31 +122,31 @@ module _ (g : Gathers) where
 
   type_ordered : (types : Types) (at : Pos) (m : Meaning) → MeaningOrdered types m → Holds (λ t. is_known types t ≡ true) (type_meant g at m)
   type_ordered types at (meaning.Type t n) p = fine t p
-  type_ordered types at (meaning.Constant v) p = reported_holds g at 33
-  type_ordered types at (meaning.Variable v) p = reported_holds g at 33
-  type_ordered types at (meaning.Local v) p = reported_holds g at 33
-  type_ordered types at (meaning.Field f) p = reported_holds g at 33
-  type_ordered types at (meaning.Procedure q) p = reported_holds g at 33
-  type_ordered types at (meaning.LocalProcedure q) p = reported_holds g at 33
-  type_ordered types at meaning.Ahead p = reported_holds g at 33
-  type_ordered types at (meaning.Standard f) p = reported_holds g at 33
-  type_ordered types at (meaning.Module k) p = reported_holds g at 33
+  type_ordered types at (meaning.Constant v) p = reported_holds g at rule.NoType
+  type_ordered types at (meaning.Variable v) p = reported_holds g at rule.NoType
+  type_ordered types at (meaning.Local v) p = reported_holds g at rule.NoType
+  type_ordered types at (meaning.Field f) p = reported_holds g at rule.NoType
+  type_ordered types at (meaning.Procedure q) p = reported_holds g at rule.NoType
+  type_ordered types at (meaning.LocalProcedure q) p = reported_holds g at rule.NoType
+  type_ordered types at meaning.Ahead p = reported_holds g at rule.NoType
+  type_ordered types at (meaning.Standard f) p = reported_holds g at rule.NoType
+  type_ordered types at (meaning.Module k) p = reported_holds g at rule.NoType
 
   in_module_ordered : (s : Scope g.Reported) (at : Pos) (name : Ident) (m : Meaning) → TablesOrdered s.types s.tables → Holds (λ t. is_known s.types t ≡ true) (in_module g s at name m)
   in_module_ordered s at name (meaning.Module k) h = then_holds (member_ordered s.types s.tables k name h) (λ m p. type_ordered s.types at m p)
-  in_module_ordered s at name (meaning.Type t n) h = reported_holds g at 33
-  in_module_ordered s at name (meaning.Constant v) h = reported_holds g at 33
-  in_module_ordered s at name (meaning.Variable v) h = reported_holds g at 33
-  in_module_ordered s at name (meaning.Local v) h = reported_holds g at 33
-  in_module_ordered s at name (meaning.Field f) h = reported_holds g at 33
-  in_module_ordered s at name (meaning.Procedure q) h = reported_holds g at 33
-  in_module_ordered s at name (meaning.LocalProcedure q) h = reported_holds g at 33
-  in_module_ordered s at name meaning.Ahead h = reported_holds g at 33
-  in_module_ordered s at name (meaning.Standard f) h = reported_holds g at 33
+  in_module_ordered s at name (meaning.Type t n) h = reported_holds g at rule.NoType
+  in_module_ordered s at name (meaning.Constant v) h = reported_holds g at rule.NoType
+  in_module_ordered s at name (meaning.Variable v) h = reported_holds g at rule.NoType
+  in_module_ordered s at name (meaning.Local v) h = reported_holds g at rule.NoType
+  in_module_ordered s at name (meaning.Field f) h = reported_holds g at rule.NoType
+  in_module_ordered s at name (meaning.Procedure q) h = reported_holds g at rule.NoType
+  in_module_ordered s at name (meaning.LocalProcedure q) h = reported_holds g at rule.NoType
+  in_module_ordered s at name meaning.Ahead h = reported_holds g at rule.NoType
+  in_module_ordered s at name (meaning.Standard f) h = reported_holds g at rule.NoType
 
   of_module_ordered : (base : Types) (s : Scope g.Reported) → ScopeOrdered base s → (o : Option Ident) (name : Ident) → Holds (λ t. is_known s.types t ≡ true) (of_module g s o name)
-  of_module_ordered base s h None name = then_holds (sort_holds g name.pos 33 (looked_ordered base s h name)) (λ m p. type_ordered s.types name.pos m p)
-  of_module_ordered base s h (Some home) name = then_holds (sort_holds g home.pos 33 (looked_ordered base s h home)) (λ m p. in_module_ordered s home.pos name m h.tables)
+  of_module_ordered base s h None name = then_holds (sort_holds g name.pos rule.NoType (looked_ordered base s h name)) (λ m p. type_ordered s.types name.pos m p)
+  of_module_ordered base s h (Some home) name = then_holds (sort_holds g home.pos rule.NoType (looked_ordered base s h home)) (λ m p. in_module_ordered s home.pos name m h.tables)
 
   pub named_ordered : (base : Types) (s : Scope g.Reported) → ScopeOrdered base s → (q : Qualified) → Holds (λ t. is_known s.types t ≡ true) (named_type g s q)
   named_ordered base s h q = of_module_ordered base s h q.module q.name
@@ -165,7 +166,7 @@ known_ordered base s name k h p = record { started = h.started; types = h.types;
 
 module _ (g : Gathers) where
   -- what is asked of a scope holds of it with one name more
-  unless_by : (P : Scope g.Reported → Type 0) (s : Scope g.Reported) (name : Ident) (b : Bool) (k : Known g.Reported) → P s → P (with_known name.name k s) → P (cond {A = State (Unit {0}) g.Reported} b (with_known name.name k s, Ok tt) (s, reported g name.pos 31)).0
+  unless_by : (P : Scope g.Reported → Type 0) (s : Scope g.Reported) (name : Ident) (b : Bool) (k : Known g.Reported) → P s → P (with_known name.name k s) → P (cond {A = State (Unit {0}) g.Reported} b (with_known name.name k s, Ok tt) (s, reported g name.pos rule.DeclaredTwice)).0
   unless_by P s name true k h p = p
   unless_by P s name false k h p = h
 

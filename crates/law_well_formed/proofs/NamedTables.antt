@@ -2,6 +2,7 @@
 use Rattle.std.proofs.Common.{◌≡◌, ℕ, Bool, true, false, cond, List, [], ◌∷◌, length, Option, Some, None, Result, Ok, Err, refl, sym, ap, subst, ◌∙◌}
 use Rattle.std.specs.Prelude.{map, take, drop, slice_get}
 use Rattle.std.specs.List.{fold}
+use Rattle.m2_rule.specs.declared.rule.Rule.TheVariants as rule
 use Rattle.m2_tree.specs.declared.pos.Pos.{Pos}
 use Rattle.m2_tree.specs.declared.name.Ident.{Ident}
 use Rattle.m2_tree.specs.declared.decl.Constant.{Constant}
@@ -176,7 +177,7 @@ module _ {T : Type 0} where
 
 module _ (g : Gathers) where
   unless_keeps : (s : Scope g.Reported) (name : Ident) (k : Known g.Reported) → Keeps s (unless_declared g s name k).0
-  unless_keeps s name k = either s (is_free (found name.name s.own)) (with_known name.name k s, Ok tt) (s, reported g name.pos 31) refl refl
+  unless_keeps s name k = either s (is_free (found name.name s.own)) (with_known name.name k s, Ok tt) (s, reported g name.pos rule.DeclaredTwice) refl refl
 
   begun_keeps : (s : Scope g.Reported) (name : Ident) → Keeps s (begun g s name).0
   begun_keeps s name = unless_keeps s name Begun
@@ -283,8 +284,8 @@ module _ (g : Gathers) where
 
   imported_keeps : (s : Scope g.Reported) (at : Pos) (name : List ℕ) (o : Origin) (m : Result Meaning g.Reported) → Keeps s (imported g s at name o m).0
   imported_keeps s at name o m =
-      either s (is_again (found name s.own) o) (s, Ok tt) (cond (is_free (found name s.own)) (with_known name (Declared o m) s, Ok tt) (s, reported g at 31)) refl
-      (either s (is_free (found name s.own)) (with_known name (Declared o m) s, Ok tt) (s, reported g at 31) refl refl)
+      either s (is_again (found name s.own) o) (s, Ok tt) (cond (is_free (found name s.own)) (with_known name (Declared o m) s, Ok tt) (s, reported g at rule.DeclaredTwice)) refl
+      (either s (is_free (found name s.own)) (with_known name (Declared o m) s, Ok tt) (s, reported g at rule.DeclaredTwice) refl refl)
 
   module_as_keeps : (s : Scope g.Reported) (name : Ident) (r : Result ℕ g.Reported) → Keeps s (with_module_as g s name r).0
   module_as_keeps s name (Ok k) = imported_keeps s name.pos name.name (Module k) _

@@ -1,6 +1,7 @@
 -- What one name more does, and one type more.
 use Rattle.std.proofs.Common.{◌≡◌, ℕ, ◌≤◌, Bool, true, false, cond, List, [], ◌∷◌, length, Option, Some, None, Result, Ok, Err, refl, subst, sym, ◌∙◌, arith}
 use Rattle.std.specs.Prelude.{slice_get, ◌⊎◌}
+use Rattle.m2_rule.specs.declared.rule.Rule.TheVariants as rule
 use Rattle.m2_tree.specs.declared.name.Ident.{Ident}
 use Rattle.typed_tree.specs.declared.meaning.LocalVariable.{LocalVariable}
 use Rattle.typed_tree.specs.declared.meaning.Meaning.{Meaning}
@@ -96,7 +97,7 @@ module _ (fs : List Formal) where
   }
 
   module _ (g : Gathers) (s : Scope g.Reported) (name : Ident) where
-    unless_by : (b : Bool) (k : Known g.Reported) → (IsNumbered fs s → KnownNumbered fs (lists_of s) k) → Grows fs s (cond {A = State (Unit {0}) g.Reported} b (with_known name.name k s, Ok tt) (s, reported g name.pos 31)).0
+    unless_by : (b : Bool) (k : Known g.Reported) → (IsNumbered fs s → KnownNumbered fs (lists_of s) k) → Grows fs s (cond {A = State (Unit {0}) g.Reported} b (with_known name.name k s, Ok tt) (s, reported g name.pos rule.DeclaredTwice)).0
     unless_by true k p = known_grows s name.name k p
     unless_by false k p = grows_refl s
 

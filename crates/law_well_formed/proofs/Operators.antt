@@ -1,6 +1,8 @@
 -- Operators, components and what places take.
 use Rattle.std.proofs.Common.{ℕ, pos, Bool, List, [], ◌∷◌, ◌++◌, Option, Some, None, Result, sym, subst}
 use Rattle.std.specs.Prelude.{not, ◌&&◌}
+use Rattle.m2_rule.specs.declared.rule.Rule.{Rule}
+use Rattle.m2_rule.specs.declared.rule.Rule.TheVariants as rule
 use Rattle.m2_tree.specs.declared.pos.Pos.{Pos}
 use Rattle.m2_tree.specs.declared.name.Ident.{Ident}
 use Rattle.m2_tree.specs.declared.expr.Sign.{Sign}
@@ -136,29 +138,29 @@ module _ (m : TypedModule) (w : ℕ) where
     -- ---- signs
 
     signed_scalar_formed : (o : Sign) (at : Pos) (b : TypeNo) (e : TypedExpr) → IsExpr m w e → Value_ (signed_scalar g o at b e)
-    signed_scalar_formed sign.Plus at b e p = where_holds g (not (is_numeric b)) at 40 (fine (value.Scalar b b (expr.Plus b e)) (Plus b e p))
-    signed_scalar_formed sign.Minus at b e p = where_holds g (not (is_integer b)) at 40 (fine (value.Scalar b b (expr.Negate e)) (Negate e p))
+    signed_scalar_formed sign.Plus at b e p = where_holds g (not (is_numeric b)) at rule.WrongType (fine (value.Scalar b b (expr.Plus b e)) (Plus b e p))
+    signed_scalar_formed sign.Minus at b e p = where_holds g (not (is_integer b)) at rule.WrongType (fine (value.Scalar b b (expr.Negate e)) (Negate e p))
 
     signed_value_formed : (o : Sign) (at : Pos) (x : Computed) → FormedValue m w x → Value_ (signed_value g o at x)
     signed_value_formed o at (value.Constant v) p = of_value_formed _
     signed_value_formed o at (value.Scalar t b e) p = signed_scalar_formed o at b e p
-    signed_value_formed o at (value.Set e) p = reported_holds g at 40
-    signed_value_formed o at (value.Routine t e) p = reported_holds g at 40
-    signed_value_formed o at (value.Procedure f) p = reported_holds g at 40
-    signed_value_formed o at (value.Whole t d) p = reported_holds g at 40
-    signed_value_formed o at value.Untaken p = reported_holds g at 40
+    signed_value_formed o at (value.Set e) p = reported_holds g at rule.WrongType
+    signed_value_formed o at (value.Routine t e) p = reported_holds g at rule.WrongType
+    signed_value_formed o at (value.Procedure f) p = reported_holds g at rule.WrongType
+    signed_value_formed o at (value.Whole t d) p = reported_holds g at rule.WrongType
+    signed_value_formed o at value.Untaken p = reported_holds g at rule.WrongType
 
     pub signed_formed : (o : Sign) (at : Pos) {x : Result Computed g.Reported} → Value_ x → Value_ (signed g o at x)
     signed_formed o at h = then_holds h (λ x p. signed_value_formed o at x p)
 
     negated_value_formed : (at : Pos) (x : Computed) → FormedValue m w x → Value_ (negated_value g at x)
     negated_value_formed at (value.Constant v) p = of_value_formed _
-    negated_value_formed at (value.Scalar t b e) p = where_holds g (not (are_same b boolean)) at 40 (fine (truth_of (expr.Not e)) (Not e p))
-    negated_value_formed at (value.Set e) p = reported_holds g at 40
-    negated_value_formed at (value.Routine t e) p = reported_holds g at 40
-    negated_value_formed at (value.Procedure f) p = reported_holds g at 40
-    negated_value_formed at (value.Whole t d) p = reported_holds g at 40
-    negated_value_formed at value.Untaken p = reported_holds g at 40
+    negated_value_formed at (value.Scalar t b e) p = where_holds g (not (are_same b boolean)) at rule.WrongType (fine (truth_of (expr.Not e)) (Not e p))
+    negated_value_formed at (value.Set e) p = reported_holds g at rule.WrongType
+    negated_value_formed at (value.Routine t e) p = reported_holds g at rule.WrongType
+    negated_value_formed at (value.Procedure f) p = reported_holds g at rule.WrongType
+    negated_value_formed at (value.Whole t d) p = reported_holds g at rule.WrongType
+    negated_value_formed at value.Untaken p = reported_holds g at rule.WrongType
 
     pub negated_formed : (at : Pos) {x : Result Computed g.Reported} → Value_ x → Value_ (negated g at x)
     negated_formed at h = then_holds h (λ x p. negated_value_formed at x p)
@@ -172,16 +174,16 @@ module _ (m : TypedModule) (w : ℕ) where
     built_formed t x y (step.Compare c) p q = Compare c x y p q
 
     stepped_formed : (at : Pos) (sort : Option TypeNo) (a b : Amount) (o : Option Step) → FormedAmount a → FormedAmount b → Value_ (stepped g at sort a b o)
-    stepped_formed at sort a b None p q = reported_holds g at 40
+    stepped_formed at sort a b None p q = reported_holds g at rule.WrongType
     stepped_formed at sort a b (Some o) p q = fine (built (or_cardinal sort) (run_of (or_cardinal sort) a) (run_of (or_cardinal sort) b) o) (built_formed (or_cardinal sort) (run_of (or_cardinal sort) a) (run_of (or_cardinal sort) b) o (run_formed (or_cardinal sort) a p) (run_formed (or_cardinal sort) b q))
 
     amounts_formed : (op : BinaryOp) (spot at : Pos) (a : Amount) (at' : Pos) (b : Amount) (o : Option (Option TypeNo)) → FormedAmount a → FormedAmount b → Value_ (on_amounts g op spot at a at' b o)
-    amounts_formed op spot at a at' b None p q = reported_holds g spot 40
+    amounts_formed op spot at a at' b None p q = reported_holds g spot rule.WrongType
     amounts_formed op spot at a at' b (Some sort) p q = then_holds (any_holds (fitting_both g op spot sort at a at' b)) (λ f h. stepped_formed spot sort a b (step_of op) p q)
 
     member_formed : (op : BinaryOp) (spot at : Pos) (a : Amount) (s : TypedExpr) → FormedAmount a → IsExpr m w s → Value_ (member g op spot at a s)
     member_formed op spot at a s p q =
-        where_holds g (not (is_in op && is_number (sort_of a))) spot 40 (then_holds (any_holds (element_fits g at a)) (λ f h. fine (truth_of (expr.In (run_of (or_cardinal (sort_of a)) a) s)) (In (run_of (or_cardinal (sort_of a)) a) s (run_formed (or_cardinal (sort_of a)) a p) q)))
+        where_holds g (not (is_in op && is_number (sort_of a))) spot rule.WrongType (then_holds (any_holds (element_fits g at a)) (λ f h. fine (truth_of (expr.In (run_of (or_cardinal (sort_of a)) a) s)) (In (run_of (or_cardinal (sort_of a)) a) s (run_formed (or_cardinal (sort_of a)) a p) q)))
 
     set_built_formed : (x y : TypedExpr) (o : SetStep) → IsExpr m w x → IsExpr m w y → FormedValue m w (set_built x y o)
     set_built_formed x y (set_step.Combine o) p q = linked_formed x (link.Combine o y) p (Combine o y q)
@@ -189,26 +191,26 @@ module _ (m : TypedModule) (w : ℕ) where
     set_built_formed x y (set_step.Include i) p q = Include i x y p q
 
     sets_formed : (at : Pos) (x y : TypedExpr) (o : Option SetStep) → IsExpr m w x → IsExpr m w y → Value_ (on_sets g at x y o)
-    sets_formed at x y None p q = reported_holds g at 40
+    sets_formed at x y None p q = reported_holds g at rule.WrongType
     sets_formed at x y (Some o) p q = fine (set_built x y o) (set_built_formed x y o p q)
 
     scalar_formed : (op : BinaryOp) (spot at : Pos) (a : Amount) (at' : Pos) (y : Option Side) → FormedAmount a → FormedSide y → Value_ (with_scalar g op spot at a at' y)
-    scalar_formed op spot at a at' None p q = reported_holds g spot 40
+    scalar_formed op spot at a at' None p q = reported_holds g spot rule.WrongType
     scalar_formed op spot at a at' (Some (side.Scalar b)) p q = amounts_formed op spot at a at' b (common (sort_of a) (sort_of b)) p q
     scalar_formed op spot at a at' (Some (side.Set s)) p q = member_formed op spot at a s p q
-    scalar_formed op spot at a at' (Some (side.Routine t e)) p q = reported_holds g spot 40
-    scalar_formed op spot at a at' (Some (side.Procedure f)) p q = reported_holds g spot 40
+    scalar_formed op spot at a at' (Some (side.Routine t e)) p q = reported_holds g spot rule.WrongType
+    scalar_formed op spot at a at' (Some (side.Procedure f)) p q = reported_holds g spot rule.WrongType
 
     with_set_formed : (op : BinaryOp) (spot : Pos) (x : TypedExpr) (y : Option Side) → IsExpr m w x → FormedSide y → Value_ (with_set g op spot x (set_in y))
-    with_set_formed op spot x None p q = reported_holds g spot 40
-    with_set_formed op spot x (Some (side.Scalar b)) p q = reported_holds g spot 40
+    with_set_formed op spot x None p q = reported_holds g spot rule.WrongType
+    with_set_formed op spot x (Some (side.Scalar b)) p q = reported_holds g spot rule.WrongType
     with_set_formed op spot x (Some (side.Set s)) p q = sets_formed spot x s (set_step_of op) p q
-    with_set_formed op spot x (Some (side.Routine t e)) p q = reported_holds g spot 40
-    with_set_formed op spot x (Some (side.Procedure f)) p q = reported_holds g spot 40
+    with_set_formed op spot x (Some (side.Routine t e)) p q = reported_holds g spot rule.WrongType
+    with_set_formed op spot x (Some (side.Procedure f)) p q = reported_holds g spot rule.WrongType
 
     procedures_formed : (at : Pos) (fit : Bool) (x y : TypedExpr) (o : Option Comparison) → IsExpr m w x → IsExpr m w y → Value_ (on_procedures g at fit x y o)
-    procedures_formed at fit x y None p q = reported_holds g at 40
-    procedures_formed at fit x y (Some c) p q = where_holds g (not fit) at 40 (fine (truth_of (expr.Compare c x y)) (Compare c x y p q))
+    procedures_formed at fit x y None p q = reported_holds g at rule.WrongType
+    procedures_formed at fit x y (Some c) p q = where_holds g (not fit) at rule.WrongType (fine (truth_of (expr.Compare c x y)) (Compare c x y p q))
 
     abbrev FormedPartner : Option (Bool × TypedExpr) → Type 0
     FormedPartner None = Unit {0}
@@ -229,11 +231,11 @@ module _ (m : TypedModule) (w : ℕ) where
     routine_formed types f (Some (side.Procedure h)) q = tt
 
     with_partner_formed : (at : Pos) (x : TypedExpr) (c : Option Comparison) (o : Option (Bool × TypedExpr)) → IsExpr m w x → FormedPartner o → Value_ (with_partner g at x c o)
-    with_partner_formed at x c None p q = reported_holds g at 40
+    with_partner_formed at x c None p q = reported_holds g at rule.WrongType
     with_partner_formed at x c (Some o) p q = procedures_formed at o.0 x o.1 c p q
 
     between_formed : (types : Types) (op : BinaryOp) (spot at : Pos) (x : Option Side) (at' : Pos) (y : Option Side) → FormedSide x → FormedSide y → Value_ (between g types op spot at x at' y)
-    between_formed types op spot at None at' y p q = reported_holds g spot 40
+    between_formed types op spot at None at' y p q = reported_holds g spot rule.WrongType
     between_formed types op spot at (Some (side.Scalar a)) at' y p q = scalar_formed op spot at a at' y p q
     between_formed types op spot at (Some (side.Set e)) at' y p q = with_set_formed op spot e y p q
     between_formed types op spot at (Some (side.Routine t e)) at' y p q = with_partner_formed spot e (equality_of op) (partner_of types t y) p (partner_formed types t y q)
@@ -252,36 +254,36 @@ module _ (m : TypedModule) (w : ℕ) where
     abbrev Expr_ : Result TypedExpr g.Reported → Type 0
     Expr_ r = Holds (IsExpr m w) r
 
-    scalar_suited_formed : (number : ℕ) (t : TypeNo) (s : Range) (at : Pos) (x : Option Side) → FormedSide x → Expr_ (scalar_suited g number t s at x)
-    scalar_suited_formed number t s at None p = reported_holds g at number
-    scalar_suited_formed number t s at (Some (side.Scalar (Known a))) p = where_holds g _ at number (where_holds g _ at 52 (fine (expr.Constant t a.number) (Constant t a.number)))
-    scalar_suited_formed number t s at (Some (side.Scalar (Run b e))) p = where_holds g _ at number (fine e p)
-    scalar_suited_formed number t s at (Some (side.Set e)) p = reported_holds g at number
-    scalar_suited_formed number t s at (Some (side.Routine u e)) p = reported_holds g at number
-    scalar_suited_formed number t s at (Some (side.Procedure f)) p = reported_holds g at number
+    scalar_suited_formed : (broken : Rule) (t : TypeNo) (s : Range) (at : Pos) (x : Option Side) → FormedSide x → Expr_ (scalar_suited g broken t s at x)
+    scalar_suited_formed broken t s at None p = reported_holds g at broken
+    scalar_suited_formed broken t s at (Some (side.Scalar (Known a))) p = where_holds g _ at broken (where_holds g _ at rule.OutOfRange (fine (expr.Constant t a.number) (Constant t a.number)))
+    scalar_suited_formed broken t s at (Some (side.Scalar (Run b e))) p = where_holds g _ at broken (fine e p)
+    scalar_suited_formed broken t s at (Some (side.Set e)) p = reported_holds g at broken
+    scalar_suited_formed broken t s at (Some (side.Routine u e)) p = reported_holds g at broken
+    scalar_suited_formed broken t s at (Some (side.Procedure f)) p = reported_holds g at broken
 
-    set_suited_formed : (number : ℕ) (at : Pos) (x : Option Side) → FormedSide x → Expr_ (set_suited g number at x)
-    set_suited_formed number at None p = reported_holds g at number
-    set_suited_formed number at (Some (side.Scalar a)) p = reported_holds g at number
-    set_suited_formed number at (Some (side.Set e)) p = fine e p
-    set_suited_formed number at (Some (side.Routine u e)) p = reported_holds g at number
-    set_suited_formed number at (Some (side.Procedure f)) p = reported_holds g at number
+    set_suited_formed : (broken : Rule) (at : Pos) (x : Option Side) → FormedSide x → Expr_ (set_suited g broken at x)
+    set_suited_formed broken at None p = reported_holds g at broken
+    set_suited_formed broken at (Some (side.Scalar a)) p = reported_holds g at broken
+    set_suited_formed broken at (Some (side.Set e)) p = fine e p
+    set_suited_formed broken at (Some (side.Routine u e)) p = reported_holds g at broken
+    set_suited_formed broken at (Some (side.Procedure f)) p = reported_holds g at broken
 
-    procedure_suited_formed : (number : ℕ) (types : Types) (t : TypeNo) (at : Pos) (x : Option Side) → FormedSide x → Expr_ (procedure_suited g number types t at x)
-    procedure_suited_formed number types t at None p = reported_holds g at number
-    procedure_suited_formed number types t at (Some (side.Scalar a)) p = reported_holds g at number
-    procedure_suited_formed number types t at (Some (side.Set e)) p = reported_holds g at number
-    procedure_suited_formed number types t at (Some (side.Routine u e)) p = where_holds g _ at number (fine e p)
-    procedure_suited_formed number types t at (Some (side.Procedure f)) p = where_holds g _ at number (fine (expr.Procedure f) (ProcedureValue f p))
+    procedure_suited_formed : (broken : Rule) (types : Types) (t : TypeNo) (at : Pos) (x : Option Side) → FormedSide x → Expr_ (procedure_suited g broken types t at x)
+    procedure_suited_formed broken types t at None p = reported_holds g at broken
+    procedure_suited_formed broken types t at (Some (side.Scalar a)) p = reported_holds g at broken
+    procedure_suited_formed broken types t at (Some (side.Set e)) p = reported_holds g at broken
+    procedure_suited_formed broken types t at (Some (side.Routine u e)) p = where_holds g _ at broken (fine e p)
+    procedure_suited_formed broken types t at (Some (side.Procedure f)) p = where_holds g _ at broken (fine (expr.Procedure f) (ProcedureValue f p))
 
     value_in_formed : (number : ℕ) (types : Types) (t : TypeNo) (at : Pos) (x : Option Side) (c : Class) → FormedSide x → Expr_ (value_in g number types t at x c)
-    value_in_formed number types t at x (class.Scalar s) p = scalar_suited_formed number t s at x p
-    value_in_formed number types t at x class.Set p = set_suited_formed number at x p
-    value_in_formed number types t at x class.Procedure p = procedure_suited_formed number types t at x p
+    value_in_formed broken types t at x (class.Scalar s) p = scalar_suited_formed broken t s at x p
+    value_in_formed broken types t at x class.Set p = set_suited_formed broken at x p
+    value_in_formed broken types t at x class.Procedure p = procedure_suited_formed broken types t at x p
     value_in_formed number types t at x class.Whole p = reported_holds g at number
 
-    pub suited_formed : (number : ℕ) (types : Types) (t : TypeNo) (at : Pos) (x : Computed) → FormedValue m w x → Expr_ (value_suited g number types t at x)
-    suited_formed number types t at x p = value_in_formed number types t at (side_of x) (class_at types t) (side_formed x p)
+    pub suited_formed : (broken : Rule) (types : Types) (t : TypeNo) (at : Pos) (x : Computed) → FormedValue m w x → Expr_ (value_suited g broken types t at x)
+    suited_formed broken types t at x p = value_in_formed broken types t at (side_of x) (class_at types t) (side_formed x p)
 
     -- ---- components
 
@@ -291,31 +293,31 @@ module _ (m : TypedModule) (w : ℕ) where
 
       pub field_formed : (types : Types) (at : Pos) (name : Ident) (d : Designated) → FormedDesignated m opens w d → Designated_ (field g types at name d)
       field_formed types at name (designated.Variable t d) p = then_holds (any_holds (record_field g at name (fields_at types t))) (λ f h. fine (designated.Variable f.1 (behind d (part.Field t f.0))) (behind_formed d (part.Field t f.0) p (FieldOf t f.0)))
-      field_formed types at name (designated.Value x) p = reported_holds g at 40
-      field_formed types at name (designated.Open t slot) p = reported_holds g at 40
-      field_formed types at name (designated.Type t) p = reported_holds g at 40
-      field_formed types at name (designated.Procedure f) p = reported_holds g at 40
-      field_formed types at name (designated.Nested f) p = reported_holds g at 40
-      field_formed types at name (designated.Standard f) p = reported_holds g at 40
-      field_formed types at name (designated.Module k) p = reported_holds g at 40
+      field_formed types at name (designated.Value x) p = reported_holds g at rule.WrongType
+      field_formed types at name (designated.Open t slot) p = reported_holds g at rule.WrongType
+      field_formed types at name (designated.Type t) p = reported_holds g at rule.WrongType
+      field_formed types at name (designated.Procedure f) p = reported_holds g at rule.WrongType
+      field_formed types at name (designated.Nested f) p = reported_holds g at rule.WrongType
+      field_formed types at name (designated.Standard f) p = reported_holds g at rule.WrongType
+      field_formed types at name (designated.Module k) p = reported_holds g at rule.WrongType
 
       abbrev FormedSubscripted : Subscripted → Type 0
       FormedSubscripted (indexes.Array t i e d) = IsPlace m w d
       FormedSubscripted (indexes.Open t slot) = Unit {0}
 
       array_formed : (at : Pos) (t : TypeNo) (d : Place) (o : Option (TypeNo × TypeNo)) → IsPlace m w d → Holds FormedSubscripted (array_indexed g at t d o)
-      array_formed at t d None p = reported_holds g at 40
+      array_formed at t d None p = reported_holds g at rule.WrongType
       array_formed at t d (Some a) p = fine (indexes.Array t a.0 a.1 d) p
 
       indices_formed : (types : Types) (at : Pos) (d : Designated) → FormedDesignated m opens w d → Holds FormedSubscripted (indices g types at d)
       indices_formed types at (designated.Variable t d) p = array_formed at t d (array_at types t) p
       indices_formed types at (designated.Open t slot) p = fine (indexes.Open t slot) tt
-      indices_formed types at (designated.Value x) p = reported_holds g at 40
-      indices_formed types at (designated.Type t) p = reported_holds g at 40
-      indices_formed types at (designated.Procedure f) p = reported_holds g at 40
-      indices_formed types at (designated.Nested f) p = reported_holds g at 40
-      indices_formed types at (designated.Standard f) p = reported_holds g at 40
-      indices_formed types at (designated.Module k) p = reported_holds g at 40
+      indices_formed types at (designated.Value x) p = reported_holds g at rule.WrongType
+      indices_formed types at (designated.Type t) p = reported_holds g at rule.WrongType
+      indices_formed types at (designated.Procedure f) p = reported_holds g at rule.WrongType
+      indices_formed types at (designated.Nested f) p = reported_holds g at rule.WrongType
+      indices_formed types at (designated.Standard f) p = reported_holds g at rule.WrongType
+      indices_formed types at (designated.Module k) p = reported_holds g at rule.WrongType
 
       picked_formed : (x : TypedExpr) (a : Subscripted) → IsExpr m w x → FormedSubscripted a → FormedDesignated m opens w (picked x a)
       picked_formed x (indexes.Array t i e d) p q = behind_formed d (part.Element t x) q (Element t x p)
@@ -324,4 +326,4 @@ module _ (m : TypedModule) (w : ℕ) where
       pub indexed_formed : (types : Types) (at : Pos) {d : Result Designated g.Reported} (at' : Pos) {x : Result Computed g.Reported} → Designated_ d → Value_ x → Designated_ (indexed g types (d ▷ indices g types at) at' x)
       indexed_formed types at at' p q =
           then_holds (both_holds g (then_holds p (λ d h. indices_formed types at d h)) q)
-          (λ v h. then_holds (suited_formed 41 types (asked v.0) at' v.1 h.1) (λ e k. fine (picked e v.0) (picked_formed e v.0 k h.0)))
+          (λ v h. then_holds (suited_formed rule.NotAssignable types (asked v.0) at' v.1 h.1) (λ e k. fine (picked e v.0) (picked_formed e v.0 k h.0)))

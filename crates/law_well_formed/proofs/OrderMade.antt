@@ -3,6 +3,7 @@ use Rattle.std.proofs.Common.{◌≡◌, ℕ, pos, Bool, true, false, cond, List
 use Rattle.std.specs.Prelude.{map, nat_lt}
 use Rattle.std.specs.List.{fold, AllByRecursion}
 use Rattle.std.specs.Option.{is_some}
+use Rattle.m2_rule.specs.declared.rule.Rule.TheVariants as rule
 use Rattle.m2_tree.specs.declared.pos.Pos.{Pos}
 use Rattle.m2_tree.specs.declared.name.Ident.{Ident}
 use Rattle.m2_tree.specs.declared.expr.Qualified.{Qualified}
@@ -129,7 +130,7 @@ module _ (g : Gathers) (base : Types) where
 
     result_ordered : (o : Option Qualified) → Holds (λ r. AreKnown s.types (result_named r)) (result_of g s o)
     result_ordered None = fine None tt
-    result_ordered (Some q) = then_holds (named_ordered g base s h q) (λ t p. where_holds g _ (first_of q) 33 (fine (Some t) (p, tt)))
+    result_ordered (Some q) = then_holds (named_ordered g base s h q) (λ t p. where_holds g _ (first_of q) rule.NoType (fine (Some t) (p, tt)))
 
     abbrev FormalsOrdered : Result (List Formal) g.Reported → Type 0
     FormalsOrdered r = Holds (λ fs. AreKnown s.types (of_formals fs)) r
@@ -168,7 +169,7 @@ module _ (g : Gathers) (base : Types) where
   simple_ordered s h (simple.Subrange of at low high) = made_ordered base s (then_holds (any_holds (subrange g s of (part g low) (part g high))) (λ r k. fine _ (h, (tt, tt))))
 
   index_ordered : (s : Scope g.Reported) → ScopeOrdered base s → (t : Simple) → MadeOrdered base (index_type g s t)
-  index_ordered s h t = then_holds (simple_ordered s h t) (λ x k. where_holds g _ (simple_place t) 36 (fine x k))
+  index_ordered s h t = then_holds (simple_ordered s h t) (λ x k. where_holds g _ (simple_place t) rule.NoIndex (fine x k))
 
   -- ---- arrays
 
@@ -190,9 +191,9 @@ module _ (g : Gathers) (base : Types) where
   FieldsOrdered st = Holds (λ x. ScopeOrdered base st.0 × FieldsKnown st.0.types st.1) st.2
 
   record_ordered : (at : Pos) (st : Scope g.Reported × Fields × Result (Unit {0}) g.Reported) → FieldsOrdered st → MadeOrdered base (record_type g at st)
-  record_ordered at st p = made_ordered base st.0 (then_holds p (λ x h. where_holds g (nat_lt 131072 st.1.cells) at 38 (fine _ h)))
+  record_ordered at st p = made_ordered base st.0 (then_holds p (λ x h. where_holds g (nat_lt 131072 st.1.cells) at rule.LargeType (fine _ h)))
 
-  field_by : (types : Types) (b : Bool) (fs more : Fields) (name : Ident) → FieldsKnown types fs → FieldsKnown types more → FieldsKnown types (cond {A = Fields × Result (Unit {0}) g.Reported} b (fs, reported g name.pos 31) (more, Ok tt)).0
+  field_by : (types : Types) (b : Bool) (fs more : Fields) (name : Ident) → FieldsKnown types fs → FieldsKnown types more → FieldsKnown types (cond {A = Fields × Result (Unit {0}) g.Reported} b (fs, reported g name.pos rule.DeclaredTwice) (more, Ok tt)).0
   field_by types true fs more name p q = p
   field_by types false fs more name p q = q
 

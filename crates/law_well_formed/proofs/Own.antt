@@ -2,6 +2,7 @@
 use Rattle.std.proofs.Common.{◌≡◌, ℕ, Bool, true, false, cond, List, [], ◌∷◌, length, Option, Some, None, Result, Ok, Err, refl, sym, ap, subst, ◌∙◌}
 use Rattle.std.specs.Prelude.{map, take, drop, slice_get, IfOk}
 use Rattle.std.specs.List.{fold, AllByRecursion}
+use Rattle.m2_rule.specs.declared.rule.Rule.TheVariants as rule
 use Rattle.m2_tree.specs.declared.pos.Pos.{Pos}
 use Rattle.m2_tree.specs.declared.name.Ident.{Ident}
 use Rattle.m2_tree.specs.declared.decl.Constant.{Constant}
@@ -221,7 +222,7 @@ module _ {T : Type 0} where
 
 module _ (g : Gathers) where
   unless_leads : (s : Scope g.Reported) (name : Ident) (k : Known g.Reported) → OwnKnown s.types.home k → Leads s (unless_declared g s name k).0
-  unless_leads s name k p = either s (is_free (found name.name s.own)) (with_known name.name k s, Ok tt) (s, reported g name.pos 31) (known_leads name.name k s p) (same_leads s)
+  unless_leads s name k p = either s (is_free (found name.name s.own)) (with_known name.name k s, Ok tt) (s, reported g name.pos rule.DeclaredTwice) (known_leads name.name k s p) (same_leads s)
 
   begun_leads : (s : Scope g.Reported) (name : Ident) → Leads s (begun g s name).0
   begun_leads s name = unless_leads s name Begun tt
@@ -328,8 +329,8 @@ module _ (g : Gathers) where
 
   imported_leads : (s : Scope g.Reported) (at : Pos) (name : List ℕ) (o : Origin) (m : Result Meaning g.Reported) → OwnFrom s.types.home o m → Leads s (imported g s at name o m).0
   imported_leads s at name o m p =
-      either s (is_again (found name s.own) o) (s, Ok tt) (cond (is_free (found name s.own)) (with_known name (Declared o m) s, Ok tt) (s, reported g at 31)) (same_leads s)
-      (either s (is_free (found name s.own)) (with_known name (Declared o m) s, Ok tt) (s, reported g at 31) (known_leads name (Declared o m) s p) (same_leads s))
+      either s (is_again (found name s.own) o) (s, Ok tt) (cond (is_free (found name s.own)) (with_known name (Declared o m) s, Ok tt) (s, reported g at rule.DeclaredTwice)) (same_leads s)
+      (either s (is_free (found name s.own)) (with_known name (Declared o m) s, Ok tt) (s, reported g at rule.DeclaredTwice) (known_leads name (Declared o m) s p) (same_leads s))
 
   module_as_leads : (s : Scope g.Reported) (name : Ident) (r : Result ℕ g.Reported) → Leads s (with_module_as g s name r).0
   module_as_leads s name (Ok k) = imported_leads s name.pos name.name (Module k) _ tt

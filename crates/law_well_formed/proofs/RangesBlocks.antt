@@ -3,6 +3,7 @@ use Rattle.std.proofs.Common.{◌≡◌, ℕ, zero, suc, Bool, true, false, cond
 use Rattle.std.specs.Prelude.{map, take, drop, slice_get}
 use Rattle.std.specs.List.{fold, list_all}
 use Rattle.std.specs.Option.{is_some}
+use Rattle.m2_rule.specs.declared.rule.Rule.TheVariants as rule
 use Rattle.m2_tree.specs.declared.pos.Pos.{Pos}
 use Rattle.m2_tree.specs.declared.name.Ident.{Ident}
 use Rattle.m2_tree.specs.declared.decl.Constant.{Constant}
@@ -175,7 +176,7 @@ module _ (g : Gathers) where
   Within types s = ScopeRanged s × (s.types ≡ types)
 
   free_within : (types : Types) (s : Scope g.Reported) (at : Pos) (name : List ℕ) (o : Origin) (m : Meaning) (b : Bool) → Within types s → MeaningRanged types m
-      → Within types (cond {A = State (Unit {0}) g.Reported} b (with_known name (Declared o (Ok m)) s, Ok tt) (s, reported g at 31)).0
+      → Within types (cond {A = State (Unit {0}) g.Reported} b (with_known name (Declared o (Ok m)) s, Ok tt) (s, reported g at rule.DeclaredTwice)).0
   free_within types s at name o m true h p = (known_ranged s name (Declared o (Ok m)) h.0 (fine m (subst (λ (t : Types). MeaningRanged t m) (sym h.1) p)), h.1)
   free_within types s at name o m false h p = h
 

@@ -3,6 +3,7 @@ use Rattle.std.proofs.Common.{◌≡◌, ℕ, zero, suc, ◌+◌, ◌<◌, ◌�
 use Rattle.std.proofs.lemmas.Int.{ints}
 use Rattle.std.specs.Prelude.{slice_get, cond, map, nat_lt}
 use Rattle.std.specs.List.{fold, list_all}
+use Rattle.m2_rule.specs.declared.rule.Rule.TheVariants as rule
 use Rattle.m2_tree.specs.declared.pos.Pos.{Pos}
 use Rattle.m2_tree.specs.declared.name.Ident.{Ident}
 use Rattle.m2_tree.specs.declared.decl.Heading.{Heading}
@@ -72,14 +73,14 @@ pub known_ranged : {T : Type 0} (s : Scope T) (name : List ℕ) (k : Known T) �
 known_ranged s name k h p = record { types = h.types; own = h.own; others = h.others; names = names_more s.types name k s.own p h.names; outer = h.outer; tables = h.tables }
 
 module _ (g : Gathers) where
-  unless_by : (s : Scope g.Reported) (name : Ident) (b : Bool) (k : Known g.Reported) → ScopeRanged s → KnownRanged s.types k → ScopeRanged (cond {A = State (Unit {0}) g.Reported} b (with_known name.name k s, Ok tt) (s, reported g name.pos 31)).0
+  unless_by : (s : Scope g.Reported) (name : Ident) (b : Bool) (k : Known g.Reported) → ScopeRanged s → KnownRanged s.types k → ScopeRanged (cond {A = State (Unit {0}) g.Reported} b (with_known name.name k s, Ok tt) (s, reported g name.pos rule.DeclaredTwice)).0
   unless_by s name true k h p = known_ranged s name.name k h p
   unless_by s name false k h p = h
 
   pub unless_ranged : (s : Scope g.Reported) (name : Ident) (k : Known g.Reported) → ScopeRanged s → KnownRanged s.types k → ScopeRanged (unless_declared g s name k).0
   unless_ranged s name k h p = unless_by s name (is_free (found name.name s.own)) k h p
 
-  types_by : (s : Scope g.Reported) (name : Ident) (b : Bool) (k : Known g.Reported) → (cond {A = State (Unit {0}) g.Reported} b (with_known name.name k s, Ok tt) (s, reported g name.pos 31)).0.types ≡ s.types
+  types_by : (s : Scope g.Reported) (name : Ident) (b : Bool) (k : Known g.Reported) → (cond {A = State (Unit {0}) g.Reported} b (with_known name.name k s, Ok tt) (s, reported g name.pos rule.DeclaredTwice)).0.types ≡ s.types
   types_by s name true k = refl
   types_by s name false k = refl
 
@@ -124,7 +125,7 @@ has_some (x ∷ xs) e = omega arith
 module _ (g : Gathers) where
   reported_few : (names : List Ident) (o : Option Ident) → slice_get names 256 ≡ o → Holds (λ x. length names ≤ 256) (reported_at g o)
   reported_few names None e = fine tt (few names 256 e)
-  reported_few names (Some name) e = reported_holds g name.pos 37
+  reported_few names (Some name) e = reported_holds g name.pos rule.ConstantCount
 
   abbrev constants : TypeNo → ℕ → Range
   constants t n = range t (pos 0) (pos n -ℤ pos 1)
@@ -204,7 +205,7 @@ module _ (g : Gathers) (known : ConstantsAreRanged g) where
       made_ranged s (then_holds (subrange_ranged g known s h of low high (both_left (fits low) (fits high) e) (both_right (fits low) (fits high) e)) (λ r k. fine (record { shape = shape.Scalar r; cells = 1 }) (h, sub_made s h r k)))
 
   index_ranged : (s : Scope g.Reported) → ScopeRanged s → (t : Simple) → fits_simple t ≡ true → StateRanged (index_type g s t)
-  index_ranged s h t e = then_holds (simple_ranged s h t e) (λ x k. where_holds g _ (simple_place t) 36 (fine x k))
+  index_ranged s h t e = then_holds (simple_ranged s h t e) (λ x k. where_holds g _ (simple_place t) rule.NoIndex (fine x k))
 
   array_plain : (s : Scope g.Reported) (at : Pos) (i e : TypeNo) → ScopeRanged s → Holds (λ m. ScopeRanged s × MadeRanged s m) (array_in g s.types at i e)
   array_plain s at i e h = then_holds (any_holds (array_cells g at (count_at s.types i) (cells_at s.types e))) (λ n k. fine _ (h, (tt, tt)))
@@ -217,7 +218,7 @@ module _ (g : Gathers) (known : ConstantsAreRanged g) where
   FieldsRanged st = Holds (λ x. ScopeRanged st.0) st.2
 
   record_ranged : (at : Pos) (st : Scope g.Reported × Fields × Result (Unit {0}) g.Reported) → FieldsRanged st → StateRanged (record_type g at st)
-  record_ranged at st p = made_ranged st.0 (then_holds p (λ x h. where_holds g (nat_lt 131072 st.1.cells) at 38 (fine _ (h, (tt, tt)))))
+  record_ranged at st p = made_ranged st.0 (then_holds p (λ x h. where_holds g (nat_lt 131072 st.1.cells) at rule.LargeType (fine _ (h, (tt, tt)))))
 
   names_ranged : {P : Type 0} (t : TypeNo) (cells : ℕ) (names : List Ident) (st : Fields × Result (Unit {0}) g.Reported) → Holds (λ x. P) st.1 → Holds (λ x. P) (fold (with_name g t cells) st names).1
   names_ranged t cells [] st p = p

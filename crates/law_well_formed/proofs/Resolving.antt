@@ -4,6 +4,7 @@ use Rattle.std.specs.Prelude.{slice_get, nat_lt}
 use Rattle.std.specs.List.{fold}
 use Rattle.std.specs.Option.{option_map}
 use Rattle.std.proofs.lemmas.Bool.{lt-ltb}
+use Rattle.m2_rule.specs.declared.rule.Rule.TheVariants as rule
 use Rattle.m2_tree.specs.declared.pos.Pos.{Pos}
 use Rattle.m2_tree.specs.declared.name.Ident.{Ident}
 use Rattle.m2_tree.specs.declared.expr.Qualified.{Qualified}
@@ -210,10 +211,10 @@ module _ (g : Gathers) (ends : List ℕ) (a : Scope g.Reported) (first : ℕ) (b
 
     -- ---- types
 
-    type_by : (name : Ident) (t : TypeNo) (r : Result Meaning (Meaningless g.Reported)) → looked_up g here name ≡ r → (of_sort g name.pos 33 r ▷ type_meant g name.pos) ≡ Ok t → (of_sort g name.pos 33 (looked_up g inner name) ▷ type_meant g name.pos) ≡ Ok t
+    type_by : (name : Ident) (t : TypeNo) (r : Result Meaning (Meaningless g.Reported)) → looked_up g here name ≡ r → (of_sort g name.pos rule.NoType r ▷ type_meant g name.pos) ≡ Ok t → (of_sort g name.pos rule.NoType (looked_up g inner name) ▷ type_meant g name.pos) ≡ Ok t
     type_by name t (Err (Broken e)) l f = absurd cc
     type_by name t (Err (Headless e)) l f = absurd cc
-    type_by name t (Ok (meaning.Type y n)) l f = ap (λ (r : Result Meaning (Meaningless g.Reported)). of_sort g name.pos 33 r ▷ type_meant g name.pos) (name_stays name (meaning.Type y n) l refl) ∙ f
+    type_by name t (Ok (meaning.Type y n)) l f = ap (λ (r : Result Meaning (Meaningless g.Reported)). of_sort g name.pos rule.NoType r ▷ type_meant g name.pos) (name_stays name (meaning.Type y n) l refl) ∙ f
     type_by name t (Ok (meaning.Constant v)) l f = absurd cc
     type_by name t (Ok (meaning.Variable v)) l f = absurd cc
     type_by name t (Ok (meaning.Local v)) l f = absurd cc
@@ -227,11 +228,11 @@ module _ (g : Gathers) (ends : List ℕ) (a : Scope g.Reported) (first : ℕ) (b
     same_tables : inner.tables ≡ here.tables
     same_tables = behind.tables ∙ to_last.tables
 
-    module_by : (home name : Ident) (t : TypeNo) (r : Result Meaning (Meaningless g.Reported)) → looked_up g here home ≡ r → (of_sort g home.pos 33 r ▷ in_module g here home.pos name) ≡ Ok t → (of_sort g home.pos 33 (looked_up g inner home) ▷ in_module g inner home.pos name) ≡ Ok t
+    module_by : (home name : Ident) (t : TypeNo) (r : Result Meaning (Meaningless g.Reported)) → looked_up g here home ≡ r → (of_sort g home.pos rule.NoType r ▷ in_module g here home.pos name) ≡ Ok t → (of_sort g home.pos rule.NoType (looked_up g inner home) ▷ in_module g inner home.pos name) ≡ Ok t
     module_by home name t (Err (Broken e)) l f = absurd cc
     module_by home name t (Err (Headless e)) l f = absurd cc
     module_by home name t (Ok (meaning.Module k)) l f =
-        ap (λ (r : Result Meaning (Meaningless g.Reported)). of_sort g home.pos 33 r ▷ in_module g inner home.pos name) (name_stays home (meaning.Module k) l refl)
+        ap (λ (r : Result Meaning (Meaningless g.Reported)). of_sort g home.pos rule.NoType r ▷ in_module g inner home.pos name) (name_stays home (meaning.Module k) l refl)
         ∙ (ap (λ (ts : List Table). member g ts k name ▷ type_meant g home.pos) same_tables ∙ f)
     module_by home name t (Ok (meaning.Type y n)) l f = absurd cc
     module_by home name t (Ok (meaning.Constant v)) l f = absurd cc

@@ -3,6 +3,7 @@ use Rattle.std.proofs.Common.{◌≡◌, ℕ, zero, suc, Bool, true, false, cond
 use Rattle.std.specs.Prelude.{slice_get, nat_lt}
 use Rattle.std.specs.List.{fold}
 use Rattle.std.specs.Option.{option_map, is_some}
+use Rattle.m2_rule.specs.declared.rule.Rule.TheVariants as rule
 use Rattle.m2_tree.specs.declared.pos.Pos.{Pos}
 use Rattle.m2_tree.specs.declared.name.Ident.{Ident}
 use Rattle.m2_tree.specs.declared.decl.Section.{Section}
@@ -86,19 +87,19 @@ module _ (m : TypedModule) (opens : ℕ → Bool) (g : Gathers) where
   from_means (Module k) r p = p
   from_means (Export k) r p = p
 
-  declared_means : (at : Pos) (seen : Bool) (r : Result Meaning g.Reported) → Means_ r → Means_ (cond seen r (reported g at 30))
+  declared_means : (at : Pos) (seen : Bool) (r : Result Meaning g.Reported) → Means_ r → Means_ (cond seen r (reported g at rule.Undeclared))
   declared_means at true r p = p
-  declared_means at false r p = reported_holds g at 30
+  declared_means at false r p = reported_holds g at rule.Undeclared
 
   seen_means : (at : Pos) (k : Known g.Reported) (seen : Bool) → FormedKnown m opens k → Means_ (means_seen g at k seen)
-  seen_means at Later seen p = plain_holds (reported_holds g at 30)
+  seen_means at Later seen p = plain_holds (reported_holds g at rule.Undeclared)
   seen_means at Ahead seen p = fine meaning.Ahead tt
-  seen_means at Begun seen p = plain_holds (reported_holds g at 30)
+  seen_means at Begun seen p = plain_holds (reported_holds g at rule.Undeclared)
   seen_means at (Headed r) seen p = heading_means_holds (holds_weaker (λ x q. q.0) p)
   seen_means at (Declared o r) seen p = plain_holds (declared_means at seen r (from_means o r p))
 
   means_formed : (at : Pos) (o : Sight g.Reported) → FormedSight m opens o → Means_ (means_as g at o)
-  means_formed at None p = plain_holds (reported_holds g at 30)
+  means_formed at None p = plain_holds (reported_holds g at rule.Undeclared)
   means_formed at (Some k) p = seen_means at k.0 k.1 p
 
   -- types that are the module's, names that are formed, and modules that are open

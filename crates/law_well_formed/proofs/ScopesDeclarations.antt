@@ -4,6 +4,7 @@ use Rattle.std.specs.Prelude.{slice_get, ◌||◌, ◌&&◌, not, nat_eq}
 use Rattle.std.specs.Map.{lookup}
 use Rattle.std.specs.Cmp.Lexicographic.{pointwise}
 use Rattle.std.specs.List.{fold, list_any}
+use Rattle.m2_rule.specs.declared.rule.Rule.TheVariants as rule
 use lib.Dec.{T, eqb_refl}
 use Rattle.m2_tree.specs.declared.pos.Pos.{Pos}
 use Rattle.m2_tree.specs.declared.name.Ident.{Ident}
@@ -359,7 +360,7 @@ module _ (g : Gathers) where
 
   pub result_holds : (s : Scope g.Reported) (o : Option Qualified) → Holds (λ r. is_there r ≡ is_there o) (result_of g s o)
   result_holds s None = fine None refl
-  result_holds s (Some q) = then_holds (any_holds (named_type g s q)) (λ t k. where_holds g (not (is_result s.types t)) (first_of q) 33 (fine (Some t) refl))
+  result_holds s (Some q) = then_holds (any_holds (named_type g s q)) (λ t k. where_holds g (not (is_result s.types t)) (first_of q) rule.NoType (fine (Some t) refl))
 
   -- the heading of a function has a result
   heading_holds : (s : Scope g.Reported) (h : Heading) → Holds (λ x. result_in x.shape ≡ is_there h.result) (heading_of g s h)
@@ -391,7 +392,7 @@ module _ (g : Gathers) where
       → (s.level == 0) ≡ false → picked is_awaiting (found h.name.name s.own) ≡ false → (headed_as g s h n made o).1 ≡ Ok tt → NestedHead s (headed_as g s h n made o).0 h n
   nested_by s h n made Free r e l a q = nested_made s h n made r l q
   nested_by s h n made (Awaited p) r e l a q = let k : picked is_awaiting (found h.name.name s.own) ≡ true = awaited_is (found h.name.name s.own) p e in absurd (let z : false ≡ true = sym a ∙ k in cc)
-  nested_by s h n made Taken r e l a q = let z : reported g {A = Unit {0}} h.name.pos 31 ≡ Ok tt = beside_right g (nothing_made made) (reported g h.name.pos 31) q in absurd cc
+  nested_by s h n made Taken r e l a q = let z : reported g {A = Unit {0}} h.name.pos rule.DeclaredTwice ≡ Ok tt = beside_right g (nothing_made made) (reported g h.name.pos rule.DeclaredTwice) q in absurd cc
 
   pub nested_head : (s : Scope g.Reported) (h : Heading) (n : ℕ) → (s.level == 0) ≡ false → picked is_awaiting (found h.name.name s.own) ≡ false → (with_heading g s n h).1 ≡ Ok tt → NestedHead s (with_heading g s n h).0 h n
   nested_head s h n l a q = nested_by s h n (heading_of g s h) (name_standing (found h.name.name s.own)) (heading_holds s h) refl l a (headed_reported s h n q)
@@ -417,7 +418,7 @@ module _ (g : Gathers) where
   module_made s h n _ (broken x) e q = absurd cc
 
   -- a heading that agrees with that of the definition
-  agreed : (o : Option Made) (x : Made) (q : Option Qualified) (at : Pos) (b : Bool) → agree (signature_of (Some x)) (signature_of o) ≡ b → reported_where g {A = Unit {0}} (not b) at 50 (Ok tt) ≡ Ok tt
+  agreed : (o : Option Made) (x : Made) (q : Option Qualified) (at : Pos) (b : Bool) → agree (signature_of (Some x)) (signature_of o) ≡ b → reported_where g {A = Unit {0}} (not b) at rule.OtherHeading (Ok tt) ≡ Ok tt
       → result_in x.shape ≡ is_there q → (y : Made) × ((o ≡ Some y) × (result_in y.shape ≡ is_there q))
   agreed o x q at false e t k = absurd cc
   agreed o x q at true e t k = let y = agree_made x.shape o e in (y.0, (y.1.0, sym y.1.1 ∙ k))
@@ -430,7 +431,7 @@ module _ (g : Gathers) where
       → (headed_as g s h n made o).1 ≡ Ok tt → ModuleHead (headed_as g s h n made o).0 h
   module_by s h n made Free r e l q = module_made s h n made r l q
   module_by s h n made (Awaited p) r e l q = (p, (found_self h.name.name (Headed (Ok (meaning.Procedure p))) s.own, (e p refl, awaited_made s h p made r q)))
-  module_by s h n made Taken r e l q = let z : reported g {A = Unit {0}} h.name.pos 31 ≡ Ok tt = beside_right g (nothing_made made) (reported g h.name.pos 31) q in absurd cc
+  module_by s h n made Taken r e l q = let z : reported g {A = Unit {0}} h.name.pos rule.DeclaredTwice ≡ Ok tt = beside_right g (nothing_made made) (reported g h.name.pos rule.DeclaredTwice) q in absurd cc
 
   pub module_head : (s : Scope g.Reported) (h : Heading) (n : ℕ) → ((p : Procedure) → name_standing (found h.name.name s.own) ≡ Awaited p → IsProcedureOf s p) → (s.level == 0) ≡ true → (with_heading g s n h).1 ≡ Ok tt → ModuleHead (with_heading g s n h).0 h
   module_head s h n a l q = module_by s h n (heading_of g s h) (name_standing (found h.name.name s.own)) (heading_holds s h) a l (headed_reported s h n q)

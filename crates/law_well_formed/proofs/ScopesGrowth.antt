@@ -1,6 +1,7 @@
 -- What one name more does, and one type more.
 use Rattle.std.proofs.Common.{◌≡◌, ℕ, ◌==◌, Bool, true, false, cond, List, [], ◌∷◌, ◌++◌, Option, Some, None, Result, Ok, Err, refl, sym, ap, ◌∙◌}
 use Rattle.std.specs.Prelude.{slice_get}
+use Rattle.m2_rule.specs.declared.rule.Rule.TheVariants as rule
 use Rattle.m2_tree.specs.declared.name.Ident.{Ident}
 use Rattle.typed_tree.specs.declared.known_types.Types.{Types}
 use Rattle.typed_tree.specs.declared.meaning.Meaning.{Meaning}
@@ -117,7 +118,7 @@ module _ (m : TypedModule) (opens : ℕ → Bool) where
   }
 
   module _ (g : Gathers) (s : Scope g.Reported) (name : Ident) where
-    unless_by : (b : Bool) (k : Known g.Reported) → (b ≡ true → Leads m opens s (with_known name.name k s)) → Leads m opens s (cond {A = State (Unit {0}) g.Reported} b (with_known name.name k s, Ok tt) (s, reported g name.pos 31)).0
+    unless_by : (b : Bool) (k : Known g.Reported) → (b ≡ true → Leads m opens s (with_known name.name k s)) → Leads m opens s (cond {A = State (Unit {0}) g.Reported} b (with_known name.name k s, Ok tt) (s, reported g name.pos rule.DeclaredTwice)).0
     unless_by true k p = p refl
     unless_by false k p = leads_refl s
 

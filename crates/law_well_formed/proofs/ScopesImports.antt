@@ -2,6 +2,7 @@
 use Rattle.std.proofs.Common.{◌≡◌, ℕ, Bool, true, false, cond, List, [], ◌∷◌, take, drop, Option, Some, None, Result, Ok, refl, sym, subst, zero, suc}
 use Rattle.std.specs.Prelude.{slice_get}
 use Rattle.std.specs.List.{fold}
+use Rattle.m2_rule.specs.declared.rule.Rule.TheVariants as rule
 use Rattle.m2_tree.specs.declared.pos.Pos.{Pos}
 use Rattle.m2_tree.specs.declared.name.Ident.{Ident}
 use Rattle.m2_tree.specs.declared.decl.Import.{Import}
@@ -26,7 +27,7 @@ module _ (m : TypedModule) (opens : ℕ → Bool) (g : Gathers) where
   abbrev Goes : Scope g.Reported → Scope g.Reported → Type 0
   Goes s s' = Leads m opens s s'
 
-  free_by : (s : Scope g.Reported) (at : Pos) (name : List ℕ) (k : Known g.Reported) (b : Bool) → (b ≡ true → Goes s (with_known name k s)) → Goes s (cond {A = State (Unit {0}) g.Reported} b (with_known name k s, Ok tt) (s, reported g at 31)).0
+  free_by : (s : Scope g.Reported) (at : Pos) (name : List ℕ) (k : Known g.Reported) (b : Bool) → (b ≡ true → Goes s (with_known name k s)) → Goes s (cond {A = State (Unit {0}) g.Reported} b (with_known name k s, Ok tt) (s, reported g at rule.DeclaredTwice)).0
   free_by s at name k true p = p refl
   free_by s at name k false p = leads_refl m opens s
 

@@ -2,6 +2,7 @@
 use Rattle.std.proofs.Common.{◌≡◌, ℕ, suc, ℤ, Bool, true, false, List, [], ◌∷◌, ◌++◌, length, Option, Some, None, Result, Ok, refl, sym, ap, subst, arith}
 use Rattle.std.specs.Prelude.{not, slice_get}
 use Rattle.std.specs.Option.{option_map}
+use Rattle.m2_rule.specs.declared.rule.Rule.TheVariants as rule
 use Rattle.m2_tree.specs.declared.pos.Pos.{Pos}
 use Rattle.m2_tree.specs.declared.name.Ident.{Ident}
 use Rattle.typed_tree.specs.declared.computed.Place.{Place}
@@ -127,32 +128,32 @@ module _ (g : Gathers) (m : TypedModule) (opens : ℕ → Bool) (w : ℕ) (s : S
   FormedRecord x = IsPlace m w x.1
 
   record_by_formed : (at : Pos) (d : Designated) → FormedDesignated m opens w d → Holds FormedRecord (record_by g s.types at d)
-  record_by_formed at (designated.Variable t d) p = where_holds g _ at 40 (fine (t, d) p)
-  record_by_formed at (designated.Value x) p = reported_holds g at 40
-  record_by_formed at (designated.Open t slot) p = reported_holds g at 40
-  record_by_formed at (designated.Type t) p = reported_holds g at 40
-  record_by_formed at (designated.Procedure f) p = reported_holds g at 40
-  record_by_formed at (designated.Nested f) p = reported_holds g at 40
-  record_by_formed at (designated.Standard f) p = reported_holds g at 40
-  record_by_formed at (designated.Module k) p = reported_holds g at 40
+  record_by_formed at (designated.Variable t d) p = where_holds g _ at rule.WrongType (fine (t, d) p)
+  record_by_formed at (designated.Value x) p = reported_holds g at rule.WrongType
+  record_by_formed at (designated.Open t slot) p = reported_holds g at rule.WrongType
+  record_by_formed at (designated.Type t) p = reported_holds g at rule.WrongType
+  record_by_formed at (designated.Procedure f) p = reported_holds g at rule.WrongType
+  record_by_formed at (designated.Nested f) p = reported_holds g at rule.WrongType
+  record_by_formed at (designated.Standard f) p = reported_holds g at rule.WrongType
+  record_by_formed at (designated.Module k) p = reported_holds g at rule.WrongType
 
   pub record_formed : (d : Meant g.Reported) → Known_ d → Holds FormedRecord (record_of g s d)
-  record_formed d p = then_holds (sort_holds g d.fixed.at 40 p) (λ e k. record_by_formed d.fixed.at e k)
+  record_formed d p = then_holds (sort_holds g d.fixed.at rule.WrongType p) (λ e k. record_by_formed d.fixed.at e k)
 
   -- ---- conditions, EXIT and RETURN
 
   pub condition_formed : (x : Meant g.Reported) → Known_ x → Expr_ (condition g s x)
-  condition_formed x p = then_holds (value_formed g m opens w s h x p) (λ v k. suited_formed m w g 40 s.types boolean x.fixed.at v k)
+  condition_formed x p = then_holds (value_formed g m opens w s h x p) (λ v k. suited_formed m w g rule.WrongType s.types boolean x.fixed.at v k)
 
-  exited_as : (at : Pos) (gives looped : Bool) → Stmt_ gives looped (reported_where g (not looped) at 45 (Ok step.Exit))
+  exited_as : (at : Pos) (gives looped : Bool) → Stmt_ gives looped (reported_where g (not looped) at rule.LonelyExit (Ok step.Exit))
   exited_as at gives true = fine step.Exit (Exit w)
-  exited_as at gives false = reported_holds g at 45
+  exited_as at gives false = reported_holds g at rule.LonelyExit
 
   pub exited_formed : (at : Pos) (a : Around g.Reported) → Stmt_ (is_there a.gives) a.in_loop (exited g at a)
   exited_formed at a = exited_as at (is_there a.gives) a.in_loop
 
   given_back_formed : (t : Result TypeNo g.Reported) (at : Pos) (looped : Bool) {x : Result Computed g.Reported} → Holds (FormedValue m w) x → Stmt_ true looped (given_back g s.types t at x)
-  given_back_formed t at looped p = then_holds (both_holds g (any_holds t) p) (λ v k. then_holds (suited_formed m w g 41 s.types v.0 at v.1 k.1) (λ e q. fine (step.Give v.0 e) (Give w looped v.0 e refl q)))
+  given_back_formed t at looped p = then_holds (both_holds g (any_holds t) p) (λ v k. then_holds (suited_formed m w g rule.NotAssignable s.types v.0 at v.1 k.1) (λ e q. fine (step.Give v.0 e) (Give w looped v.0 e refl q)))
 
   abbrev pub KnownIf : Option (Meant g.Reported) → Type 0
   KnownIf None = Unit {0}
@@ -160,8 +161,8 @@ module _ (g : Gathers) (m : TypedModule) (opens : ℕ → Bool) (w : ℕ) (s : S
 
   pub returned_formed : (at : Pos) (looped : Bool) (o : Option (Result TypeNo g.Reported)) (x : Option (Meant g.Reported)) → KnownIf x → Stmt_ (is_there o) looped (returned g s at o x)
   returned_formed at looped None None p = fine step.Return (Return w looped refl)
-  returned_formed at looped None (Some x) p = reported_beside_holds g at 46 _
-  returned_formed at looped (Some t) None p = reported_holds g at 46
+  returned_formed at looped None (Some x) p = reported_beside_holds g at rule.WrongReturn _
+  returned_formed at looped (Some t) None p = reported_holds g at rule.WrongReturn
   returned_formed at looped (Some t) (Some x) p = given_back_formed t x.fixed.at looped (value_formed g m opens w s h x p)
 
   -- ---- the selector of a CASE
@@ -174,11 +175,11 @@ module _ (g : Gathers) (m : TypedModule) (opens : ℕ → Bool) (w : ℕ) (s : S
   amount_formed (Run b e) p = p
 
   selector_formed : (at : Pos) (o : Option Side) → FormedSide m w o → Holds FormedSelector (selector_of g at o)
-  selector_formed at None p = reported_holds g at 40
+  selector_formed at None p = reported_holds g at rule.WrongType
   selector_formed at (Some (side.Scalar a)) p = fine (selector_amount a) (amount_formed a p)
-  selector_formed at (Some (side.Set e)) p = reported_holds g at 40
-  selector_formed at (Some (side.Routine t e)) p = reported_holds g at 40
-  selector_formed at (Some (side.Procedure f)) p = reported_holds g at 40
+  selector_formed at (Some (side.Set e)) p = reported_holds g at rule.WrongType
+  selector_formed at (Some (side.Routine t e)) p = reported_holds g at rule.WrongType
+  selector_formed at (Some (side.Procedure f)) p = reported_holds g at rule.WrongType
 
   pub selected_formed : (x : Meant g.Reported) → Known_ x → Holds FormedSelector (selected g s x)
   selected_formed x p = then_holds (value_formed g m opens w s h x p) (λ v k. selector_formed x.fixed.at (side_of v) (side_formed m w v k))
@@ -190,42 +191,42 @@ module _ (g : Gathers) (m : TypedModule) (opens : ℕ → Bool) (w : ℕ) (s : S
 
   controlled_as_formed : (at : Pos) (t : TypeNo) (d : Place) (c : Class) → (is_whole c ≡ false → IsScalar m.types t) → IsPlace m w d → Holds FormedControl (controlled_as g at t d c)
   controlled_as_formed at t d (class.Scalar r) k p = fine (record { of = t; base = r.base; place = d }) (k refl, p)
-  controlled_as_formed at t d class.Set k p = reported_holds g at 47
-  controlled_as_formed at t d class.Procedure k p = reported_holds g at 47
-  controlled_as_formed at t d class.Whole k p = reported_holds g at 47
+  controlled_as_formed at t d class.Set k p = reported_holds g at rule.WrongControl
+  controlled_as_formed at t d class.Procedure k p = reported_holds g at rule.WrongControl
+  controlled_as_formed at t d class.Whole k p = reported_holds g at rule.WrongControl
 
   controlled_formed : (at : Pos) (t : TypeNo) (d : Place) → IsPlace m w d → Holds FormedControl (controlled g s.types at t d)
   controlled_formed at t d p = controlled_as_formed at t d (class_at s.types t) (scalar_kept s.types m.types h.types t) p
 
   control_by_formed : (at : Pos) (x : Meaning) → FormedMeaning m opens w x → Holds FormedControl (control_by g s at x)
-  control_by_formed at (meaning.Constant v) p = reported_holds g at 47
-  control_by_formed at (meaning.Type t n) p = reported_holds g at 47
-  control_by_formed at (meaning.Variable v) p = where_holds g _ at 47 (controlled_formed at v.of (rooted (root.Global v)) (rooted_formed m w (root.Global v) p))
-  control_by_formed at (meaning.Local v) p = where_holds g _ at 47 (controlled_formed at v.of (rooted (root.Local (slot_of s.level v))) (rooted_formed m w (root.Local (slot_of s.level v)) tt))
-  control_by_formed at (meaning.Field f) p = reported_holds g at 47
-  control_by_formed at (meaning.Procedure f) p = reported_holds g at 47
-  control_by_formed at (meaning.LocalProcedure f) p = reported_holds g at 47
-  control_by_formed at meaning.Ahead p = reported_holds g at 30
-  control_by_formed at (meaning.Standard f) p = reported_holds g at 47
-  control_by_formed at (meaning.Module k) p = reported_holds g at 47
+  control_by_formed at (meaning.Constant v) p = reported_holds g at rule.WrongControl
+  control_by_formed at (meaning.Type t n) p = reported_holds g at rule.WrongControl
+  control_by_formed at (meaning.Variable v) p = where_holds g _ at rule.WrongControl (controlled_formed at v.of (rooted (root.Global v)) (rooted_formed m w (root.Global v) p))
+  control_by_formed at (meaning.Local v) p = where_holds g _ at rule.WrongControl (controlled_formed at v.of (rooted (root.Local (slot_of s.level v))) (rooted_formed m w (root.Local (slot_of s.level v)) tt))
+  control_by_formed at (meaning.Field f) p = reported_holds g at rule.WrongControl
+  control_by_formed at (meaning.Procedure f) p = reported_holds g at rule.WrongControl
+  control_by_formed at (meaning.LocalProcedure f) p = reported_holds g at rule.WrongControl
+  control_by_formed at meaning.Ahead p = reported_holds g at rule.Undeclared
+  control_by_formed at (meaning.Standard f) p = reported_holds g at rule.WrongControl
+  control_by_formed at (meaning.Module k) p = reported_holds g at rule.WrongControl
 
   control_formed : (name : Ident) → Holds FormedControl (control_of g s name)
-  control_formed name = then_holds (sort_holds g name.pos 47 (h.names name)) (λ x p. control_by_formed name.pos x p)
+  control_formed name = then_holds (sort_holds g name.pos rule.WrongControl (h.names name)) (λ x p. control_by_formed name.pos x p)
 
   start_formed : (at : Pos) (t : Result TypeNo g.Reported) {x : Result Computed g.Reported} → Holds (FormedValue m w) x → Expr_ (start_at g s.types at t x)
-  start_formed at t p = then_holds (both_holds g (any_holds t) p) (λ v k. suited_formed m w g 41 s.types v.0 at v.1 k.1)
+  start_formed at t p = then_holds (both_holds g (any_holds t) p) (λ v k. suited_formed m w g rule.NotAssignable s.types v.0 at v.1 k.1)
 
   limit_number_formed : (base : TypeNo) (at : Pos) (n : ℤ) (o : Option TypeNo) → Expr_ (limit_number g base at n o)
-  limit_number_formed base at n None = where_holds g _ at 52 (fine (expr.Constant base n) (Constant base n))
+  limit_number_formed base at n None = where_holds g _ at rule.OutOfRange (fine (expr.Constant base n) (Constant base n))
   limit_number_formed base at n (Some t) = fine (expr.Constant t n) (Constant t n)
 
   limit_by_formed : (base : TypeNo) (at : Pos) (o : Option Side) → FormedSide m w o → Expr_ (limit_by g base at o)
-  limit_by_formed base at None p = reported_holds g at 41
-  limit_by_formed base at (Some (side.Scalar (Known a))) p = where_holds g (not (sort_suits base a.sort)) at 41 (limit_number_formed base at a.number a.sort)
-  limit_by_formed base at (Some (side.Scalar (Run b e))) p = where_holds g (not (bases_suit base b)) at 41 (fine e p)
-  limit_by_formed base at (Some (side.Set e)) p = reported_holds g at 41
-  limit_by_formed base at (Some (side.Routine t e)) p = reported_holds g at 41
-  limit_by_formed base at (Some (side.Procedure f)) p = reported_holds g at 41
+  limit_by_formed base at None p = reported_holds g at rule.NotAssignable
+  limit_by_formed base at (Some (side.Scalar (Known a))) p = where_holds g (not (sort_suits base a.sort)) at rule.NotAssignable (limit_number_formed base at a.number a.sort)
+  limit_by_formed base at (Some (side.Scalar (Run b e))) p = where_holds g (not (bases_suit base b)) at rule.NotAssignable (fine e p)
+  limit_by_formed base at (Some (side.Set e)) p = reported_holds g at rule.NotAssignable
+  limit_by_formed base at (Some (side.Routine t e)) p = reported_holds g at rule.NotAssignable
+  limit_by_formed base at (Some (side.Procedure f)) p = reported_holds g at rule.NotAssignable
 
   limit_formed : (at : Pos) (base : Result TypeNo g.Reported) {x : Result Computed g.Reported} → Holds (FormedValue m w) x → Expr_ (limit_at g at base x)
   limit_formed at base p = then_holds (both_holds g (any_holds base) p) (λ v k. limit_by_formed v.0 at (side_of v.1) (side_formed m w v.1 k.1))

@@ -3,6 +3,8 @@ use Rattle.std.proofs.Common.{◌≡◌, ℕ, zero, suc, ◌≤ℤ◌, ◌==◌,
 use Rattle.std.proofs.lemmas.Int.{ints}
 use Rattle.std.specs.Prelude.{slice_get, nat_eq, cond, ◌&&◌, ◌||◌, not, int_le, int_lt}
 use Rattle.std.specs.Map.{lookup}
+use Rattle.m2_rule.specs.declared.rule.Rule.{Rule}
+use Rattle.m2_rule.specs.declared.rule.Rule.TheVariants as rule
 use Rattle.m2_tree.specs.declared.pos.Pos.{Pos}
 use Rattle.m2_tree.specs.declared.expr.Expr.{Expr}
 use Rattle.m2_tree.specs.declared.expr.Qualified.{Qualified}
@@ -76,7 +78,7 @@ type_itself t = by (is_one_home t.home t.home) (t.number == t.number) (home_itse
 -- ---- results
 
 module _ (g : Gathers) where
-  pub test_holds : (q : Bool) (at : Pos) (n : ℕ) → Holds (λ x. q ≡ false) (reported_where g {A = Unit {0}} q at n (Ok tt))
+  pub test_holds : (q : Bool) (at : Pos) (n : Rule) → Holds (λ x. q ≡ false) (reported_where g {A = Unit {0}} q at n (Ok tt))
   test_holds true at n = broken _
   test_holds false at n = fine tt refl
 
@@ -197,18 +199,18 @@ module _ (types : Types) where
 
   module _ (g : Gathers) where
     pub ordinal_ranged : (at : Pos) (o : Option Operand) → OperandRanged o → Holds (λ (a : Ordinal). SortRanged a.sort a.number) (ordinal_in g at o)
-    ordinal_ranged at None p = reported_holds g at 40
-    ordinal_ranged at (Some (operands.Set bits)) p = reported_holds g at 40
+    ordinal_ranged at None p = reported_holds g at rule.WrongType
+    ordinal_ranged at (Some (operands.Set bits)) p = reported_holds g at rule.WrongType
     ordinal_ranged at (Some (operands.Scalar a)) p = fine a p
 
     based_ranged : (at at' : Pos) (a b : Ordinal) (base : TypeNo) → Holds (λ x. IsNumber types base base a.number) (fits_at g at base a.sort a.number) → Holds (λ x. IsNumber types base base b.number) (fits_at g at' base b.sort b.number)
         → Holds SubRanged (based g at a at' b base)
     based_ranged at at' a b base p q =
-        then_holds (beside_holds g (test_holds g (int_lt b.number a.number) at 35) (beside_holds g p q)) (λ x k.
+        then_holds (beside_holds g (test_holds g (int_lt b.number a.number) at rule.EmptyRange) (beside_holds g p q)) (λ x k.
         fine (record { base = base; low = a.number; high = b.number }) (record { low = k.1.0; high = k.1.1; some = not_less b.number a.number k.0 }))
 
     fits_none : (at : Pos) (base : TypeNo) (n : ℤ) → is_numeric base ≡ true → Holds (λ x. IsNumber types base base n) (fits_at g at base None n)
-    fits_none at base n i = holds_weaker (λ x k. fits_number base n i (not_false (number_fits (Some base) n) k)) (test_holds g (not (number_fits (Some base) n)) at 52)
+    fits_none at base n i = holds_weaker (λ x k. fits_number base n i (not_false (number_fits (Some base) n) k)) (test_holds g (not (number_fits (Some base) n)) at rule.OutOfRange)
 
     base_numeric : (b : Bool) → is_numeric (cond b integer cardinal) ≡ true
     base_numeric true = refl
@@ -220,22 +222,22 @@ module _ (types : Types) where
     between_ranged at at' None (Some t) na nb p q = by (is_numeric t) refl where
       by : (c : Bool) → is_numeric t ≡ c → Holds SubRanged (between g at (record { sort = None; number = na }) at' (record { sort = Some t; number = nb }) (if c then Some (Some t) else None))
       by true e = based_ranged at at' (record { sort = None; number = na }) (record { sort = Some t; number = nb }) t (fits_none at t na e) (fine tt q)
-      by false e = reported_holds g at' 40
+      by false e = reported_holds g at' rule.WrongType
     between_ranged at at' (Some t) None na nb p q = by (is_numeric t) refl where
       by : (c : Bool) → is_numeric t ≡ c → Holds SubRanged (between g at (record { sort = Some t; number = na }) at' (record { sort = None; number = nb }) (if c then Some (Some t) else None))
       by true e = based_ranged at at' (record { sort = Some t; number = na }) (record { sort = None; number = nb }) t (fine tt p) (fits_none at' t nb e)
-      by false e = reported_holds g at' 40
+      by false e = reported_holds g at' rule.WrongType
     between_ranged at at' (Some t) (Some u) na nb p q = by (are_same t u) refl where
       by : (c : Bool) → are_same t u ≡ c → Holds SubRanged (between g at (record { sort = Some t; number = na }) at' (record { sort = Some u; number = nb }) (if c then Some (Some t) else None))
       by true e = based_ranged at at' (record { sort = Some t; number = na }) (record { sort = Some u; number = nb }) t (fine tt p) (fine tt (subst (λ (k : TypeNo). IsNumber types k k nb) (sym (same_types t u e)) q))
-      by false e = reported_holds g at' 40
+      by false e = reported_holds g at' rule.WrongType
 
     pub unnamed_ranged : (at at' : Pos) {low high : Result Ordinal g.Reported} → Holds (λ (a : Ordinal). SortRanged a.sort a.number) low → Holds (λ (a : Ordinal). SortRanged a.sort a.number) high → Holds SubRanged (unnamed g at low at' high)
     unnamed_ranged at at' p q = then_holds (both_holds g p q) (λ x k. between_ranged at at' x.0.sort x.1.sort x.0.number x.1.number k.0 k.1)
 
     -- ---- subranges under a named type
 
-    is_of_holds : (at : Pos) (x y : Bool) → Holds (λ u. (x ≡ true) × (y ≡ true)) (reported_where g {A = Unit {0}} (not x) at 40 (reported_where g (not y) at 52 (Ok tt)))
+    is_of_holds : (at : Pos) (x y : Bool) → Holds (λ u. (x ≡ true) × (y ≡ true)) (reported_where g {A = Unit {0}} (not x) at rule.WrongType (reported_where g (not y) at rule.OutOfRange (Ok tt)))
     is_of_holds at false y = broken _
     is_of_holds at true false = broken _
     is_of_holds at true true = fine tt (refl, refl)
@@ -243,14 +245,14 @@ module _ (types : Types) where
     -- bounds of one base go together
     alike : (at : Pos) (base : TypeNo) (sa sb : Option TypeNo) (na nb : ℤ)
         → Holds (λ x. is_of_base base sa ≡ true → is_of_base base sb ≡ true → na ≤ℤ nb) (ordered_if g at (record { sort = sa; number = na }) (record { sort = sb; number = nb }) (common sa sb))
-    alike at base None None na nb = holds_weaker (λ x k p q. not_less nb na k) (test_holds g (int_lt nb na) at 35)
+    alike at base None None na nb = holds_weaker (λ x k p q. not_less nb na k) (test_holds g (int_lt nb na) at rule.EmptyRange)
     alike at base None (Some t) na nb = by (is_numeric t) refl where
       clash : is_numeric t ≡ false → is_numeric base ≡ true → are_same t base ≡ true → ⊥
       clash e p q = let z : true ≡ false = sym p ∙ (ap is_numeric (sym (same_types t base q)) ∙ e) in absurd cc
 
       by : (c : Bool) → is_numeric t ≡ c
           → Holds (λ x. is_numeric base ≡ true → are_same t base ≡ true → na ≤ℤ nb) (ordered_if g at (record { sort = None; number = na }) (record { sort = Some t; number = nb }) (if c then Some (Some t) else None))
-      by true e = holds_weaker (λ x k p q. not_less nb na k) (test_holds g (int_lt nb na) at 35)
+      by true e = holds_weaker (λ x k p q. not_less nb na k) (test_holds g (int_lt nb na) at rule.EmptyRange)
       by false e = fine tt (λ p q. absurd (clash e p q))
     alike at base (Some t) None na nb = by (is_numeric t) refl where
       clash : is_numeric t ≡ false → is_numeric base ≡ true → are_same t base ≡ true → ⊥
@@ -258,7 +260,7 @@ module _ (types : Types) where
 
       by : (c : Bool) → is_numeric t ≡ c
           → Holds (λ x. are_same t base ≡ true → is_numeric base ≡ true → na ≤ℤ nb) (ordered_if g at (record { sort = Some t; number = na }) (record { sort = None; number = nb }) (if c then Some (Some t) else None))
-      by true e = holds_weaker (λ x k p q. not_less nb na k) (test_holds g (int_lt nb na) at 35)
+      by true e = holds_weaker (λ x k p q. not_less nb na k) (test_holds g (int_lt nb na) at rule.EmptyRange)
       by false e = fine tt (λ p q. absurd (clash e q p))
     alike at base (Some t) (Some u) na nb = by (are_same t u) refl where
       clash : are_same t u ≡ false → are_same t base ≡ true → are_same u base ≡ true → ⊥
@@ -268,7 +270,7 @@ module _ (types : Types) where
 
       by : (c : Bool) → are_same t u ≡ c
           → Holds (λ x. are_same t base ≡ true → are_same u base ≡ true → na ≤ℤ nb) (ordered_if g at (record { sort = Some t; number = na }) (record { sort = Some u; number = nb }) (if c then Some (Some t) else None))
-      by true e = holds_weaker (λ x k p q. not_less nb na k) (test_holds g (int_lt nb na) at 35)
+      by true e = holds_weaker (λ x k p q. not_less nb na k) (test_holds g (int_lt nb na) at rule.EmptyRange)
       by false e = fine tt (λ p q. absurd (clash e p q))
 
     limited_fine : (r : Range) (a b : Ordinal) {t : Result (Unit {0}) g.Reported} → Holds (λ x. SubRanged (record { base = r.base; low = a.number; high = b.number })) t → Holds SubRanged (limited g (Ok (r, (a, b))) t)
@@ -308,7 +310,7 @@ module _ (g : Gathers) (known : ConstantsAreRanged g) (s : Scope g.Reported) (h 
   bound_ranged e f = then_holds (known s h e f) (λ v k. ordinal_ranged s.types g (part g e).at (operand_of v) (operand_ranged s.types v k))
 
   scalar_or_based : (at : Pos) (t : TypeNo) (o : Option Range) → scalar_at s.types t ≡ o → Holds (IsBased s.types) (scalar_or g at o)
-  scalar_or_based at t None e = reported_holds g at 33
+  scalar_or_based at t None e = reported_holds g at rule.NoType
   scalar_or_based at t (Some r) e = fine r (based_at s.types h.own h.others t r e)
 
   scalar_named_based : (q : Qualified) → Holds (IsBased s.types) (scalar_named g s q)

@@ -3,6 +3,7 @@ use Rattle.std.proofs.Common.{◌≡◌, ℕ, suc, ◌+◌, Bool, true, false, c
 use Rattle.std.specs.Prelude.{IfOk}
 use Rattle.std.specs.List.{fold}
 use Rattle.std.proofs.lemmas.List.{length-append}
+use Rattle.m2_rule.specs.declared.rule.Rule.TheVariants as rule
 use Rattle.m2_tree.specs.declared.decl.Contents.{Contents}
 use Rattle.m2_tree.specs.declared.decl.Contents.TheVariants as contents
 use Rattle.m2_tree.specs.declared.decl.Def.{Def}
@@ -100,12 +101,12 @@ module _ (g : Gathers) where
       }
 
   next_by : (c : Bool) (s s0 : Scope g.Reported) (h : Heading) (rest : List Def) (x : TypeNo) (k : Known g.Reported) → Begins (with_known h.name.name k (with_procedure_type s (Ok x))) (marked_def s0 (def.Procedure h)) rest
-      → (cond {A = State (Unit {0}) g.Reported} c (with_known h.name.name k (with_procedure_type s (Ok x)), Ok tt) (with_procedure_type s (Ok x), reported g h.name.pos 31)).1 ≡ Ok tt
-      → Begins (cond {A = State (Unit {0}) g.Reported} c (with_known h.name.name k (with_procedure_type s (Ok x)), Ok tt) (with_procedure_type s (Ok x), reported g h.name.pos 31)).0 (marked_def s0 (def.Procedure h)) rest
+      → (cond {A = State (Unit {0}) g.Reported} c (with_known h.name.name k (with_procedure_type s (Ok x)), Ok tt) (with_procedure_type s (Ok x), reported g h.name.pos rule.DeclaredTwice)).1 ≡ Ok tt
+      → Begins (cond {A = State (Unit {0}) g.Reported} c (with_known h.name.name k (with_procedure_type s (Ok x)), Ok tt) (with_procedure_type s (Ok x), reported g h.name.pos rule.DeclaredTwice)).0 (marked_def s0 (def.Procedure h)) rest
   next_by true s s0 h rest x k b e = b
   next_by false s s0 h rest x k b e = absurd cc
 
-  free_if : (c : Bool) (s : Scope g.Reported) (st : State (Unit {0}) g.Reported) (h : Heading) → (cond {A = State (Unit {0}) g.Reported} c st (s, reported g h.name.pos 31)).1 ≡ Ok tt → c ≡ true
+  free_if : (c : Bool) (s : Scope g.Reported) (st : State (Unit {0}) g.Reported) (h : Heading) → (cond {A = State (Unit {0}) g.Reported} c st (s, reported g h.name.pos rule.DeclaredTwice)).1 ≡ Ok tt → c ≡ true
   free_if true s st h e = refl
   free_if false s st h e = absurd cc
 

@@ -3,6 +3,7 @@ use Rattle.std.proofs.Common.{◌≡◌, ℕ, Bool, true, false, cond, List, [],
 use Rattle.std.specs.Prelude.{map, take, drop, slice_get}
 use Rattle.std.specs.List.{fold}
 use Rattle.std.proofs.lemmas.List.{append-nil}
+use Rattle.m2_rule.specs.declared.rule.Rule.TheVariants as rule
 use Rattle.m2_tree.specs.declared.pos.Pos.{Pos}
 use Rattle.m2_tree.specs.declared.name.Ident.{Ident}
 use Rattle.m2_tree.specs.declared.decl.Constant.{Constant}
@@ -144,7 +145,7 @@ module _ {T : Type 0} where
 
 module _ (g : Gathers) where
   unless_goes : (s : Scope g.Reported) (name : Ident) (k : Known g.Reported) → number_of k ≡ None → is_taken k ≡ true → Goes s (unless_declared g s name k).0
-  unless_goes s name k n t = either s (is_free (found name.name s.own)) (with_known name.name k s, Ok tt) (s, reported g name.pos 31) (λ e. known_goes name.name k s n t (free_undone (found name.name s.own) e)) (same_goes s)
+  unless_goes s name k n t = either s (is_free (found name.name s.own)) (with_known name.name k s, Ok tt) (s, reported g name.pos rule.DeclaredTwice) (λ e. known_goes name.name k s n t (free_undone (found name.name s.own) e)) (same_goes s)
 
   pub begun_goes : (s : Scope g.Reported) (name : Ident) → Goes s (begun g s name).0
   begun_goes s name = unless_goes s name Begun refl refl
@@ -255,7 +256,7 @@ module _ (g : Gathers) where
   imported_goes : (s : Scope g.Reported) (at : Pos) (name : List ℕ) (o : Origin) (m : Result Meaning g.Reported) → number_of (Declared o m) ≡ None → Goes s (imported g s at name o m).0
   imported_goes s at name o m n =
       again_by s (is_again (found name s.own) o) _
-      (either s (is_free (found name s.own)) (with_known name (Declared o m) s, Ok tt) (s, reported g at 31) (λ e. known_goes name (Declared o m) s n refl (free_undone (found name s.own) e)) (same_goes s))
+      (either s (is_free (found name s.own)) (with_known name (Declared o m) s, Ok tt) (s, reported g at rule.DeclaredTwice) (λ e. known_goes name (Declared o m) s n refl (free_undone (found name s.own) e)) (same_goes s))
 
   module_as_goes : (s : Scope g.Reported) (name : Ident) (r : Result ℕ g.Reported) → Goes s (with_module_as g s name r).0
   module_as_goes s name (Ok k) = imported_goes s name.pos name.name (Module k) _ refl

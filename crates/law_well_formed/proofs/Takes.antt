@@ -4,6 +4,7 @@ use Rattle.std.specs.Prelude.{map}
 use Rattle.std.specs.List.{fold}
 use Rattle.std.proofs.lemmas.List.{append-nil}
 use Rattle.std.proofs.lemmas.List.Folds.{list_any-append}
+use Rattle.m2_rule.specs.declared.rule.Rule.TheVariants as rule
 use Rattle.m2_tree.specs.declared.pos.Pos.{Pos}
 use Rattle.m2_tree.specs.declared.name.Ident.{Ident}
 use Rattle.m2_tree.specs.declared.decl.Constant.{Constant}
@@ -228,8 +229,8 @@ module _ (g : Gathers) where
   abbrev pub Within : Own → Own → Type 0
   Within own fin = (y : List ℕ) → TakenIn own y → TakenIn fin y
 
-  unless_by : (b : Bool) (s : Scope g.Reported) (name : Ident) (k : Known g.Reported) → is_taken k ≡ true → (cond {A = State (Unit {0}) g.Reported} b (with_known name.name k s, Ok tt) (s, reported g name.pos 31)).1 ≡ Ok tt
-      → TakenIn (cond {A = State (Unit {0}) g.Reported} b (with_known name.name k s, Ok tt) (s, reported g name.pos 31)).0.own name.name
+  unless_by : (b : Bool) (s : Scope g.Reported) (name : Ident) (k : Known g.Reported) → is_taken k ≡ true → (cond {A = State (Unit {0}) g.Reported} b (with_known name.name k s, Ok tt) (s, reported g name.pos rule.DeclaredTwice)).1 ≡ Ok tt
+      → TakenIn (cond {A = State (Unit {0}) g.Reported} b (with_known name.name k s, Ok tt) (s, reported g name.pos rule.DeclaredTwice)).0.own name.name
   unless_by true s name k t e = now_taken name.name k s.own t
   unless_by false s name k t e = absurd cc
 

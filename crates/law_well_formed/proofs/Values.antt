@@ -2,6 +2,8 @@
 use Rattle.std.proofs.Common.{◌≡◌, ℕ, ◌≤ℤ◌, ◌-ℤ◌, ℤ, pos, negsuc, Bool, true, false, Option, Some, None, Result, Ok, refl, sym, ap, subst, ◌∙◌, arith}
 use Rattle.std.proofs.lemmas.Int.{ints}
 use Rattle.std.specs.Prelude.{cond, ◌||◌, ◌&&◌, not, int_lt}
+use Rattle.m2_rule.specs.declared.rule.Rule.{Rule}
+use Rattle.m2_rule.specs.declared.rule.Rule.TheVariants as rule
 use Rattle.m2_tree.specs.declared.pos.Pos.{Pos}
 use Rattle.m2_tree.specs.declared.expr.RelOp.{RelOp}
 use Rattle.m2_tree.specs.declared.expr.RelOp.TheVariants as rel
@@ -51,7 +53,7 @@ upper_by true n e l h = let k = between_in (pos 97) n (pos 122) e in lower n k.0
 upper_by false n e l h = (l, h)
 
 module _ (g : Gathers) {T : Type 0} (P : T → Type 0) where
-  where_not : (b : Bool) (at : Pos) (n : ℕ) {r : Result T g.Reported} → (b ≡ true → Holds P r) → Holds P (reported_where g (not b) at n r)
+  where_not : (b : Bool) (at : Pos) (n : Rule) {r : Result T g.Reported} → (b ≡ true → Holds P r) → Holds P (reported_where g (not b) at n r)
   where_not true at n k = k refl
   where_not false at n k = broken _
 
@@ -74,7 +76,7 @@ module _ (g : Gathers) (types : Types) where
   fits_sort (Some t) n i f = fits_number types t n i f
 
   number_ranged : (at : Pos) (sort : Option TypeNo) (n : ℤ) → is_number sort ≡ true → V_ (number_at g at sort n)
-  number_ranged at sort n i = where_not g (ValueRanged types) (number_fits sort n) at 52 (λ f. fine (valued sort n) (sort_valued sort n (fits_sort sort n i f)))
+  number_ranged at sort n i = where_not g (ValueRanged types) (number_fits sort n) at rule.OutOfRange (λ f. fine (valued sort n) (sort_valued sort n (fits_sort sort n i f)))
 
   truth_number : (b : Bool) → IsNumber types boolean boolean (cond b (pos 1) (pos 0))
   truth_number true = record { range = range boolean (pos 0) (pos 1); at = refl; own = refl; low = omega (arith, ints); high = omega (arith, ints) }
@@ -92,7 +94,7 @@ module _ (g : Gathers) (types : Types) where
   applied_ranged Plus spot sort x y e = number_ranged spot sort (evaluated Plus x y) e
   applied_ranged Minus spot sort x y e = number_ranged spot sort (evaluated Minus x y) e
   applied_ranged Times spot sort x y e = number_ranged spot sort (evaluated Times x y) e
-  applied_ranged Over spot sort x y e = reported_holds g spot 40
+  applied_ranged Over spot sort x y e = reported_holds g spot rule.WrongType
   applied_ranged Div spot sort x y e = number_ranged spot sort (quotient x y) e
   applied_ranged Mod spot sort x y e = number_ranged spot sort (remainder x y) e
   applied_ranged And spot sort x y e = truth_ranged (int_lt (pos 0) x && int_lt (pos 0) y)
@@ -100,57 +102,57 @@ module _ (g : Gathers) (types : Types) where
   applied_ranged (Relation r) spot sort x y e = truth_ranged (compared r x y)
 
   operated_ranged : (op : BinaryOp) (spot : Pos) (sort : Option TypeNo) (at : Pos) (a : Ordinal) (at' : Pos) (b : Ordinal) → V_ (operated g op spot sort at a at' b)
-  operated_ranged op spot sort at a at' b = where_not g (ValueRanged types) (takes op sort) spot 40 (λ e. then_holds (any_holds _) (λ x k. applied_ranged op spot sort a.number b.number e))
+  operated_ranged op spot sort at a at' b = where_not g (ValueRanged types) (takes op sort) spot rule.WrongType (λ e. then_holds (any_holds _) (λ x k. applied_ranged op spot sort a.number b.number e))
 
   scalars_ranged : (op : BinaryOp) (spot at : Pos) (a : Ordinal) (at' : Pos) (b : Ordinal) (o : Option (Option TypeNo)) → V_ (on_scalars g op spot at a at' b o)
-  scalars_ranged op spot at a at' b None = reported_holds g spot 40
+  scalars_ranged op spot at a at' b None = reported_holds g spot rule.WrongType
   scalars_ranged op spot at a at' b (Some sort) = operated_ranged op spot sort at a at' b
 
   member_ranged : (op : BinaryOp) (spot at : Pos) (a : Ordinal) (bits : ℕ) → V_ (member g op spot at a bits)
-  member_ranged Plus spot at a bits = reported_holds g spot 40
-  member_ranged Minus spot at a bits = reported_holds g spot 40
-  member_ranged Times spot at a bits = reported_holds g spot 40
-  member_ranged Over spot at a bits = reported_holds g spot 40
-  member_ranged Div spot at a bits = reported_holds g spot 40
-  member_ranged Mod spot at a bits = reported_holds g spot 40
-  member_ranged And spot at a bits = reported_holds g spot 40
-  member_ranged Or spot at a bits = reported_holds g spot 40
-  member_ranged (Relation rel.Equal) spot at a bits = reported_holds g spot 40
-  member_ranged (Relation rel.Unequal) spot at a bits = reported_holds g spot 40
-  member_ranged (Relation rel.Less) spot at a bits = reported_holds g spot 40
-  member_ranged (Relation rel.AtMost) spot at a bits = reported_holds g spot 40
-  member_ranged (Relation rel.Greater) spot at a bits = reported_holds g spot 40
-  member_ranged (Relation rel.AtLeast) spot at a bits = reported_holds g spot 40
-  member_ranged (Relation rel.In) spot at a bits = where_holds g _ spot 40 (where_holds g _ at 52 (truth_ranged _))
+  member_ranged Plus spot at a bits = reported_holds g spot rule.WrongType
+  member_ranged Minus spot at a bits = reported_holds g spot rule.WrongType
+  member_ranged Times spot at a bits = reported_holds g spot rule.WrongType
+  member_ranged Over spot at a bits = reported_holds g spot rule.WrongType
+  member_ranged Div spot at a bits = reported_holds g spot rule.WrongType
+  member_ranged Mod spot at a bits = reported_holds g spot rule.WrongType
+  member_ranged And spot at a bits = reported_holds g spot rule.WrongType
+  member_ranged Or spot at a bits = reported_holds g spot rule.WrongType
+  member_ranged (Relation rel.Equal) spot at a bits = reported_holds g spot rule.WrongType
+  member_ranged (Relation rel.Unequal) spot at a bits = reported_holds g spot rule.WrongType
+  member_ranged (Relation rel.Less) spot at a bits = reported_holds g spot rule.WrongType
+  member_ranged (Relation rel.AtMost) spot at a bits = reported_holds g spot rule.WrongType
+  member_ranged (Relation rel.Greater) spot at a bits = reported_holds g spot rule.WrongType
+  member_ranged (Relation rel.AtLeast) spot at a bits = reported_holds g spot rule.WrongType
+  member_ranged (Relation rel.In) spot at a bits = where_holds g _ spot rule.WrongType (where_holds g _ at rule.OutOfRange (truth_ranged _))
 
   related_ranged : (spot : Pos) (r : RelOp) (a b : ℕ) → V_ (set_related g spot r a b)
   related_ranged spot rel.Equal a b = truth_ranged _
   related_ranged spot rel.Unequal a b = truth_ranged _
-  related_ranged spot rel.Less a b = reported_holds g spot 40
+  related_ranged spot rel.Less a b = reported_holds g spot rule.WrongType
   related_ranged spot rel.AtMost a b = truth_ranged _
-  related_ranged spot rel.Greater a b = reported_holds g spot 40
+  related_ranged spot rel.Greater a b = reported_holds g spot rule.WrongType
   related_ranged spot rel.AtLeast a b = truth_ranged _
-  related_ranged spot rel.In a b = reported_holds g spot 40
+  related_ranged spot rel.In a b = reported_holds g spot rule.WrongType
 
   sets_ranged : (op : BinaryOp) (spot : Pos) (a b : ℕ) → V_ (on_sets g op spot a b)
   sets_ranged Plus spot a b = fine _ tt
   sets_ranged Minus spot a b = fine _ tt
   sets_ranged Times spot a b = fine _ tt
   sets_ranged Over spot a b = fine _ tt
-  sets_ranged Div spot a b = reported_holds g spot 40
-  sets_ranged Mod spot a b = reported_holds g spot 40
-  sets_ranged And spot a b = reported_holds g spot 40
-  sets_ranged Or spot a b = reported_holds g spot 40
+  sets_ranged Div spot a b = reported_holds g spot rule.WrongType
+  sets_ranged Mod spot a b = reported_holds g spot rule.WrongType
+  sets_ranged And spot a b = reported_holds g spot rule.WrongType
+  sets_ranged Or spot a b = reported_holds g spot rule.WrongType
   sets_ranged (Relation r) spot a b = related_ranged spot r a b
 
   binary_ranged : (op : BinaryOp) (spot at : Pos) (x : Option Operand) (at' : Pos) (y : Option Operand) → V_ (binary g op spot at x at' y)
   binary_ranged op spot at (Some (operands.Scalar a)) at' (Some (operands.Scalar b)) = scalars_ranged op spot at a at' b (common a.sort b.sort)
   binary_ranged op spot at (Some (operands.Scalar a)) at' (Some (operands.Set b)) = member_ranged op spot at a b
-  binary_ranged op spot at (Some (operands.Scalar a)) at' None = reported_holds g spot 40
-  binary_ranged op spot at (Some (operands.Set a)) at' (Some (operands.Scalar b)) = reported_holds g spot 40
+  binary_ranged op spot at (Some (operands.Scalar a)) at' None = reported_holds g spot rule.WrongType
+  binary_ranged op spot at (Some (operands.Set a)) at' (Some (operands.Scalar b)) = reported_holds g spot rule.WrongType
   binary_ranged op spot at (Some (operands.Set a)) at' (Some (operands.Set b)) = sets_ranged op spot a b
-  binary_ranged op spot at (Some (operands.Set a)) at' None = reported_holds g spot 40
-  binary_ranged op spot at None at' y = reported_holds g spot 40
+  binary_ranged op spot at (Some (operands.Set a)) at' None = reported_holds g spot rule.WrongType
+  binary_ranged op spot at None at' y = reported_holds g spot rule.WrongType
 
   pub combined_ranged : (op : BinaryOp) (spot at : Pos) (x : Result Value g.Reported) (at' : Pos) (y : Result Value g.Reported) → V_ (combined g op spot at x at' y)
   combined_ranged op spot at x at' y = then_holds (any_holds (both g x y)) (λ v k. binary_ranged op spot at (operand_of v.0) at' (operand_of v.1))
@@ -160,21 +162,21 @@ module _ (g : Gathers) (types : Types) where
   signed_number (Some t) e = integer_numeric (is_integer t) (are_same t cardinal) e
 
   signed_scalar_ranged : (o : Sign) (spot : Pos) (a : Ordinal) → SortRanged types a.sort a.number → V_ (signed_scalar g o spot a)
-  signed_scalar_ranged sign.Plus spot a p = where_holds g _ spot 40 (fine (valued a.sort a.number) (sort_valued a.sort a.number p))
-  signed_scalar_ranged sign.Minus spot a p = where_not g (ValueRanged types) (is_signed a.sort) spot 40 (λ e. number_ranged spot a.sort (evaluated Minus (pos 0) a.number) (signed_number a.sort e))
+  signed_scalar_ranged sign.Plus spot a p = where_holds g _ spot rule.WrongType (fine (valued a.sort a.number) (sort_valued a.sort a.number p))
+  signed_scalar_ranged sign.Minus spot a p = where_not g (ValueRanged types) (is_signed a.sort) spot rule.WrongType (λ e. number_ranged spot a.sort (evaluated Minus (pos 0) a.number) (signed_number a.sort e))
 
   signed_value_ranged : (o : Sign) (spot : Pos) (x : Option Operand) → OperandRanged types x → V_ (signed_value g o spot x)
-  signed_value_ranged o spot None p = reported_holds g spot 40
-  signed_value_ranged o spot (Some (operands.Set bits)) p = reported_holds g spot 40
+  signed_value_ranged o spot None p = reported_holds g spot rule.WrongType
+  signed_value_ranged o spot (Some (operands.Set bits)) p = reported_holds g spot rule.WrongType
   signed_value_ranged o spot (Some (operands.Scalar a)) p = signed_scalar_ranged o spot a p
 
   pub signed_ranged : (o : Sign) (spot : Pos) {x : Result Value g.Reported} → V_ x → V_ (signed g o spot x)
   signed_ranged o spot p = then_holds p (λ v k. signed_value_ranged o spot (operand_of v) (operand_ranged types v k))
 
   negated_value_ranged : (spot : Pos) (x : Option Operand) → V_ (negated_value g spot x)
-  negated_value_ranged spot None = reported_holds g spot 40
-  negated_value_ranged spot (Some (operands.Set bits)) = reported_holds g spot 40
-  negated_value_ranged spot (Some (operands.Scalar a)) = where_holds g _ spot 40 (truth_ranged _)
+  negated_value_ranged spot None = reported_holds g spot rule.WrongType
+  negated_value_ranged spot (Some (operands.Set bits)) = reported_holds g spot rule.WrongType
+  negated_value_ranged spot (Some (operands.Scalar a)) = where_holds g _ spot rule.WrongType (truth_ranged _)
 
   pub negated_ranged : (spot : Pos) (x : Result Value g.Reported) → V_ (negated g spot x)
   negated_ranged spot x = then_holds (any_holds x) (λ v k. negated_value_ranged spot (operand_of v))
@@ -193,22 +195,22 @@ module _ (g : Gathers) (types : Types) where
   absolute_by : (at : Pos) (a : Ordinal) (b : Bool) → is_number a.sort ≡ b → V_ (absolute_part g at (cond b (Some a) None))
   absolute_by at a true e =
       either g (ValueRanged types) (int_lt a.number (pos 0)) {x = evaluated_at g at a.sort Minus (pos 0) a.number} {y = number_at g at a.sort a.number} (number_ranged at a.sort (evaluated Minus (pos 0) a.number) e) (number_ranged at a.sort a.number e)
-  absolute_by at a false e = reported_holds g at 43
+  absolute_by at a false e = reported_holds g at rule.WrongArgument
 
   absolute_if : (at : Pos) (o : Option Ordinal) → V_ (absolute_part g at (if_number o))
-  absolute_if at None = reported_holds g at 43
+  absolute_if at None = reported_holds g at rule.WrongArgument
   absolute_if at (Some a) = absolute_by at a (is_number a.sort) refl
 
   character_of : (at : Pos) (o : Option Ordinal) → V_ (character_part g at o)
-  character_of at None = reported_holds g at 43
-  character_of at (Some a) = where_not g (ValueRanged types) (is_between (pos 0) a.number (pos 255)) at 52 (λ e. let k = between_in (pos 0) a.number (pos 255) e in fine (valued (Some char) a.number) (char_ranged a.number k.0 k.1))
+  character_of at None = reported_holds g at rule.WrongArgument
+  character_of at (Some a) = where_not g (ValueRanged types) (is_between (pos 0) a.number (pos 255)) at rule.OutOfRange (λ e. let k = between_in (pos 0) a.number (pos 255) e in fine (valued (Some char) a.number) (char_ranged a.number k.0 k.1))
 
   odd_of : (at : Pos) (o : Option Ordinal) → V_ (odd_part g at o)
-  odd_of at None = reported_holds g at 43
+  odd_of at None = reported_holds g at rule.WrongArgument
   odd_of at (Some a) = truth_ranged _
 
   ordinal_of_ranged : (at : Pos) (o : Option Ordinal) → V_ (ordinal_part g at o)
-  ordinal_of_ranged at None = reported_holds g at 43
+  ordinal_of_ranged at None = reported_holds g at rule.WrongArgument
   ordinal_of_ranged at (Some a) = number_ranged at (Some cardinal) a.number refl
 
   char_bounds : (t : TypeNo) (n : ℤ) → t ≡ char → IsNumber types t t n → (pos 0 ≤ℤ n) × (n ≤ℤ pos 255)
@@ -224,25 +226,25 @@ module _ (g : Gathers) (types : Types) where
   capital_number (Some t) n e p = char_bounds t n (same_types t char e) p
 
   capital_of : (at : Pos) (o : Option Ordinal) → PartRanged o → V_ (capital_part g at o)
-  capital_of at None p = reported_holds g at 43
-  capital_of at (Some a) p = where_not g (ValueRanged types) (is_char a.sort) at 43 (λ e. fine (valued (Some char) (upper a.number)) (upper_ranged a.number (capital_number a.sort a.number e p)))
+  capital_of at None p = reported_holds g at rule.WrongArgument
+  capital_of at (Some a) p = where_not g (ValueRanged types) (is_char a.sort) at rule.WrongArgument (λ e. fine (valued (Some char) (upper a.number)) (upper_ranged a.number (capital_number a.sort a.number e p)))
 
   unary_value : (f : Standard) (at : Pos) (v : Value) → ValueRanged types v → V_ (unary_of g f at v)
   unary_value Abs at v p = absolute_if at (scalar_part (operand_of v))
   unary_value Cap at v p = capital_of at (scalar_part (operand_of v)) (part_ranged (operand_of v) (operand_ranged types v p))
   unary_value Chr at v p = character_of at (whole_number v)
-  unary_value High at v p = reported_holds g at 34
-  unary_value Max at v p = reported_holds g at 34
-  unary_value Min at v p = reported_holds g at 34
+  unary_value High at v p = reported_holds g at rule.NoConstant
+  unary_value Max at v p = reported_holds g at rule.NoConstant
+  unary_value Min at v p = reported_holds g at rule.NoConstant
   unary_value Odd at v p = odd_of at (whole_number v)
   unary_value Ord at v p = ordinal_of_ranged at (scalar_part (operand_of v))
-  unary_value Val at v p = reported_holds g at 34
-  unary_value Inc at v p = reported_holds g at 34
-  unary_value Dec at v p = reported_holds g at 34
-  unary_value Incl at v p = reported_holds g at 34
-  unary_value Excl at v p = reported_holds g at 34
-  unary_value Halt at v p = reported_holds g at 34
-  unary_value Put at v p = reported_holds g at 34
+  unary_value Val at v p = reported_holds g at rule.NoConstant
+  unary_value Inc at v p = reported_holds g at rule.NoConstant
+  unary_value Dec at v p = reported_holds g at rule.NoConstant
+  unary_value Incl at v p = reported_holds g at rule.NoConstant
+  unary_value Excl at v p = reported_holds g at rule.NoConstant
+  unary_value Halt at v p = reported_holds g at rule.NoConstant
+  unary_value Put at v p = reported_holds g at rule.NoConstant
 
   pub unary_ranged : (f : Standard) {x : Result (Pos × Value) g.Reported} → Holds (λ (p : Pos × Value). ValueRanged types p.1) x → V_ (unary g f x)
   unary_ranged f p = then_holds p (λ x k. unary_value f x.0 x.1 k)
@@ -286,9 +288,9 @@ module _ (g : Gathers) (s : Scope g.Reported) (h : ScopeRanged s) where
   bound_ranged f p = then_holds p (λ x k. fine (bound_by f x.0 x.1) (bound_by_ranged f x.0 x.1 k))
 
   converted_of : (t : TypeNo) (r : Range) (at : Pos) (o : Option Ordinal) → scalar_at s.types t ≡ Some r → Holds (ValueRanged s.types) (converted_part g t r at o)
-  converted_of t r at None e = reported_holds g at 43
+  converted_of t r at None e = reported_holds g at rule.WrongArgument
   converted_of t r at (Some a) e =
-      where_not g (ValueRanged s.types) (is_between r.low a.number r.high) at 52 (λ f. let k = between_in r.low a.number r.high f in fine (bound_of t r a.number) (bound_value t r a.number e k.0 k.1))
+      where_not g (ValueRanged s.types) (is_between r.low a.number r.high) at rule.OutOfRange (λ f. let k = between_in r.low a.number r.high f in fine (bound_of t r a.number) (bound_value t r a.number e k.0 k.1))
 
   pub converted_ranged : {to : Result (TypeNo × Range) g.Reported} (at : Pos) (v : Result Value g.Reported) → Holds TypeIs to → Holds (ValueRanged s.types) (converted_by g to at v)
   converted_ranged at v p = then_holds (both_holds g p (any_holds v)) (λ x k. converted_of x.0.0 x.0.1 at (whole_number x.1) k.0)

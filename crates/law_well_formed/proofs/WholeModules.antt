@@ -3,6 +3,7 @@ use Rattle.std.proofs.Common.{◌≡◌, ℕ, zero, suc, ◌<◌, ◌==◌, Bool
 use Rattle.std.specs.Prelude.{map, slice_get, All}
 use Rattle.std.specs.List.{fold, AllByRecursion}
 use Rattle.std.proofs.lemmas.Option.{same_Some}
+use Rattle.m2_rule.specs.declared.rule.Rule.TheVariants as rule
 use Rattle.m2_tree.specs.declared.name.Ident.{Ident}
 use Rattle.m2_tree.specs.declared.stmt.Stmt.{Stmt}
 use Rattle.m2_tree.specs.declared.decl.Decl.{Decl}
@@ -303,13 +304,13 @@ module _ (g : Gathers) where
 
   module _ (elaborates : Elaborates g.Reported) (forms : FormsStatements g elaborates) (number : ℕ) (m : Module) (tables : List Table) where
     implementation_formed : (own : Option Table) (b : Block) → AreForOwn own tables → Holds IsWellFormed (of_implementation g elaborates m own (tables ++ console ∷ []) b)
-    implementation_formed None b k = reported_holds g m.name.pos 24
+    implementation_formed None b k = reported_holds g m.name.pos rule.LonelyModule
     implementation_formed (Some t) b k =
         of_body_formed elaborates forms (implementation_scope t (tables ++ console ∷ [])) (Some t) m b tables t.exported
         (record { tables_are = refl; outer = refl; level = refl; withs = refl; own = refl; procedures = refl; exports = k.0.exports; numbers = k.0.numbers; others = k.1 })
 
     contents_formed : (own : Option Table) (c : Contents) → AreFor number own tables c → Holds IsWellFormed (of_contents g elaborates number m own (tables ++ console ∷ []) c)
-    contents_formed own (contents.Definition defs) k = reported_holds g m.name.pos 24
+    contents_formed own (contents.Definition defs) k = reported_holds g m.name.pos rule.LonelyModule
     contents_formed own (contents.Implementation b) k = implementation_formed own b k
     contents_formed own (contents.Program b) k =
         of_body_formed elaborates forms (first_scope number (tables ++ console ∷ [])) None m b tables []

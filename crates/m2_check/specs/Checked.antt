@@ -1,5 +1,6 @@
 -- Program and implementation modules, checked.
 use Rattle.std.specs.Prelude.{ℕ, List, [], ◌∷◌, ◌++◌, Option, Some, None, Result, Ok}
+use Rattle.m2_rule.specs.declared.rule.Rule.TheVariants as rule
 use Rattle.m2_tree.specs.declared.decl.Decl.{Decl}
 use Rattle.m2_tree.specs.declared.decl.Block.{Block, out-Block}
 use Rattle.m2_tree.specs.declared.decl.Contents.{Contents}
@@ -43,11 +44,11 @@ module _ (g : Gathers) (elaborates : Elaborates g.Reported) where
 
   -- an implementation stands on the table of its definition
   abbrev pub of_implementation : Module → Option Table → List Table → Block → Result TypedModule g.Reported
-  of_implementation m None tables b = reported g m.name.pos 24
+  of_implementation m None tables b = reported g m.name.pos rule.LonelyModule
   of_implementation m (Some own) tables b = of_body (implementation_scope own tables) (Some own) m b
 
   abbrev pub of_contents : ℕ → Module → Option Table → List Table → Contents → Result TypedModule g.Reported
-  of_contents number m own tables (contents.Definition defs) = reported g m.name.pos 24
+  of_contents number m own tables (contents.Definition defs) = reported g m.name.pos rule.LonelyModule
   of_contents number m own tables (contents.Implementation b) = of_implementation m own tables b
   of_contents number m own tables (contents.Program b) = of_body (first_scope number tables) None m b
 

@@ -12,6 +12,7 @@ use crate::statements::{Statements, check_statements};
 use crate::{implementation_scope, no_bodies, typed_module};
 use check_block::{declare_module, procedure_ends};
 use check_scope::{Elaborated, Fault, Scope, both, reported};
+use m2_rule::Rule;
 use m2_tree::{Block, Contents, Decl, Items, Module};
 use m2_types::{first_scope, modules_of, with_console};
 use std::alloc::{AllocError, Global};
@@ -156,7 +157,7 @@ fn check_implementation<S: Statements>(
         (option_copied own.entry) tables block.now) }
 {
     match own {
-        None => Ok(reported(tree.name.pos, 24)),
+        None => Ok(reported(tree.name.pos, Rule::LonelyModule)),
         Some(table) => {
             let scope = implementation_scope(alloc, table, tables)?;
             check_body(alloc, statements, scope, own, tree, block)
@@ -182,7 +183,7 @@ pub fn check_with<S: Statements>(
 {
     let tables = with_console(alloc, imports)?;
     match &tree.contents {
-        Contents::Definition(_) => Ok(reported(tree.name.pos, 24)),
+        Contents::Definition(_) => Ok(reported(tree.name.pos, Rule::LonelyModule)),
         Contents::Implementation(block) => {
             check_implementation(alloc, statements, tree, own, tables, block)
         }

@@ -15,6 +15,7 @@ use Rattle.m2_graph.specs.Graph.{IsGraphOf, IsGraph, IsRefusalOf, IsRefusal}
 use Rattle.m2_tree.specs.declared.refusal.Refusal.{Refusal}
 use Rattle.std.specs.Prelude.{Result, Ok, Err, IfOk, IfErr}
 use Rattle.std.proofs.lemmas.List.{length-map}
+use Rattle.m2_rule.specs.declared.rule.Rule.TheVariants as rule
 use Rattle.m2_graph.proofs.Importing.{first_within}
 use Rattle.m2_graph.specs.Refused.{fault_where, first_place, lesser, least_of, is_less, import_faults, is_repeated, is_second_program, is_without_program, is_lone, max_files, faults_of}
 use Rattle.m2_graph.specs.Reported.{Reported, reported, reported_at, cycle_faults, refused_from, refused_of, IsReported}
@@ -37,15 +38,15 @@ nothing_reported name (Some f) rest e = cc
 without_program : (ms : List Module) (given : ℕ) (m : Module) (cycle : List Fault) → first_that is_program ms ≡ None → least_of (faults_of ms [] given m ++ cycle) ≡ None → ⊥
 without_program ms given m cycle none e =
     let a = import_faults ms m (imported m) in
-    let b = fault_where (is_repeated [] m) m.name.pos 21 in
-    let c = fault_where (is_second_program [] m) m.name.pos 23 in
-    let d = fault_where (is_lone ms m) m.name.pos 24 in
-    let f = fault_where (given == max_files) first_place 25 in
-    let w : fault_where (is_without_program ms []) first_place 23 ≡ record { pos = first_place; number = 23 } ∷ [] = ap (λ o. fault_where (not (is_some o)) first_place 23) none in
-    let is : faults_of ms [] given m ++ cycle ≡ (a ++ b ++ c) ++ record { pos = first_place; number = 23 } ∷ (d ++ f ++ cycle) = ap (λ (x : List Fault). (a ++ b ++ c ++ x ++ d ++ f) ++ cycle) w ∙ regroup a b c d f cycle in
-    never_none (a ++ b ++ c) (record { pos = first_place; number = 23 }) (d ++ f ++ cycle) (ap least_of (sym is) ∙ e)
+    let b = fault_where (is_repeated [] m) m.name.pos rule.SecondFile in
+    let c = fault_where (is_second_program [] m) m.name.pos rule.ProgramCount in
+    let d = fault_where (is_lone ms m) m.name.pos rule.LonelyModule in
+    let f = fault_where (given == max_files) first_place rule.FileCount in
+    let w : fault_where (is_without_program ms []) first_place rule.ProgramCount ≡ fault first_place rule.ProgramCount ∷ [] = ap (λ o. fault_where (not (is_some o)) first_place rule.ProgramCount) none in
+    let is : faults_of ms [] given m ++ cycle ≡ (a ++ b ++ c) ++ fault first_place rule.ProgramCount ∷ (d ++ f ++ cycle) = ap (λ (x : List Fault). (a ++ b ++ c ++ x ++ d ++ f) ++ cycle) w ∙ regroup a b c d f cycle in
+    never_none (a ++ b ++ c) (fault first_place rule.ProgramCount) (d ++ f ++ cycle) (ap least_of (sym is) ∙ e)
   where
-    regroup : (a b c d f cycle : List Fault) → (a ++ b ++ c ++ (record { pos = first_place; number = 23 } ∷ []) ++ d ++ f) ++ cycle ≡ (a ++ b ++ c) ++ record { pos = first_place; number = 23 } ∷ (d ++ f ++ cycle)
+    regroup : (a b c d f cycle : List Fault) → (a ++ b ++ c ++ (fault first_place rule.ProgramCount ∷ []) ++ d ++ f) ++ cycle ≡ (a ++ b ++ c) ++ fault first_place rule.ProgramCount ∷ (d ++ f ++ cycle)
     regroup a b c d f cycle = simp append_assoc
 
 refused_without : (fs : List File) (cycle : Option (ℕ × Pos)) → first_that is_program (trees fs) ≡ None → refused_of fs cycle ≡ [] → ⊥

@@ -4,30 +4,31 @@ use Rattle.std.specs.List.{flat_map, filter}
 use Rattle.std.proofs.lemmas.List.{take_more, flat_map_more, map-append}
 use Rattle.std.proofs.lemmas.List.Elements.{filter-append}
 use Rattle.std.proofs.lemmas.List.Sums.{fold-append}
+use Rattle.m2_rule.specs.declared.rule.Rule.TheVariants as rule
 use Rattle.m2_tree.specs.declared.decl.Module.{Module}
 use Rattle.m2_tree.specs.declared.name.Ident.{Ident}
 use Rattle.m2_graph.specs.declared.faults.Fault.{Fault}
 use Rattle.m2_graph.specs.Refused.{fault, fault_where, lesser, least_of, is_bad_import, import_faults}
 
 import_faults-append : (ms : List Module) (m : Module) (xs ys : List Ident) → import_faults ms m (xs ++ ys) ≡ import_faults ms m xs ++ import_faults ms m ys
-import_faults-append ms m xs ys = ap (map (λ (x : Ident). fault x.pos 20)) (filter-append (λ (x : Ident). is_bad_import ms m x.name) xs ys) ∙ map-append (λ (x : Ident). fault x.pos 20) (filter (λ (x : Ident). is_bad_import ms m x.name) xs) (filter (λ (x : Ident). is_bad_import ms m x.name) ys)
+import_faults-append ms m xs ys = ap (map (λ (x : Ident). fault x.pos rule.MissingModule)) (filter-append (λ (x : Ident). is_bad_import ms m x.name) xs ys) ∙ map-append (λ (x : Ident). fault x.pos rule.MissingModule) (filter (λ (x : Ident). is_bad_import ms m x.name) xs) (filter (λ (x : Ident). is_bad_import ms m x.name) ys)
 
-mapped_where : (b : Bool) (x : Ident) → map (λ (y : Ident). fault y.pos 20) (cond b (x ∷ []) []) ≡ fault_where b x.pos 20
+mapped_where : (b : Bool) (x : Ident) → map (λ (y : Ident). fault y.pos rule.MissingModule) (cond b (x ∷ []) []) ≡ fault_where b x.pos rule.MissingModule
 mapped_where true x = refl
 mapped_where false x = refl
 
-one_import : (ms : List Module) (m : Module) (x : Ident) → import_faults ms m (x ∷ []) ≡ fault_where (is_bad_import ms m x.name) x.pos 20
+one_import : (ms : List Module) (m : Module) (x : Ident) → import_faults ms m (x ∷ []) ≡ fault_where (is_bad_import ms m x.name) x.pos rule.MissingModule
 one_import ms m x = mapped_where (is_bad_import ms m x.name) x
 
-pub names_more : (ms : List Module) (m : Module) (xs : List Ident) (i : ℕ) (x : Ident) (b : Bool) (first found found' : Option Fault) → i < length xs → x ≡ get_or xs i x → b ≡ is_bad_import ms m x.name → found ≡ fold lesser first (import_faults ms m (take i xs)) → found' ≡ fold lesser found (fault_where b x.pos 20) → found' ≡ fold lesser first (import_faults ms m (take (i + 1) xs))
+pub names_more : (ms : List Module) (m : Module) (xs : List Ident) (i : ℕ) (x : Ident) (b : Bool) (first found found' : Option Fault) → i < length xs → x ≡ get_or xs i x → b ≡ is_bad_import ms m x.name → found ≡ fold lesser first (import_faults ms m (take i xs)) → found' ≡ fold lesser found (fault_where b x.pos rule.MissingModule) → found' ≡ fold lesser first (import_faults ms m (take (i + 1) xs))
 names_more ms m xs i x b first found found' l e eb is is' =
-    is' ∙ ap (λ c. fold lesser found (fault_where c x.pos 20)) eb ∙ ap (λ f. fold lesser f (fault_where (is_bad_import ms m x.name) x.pos 20)) is
-    ∙ sym (fold-append lesser first (import_faults ms m (take i xs)) (fault_where (is_bad_import ms m x.name) x.pos 20))
+    is' ∙ ap (λ c. fold lesser found (fault_where c x.pos rule.MissingModule)) eb ∙ ap (λ f. fold lesser f (fault_where (is_bad_import ms m x.name) x.pos rule.MissingModule)) is
+    ∙ sym (fold-append lesser first (import_faults ms m (take i xs)) (fault_where (is_bad_import ms m x.name) x.pos rule.MissingModule))
     ∙ ap (fold lesser first) (ap (λ fs. import_faults ms m (take i xs) ++ fs) (sym (one_import ms m x)) ∙ sym (import_faults-append ms m (take i xs) (x ∷ []))
     ∙ ap (import_faults ms m) (ap (λ y. take i xs ++ y ∷ []) e ∙ sym (take_more xs i x l)))
 
-pub one_more : (ms : List Module) (m : Module) (x : Ident) (b : Bool) (first found : Option Fault) → b ≡ is_bad_import ms m x.name → found ≡ fold lesser first (fault_where b x.pos 20) → found ≡ fold lesser first (import_faults ms m (x ∷ []))
-one_more ms m x b first found eb is = is ∙ ap (λ c. fold lesser first (fault_where c x.pos 20)) eb ∙ ap (fold lesser first) (sym (one_import ms m x))
+pub one_more : (ms : List Module) (m : Module) (x : Ident) (b : Bool) (first found : Option Fault) → b ≡ is_bad_import ms m x.name → found ≡ fold lesser first (fault_where b x.pos rule.MissingModule) → found ≡ fold lesser first (import_faults ms m (x ∷ []))
+one_more ms m x b first found eb is = is ∙ ap (λ c. fold lesser first (fault_where c x.pos rule.MissingModule)) eb ∙ ap (fold lesser first) (sym (one_import ms m x))
 
 pub imports_more : {X : Type 0} (ms : List Module) (m : Module) (g : X → List Ident) (xs : List X) (i : ℕ) (x : X) (found found' : Option Fault) → i < length xs → x ≡ get_or xs i x → found ≡ fold lesser None (import_faults ms m (flat_map g (take i xs))) → found' ≡ fold lesser found (import_faults ms m (g x)) → found' ≡ fold lesser None (import_faults ms m (flat_map g (take (i + 1) xs)))
 imports_more ms m g xs i x found found' l e is is' =

@@ -4,6 +4,7 @@ use Rattle.std.specs.List.Sorted.{IsPermutation}
 use Rattle.std.proofs.lemmas.Bool.{cases_eq, cases_lt, false≢true, eqb-true, ne_eqb, lt-ltb, le-ltb}
 use Rattle.std.proofs.lemmas.List.{get_or-map, get_or_past, length-map, length_push}
 use Rattle.std.proofs.lemmas.List.Sorted.{IsPermutation-refl, IsPermutation-sym, IsPermutation-cons, IsPermutation-middle, IsPermutation-trans, IsPermutation-map}
+use Rattle.m2_rule.specs.declared.rule.Rule.TheVariants as rule
 use Rattle.m2_tree.specs.declared.decl.Module.{Module}
 use Rattle.m2_tree.specs.declared.pos.Pos.{Pos}
 use Rattle.graph_walk.specs.Links.{has, times, flag, targets, Leads}
@@ -33,7 +34,7 @@ rest_none (x ∷ xs) ys e = cc
 refused_somewhere : (ms : List Module) (t : ℕ × Pos) (before : List Module) (fs : List File) → refused_from ms (Some t) before fs ≡ [] → length before ≤ t.0 → t.0 < length before + length fs → ⊥
 refused_somewhere ms t before [] e low high = omega arith
 refused_somewhere ms t before (f ∷ fs) e low high = elim (cases_eq t.0 (length before)) [
-  | inl s ↦ never_none (faults_of ms before f.given f.tree) (fault t.1 22) [] (ap (λ b. least_of (faults_of ms before f.given f.tree ++ fault_where b t.1 22)) (sym (eq-eqb t.0 (length before) s)) ∙ nothing_reported f.name (least_of (faults_of ms before f.given f.tree ++ cycle_faults (Some t) (length before))) (refused_from ms (Some t) (before ++ f.tree ∷ []) fs) e)
+  | inl s ↦ never_none (faults_of ms before f.given f.tree) (fault t.1 rule.Cycle) [] (ap (λ b. least_of (faults_of ms before f.given f.tree ++ fault_where b t.1 rule.Cycle)) (sym (eq-eqb t.0 (length before) s)) ∙ nothing_reported f.name (least_of (faults_of ms before f.given f.tree ++ cycle_faults (Some t) (length before))) (refused_from ms (Some t) (before ++ f.tree ∷ []) fs) e)
   | inr ne ↦ (let more = length_push before f.tree in refused_somewhere ms t (before ++ f.tree ∷ []) fs (rest_none (reported_at f.name (least_of (faults_of ms before f.given f.tree ++ cycle_faults (Some t) (length before)))) (refused_from ms (Some t) (before ++ f.tree ∷ []) fs) e) (beyond ne more) (omega (arith, more)))
 ]
   where

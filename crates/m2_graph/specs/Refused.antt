@@ -3,15 +3,18 @@
 use Rattle.std.specs.Prelude.{ℕ, Bool, not, ◌&&◌, ◌||◌, ◌==◌, nat_lt, List, [], ◌∷◌, ◌++◌, Option, Some, None, map, cond, codes, fold, length}
 use Rattle.std.specs.List.{filter}
 use Rattle.std.specs.Option.{is_none, is_some}
+use Rattle.m2_rule.specs.declared.rule.Rule.TheVariants as rule
 use Rattle.m2_tree.specs.declared.pos.Pos.{Pos}
+use Rattle.m2_rule.specs.declared.rule.Rule.{Rule}
+use Rattle.m2_rule.specs.RuleNumber.{number_of}
 use Rattle.m2_tree.specs.declared.name.Ident.{Ident}
 use Rattle.m2_tree.specs.declared.decl.Module.{Module}
 use Rattle.m2_graph.specs.declared.faults.Fault.{Fault}
 use Rattle.m2_tree.specs.Names.{same_name, is_console}
 use Rattle.m2_graph.specs.Imports.{imported, is_definition, is_program, is_implementation, defines, implements, definition_of, first_that}
 
-abbrev pub fault : Pos → ℕ → Fault
-fault pos number = record { pos = pos; number = number }
+abbrev pub fault : Pos → Rule → Fault
+fault pos broken = record { pos = pos; number = number_of broken }
 
 -- the place of a text's first byte
 abbrev pub first_place : Pos
@@ -30,8 +33,8 @@ lesser (Some f) g = Some (cond (is_less g f) g f)
 abbrev pub least_of : List Fault → Option Fault
 least_of fs = fold lesser None fs
 
-abbrev pub fault_where : Bool → Pos → ℕ → List Fault
-fault_where holds pos number = cond holds (fault pos number ∷ []) []
+abbrev pub fault_where : Bool → Pos → Rule → List Fault
+fault_where holds pos broken = cond holds (fault pos broken ∷ []) []
 
 -- ---- what is refused in a module, beside cycles
 
@@ -47,7 +50,7 @@ abbrev pub is_bad_import : List Module → Module → List ℕ → Bool
 is_bad_import modules m name = (not (is_console name) && is_none (definition_of modules name)) || (not (is_definition m) && same_name name m.name.name)
 
 abbrev pub import_faults : List Module → Module → List Ident → List Fault
-import_faults modules m names = map (λ x. fault x.pos 20) (filter (λ x. is_bad_import modules m x.name) names)
+import_faults modules m names = map (λ x. fault x.pos rule.MissingModule) (filter (λ x. is_bad_import modules m x.name) names)
 
 -- two definitions, or two bodies, of one name
 abbrev pub are_one_part : Module → Module → Bool
@@ -79,8 +82,8 @@ max_files = 1024
 abbrev pub faults_of : List Module → List Module → ℕ → Module → List Fault
 faults_of modules before given m =
     import_faults modules m (imported m)
-    ++ fault_where (is_repeated before m) m.name.pos 21
-    ++ fault_where (is_second_program before m) m.name.pos 23
-    ++ fault_where (is_without_program modules before) first_place 23
-    ++ fault_where (is_lone modules m) m.name.pos 24
-    ++ fault_where (given == max_files) first_place 25
+    ++ fault_where (is_repeated before m) m.name.pos rule.SecondFile
+    ++ fault_where (is_second_program before m) m.name.pos rule.ProgramCount
+    ++ fault_where (is_without_program modules before) first_place rule.ProgramCount
+    ++ fault_where (is_lone modules m) m.name.pos rule.LonelyModule
+    ++ fault_where (given == max_files) first_place rule.FileCount

@@ -2,6 +2,7 @@
 use Rattle.std.specs.Prelude.{◌≡◌, ◌<◌, ℕ, ◌==◌, List, [], ◌∷◌, ◌++◌, Option, Some, None, length, slice_get, ◌⊎◌, ◌↔◌, Bool, IsTrue}
 use Rattle.std.specs.List.{All}
 use Rattle.std.specs.String.{string_bytes}
+use Rattle.m2_rule.specs.declared.rule.Rule.TheVariants as rule
 use Rattle.m2_tree.specs.declared.pos.Pos.{Pos}
 use Rattle.m2_tree.specs.declared.name.Ident.{Ident}
 use Rattle.m2_tree.specs.declared.decl.Module.{Module}
@@ -53,7 +54,7 @@ AreCycles modules (Some reported) = IsReportedCycle modules reported.0 reported.
 
 abbrev pub cycle_faults : Option (ℕ × Pos) → ℕ → List Fault
 cycle_faults None number = []
-cycle_faults (Some reported) number = fault_where (reported.0 == number) reported.1 22
+cycle_faults (Some reported) number = fault_where (reported.0 == number) reported.1 rule.Cycle
 
 -- ---- refusals
 
@@ -82,7 +83,7 @@ refused_from modules cycle before (f ∷ fs) =
 
 -- files in order, of which the first is the least; without any file there is no program module
 abbrev pub refused_of : List File → Option (ℕ × Pos) → List Reported
-refused_of [] cycle = reported_of [] (fault first_place 23) ∷ []
+refused_of [] cycle = reported_of [] (fault first_place rule.ProgramCount) ∷ []
 refused_of (f ∷ fs) cycle = refused_from (trees (f ∷ fs)) cycle [] (f ∷ fs)
 
 -- this is reported of files in order

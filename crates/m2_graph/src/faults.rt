@@ -9,12 +9,14 @@ ghost use Rattle.m2_graph.specs.Reported.{cycle_faults};
 
 use crate::imports::{is_definition, is_implementation, is_program};
 use crate::program::{Program, definition_of, first_file_of, implementation_of};
+use m2_rule::Rule;
 use m2_tree::{Ident, Import, Module, Name, Pos, is_console};
 
 /// The most files of a program.
 pub const MAX_FILES: usize = 1024;
 
-const FIRST_PLACE: Pos = Pos { line: 1, col: 1 };
+/// The place of a text's first byte.
+pub const FIRST_PLACE: Pos = Pos { line: 1, col: 1 };
 
 /// A rule that a file breaks, and where.
 #[derive(Clone, Copy, Debug, PartialEq, Eq)]
@@ -23,6 +25,16 @@ pub struct Fault {
     pub pos: Pos,
     /// The number of the rule.
     pub number: u32,
+}
+
+/// A rule that is broken at this place.
+pub fn fault(pos: Pos, broken: Rule) -> Fault
+    ensures { result ≡ fault pos broken }
+{
+    Fault {
+        pos,
+        number: broken.number(),
+    }
 }
 
 fn is_less(f: Fault, g: Fault) -> bool
@@ -43,11 +55,11 @@ fn lesser(least: Option<Fault>, other: Fault) -> Option<Fault>
 }
 
 /// The least, where this fault is added if `holds`.
-fn with_fault(least: Option<Fault>, holds: bool, pos: Pos, number: u32) -> Option<Fault>
-    ensures { result ≡ fold lesser least (fault_where holds pos number) }
+fn with_fault(least: Option<Fault>, holds: bool, pos: Pos, broken: Rule) -> Option<Fault>
+    ensures { result ≡ fold lesser least (fault_where holds pos broken) }
 {
     if holds {
-        lesser(least, Fault { pos, number })
+        lesser(least, fault(pos, broken))
     } else {
         least
     }
@@ -80,7 +92,7 @@ fn with_names(
     let mut found = least;
     for ident in names {
         let is_bad = is_bad_import(program, tree, &ident.name);
-        found = with_fault(found, is_bad, ident.pos, 20);
+        found = with_fault(found, is_bad, ident.pos, Rule::MissingModule);
     }
     found
 }
@@ -169,7 +181,7 @@ fn with_import(
     match &import.from {
         Some(from) => {
             let is_bad = is_bad_import(program, tree, &from.name);
-            with_fault(least, is_bad, from.pos, 20)
+            with_fault(least, is_bad, from.pos, Rule::MissingModule)
         }
         None => with_names(program, tree, import.names.as_slice(), least),
     }
@@ -192,11 +204,11 @@ fn file_fault(program: &Program<'_>, number: usize, given: usize, tree: &Module)
     let without = is_without_program(program, number);
     let lone = is_lone(program, tree);
     let imports = import_fault(program, tree);
-    let repeats = with_fault(imports, repeated, pos, 21);
-    let programs = with_fault(repeats, second, pos, 23);
-    let without_program = with_fault(programs, without, FIRST_PLACE, 23);
-    let lonely = with_fault(without_program, lone, pos, 24);
-    with_fault(lonely, given == MAX_FILES, FIRST_PLACE, 25)
+    let repeats = with_fault(imports, repeated, pos, Rule::SecondFile);
+    let programs = with_fault(repeats, second, pos, Rule::ProgramCount);
+    let without_program = with_fault(programs, without, FIRST_PLACE, Rule::ProgramCount);
+    let lonely = with_fault(without_program, lone, pos, Rule::LonelyModule);
+    with_fault(lonely, given == MAX_FILES, FIRST_PLACE, Rule::FileCount)
 }
 
 /// The least, where what is reported of cycles is added.
@@ -205,7 +217,7 @@ fn with_cycle(least: Option<Fault>, cycle: Option<(usize, Pos)>, number: usize) 
 {
     match cycle {
         None => least,
-        Some((node, pos)) => with_fault(least, node == number, pos, 22),
+        Some((node, pos)) => with_fault(least, node == number, pos, Rule::Cycle),
     }
 }
 

@@ -10,6 +10,7 @@ ghost use Rattle.m2_graph.specs.Reported.{cycle_faults, reported, reported_of, r
 use crate::faults::{Fault, fault_of};
 use crate::program::Program;
 use crate::sources::Source;
+use m2_rule::Rule;
 use m2_tree::{Pos, Refusal};
 use std::alloc::{AllocError, Global};
 
@@ -77,10 +78,7 @@ pub fn refused_of(
 {
     if sources.is_empty() {
         let mut refusals = Vec::new(alloc);
-        let fault = Fault {
-            pos: Pos { line: 1, col: 1 },
-            number: 23,
-        };
+        let fault = fault(FIRST_PLACE, Rule::ProgramCount);
         add_refusal(alloc, "", Some(fault), &mut refusals)?;
         return Ok(refusals);
     }

@@ -1,6 +1,7 @@
 -- The table of a definition.
 use Rattle.std.specs.Prelude.{ℕ, List, [], ◌∷◌, ◌++◌, Result, Ok}
 use Rattle.std.specs.List.{fold}
+use Rattle.m2_rule.specs.declared.rule.Rule.TheVariants as rule
 use Rattle.m2_tree.specs.declared.decl.Def.{Def}
 use Rattle.m2_tree.specs.declared.decl.Contents.{Contents}
 use Rattle.m2_tree.specs.declared.decl.Contents.TheVariants as contents
@@ -39,8 +40,8 @@ of_definition g number m tables defs =
 
 abbrev pub of_contents : (g : Gathers) → ℕ → Module → List Table → Contents → Result Table g.Reported
 of_contents g number m tables (contents.Definition defs) = of_definition g number m tables defs
-of_contents g number m tables (contents.Implementation b) = reported g m.name.pos 24
-of_contents g number m tables (contents.Program b) = reported g m.name.pos 24
+of_contents g number m tables (contents.Implementation b) = reported g m.name.pos rule.LonelyModule
+of_contents g number m tables (contents.Program b) = reported g m.name.pos rule.LonelyModule
 
 -- the table of a definition, given the tables of those that it imports; the table of Console is always there
 abbrev pub compiled : (g : Gathers) → ℕ → Module → List Table → Result Table g.Reported

@@ -2,6 +2,7 @@
 use Rattle.std.specs.Prelude.{ℕ, ◌+◌, not, cond, List, [], take, drop, Option, Some, None, Result, Ok, Err, slice_get}
 use Rattle.std.specs.List.{fold}
 use Rattle.std.specs.Option.{is_some}
+use Rattle.m2_rule.specs.declared.rule.Rule.TheVariants as rule
 use Rattle.m2_tree.specs.declared.pos.Pos.{Pos}
 use Rattle.m2_tree.specs.declared.name.Ident.{Ident}
 use Rattle.m2_tree.specs.declared.decl.Import.{Import}
@@ -28,7 +29,7 @@ abbrev pub numbered_modules : List Table → List (List ℕ × ℕ) × ℕ
 numbered_modules tables = fold with_numbered ([], 0) tables
 
 abbrev pub module_found : (g : Gathers) → Pos → Option ℕ → Result ℕ g.Reported
-module_found g at None = reported g at 20
+module_found g at None = reported g at rule.MissingModule
 module_found g at (Some k) = Ok k
 
 abbrev pub module_named : (g : Gathers) → List (List ℕ × ℕ) → Ident → Result ℕ g.Reported
@@ -70,9 +71,9 @@ abbrev pub reported_of_taken : (g : Gathers) → Pos → ℕ → Option (Known g
 reported_of_taken g at k None = None
 reported_of_taken g at k (Some Later) = None
 reported_of_taken g at k (Some Ahead) = None
-reported_of_taken g at k (Some Begun) = Some (reported g at 31)
-reported_of_taken g at k (Some (Headed m)) = Some (reported g at 31)
-reported_of_taken g at k (Some (Declared o m)) = Some (reported_where g (not (is_one_origin o (Export k))) at 31 (Ok tt))
+reported_of_taken g at k (Some Begun) = Some (reported g at rule.DeclaredTwice)
+reported_of_taken g at k (Some (Headed m)) = Some (reported g at rule.DeclaredTwice)
+reported_of_taken g at k (Some (Declared o m)) = Some (reported_where g (not (is_one_origin o (Export k))) at rule.DeclaredTwice (Ok tt))
 
 -- a name with those that come with it
 abbrev pub unless_taken : (g : Gathers) → Scope g.Reported → Pos → ℕ → List (List ℕ × Meaning) → ℕ → Option (Result (Unit {0}) g.Reported) → State (Unit {0}) g.Reported
@@ -80,7 +81,7 @@ unless_taken g s at k es i (Some j) = (s, j)
 unless_taken g s at k es i None = fold (with_entry g at k) (s, Ok tt) (take (brings_in (slice_get es i)) (drop i es))
 
 abbrev pub from_place : (g : Gathers) → Scope g.Reported → Ident → ℕ → List (List ℕ × Meaning) → Option ℕ → State (Unit {0}) g.Reported
-from_place g s name k es None = (s, reported g name.pos 32)
+from_place g s name k es None = (s, reported g name.pos rule.NotExported)
 from_place g s name k es (Some i) = unless_taken g s name.pos k es i (reported_of_taken g name.pos k (found name.name s.own))
 
 abbrev pub with_from : (g : Gathers) → ℕ → List (List ℕ × Meaning) → State (Unit {0}) g.Reported → Ident → State (Unit {0}) g.Reported

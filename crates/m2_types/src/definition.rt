@@ -11,6 +11,7 @@ use crate::importing::{import_all, modules_of};
 use crate::marking::mark_defs;
 use crate::predeclared::{console, first_scope};
 use check_scope::{Elaborated, Fault, Scope, reported};
+use m2_rule::Rule;
 use m2_tree::{Contents, Def, Items, Module};
 use std::alloc::{AllocError, Global};
 use typed_tree::{Dictionary, Shared, Table};
@@ -115,7 +116,7 @@ pub fn compile_definition(
     let tables = with_console(alloc, imports)?;
     match &tree.contents {
         Contents::Definition(defs) => of_definition(alloc, number, tree, tables, defs.as_slice()),
-        Contents::Implementation(_) => Ok(reported(tree.name.pos, 24)),
-        Contents::Program(_) => Ok(reported(tree.name.pos, 24)),
+        Contents::Implementation(_) => Ok(reported(tree.name.pos, Rule::LonelyModule)),
+        Contents::Program(_) => Ok(reported(tree.name.pos, Rule::LonelyModule)),
     }
 }

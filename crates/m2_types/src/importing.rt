@@ -8,8 +8,10 @@ ghost use Rattle.check_scope.specs.Scopes.{is_one_origin};
 ghost use Rattle.check_scope.specs.declared.known.Origin.TheVariants.{Export};
 ghost use Rattle.m2_types.specs.Steps.{if_some};
 ghost use Rattle.m2_types.specs.Importing.{with_place, numbered_modules, module_named, with_module_as, with_module_name, with_entry, brings_in, brings_of, reported_of_taken, from_place, with_from, exports_of, from_module, with_import};
+ghost use Rattle.m2_rule.specs.declared.rule.Rule.TheVariants as rule;
 
 use check_scope::{Elaborated, Fault, Known, Origin, Scope, beside, import, reported};
+use m2_rule::Rule;
 use m2_tree::{Ident, Import, Pos};
 use std::alloc::{AllocError, Global};
 use typed_tree::{Dictionary, Meaning, Shared, Table};
@@ -44,7 +46,7 @@ fn module_named(modules: &Dictionary<usize>, name: &Ident) -> Elaborated<usize>
     ensures { result ≡ module_named least modules.now name.now }
 {
     match modules.find(name.name.as_bytes()) {
-        None => reported(name.pos, 20),
+        None => reported(name.pos, Rule::MissingModule),
         Some(place) => Ok(*place),
     }
 }
@@ -194,23 +196,23 @@ fn reported_of_taken(known: Option<&Known<Fault>>, at: Pos, place: usize) -> Opt
         None => None,
         Some(known) => match known {
             Known::Later | Known::Ahead => None,
-            Known::Begun => Some(reported(at, 31)),
-            Known::Headed(_) => Some(reported(at, 31)),
+            Known::Begun => Some(reported(at, Rule::DeclaredTwice)),
+            Known::Headed(_) => Some(reported(at, Rule::DeclaredTwice)),
             Known::Declared(origin, _) => Some(reported_unless_from(*origin, at, place)),
         },
     }
 }
 
 fn reported_unless_from(origin: Origin, at: Pos, place: usize) -> Elaborated<()>
-    ensures { result ≡ reported_where least (not (is_one_origin origin (Export place))) at 31 (Ok tt) }
+    ensures { result ≡ reported_where least (not (is_one_origin origin (Export place))) at rule.DeclaredTwice (Ok tt) }
 {
     match origin {
-        Origin::Here | Origin::Module(_) => reported(at, 31),
+        Origin::Here | Origin::Module(_) => reported(at, Rule::DeclaredTwice),
         Origin::Export(first) => {
             if first == place {
                 return Ok(());
             }
-            reported(at, 31)
+            reported(at, Rule::DeclaredTwice)
         }
     }
 }
@@ -227,7 +229,7 @@ fn from_place(
     ensures { IfOk result (λ j. (scope.new, j) ≡ from_place least scope.old name.now place exported.now found) }
 {
     let Some(first) = found else {
-        return Ok(reported(name.pos, 32));
+        return Ok(reported(name.pos, Rule::NotExported));
     };
     let known = scope.own.find(name.name.as_bytes());
     match reported_of_taken(known, name.pos, place) {

@@ -2,6 +2,8 @@
 use Rattle.std.proofs.Common.{◌≡◌, inl, inr, ℕ, ◌*◌, ◌<◌, List, [], ◌∷◌, map, Result, Ok, refl, sym, ap, subst, ◌∙◌, arith}
 use Rattle.std.specs.Global.{Vec}
 use Rattle.std.proofs.lemmas.Option.{same_Some}
+use Rattle.m2_rule.specs.RuleNumber.{number_of}
+use Rattle.m2_rule.specs.declared.rule.Rule.TheVariants as rule
 use Rattle.check_scope.specs.declared.fault.Fault.{Fault}
 use Rattle.build_jobs.specs.Compiling.{tables_of, typed_body}
 use Rattle.m2_tree.specs.declared.refusal.Refusal.{Refusal}
@@ -114,7 +116,7 @@ module _ (files : List SourceFile) (pages : ℕ) where
   both_refused rs qs (inr (inr (inr a))) (inr (inr (inl b))) = absurd (b.some (unreported_same files b.trees a.trees b.numbers a.numbers b.all_jobs a.all_jobs b.starts a.starts b.graph a.graph ∙ a.none))
   both_refused rs qs (inr (inr (inr a))) (inr (inr (inr b))) =
       let same : b.trees ≡ a.trees = one_trees files b.trees a.trees b.graph.are_trees a.graph.are_trees in
-      one_order (reported_at (program_file a.trees) 1 1 61 ∷ []) rs.items qs.items a.reported (subst (λ (t : List (List ℕ × Module)). AreReported (reported_at (program_file t) 1 1 61 ∷ []) qs.items) same b.reported)
+      one_order (reported_at (program_file a.trees) 1 1 (number_of rule.LargeProgram) ∷ []) rs.items qs.items a.reported (subst (λ (t : List (List ℕ × Module)). AreReported (reported_at (program_file t) 1 1 (number_of rule.LargeProgram) ∷ []) qs.items) same b.reported)
 
   never_both : (rs : Vec Refusal) (link : List ℕ) (built : List (List ℕ × List ℕ)) → AreRefused rs → IsProgram files pages link built → ⊥
   never_both rs link built (inl a) p = trees_or_refused files p.trees a.reads p.graph.are_trees a.are_read a.some

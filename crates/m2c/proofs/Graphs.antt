@@ -12,6 +12,8 @@ use Rattle.law_graph.specs.Started.{AreStarted, at_places}
 use Rattle.law_graph.proofs.Started.{are_started}
 use Rattle.std.proofs.lemmas.List.{length-map}
 use Rattle.std.proofs.lemmas.List.Elements.{All-cons}
+use Rattle.m2_rule.specs.RuleNumber.{number_of}
+use Rattle.m2_rule.specs.declared.rule.Rule.TheVariants as rule
 use Rattle.wasm_tree.specs.declared.module.WModule.{WModule}
 use Rattle.wasm_tree.specs.Validity.{IsValid}
 use Rattle.m2_tree.specs.declared.refusal.Refusal.{Refusal}
@@ -181,7 +183,7 @@ module _ (files : List SourceFile) (fs : List (List ℕ × Module)) (numbers : L
             (all_valid fs numbers jobs starts have.is_graph starts p whole.typed);
       }
 
-  pub is_too_large : (pages : ℕ) → 65536 * pages < stack_begin (parts those) + 4096 → (refusals : List Refusal) → AreReported (reported_at (program_file fs) 1 1 61 ∷ []) refusals → IsTooLarge files pages refusals
+  pub is_too_large : (pages : ℕ) → 65536 * pages < stack_begin (parts those) + 4096 → (refusals : List Refusal) → AreReported (reported_at (program_file fs) 1 1 (number_of rule.LargeProgram) ∷ []) refusals → IsTooLarge files pages refusals
   is_too_large pages more refusals reported = record {
     trees = fs;
     numbers = numbers;

@@ -3,6 +3,8 @@ use Rattle.std.specs.Prelude.{◌≡◌, ◌≢◌, ◌⊎◌, ℕ, ◌+◌, ◌
 use Rattle.std.specs.String.{string_bytes}
 use Rattle.std.specs.Arc.{arc_value}
 use Rattle.std.specs.Global.{Global, Vec}
+use Rattle.m2_rule.specs.RuleNumber.{number_of}
+use Rattle.m2_rule.specs.declared.rule.Rule.TheVariants as rule
 use Rattle.m2_tree.specs.declared.refusal.Refusal.{Refusal}
 use Rattle.m2_tree.specs.declared.decl.Contents.{Contents}
 use Rattle.m2_tree.specs.declared.decl.Contents.TheVariants as contents
@@ -196,7 +198,7 @@ pub record IsTooLarge (files : List SourceFile) (pages : ℕ) (refusals : List R
   pub program : Modules
   pub typed : AreTyped (modules trees) numbers all_jobs starts program
   pub too_large : 65536 * pages < data_and_stack program
-  pub reported : AreReported (reported_at (program_file trees) 1 1 61 ∷ []) refusals
+  pub reported : AreReported (reported_at (program_file trees) 1 1 (number_of rule.LargeProgram) ∷ []) refusals
 
 -- No module breaks a rule. Those that are reached are compiled to valid modules, which link and do what the program does by
 -- the language's definition: they print the same bytes and end with the same number, and they go on where it goes on. Nothing

@@ -12,6 +12,8 @@ ghost use Rattle.build_jobs.specs.Borrowed.{borrowed, modules_borrowed};
 ghost use Rattle.build_jobs.specs.Encoded.{AreEncoded};
 ghost use Rattle.build_jobs.specs.Reading.{AreRead};
 ghost use Rattle.m2c.specs.Build.{is_program_part, program_file, refused_by, started, reported, reported_at, AreTrees, HaveGraph, IsBuilt};
+ghost use Rattle.m2_rule.specs.declared.rule.Rule.TheVariants as rule;
+ghost use Rattle.m2_rule.specs.RuleNumber.{number_of};
 
 use crate::files::Outcome;
 use crate::modules::{copies_of, data_size};
@@ -22,6 +24,7 @@ use crate::texts::trees_of;
 use build_jobs::{Compiled, Read, Runner, SourceFile};
 use m2_emit::{ModuleBytes, emit_link};
 use m2_graph::{Graph, GraphError};
+use m2_rule::Rule;
 use m2_tree::{Contents, Module, Pos, Refusal};
 use pool_board::Gate;
 use std::alloc::{AllocError, AllocFailed, Global};
@@ -64,11 +67,16 @@ fn program_file<'a>(trees: &[(&'a str, &'a Module)]) -> &'a str
 /// 61 at the begin of the file of the program module.
 fn too_large(alloc: Global, trees: &[(&str, &Module)]) -> Result<Vec<Refusal>, AllocError>
     ensures { IfOk result (λ rs.
-        map reported rs.items ≡ reported_at (program_file (borrowed trees.now)) 1 1 61 ∷ []) }
+        map reported rs.items ≡ reported_at (program_file (borrowed trees.now)) 1 1 (number_of rule.LargeProgram) ∷ []) }
 {
     let mut refusals = Vec::new(alloc);
     let file = program_file(trees);
-    refusals.push(refusal(alloc, file, Pos { line: 1, col: 1 }, 61)?)?;
+    refusals.push(refusal(
+        alloc,
+        file,
+        Pos { line: 1, col: 1 },
+        Rule::LargeProgram.number(),
+    )?)?;
     Ok(refusals)
 }
 
