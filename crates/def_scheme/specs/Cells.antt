@@ -15,6 +15,7 @@ use Rattle.typed_tree.specs.Known.{scalar_at}
 use Rattle.m2_layout.specs.Types.{Ty, Scalar, Natural, Integer, Between, Callable, Cell, Hidden, Array, Nothing, Field}
 use Rattle.m2_layout.specs.Sizes.{Room, One, Two, Four, room_of}
 use Rattle.m2_layout.specs.Shapes.{tree}
+use Rattle.def_meaning.specs.Answer.{overflow, range_fault}
 use Rattle.def_scheme.specs.Coded.{number, operation, checked}
 
 -- ---- cells
@@ -104,8 +105,8 @@ abbrev pub is_free : Types → TypeNo → (constant : Bool) → (of : TypeNo) �
 is_free types t constant of = constant || (are_same t of || (not (is_subrange types t) && are_same t (base_of types of)))
 
 abbrev pub check_taken : Types → TypeNo → (constant : Bool) → (of : TypeNo) → List Instr
-check_taken types t constant of = if is_free types t constant of then [] else in_type types t 1
+check_taken types t constant of = if is_free types t constant of then [] else in_type types t range_fault
 
 -- INC and DEC check their result in the base, and in a subrange
 abbrev pub check_changed : Types → TypeNo → List Instr
-check_changed types t = in_type types (base_of types t) 2 ++ (if is_subrange types t then in_type types t 1 else [])
+check_changed types t = in_type types (base_of types t) overflow ++ (if is_subrange types t then in_type types t range_fault else [])

@@ -48,6 +48,7 @@ use Rattle.m2_layout.specs.Sizes.{size, offset}
 use Rattle.m2_layout.specs.Shapes.{tree, elements_of}
 use Rattle.m2_layout.specs.Frames.{formals_of, module_row}
 use Rattle.m2_layout.specs.Texts.{passed}
+use Rattle.def_meaning.specs.Answer.{empty_procedure, index_fault, overflow, range_fault}
 use Rattle.def_scheme.specs.Coded.{Coded, Setting, plain, ◌⨾◌, nothing, all_coded, within, with_address, with_number, with_text, with_setting, top_local, number, raised, relation, operation, wrapped, extended, is_zero, put, copy, check, quotient, remainder, body_index, checked}
 use Rattle.def_scheme.specs.Cells.{loaded, load_scalar, word, in_range, in_type, base_of, check_taken, is_nought, unless_nought}
 
@@ -144,7 +145,7 @@ from_lower None = []
 from_lower (Some s) = unless_nought s.low (number s.low ∷ operation Sub ∷ [])
 
 abbrev pub element_code : Types → TypeNo → List Instr
-element_code types t = in_range (index_of types t) 3 ++ (from_lower (index_of types t) ++ scaled (size (element_tree (tree types t))))
+element_code types t = in_range (index_of types t) index_fault ++ (from_lower (index_of types t) ++ scaled (size (element_tree (tree types t))))
 
 abbrev pub open_element_code : Setting → Slot → TypeNo → List Instr
 open_element_code s slot t = I64Const 0 ∷ (high_code s slot ++ (I64Const 3 ∷ Call check ∷ scaled (size (tree s.home.types t))))
@@ -169,9 +170,9 @@ relation_of compare.Greater = GtS
 relation_of compare.AtLeast = GeS
 
 abbrev pub arithmetic_code : Types → Arithmetic → TypeNo → List Instr
-arithmetic_code types op.Add t = operation Add ∷ in_type types t 2
-arithmetic_code types op.Subtract t = operation Sub ∷ in_type types t 2
-arithmetic_code types op.Multiply t = operation Mul ∷ in_type types t 2
+arithmetic_code types op.Add t = operation Add ∷ in_type types t overflow
+arithmetic_code types op.Subtract t = operation Sub ∷ in_type types t overflow
+arithmetic_code types op.Multiply t = operation Mul ∷ in_type types t overflow
 arithmetic_code types op.Divide t = Call quotient ∷ []
 arithmetic_code types op.Remainder t = Call remainder ∷ []
 
@@ -203,11 +204,11 @@ abbrev pub or_code : Coded → Coded
 or_code y = plain (wrapped ∷ []) ⨾ within 1 (λ code. chosen_number (I64Const 1 ∷ []) code ∷ []) y
 
 abbrev pub in_code : Coded → Coded → Coded
-in_code x y = x ⨾ plain (checked (pos 0) (pos 31) 1) ⨾ with_number (λ t. plain (LocalSet t ∷ []) ⨾ y ⨾ plain (LocalGet t ∷ operation ShrU ∷ I64Const 1 ∷ operation And ∷ []))
+in_code x y = x ⨾ plain (checked (pos 0) (pos 31) range_fault) ⨾ with_number (λ t. plain (LocalSet t ∷ []) ⨾ y ⨾ plain (LocalGet t ∷ operation ShrU ∷ I64Const 1 ∷ operation And ∷ []))
 
 abbrev pub absolute_code : ℕ → List Instr
 absolute_code t =
-    LocalSet t ∷ LocalGet t ∷ I64Const 0 ∷ relation LtS ∷ chosen_number (I64Const 0 ∷ LocalGet t ∷ operation Sub ∷ []) (LocalGet t ∷ []) ∷ checked (pos 0) (pos 2147483647) 2
+    LocalSet t ∷ LocalGet t ∷ I64Const 0 ∷ relation LtS ∷ chosen_number (I64Const 0 ∷ LocalGet t ∷ operation Sub ∷ []) (LocalGet t ∷ []) ∷ checked (pos 0) (pos 2147483647) overflow
 
 abbrev pub abs_code : TypeNo → Coded → Coded
 abs_code t x = if are_same t integer then x ⨾ with_number (λ n. plain (absolute_code n)) else x
@@ -217,7 +218,7 @@ capital_code t =
     LocalSet t ∷ LocalGet t ∷ I64Const 97 ∷ operation Sub ∷ I64Const 25 ∷ relation LeU ∷ chosen_number (LocalGet t ∷ I64Const 32 ∷ operation Sub ∷ []) (LocalGet t ∷ []) ∷ []
 
 abbrev pub ord_check : Types → TypeNo → List Instr
-ord_check types t = if are_same (base_of types t) integer then checked (pos 0) (pos 2147483647) 1 else []
+ord_check types t = if are_same (base_of types t) integer then checked (pos 0) (pos 2147483647) range_fault else []
 
 -- the base type of a result is checked with that of its operands
 abbrev pub behind : Coded → (Types → List Instr) → Coded
@@ -264,7 +265,7 @@ expr_layer (layer.Constant t n) = record { of = t; constant = true; code = plain
 expr_layer (layer.Load t d) = computed t (loaded_from d t)
 expr_layer (layer.Procedure f) = computed f.heading (with_setting (λ s. plain (procedure_code s.home f)))
 expr_layer (layer.Plus t e) = computed t e.code
-expr_layer (layer.Negate e) = computed integer (plain (I64Const 0 ∷ []) ⨾ behind e.code (λ types. operation Sub ∷ in_type types integer 2))
+expr_layer (layer.Negate e) = computed integer (plain (I64Const 0 ∷ []) ⨾ behind e.code (λ types. operation Sub ∷ in_type types integer overflow))
 expr_layer (layer.Chain e links) = computed (chain_type e.of links) (e.code ⨾ chain_code links)
 expr_layer (layer.Compare o a b) = computed boolean (two a.code b.code (relation (relation_of o) ∷ extended ∷ []))
 expr_layer (layer.Not e) = computed boolean (e.code ⨾ plain empty_code)
@@ -272,10 +273,10 @@ expr_layer (layer.Include o a b) = computed boolean (include_code o a.code b.cod
 expr_layer (layer.In a b) = computed boolean (in_code a.code b.code)
 expr_layer (layer.Abs t e) = computed t (abs_code t e.code)
 expr_layer (layer.Cap e) = computed char (e.code ⨾ with_number (λ t. plain (capital_code t)))
-expr_layer (layer.Chr e) = computed char (e.code ⨾ plain (checked (pos 0) (pos 255) 1))
+expr_layer (layer.Chr e) = computed char (e.code ⨾ plain (checked (pos 0) (pos 255) range_fault))
 expr_layer (layer.Odd e) = computed boolean (e.code ⨾ plain (I64Const 1 ∷ operation And ∷ []))
 expr_layer (layer.Ord e) = computed cardinal (behind e.code (λ types. ord_check types e.of))
-expr_layer (layer.Val t e) = computed t (behind e.code (λ types. in_type types t 1))
+expr_layer (layer.Val t e) = computed t (behind e.code (λ types. in_type types t range_fault))
 expr_layer (layer.High slot) = computed cardinal (with_setting (λ s. plain (high_code s slot)))
 expr_layer (layer.Call t c) = computed t c
 
@@ -373,7 +374,7 @@ module _ (numbered : Numbered) where
   call_layer (layer.Module f args) = top_code ⨾ all_coded args ⨾ with_setting (λ s. plain (module_call s.home f))
   call_layer (layer.Nested f args) = top_code ⨾ plain (link_code f.up) ⨾ all_coded args ⨾ with_setting (λ s. plain (nested_call s.home f))
   call_layer (layer.Variable t d args) =
-      loaded_from d t ⨾ plain (checked (pos 1) (pos 4294967295) 7) ⨾ with_number (λ n. plain (LocalSet n ∷ []) ⨾ top_code ⨾ all_coded args ⨾ value_call n t)
+      loaded_from d t ⨾ plain (checked (pos 1) (pos 4294967295) empty_procedure) ⨾ with_number (λ n. plain (LocalSet n ∷ []) ⨾ top_code ⨾ all_coded args ⨾ value_call n t)
 
   unfoldable pub expr_part : TypedExpr → Part
   expr_part = fold-TypedExpr Coded Coded Coded Linked Part Coded argument_layer call_layer component_layer link_layer expr_layer place_layer

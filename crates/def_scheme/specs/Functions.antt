@@ -21,6 +21,7 @@ use Rattle.m2_layout.specs.Sizes.{size, offset}
 use Rattle.m2_layout.specs.Shapes.{tree}
 use Rattle.m2_layout.specs.Frames.{formals_of, frame}
 use Rattle.m2_layout.specs.Texts.{characters, routines_texts, texts_before}
+use Rattle.def_meaning.specs.Answer.{no_return, storage_fault}
 use Rattle.def_scheme.specs.Coded.{Coded, Counts, Setting, plain, ◌⨾◌, top_local, copy_local, raised, operation, wrapped, extended, copy, fill, fault}
 use Rattle.def_scheme.specs.Cells.{store_scalar, word}
 use Rattle.def_scheme.specs.Exprs.{Numbered, arguments_of, all_arguments, has_result}
@@ -63,7 +64,7 @@ numbers_of types r = link_arguments r + all_arguments (formals_of types r.headin
 
 -- the run ends with 8 where the stack's top is past the limit
 abbrev pub limit_check : List Instr
-limit_check = GlobalGet 0 ∷ Numeric (numeric.I32Relation GtU) ∷ If None (fault 8) None ∷ []
+limit_check = GlobalGet 0 ∷ Numeric (numeric.I32Relation GtU) ∷ If None (fault storage_fault) None ∷ []
 
 abbrev pub enter_code : (top : ℕ) → (bytes : ℕ) → List Instr
 enter_code top bytes =
@@ -123,7 +124,7 @@ function_of t before x after = record { type_index = t; body = record { locals =
 
 -- a function comes to its end by RETURN alone
 abbrev pub end_code : Bool → List Instr
-end_code true = fault 6
+end_code true = fault no_return
 end_code false = []
 
 module _ (numbered : Numbered) (m : TypedModule) where

@@ -43,12 +43,12 @@ check_tests =
 
 abbrev pub check_code : List Instr
 check_code =
-    instr.Block None (instr.Block None check_tests ∷ instr.LocalGet 3 ∷ instr.Call 1 ∷ instr.Unreachable ∷ []) ∷ instr.LocalGet 0 ∷ []
+    instr.Block None (instr.Block None check_tests ∷ instr.LocalGet 3 ∷ instr.Call stop ∷ instr.Unreachable ∷ []) ∷ instr.LocalGet 0 ∷ []
 
 -- what div and mod begin with: the divisor is from 1 to 2^32 - 1, or the run ends with 4
 abbrev pub divisor_checked : List Instr → List Instr
 divisor_checked rest =
-    instr.LocalGet 1 ∷ instr.I64Const 1 ∷ instr.I64Const 4294967295 ∷ instr.I64Const 4 ∷ instr.Call 4 ∷ instr.LocalSet 1 ∷ rest
+    instr.LocalGet 1 ∷ instr.I64Const 1 ∷ instr.I64Const 4294967295 ∷ instr.I64Const divisor_fault ∷ instr.Call check ∷ instr.LocalSet 1 ∷ rest
 
 abbrev pub div_rest : List Instr
 div_rest =

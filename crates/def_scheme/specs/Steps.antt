@@ -22,6 +22,7 @@ use Rattle.typed_tree.specs.declared.known_types.Types.{Types}
 use Rattle.typed_tree.specs.Types.{char, bitset}
 use Rattle.m2_layout.specs.Sizes.{size}
 use Rattle.m2_layout.specs.Shapes.{tree}
+use Rattle.def_meaning.specs.Answer.{case_fault, halted, range_fault}
 use Rattle.def_scheme.specs.Coded.{Coded, Setting, plain, ◌⨾◌, nothing, all_coded, within, with_address, with_number, with_text, with_setting, number, raised, relation, operation, wrapped, is_zero, put, copy, fill, fault, checked}
 use Rattle.def_scheme.specs.Cells.{loaded, stored, in_type, check_taken, check_changed}
 use Rattle.def_scheme.specs.Exprs.{Numbered, Part, behind, complement, text_code, expr_part, place_code, call_code}
@@ -65,7 +66,7 @@ pub record Arm : Type 0 where
   pub code : Coded
 
 abbrev pub else_code : Option (List Coded) → Coded
-else_code None = plain (fault 5)
+else_code None = plain (fault case_fault)
 else_code (Some xs) = all_coded xs
 
 -- one test after the other
@@ -159,7 +160,7 @@ for_begin d t start limit n = plain (LocalSet n ∷ []) ⨾ with_setting (λ s. 
 abbrev pub for_turn : Coded → TypeNo → (by : ℤ) → (n : ℕ) → Coded → Coded
 for_turn d t by n body =
     body ⨾ behind d (λ types. loaded types t) ⨾ plain (number by ∷ operation Add ∷ LocalGet n ∷ relation (passes by) ∷ BrIf 1 ∷ [])
-    ⨾ d ⨾ behind d (λ types. loaded types t) ⨾ with_setting (λ s. plain (number by ∷ operation Add ∷ (in_type s.home.types t 1 ++ (stored s.home.types t ++ Br 0 ∷ []))))
+    ⨾ d ⨾ behind d (λ types. loaded types t) ⨾ with_setting (λ s. plain (number by ∷ operation Add ∷ (in_type s.home.types t range_fault ++ (stored s.home.types t ++ Br 0 ∷ []))))
 
 abbrev pub for_code : Coded → TypeNo → Part → Part → (by : ℤ) → Coded → Coded
 for_code d t start limit by body =
@@ -194,7 +195,7 @@ with_member o w n types = read_again w types bitset ++ (I64Const 1 ∷ LocalGet 
 
 abbrev pub member_code : Membership → Coded → Coded → Coded
 member_code o d x =
-    kept d (λ w. x ⨾ plain (checked (pos 0) (pos 31) 1) ⨾ with_number (λ n. plain (LocalSet n ∷ []) ⨾ with_setting (λ s. plain (with_member o w n s.home.types))))
+    kept d (λ w. x ⨾ plain (checked (pos 0) (pos 31) range_fault) ⨾ with_number (λ n. plain (LocalSet n ∷ []) ⨾ with_setting (λ s. plain (with_member o w n s.home.types))))
 
 -- ---- strings
 
@@ -228,7 +229,7 @@ module _ (numbered : Numbered) where
   step_layer (step.Put e) = taken char e ⨾ plain (Call put ∷ [])
   step_layer (step.Change o d t e) = change_code o (place d) t (part e).code
   step_layer (step.Membership o d e) = member_code o (place d) (part e).code
-  step_layer step.Halt = plain (fault 9)
+  step_layer step.Halt = plain (fault halted)
   step_layer (step.If e body others) = (part e).code ⨾ plain (wrapped ∷ []) ⨾ if_code (all_coded body) others
   step_layer (step.Case e arms others) = case_code (part e).code arms (else_code others)
   step_layer (step.While e body) = within 2 block_loop ((part e).code ⨾ plain (is_zero ∷ BrIf 1 ∷ []) ⨾ all_coded body ⨾ plain (Br 0 ∷ []))

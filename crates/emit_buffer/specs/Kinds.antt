@@ -13,6 +13,7 @@ use Rattle.m2_layout.specs.declared.kind.Width.{Width}
 use Rattle.m2_layout.specs.declared.kind.Width.TheVariants as wide
 use Rattle.m2_layout.specs.Sizes.{room_of}
 use Rattle.m2_layout.specs.Extents.{scalar_of, width_of}
+use Rattle.def_meaning.specs.Answer.{range_fault}
 use Rattle.def_scheme.specs.Cells.{load_scalar, store_scalar, in_type, is_subrange}
 
 abbrev pub load_width : Width → Load
@@ -39,4 +40,4 @@ store_kind None = []
 store_kind (Some k) = store_scalar (scalar_of k)
 
 abbrev pub subrange_check : Types → TypeNo → List Instr
-subrange_check types t = if is_subrange types t then in_type types t 1 else []
+subrange_check types t = if is_subrange types t then in_type types t range_fault else []

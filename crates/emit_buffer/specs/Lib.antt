@@ -1,5 +1,6 @@
 pub mod Drafts
 pub mod Frames
+pub mod Helpers
 pub mod Homes
 pub mod Kinds
 pub mod Slots

@@ -8,11 +8,13 @@ ghost use Rattle.def_scheme.specs.Coded.{number, operation};
 ghost use Rattle.def_scheme.specs.Cells.{lower, is_nought, unless_nought, load_scalar, store_scalar, loaded, stored, in_range, in_type, base_of, base_in, is_subrange, is_free, check_taken, check_changed};
 ghost use Rattle.emit_buffer.specs.Drafts.{put};
 ghost use Rattle.emit_buffer.specs.Kinds.{load_width, load_by, store_width, load_kind, store_kind, subrange_check};
+ghost use Rattle.m2_rule.specs.FaultNumber.{fault_number};
 
 use crate::draft::Draft;
 use crate::pieces::{checked, number, operation};
 use crate::setting::Setting;
 use m2_layout::{Kind, Width, width_of};
+use m2_rule::Fault;
 use std::alloc::AllocError;
 use typed_tree::{Scalar, TypeNo, Types, are_same, scalar_of};
 use wasm_tree::{EncodeError, Load, Op, Operation, StoreWidth};
@@ -133,8 +135,8 @@ pub fn store(setting: &Setting<'_>, t: TypeNo, draft: &mut Draft) -> Result<(), 
 }
 
 /// Ends the run with this fault where the value is outside of a range.
-pub fn in_range(range: Option<Scalar>, fault: u64, draft: &mut Draft) -> Result<(), AllocError>
-    ensures { OnOk result (draft.new ≡ put (in_range range fault) draft.old) }
+pub fn in_range(range: Option<Scalar>, fault: Fault, draft: &mut Draft) -> Result<(), AllocError>
+    ensures { OnOk result (draft.new ≡ put (in_range range (fault_number fault)) draft.old) }
 {
     match range {
         None => Ok(()),
@@ -146,10 +148,10 @@ pub fn in_range(range: Option<Scalar>, fault: u64, draft: &mut Draft) -> Result<
 pub fn in_type(
     setting: &Setting<'_>,
     t: TypeNo,
-    fault: u64,
+    fault: Fault,
     draft: &mut Draft,
 ) -> Result<(), AllocError>
-    ensures { OnOk result (draft.new ≡ put (in_type setting.now.home.types t fault) draft.old) }
+    ensures { OnOk result (draft.new ≡ put (in_type setting.now.home.types t (fault_number fault)) draft.old) }
 {
     in_range(
         scalar_of(&setting.home().module_body().types, t),
@@ -194,7 +196,7 @@ pub fn check_taken(
     if is_free(&setting.home().module_body().types, t, constant, of) {
         return Ok(());
     }
-    in_type(setting, t, 1, draft)
+    in_type(setting, t, Fault::OutOfRange, draft)
 }
 
 fn check_subrange(setting: &Setting<'_>, t: TypeNo, draft: &mut Draft) -> Result<(), AllocError>
@@ -202,7 +204,7 @@ fn check_subrange(setting: &Setting<'_>, t: TypeNo, draft: &mut Draft) -> Result
         OnOk result (draft.new ≡ put check draft.old) }
 {
     if is_subrange(&setting.home().module_body().types, t) {
-        return in_type(setting, t, 1, draft);
+        return in_type(setting, t, Fault::OutOfRange, draft);
     }
     Ok(())
 }
@@ -213,6 +215,6 @@ pub fn check_changed(setting: &Setting<'_>, t: TypeNo, draft: &mut Draft) -> Res
     ensures { OnOk result (draft.new ≡ put (check_changed setting.now.home.types t) draft.old) }
 {
     let base = base_of(&setting.home().module_body().types, t);
-    in_type(setting, base, 2, draft)?;
+    in_type(setting, base, Fault::Overflow, draft)?;
     check_subrange(setting, t, draft)
 }

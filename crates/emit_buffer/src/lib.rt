@@ -11,6 +11,7 @@ mod amounts;
 mod cells;
 mod draft;
 mod frame;
+mod helper;
 mod home;
 mod pieces;
 mod setting;
@@ -21,6 +22,7 @@ pub use cells::{
 };
 pub use draft::Draft;
 pub use frame::Framed;
+pub use helper::Helper;
 pub use home::Home;
 pub use pieces::{
     checked, complement, extended, fault, is_zero, number, operation, raised, relation, text,

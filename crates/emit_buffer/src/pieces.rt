@@ -3,9 +3,12 @@
 ghost use Rattle.std.specs.Prelude.{◌≡◌, OnOk};
 ghost use Rattle.def_scheme.specs.Coded.{number, raised, relation, operation, wrapped, extended, is_zero, checked, fault};
 ghost use Rattle.def_scheme.specs.Exprs.{text_code, complement};
+ghost use Rattle.m2_rule.specs.FaultNumber.{fault_number};
 ghost use Rattle.emit_buffer.specs.Drafts.{one, put};
 
 use crate::draft::Draft;
+use crate::helper::Helper;
+use m2_rule::Fault;
 use std::alloc::AllocError;
 use wasm_tree::{Numeric, Op, Operation, Relation};
 
@@ -60,21 +63,21 @@ pub fn is_zero(draft: &mut Draft) -> Result<(), AllocError>
 }
 
 /// Ends the run with a fault where the value is outside of these bounds.
-pub fn checked(low: i64, high: i64, fault: u64, draft: &mut Draft) -> Result<(), AllocError>
-    ensures { OnOk result (draft.new ≡ put (checked low high fault) draft.old) }
+pub fn checked(low: i64, high: i64, fault: Fault, draft: &mut Draft) -> Result<(), AllocError>
+    ensures { OnOk result (draft.new ≡ put (checked low high (fault_number fault)) draft.old) }
 {
     number(low, draft)?;
     number(high, draft)?;
-    draft.push(Op::I64Const(fault))?;
-    draft.push(Op::Call(4))
+    draft.push(Op::I64Const(u64::from(fault.number())))?;
+    draft.push(Op::Call(Helper::Check.index()))
 }
 
 /// Ends the run with a fault.
-pub fn fault(k: u64, draft: &mut Draft) -> Result<(), AllocError>
-    ensures { OnOk result (draft.new ≡ put (fault k) draft.old) }
+pub fn fault(fault: Fault, draft: &mut Draft) -> Result<(), AllocError>
+    ensures { OnOk result (draft.new ≡ put (fault (fault_number fault)) draft.old) }
 {
-    draft.push(Op::I64Const(k))?;
-    draft.push(Op::Call(1))?;
+    draft.push(Op::I64Const(u64::from(fault.number())))?;
+    draft.push(Op::Call(Helper::Stop.index()))?;
     draft.push(Op::Unreachable)
 }
 

@@ -10,6 +10,7 @@ use Rattle.typed_tree.specs.declared.types.TypeNo.{TypeNo}
 use Rattle.typed_tree.specs.declared.known_types.Types.{Types}
 use Rattle.typed_tree.specs.declared.typed_module.TypedModule.{TypedModule}
 use Rattle.m2_layout.specs.Texts.{passed}
+use Rattle.def_meaning.specs.Answer.{empty_procedure}
 use Rattle.def_scheme.specs.Coded.{Setting, number_local, raised, operation, wrapped, extended, body_index, checked}
 use Rattle.def_scheme.specs.Exprs.{slots_global, slot_number, frame_code, open_address, high_code, high_index, text_code, indirect}
 use Rattle.def_scheme.specs.Modules.{numbered}
@@ -32,7 +33,7 @@ nested_called m f = Call (suc body_index + (length m.procedures + f.number)) ∷
 
 -- the procedure that a variable holds is kept
 abbrev pub kept_procedure : Setting → Drafted → Drafted
-kept_procedure s d = let e = put (checked (pos 1) (pos 4294967295) 7) d in one (LocalSet (number_local s e.counts.numbers)) (next_number e)
+kept_procedure s d = let e = put (checked (pos 1) (pos 4294967295) empty_procedure) d in one (LocalSet (number_local s e.counts.numbers)) (next_number e)
 
 abbrev pub called_value : TypedModule → ℕ → TypeNo → List Instr
 called_value m t heading = LocalGet t ∷ wrapped ∷ indirect (numbered m) m.types heading ∷ []

@@ -8,6 +8,7 @@ use Rattle.wasm_tree.specs.declared.instr.Operation.TheVariants.{Sub, And, ShrU}
 use Rattle.typed_tree.specs.declared.types.TypeNo.{TypeNo}
 use Rattle.typed_tree.specs.declared.known_types.Types.{Types}
 use Rattle.typed_tree.specs.Types.{are_same, integer}
+use Rattle.def_meaning.specs.Answer.{overflow, range_fault}
 use Rattle.def_scheme.specs.Coded.{Setting, number_local, relation, operation, checked}
 use Rattle.def_scheme.specs.Cells.{in_type}
 use Rattle.def_scheme.specs.Exprs.{complement, empty_code, chosen_number, absolute_code, capital_code}
@@ -20,13 +21,13 @@ abbrev pub within_behind : List Instr
 within_behind = complement ++ around_behind
 
 abbrev pub negated_behind : Types → List Instr
-negated_behind types = operation Sub ∷ in_type types integer 2
+negated_behind types = operation Sub ∷ in_type types integer overflow
 
 abbrev pub odd_code : List Instr
 odd_code = I64Const 1 ∷ operation And ∷ []
 
 abbrev pub char_check : List Instr
-char_check = checked (pos 0) (pos 255) 1
+char_check = checked (pos 0) (pos 255) range_fault
 
 -- behind the first side of AND, which begins at a place
 abbrev pub ending_and : (at : ℕ) → Drafted → Drafted
@@ -38,7 +39,7 @@ begun_or d = one (I64Const 1) (opened d)
 
 -- an element of a set is kept
 abbrev pub kept_element : Setting → Drafted → Drafted
-kept_element s d = let e = put (checked (pos 0) (pos 31) 1) d in one (LocalSet (number_local s e.counts.numbers)) (next_number e)
+kept_element s d = let e = put (checked (pos 0) (pos 31) range_fault) d in one (LocalSet (number_local s e.counts.numbers)) (next_number e)
 
 abbrev pub element_bit : ℕ → List Instr
 element_bit t = LocalGet t ∷ operation ShrU ∷ I64Const 1 ∷ operation And ∷ []

@@ -13,6 +13,7 @@ ghost use Rattle.emit_expr.specs.Called.{nested_called, slot_added, own_call, ot
 use crate::places::{frame_code, high_code, index_of, open_address, twice};
 use emit_buffer::{Draft, Home, Setting, checked, extended, operation, raised, text, wrapped};
 use emit_tables::{arguments_in, has_result, is_own};
+use m2_rule::Fault;
 use std::alloc::AllocError;
 use typed_tree::{LocalProcedure, Procedure, Slot, TypeNo};
 use wasm_tree::{EncodeError, Op, Operation, plus, small};
@@ -140,7 +141,7 @@ pub fn keep_procedure(setting: &Setting<'_>, draft: &mut Draft) -> Result<u32, E
         IfOk result (λ t. t ≡ number_local (meant setting.now) k) }
     ensures kept { OnOk result (draft.new ≡ kept_procedure (meant setting.now) draft.old) }
 {
-    checked(1, 4_294_967_295, 7, draft)?;
+    checked(1, 4_294_967_295, Fault::NoProcedure, draft)?;
     let t = draft.next_number(setting)?;
     draft.push(Op::LocalSet(t))?;
     Ok(t)

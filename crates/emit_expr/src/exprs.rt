@@ -21,6 +21,7 @@ use crate::places::{element_code, field_code, high_code, open_element_code, root
 use emit_buffer::{
     Draft, Setting, check_taken, complement, extended, in_type, load, number, wrapped,
 };
+use m2_rule::Fault;
 use std::alloc::AllocError;
 use typed_tree::{
     Argument, BITSET, BOOLEAN, CARDINAL, CHAR, Call, Component, INTEGER, Inclusion, Link, Place,
@@ -214,7 +215,7 @@ pub fn value_code(
         }
         TypedExpr::Val(t, a) => {
             value_code(setting, a.get(), draft)?;
-            in_type(setting, *t, 1, draft)?;
+            in_type(setting, *t, Fault::OutOfRange, draft)?;
             Ok(())
         }
         TypedExpr::High(slot) => high_code(setting, *slot, draft),

@@ -9,8 +9,10 @@ ghost use Rattle.emit_buffer.specs.Frames.{meant};
 ghost use Rattle.emit_expr.specs.Operators.{ending_and, begun_or, kept_element, element_bit, negated_behind, around_behind, within_behind, odd_code, char_check, before_sign, negative, negative_or_same, with_absolute, at_most_25, before_letter, lifted, lifted_or_same, with_capital};
 
 use emit_buffer::{
-    Draft, Setting, base_of, checked, complement, extended, in_type, is_zero, operation, relation,
+    Draft, Helper, Setting, base_of, checked, complement, extended, in_type, is_zero, operation,
+    relation,
 };
+use m2_rule::Fault;
 use std::alloc::AllocError;
 use typed_tree::{Arithmetic, Comparison, INTEGER, SetOperator, TypeNo, are_same};
 use wasm_tree::{EncodeError, Op, Operation, Relation, ValueType};
@@ -48,7 +50,7 @@ fn computed(
         OnOk result (draft.new ≡ put code draft.old) }
 {
     operation(o, draft)?;
-    in_type(setting, t, 2, draft)
+    in_type(setting, t, Fault::Overflow, draft)
 }
 
 /// An operator on two numbers.
@@ -65,8 +67,8 @@ pub fn arithmetic(
         Arithmetic::Add => computed(setting, Operation::Add, t, draft),
         Arithmetic::Subtract => computed(setting, Operation::Sub, t, draft),
         Arithmetic::Multiply => computed(setting, Operation::Mul, t, draft),
-        Arithmetic::Divide => draft.push(Op::Call(5)),
-        Arithmetic::Remainder => draft.push(Op::Call(6)),
+        Arithmetic::Divide => draft.push(Op::Call(Helper::Quotient.index())),
+        Arithmetic::Remainder => draft.push(Op::Call(Helper::Remainder.index())),
     }
 }
 
@@ -129,7 +131,7 @@ pub fn odd(draft: &mut Draft) -> Result<(), AllocError>
 pub fn char_check(draft: &mut Draft) -> Result<(), AllocError>
     ensures { OnOk result (draft.new ≡ put char_check draft.old) }
 {
-    checked(0, 255, 1, draft)
+    checked(0, 255, Fault::OutOfRange, draft)
 }
 
 /// The ordinal number of a value of this type.
@@ -137,7 +139,7 @@ pub fn ord_check(setting: &Setting<'_>, t: TypeNo, draft: &mut Draft) -> Result<
     ensures { OnOk result (draft.new ≡ put (ord_check setting.now.home.types t) draft.old) }
 {
     if are_same(base_of(&setting.home().module_body().types, t), INTEGER) {
-        return checked(0, 2_147_483_647, 1, draft);
+        return checked(0, 2_147_483_647, Fault::OutOfRange, draft);
     }
     Ok(())
 }
@@ -169,7 +171,7 @@ pub fn keep_element(setting: &Setting<'_>, draft: &mut Draft) -> Result<u32, Enc
         IfOk result (λ t. t ≡ number_local (meant setting.now) k) }
     ensures kept { OnOk result (draft.new ≡ kept_element (meant setting.now) draft.old) }
 {
-    checked(0, 31, 1, draft)?;
+    checked(0, 31, Fault::OutOfRange, draft)?;
     let t = draft.next_number(setting)?;
     draft.push(Op::LocalSet(t))?;
     Ok(t)
@@ -219,7 +221,7 @@ fn absolute_of(t: u32, draft: &mut Draft) -> Result<(), EncodeError>
 {
     before_sign(t, draft)?;
     negative_or_same(t, draft)?;
-    checked(0, 2_147_483_647, 2, draft)?;
+    checked(0, 2_147_483_647, Fault::Overflow, draft)?;
     Ok(())
 }
 

@@ -10,8 +10,9 @@ ghost use Rattle.emit_buffer.specs.Drafts.{put};
 ghost use Rattle.emit_buffer.specs.Frames.{meant};
 ghost use Rattle.emit_buffer.specs.Slots.{behind_high, field_code, root_code};
 
-use emit_buffer::{Draft, Home, Setting, in_range, operation, raised, shifted, wrapped};
+use emit_buffer::{Draft, Helper, Home, Setting, in_range, operation, raised, shifted, wrapped};
 use emit_tables::is_own;
+use m2_rule::Fault;
 use std::alloc::AllocError;
 use typed_tree::{Made, Root, Scalar, Shape, Slot, TypeNo, Types, Variable, made_of, scalar_of};
 use wasm_tree::{EncodeError, Load, Numeric, Op, Operation, plus, small};
@@ -174,7 +175,7 @@ pub fn element_code(setting: &Setting<'_>, t: TypeNo, draft: &mut Draft) -> Resu
     let home = setting.home();
     let index = index_of(&home.module_body().types, t);
     let bytes = home.element_size(t)?;
-    in_range(index, 3, draft)?;
+    in_range(index, Fault::Index, draft)?;
     from_lower(index, draft)?;
     scaled(bytes, draft)?;
     Ok(())
@@ -183,8 +184,8 @@ pub fn element_code(setting: &Setting<'_>, t: TypeNo, draft: &mut Draft) -> Resu
 fn behind_high(bytes: u32, draft: &mut Draft) -> Result<(), AllocError>
     ensures { OnOk result (draft.new ≡ put (behind_high bytes) draft.old) }
 {
-    draft.push(Op::I64Const(3))?;
-    draft.push(Op::Call(4))?;
+    draft.push(Op::I64Const(u64::from(Fault::Index.number())))?;
+    draft.push(Op::Call(Helper::Check.index()))?;
     scaled(bytes, draft)
 }
 

@@ -14,7 +14,10 @@ ghost use Rattle.def_scheme.specs.Exprs.{arguments_of};
 ghost use Rattle.def_scheme.specs.Functions.{link_arguments, prologue, limit_check, enter_code, link_kept, word_kept, value_kept, bytes_code, open_copied, formal_kept, formals_kept};
 ghost use Rattle.emit_proc.specs.Kept.{own, word_at, copy_begun, copy_made};
 
-use emit_buffer::{Draft, Setting, extended, fault, operation, raised, size_in, store, wrapped};
+use emit_buffer::{
+    Draft, Helper, Setting, extended, fault, operation, raised, size_in, store, wrapped,
+};
+use m2_rule::Fault;
 use std::alloc::AllocError;
 use typed_tree::{Formal, Made, Routine, Shape, Slot, TypeNo, made_of};
 use wasm_tree::{EncodeError, Numeric, Op, Operation, Relation, StoreWidth, plus};
@@ -27,7 +30,7 @@ fn limit_check(draft: &mut Draft) -> Result<(), EncodeError>
     draft.push(Op::GlobalGet(0))?;
     draft.push(Op::Numeric(Numeric::I32Relation(Relation::GtU)))?;
     let at = draft.open()?;
-    fault(8, draft)?;
+    fault(Fault::Storage, draft)?;
     draft.close_if(at, None)
 }
 
@@ -49,7 +52,7 @@ pub fn enter_code(top: u32, bytes: u32, draft: &mut Draft) -> Result<(), EncodeE
     top_raised(top, bytes, draft)?;
     draft.push(Op::LocalGet(0))?;
     draft.push(Op::I32Const(bytes))?;
-    draft.push(Op::Call(3))?;
+    draft.push(Op::Call(Helper::Fill.index()))?;
     Ok(())
 }
 
@@ -146,7 +149,7 @@ fn whole_kept(
     draft.push(Op::LocalGet(x))?;
     wrapped(draft)?;
     draft.push(Op::I32Const(size_in(setting, t)?))?;
-    draft.push(Op::Call(2))?;
+    draft.push(Op::Call(Helper::Copy.index()))?;
     Ok(())
 }
 
@@ -202,7 +205,7 @@ fn copy_made(p: u32, x: u32, element: u32, draft: &mut Draft) -> Result<(), Enco
     draft.push(Op::LocalGet(x))?;
     wrapped(draft)?;
     bytes_code(plus(1, x)?, element, draft)?;
-    draft.push(Op::Call(2))?;
+    draft.push(Op::Call(Helper::Copy.index()))?;
     Ok(())
 }
 

@@ -19,6 +19,7 @@ use crate::prologue::{Locals as Kept, enter_code, prologue};
 use emit_buffer::{Draft, Framed, Home, Setting, exact, fault};
 use emit_stmt::{addresses_in, body_code};
 use emit_tables::{has_result, numbers_of};
+use m2_rule::Fault;
 use sqlite_items::Items;
 use std::alloc::{AllocError, Global};
 use typed_tree::{Routine, Which};
@@ -132,7 +133,7 @@ fn end_code(gives: bool, draft: &mut Draft) -> Result<(), AllocError>
     ensures { OnOk result (draft.new ≡ put (end_code gives) draft.old) }
 {
     if gives {
-        return fault(6, draft);
+        return fault(Fault::NoReturn, draft);
     }
     Ok(())
 }

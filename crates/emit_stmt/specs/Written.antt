@@ -11,6 +11,7 @@ use Rattle.typed_tree.specs.declared.computed.Place.{Place}
 use Rattle.typed_tree.specs.declared.computed.TypedExpr.{TypedExpr}
 use Rattle.typed_tree.specs.declared.statement.TypedStmt.{TypedStmt}
 use Rattle.typed_tree.specs.declared.statement.TypedArm.{TypedArm}
+use Rattle.def_meaning.specs.Answer.{case_fault, range_fault}
 use Rattle.def_scheme.specs.Coded.{Setting, address_local, number_local, number, operation, relation, wrapped, fault}
 use Rattle.def_scheme.specs.Cells.{loaded, stored, in_type}
 use Rattle.def_scheme.specs.Steps.{step_code, tests_code, passes, from_least, is_dense, least_of, span_of}
@@ -57,7 +58,7 @@ for_passed s p t by n d =
 
 abbrev pub for_next : Setting → Place → TypeNo → (by : ℤ) → Drafted → Drafted
 for_next s p t by d =
-    put (number by ∷ operation Add ∷ (in_type s.home.types t 1 ++ (stored s.home.types t ++ Br 0 ∷ [])))
+    put (number by ∷ operation Add ∷ (in_type s.home.types t range_fault ++ (stored s.home.types t ++ Br 0 ∷ [])))
     (put (loaded s.home.types t) (with_place s p (with_place s p d)))
 
 abbrev pub for_turned : Setting → Place → TypeNo → (by : ℤ) → (n : ℕ) → Drafted → Drafted
@@ -115,7 +116,7 @@ dispatch_in t xs low span = dispatch_to t low span (targets_in xs low span) (len
 
 -- what is done where no label has the value
 abbrev pub with_others : Setting → Drafted → Option (List TypedStmt) → Drafted
-with_others s d None = put (fault 5) d
+with_others s d None = put (fault case_fault) d
 with_others s d (Some xs) = with_steps s d xs
 
 -- by a table: a block for the whole, one for what is done else, and one for each arm

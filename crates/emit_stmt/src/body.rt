@@ -14,6 +14,7 @@ use crate::simple::{
     assign, call, change, copy, copy_text, exit, give, halt, leave, membership, print,
 };
 use emit_buffer::{Draft, Setting, fault};
+use m2_rule::Fault;
 use std::alloc::Global;
 use typed_tree::{TypedArm, TypedStmt};
 use wasm_tree::{EncodeError, Op};
@@ -60,7 +61,7 @@ fn stmt_code(
             cases_code(alloc, setting, t, arms.as_slice(), draft)?;
             match others {
                 None => {
-                    fault(5, draft)?;
+                    fault(Fault::NoLabel, draft)?;
                     draft.close_block(place, None)
                 }
                 Some(others) => {

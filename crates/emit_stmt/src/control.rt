@@ -15,6 +15,7 @@ use emit_buffer::{
     Draft, Setting, in_type, is_zero, load, number, operation, relation, store, wrapped,
 };
 use emit_expr::{place_code, taken_code, value_code};
+use m2_rule::Fault;
 use std::alloc::AllocError;
 use typed_tree::{Place, TypeNo, TypedExpr};
 use wasm_tree::{EncodeError, Op, Operation, Relation};
@@ -195,7 +196,7 @@ fn for_next(
     held(setting, place, t, draft)?;
     number(by, draft)?;
     operation(Operation::Add, draft)?;
-    in_type(setting, t, 1, draft)?;
+    in_type(setting, t, Fault::OutOfRange, draft)?;
     store(setting, t, draft)?;
     draft.push(Op::Br(0))?;
     Ok(())

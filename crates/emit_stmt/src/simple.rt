@@ -9,10 +9,11 @@ ghost use Rattle.def_scheme.specs.Steps.{read_again, changed, change_operation, 
 ghost use Rattle.emit_stmt.specs.Written.{with_step, address_kept, number_kept};
 
 use emit_buffer::{
-    Draft, Setting, check_changed, checked, complement, fault, load, operation, raised, size_in,
-    store, text,
+    Draft, Helper, Setting, check_changed, checked, complement, fault, load, operation, raised,
+    size_in, store, text,
 };
 use emit_expr::{call_code, place_code, taken_code, value_code};
+use m2_rule::Fault;
 use std::alloc::AllocError;
 use typed_tree::{BITSET, CHAR, Call, Change, Membership, Place, TypeNo, TypedExpr};
 use wasm_tree::{EncodeError, Op, Operation, small};
@@ -50,7 +51,7 @@ pub fn copy(
     place_code(setting, to, draft)?;
     place_code(setting, from, draft)?;
     draft.push(Op::I32Const(size_in(setting, t)?))?;
-    draft.push(Op::Call(2))?;
+    draft.push(Op::Call(Helper::Copy.index()))?;
     Ok(())
 }
 
@@ -68,7 +69,7 @@ pub fn print(setting: &Setting<'_>, e: &TypedExpr, draft: &mut Draft) -> Result<
     ensures { OnOk result (draft.new ≡ with_step (meant setting.now) draft.old (stmt.Put e.now)) }
 {
     taken_code(setting, CHAR, e, draft)?;
-    draft.push(Op::Call(0))?;
+    draft.push(Op::Call(Helper::Put.index()))?;
     Ok(())
 }
 
@@ -76,7 +77,7 @@ pub fn print(setting: &Setting<'_>, e: &TypedExpr, draft: &mut Draft) -> Result<
 pub fn halt(setting: &Setting<'_>, draft: &mut Draft) -> Result<(), AllocError>
     ensures { OnOk result (draft.new ≡ with_step (meant setting.now) draft.old stmt.Halt) }
 {
-    fault(9, draft)
+    fault(Fault::Halt, draft)
 }
 
 #[tactic(auto, using(crate::proofs::Stepped::step_Exit))]
@@ -237,7 +238,7 @@ pub fn membership(
     place_code(setting, place, draft)?;
     let w = keep_address(setting, draft)?;
     value_code(setting, e, draft)?;
-    checked(0, 31, 1, draft)?;
+    checked(0, 31, Fault::OutOfRange, draft)?;
     let n = keep_number(setting, draft)?;
     with_member(setting, membership, w, n, draft)?;
     Ok(())
@@ -258,11 +259,11 @@ fn text_copied(at: u32, bytes: u32, rest: u32, w: u32, draft: &mut Draft) -> Res
 {
     text(at, draft)?;
     draft.push(Op::I32Const(bytes))?;
-    draft.push(Op::Call(2))?;
+    draft.push(Op::Call(Helper::Copy.index()))?;
     draft.push(Op::LocalGet(w))?;
     raised(bytes, draft)?;
     draft.push(Op::I32Const(rest))?;
-    draft.push(Op::Call(3))
+    draft.push(Op::Call(Helper::Fill.index()))
 }
 
 /// An assignment of a string.

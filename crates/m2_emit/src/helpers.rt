@@ -5,6 +5,8 @@ ghost use Rattle.def_scheme.specs.Helpers.{copy_code, fill_code, check_code, div
 ghost use Rattle.def_scheme.specs.Modules.{helper, helpers, mod_function};
 
 use crate::code::code_of;
+use emit_buffer::Helper;
+use m2_rule::Fault;
 use sqlite_items::Items;
 use std::alloc::{AllocError, Global};
 use wasm_tree::{
@@ -110,7 +112,7 @@ fn check_code(alloc: Global) -> Result<Code, AllocError>
             Op::BrIf(0),
             Op::Br(1),
             Op::LocalGet(3),
-            Op::Call(1),
+            Op::Call(Helper::Stop.index()),
             Op::Unreachable,
             Op::LocalGet(0),
         ],
@@ -128,8 +130,8 @@ fn div_code(alloc: Global) -> Result<Code, AllocError>
             Op::LocalGet(1),
             Op::I64Const(1),
             Op::I64Const(4_294_967_295),
-            Op::I64Const(4),
-            Op::Call(4),
+            Op::I64Const(u64::from(Fault::Divisor.number())),
+            Op::Call(Helper::Check.index()),
             Op::LocalSet(1),
             Op::LocalGet(0),
             Op::LocalGet(1),
@@ -156,8 +158,8 @@ fn mod_code(alloc: Global) -> Result<Code, AllocError>
             Op::LocalGet(1),
             Op::I64Const(1),
             Op::I64Const(4_294_967_295),
-            Op::I64Const(4),
-            Op::Call(4),
+            Op::I64Const(u64::from(Fault::Divisor.number())),
+            Op::Call(Helper::Check.index()),
             Op::LocalSet(1),
             Op::LocalGet(0),
             Op::LocalGet(1),

@@ -1,1 +1,2 @@
+pub mod FaultNumber
 pub mod RuleNumber

@@ -1,6 +1,9 @@
-//! The rules that a program can break, by name. Those of tokens and of the grammar stand in `m2_scan` and `m2_parse`.
+//! The rules that a program can break, and the faults that can end its run, by name and number. The rules of tokens and of
+//! the grammar stand in `m2_scan` and `m2_parse`.
 #![tactic(auto)]
 
+mod fault;
 mod rule;
 
+pub use fault::Fault;
 pub use rule::Rule;

@@ -8,6 +8,7 @@ ghost use Rattle.plain_store.specs.Seen.{seen, answered, ended};
 ghost use Rattle.plain_values.specs.Surroundings.{modules_of, callee_of, sent, value_in, located_in, called_in, linked_in, links_in, reached_in, components_in, given_in, all_given_in, does_in, steps_in};
 ghost use Rattle.plain_steps.specs.Parts.{answered_sent, answered_all, pair_in, in_in, target_in, ends_in, asked_in, while_in, repeat_in, loop_in, for_in, for_begun, turns_in};
 
+use m2_rule::Fault;
 use m2_tree::Items;
 use plain_steps::callees::{module_callee, nested_callee, procedure_value, variable_callee};
 use plain_steps::entering::{Request, around_body, enter, rest_of, result};
@@ -277,7 +278,7 @@ pub fn called<'a>(
         Call::Variable(_, d, arguments) => match located(around, room, d, st)? {
             Answer::Gave(l) => {
                 match variable_callee(around, load(l.as_slice(), st))? {
-                    None => Ok(Answer::Stopped(Stop::Ended(7))),
+                    None => Ok(Answer::Stopped(Stop::Ended(Fault::NoProcedure.number()))),
                     Some(callee) => { asked(around, room, Some(callee), arguments.as_slice(), st) }
                 }
             }
@@ -311,7 +312,7 @@ fn asked<'a>(
         Answer::Gave(passed) => match fewer(around.depth) {
             None => Ok(Answer::Stopped(Stop::Running)),
             Some(depth) => match callee {
-                None => Ok(Answer::Stopped(Stop::Ended(7))),
+                None => Ok(Answer::Stopped(Stop::Ended(Fault::NoProcedure.number()))),
                 Some(callee) => {
                     let request = Request {
                         callee,
@@ -393,7 +394,7 @@ fn body_run<'a>(
 {
     let room = deeper(room)?;
     match rest_of(program.alloc, &request)? {
-        None => Ok(Answer::Stopped(Stop::Ended(8))),
+        None => Ok(Answer::Stopped(Stop::Ended(Fault::Storage.number()))),
         Some(rest) => {
             let (home, routine) = (request.callee.home, request.callee.routine);
             let begins = enter(program.alloc, &request, st)?;
@@ -464,7 +465,7 @@ fn step<'a>(
         TypedStmt::Membership(o, d, e) => {
             membership(around, *o, target(around, room, d, e, st)?, st)
         }
-        TypedStmt::Halt => Ok(Outcome::Stopped(Stop::Ended(9))),
+        TypedStmt::Halt => Ok(Outcome::Stopped(Stop::Ended(Fault::Halt.number()))),
         TypedStmt::If(e, body, others) => if_run(around, room, e, body, others, st),
         TypedStmt::Case(e, arms, others) => case_run(around, room, e, arms, others, st),
         TypedStmt::While(e, body) => while_turns(around, room, e, body.as_slice(), st),
@@ -531,7 +532,7 @@ fn case_run<'a>(
         Answer::Gave(v) => match chosen_arm(v, arms.as_slice()) {
             Some(arm) => steps(around, room, arm.body.as_slice(), st),
             None => match others {
-                None => Ok(Outcome::Stopped(Stop::Ended(5))),
+                None => Ok(Outcome::Stopped(Stop::Ended(Fault::NoLabel.number()))),
                 Some(others) => steps(around, room, others.as_slice(), st),
             },
         },

@@ -11,6 +11,7 @@ ghost use Rattle.plain_values.specs.Surroundings.{name_of, sent};
 ghost use Rattle.plain_steps.specs.Entering.{begun_of, names_of, IsBodyOf};
 ghost use Rattle.plain_steps.specs.Asked.{need_of, IsTooSmall, HasRoom};
 
+use m2_rule::Fault;
 use m2_tree::Items;
 use plain_store::blanks::{formals_of, plus, times};
 use plain_store::prepared::Prepared;
@@ -271,14 +272,14 @@ fn result_of(function: bool, o: Outcome) -> Answer<i64>
     match o {
         Outcome::Went => {
             if function {
-                Answer::Stopped(Stop::Ended(6))
+                Answer::Stopped(Stop::Ended(Fault::NoReturn.number()))
             } else {
                 Answer::Gave(0)
             }
         }
         Outcome::Left => {
             if function {
-                Answer::Stopped(Stop::Ended(6))
+                Answer::Stopped(Stop::Ended(Fault::NoReturn.number()))
             } else {
                 Answer::Gave(0)
             }

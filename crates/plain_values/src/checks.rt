@@ -14,6 +14,7 @@ use crate::operators::{
     difference, is_between, is_odd, is_true, product, quotient, remainder, sum, truth,
 };
 use crate::program::Around;
+use m2_rule::Fault;
 use plain_store::state::{Answer, RunFault, State, Stop};
 use typed_tree::{
     Arithmetic, Comparison, INTEGER, Inclusion, Scalar, SetOperator, TypeNo, scalar_of,
@@ -82,14 +83,14 @@ pub fn operated(
             if is_true(y) {
                 Ok(Answer::Gave(quotient(x, y)?))
             } else {
-                Ok(Answer::Stopped(Stop::Ended(4)))
+                Ok(Answer::Stopped(Stop::Ended(Fault::Divisor.number())))
             }
         }
         Arithmetic::Remainder => {
             if is_true(y) {
                 Ok(Answer::Gave(remainder(x, y)?))
             } else {
-                Ok(Answer::Stopped(Stop::Ended(4)))
+                Ok(Answer::Stopped(Stop::Ended(Fault::Divisor.number())))
             }
         }
     }
@@ -255,7 +256,7 @@ pub fn ordinal(given: Answer<i64>, st: &State) -> Answer<i64>
     match given {
         Answer::Gave(v) => {
             if v < 0 {
-                Answer::Stopped(Stop::Ended(1))
+                Answer::Stopped(Stop::Ended(Fault::OutOfRange.number()))
             } else {
                 Answer::Gave(v)
             }

@@ -12,6 +12,7 @@ ghost use Rattle.plain_values.specs.Surroundings.{surroundings, modules_in, modu
 
 use crate::operators::{difference, is_between};
 use crate::program::{Around, Named};
+use m2_rule::Fault;
 use m2_tree::Items;
 use plain_store::prepared::Prepared;
 use plain_store::state::{Answer, RunFault, State, Stop};
@@ -166,7 +167,7 @@ fn element(
     if is_between(low, i, high) {
         Ok(Answer::Gave(component(l, distance(low, i)?)?))
     } else {
-        Ok(Answer::Stopped(Stop::Ended(3)))
+        Ok(Answer::Stopped(Stop::Ended(Fault::Index.number())))
     }
 }
 
@@ -179,7 +180,7 @@ fn element_in(
     ensures { IfOk result (λ j. answered j st.now ≡ element_in l range i (seen st.now)) }
 {
     match range {
-        None => Ok(Answer::Stopped(Stop::Ended(3))),
+        None => Ok(Answer::Stopped(Stop::Ended(Fault::Index.number()))),
         Some(s) => element(l, s.low, s.high, i, st),
     }
 }
