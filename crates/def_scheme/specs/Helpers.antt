@@ -10,6 +10,8 @@ use Rattle.wasm_tree.specs.declared.instr.Operation.TheVariants.{Add, Sub, Mul, 
 use Rattle.wasm_tree.specs.declared.instr.Load.TheVariants as load
 use Rattle.wasm_tree.specs.declared.instr.StoreWidth.TheVariants as width
 use Rattle.wasm_tree.specs.Machine.{Typed}
+use Rattle.def_meaning.specs.Answer.{divisor_fault}
+use Rattle.def_scheme.specs.Coded.{stop, check}
 
 -- raises a local by so much
 abbrev pub raise : (x by : ℕ) → List Instr → List Instr

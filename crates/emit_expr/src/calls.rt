@@ -3,6 +3,7 @@
 ghost use Rattle.std.specs.Prelude.{◌≡◌, IfOk, OnOk, length, pos, suc};
 ghost use Rattle.wasm_tree.specs.declared.instr.Instr.TheVariants.{LocalGet as get_local};
 ghost use Rattle.m2_layout.specs.Texts.{passed};
+ghost use Rattle.def_meaning.specs.Answer.{empty_procedure};
 ghost use Rattle.def_scheme.specs.Coded.{top_local, number_local, checked};
 ghost use Rattle.def_scheme.specs.Exprs.{slots_global, procedure_code, high_index, indirect, module_call};
 ghost use Rattle.def_scheme.specs.Modules.{numbered};
@@ -137,7 +138,7 @@ pub fn nested_call(
 
 /// Keeps the procedure that a variable holds.
 pub fn keep_procedure(setting: &Setting<'_>, draft: &mut Draft) -> Result<u32, EncodeError>
-    ensures local { let k = (put (checked (pos 1) (pos 4294967295) 7) draft.old).counts.numbers in
+    ensures local { let k = (put (checked (pos 1) (pos 4294967295) empty_procedure) draft.old).counts.numbers in
         IfOk result (λ t. t ≡ number_local (meant setting.now) k) }
     ensures kept { OnOk result (draft.new ≡ kept_procedure (meant setting.now) draft.old) }
 {

@@ -1,6 +1,7 @@
 //! Operators.
 
 ghost use Rattle.std.specs.Prelude.{◌≡◌, ◌∷◌, [], IfOk, OnOk, pos};
+ghost use Rattle.def_meaning.specs.Answer.{range_fault};
 ghost use Rattle.def_scheme.specs.Coded.{number_local, operation, relation, extended, checked};
 ghost use Rattle.def_scheme.specs.Cells.{in_type};
 ghost use Rattle.def_scheme.specs.Exprs.{relation_of, arithmetic_code, set_code, empty_code, ord_check, absolute_code};
@@ -167,7 +168,7 @@ pub fn begin_or(draft: &mut Draft) -> Result<(usize, usize), AllocError>
 
 /// Keeps an element that is in a BITSET.
 pub fn keep_element(setting: &Setting<'_>, draft: &mut Draft) -> Result<u32, EncodeError>
-    ensures local { let k = (put (checked (pos 0) (pos 31) 1) draft.old).counts.numbers in
+    ensures local { let k = (put (checked (pos 0) (pos 31) range_fault) draft.old).counts.numbers in
         IfOk result (λ t. t ≡ number_local (meant setting.now) k) }
     ensures kept { OnOk result (draft.new ≡ kept_element (meant setting.now) draft.old) }
 {
