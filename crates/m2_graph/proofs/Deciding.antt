@@ -17,7 +17,7 @@ use Rattle.std.specs.Prelude.{Result, Ok, Err, IfOk, IfErr}
 use Rattle.std.proofs.lemmas.List.{length-map}
 use Rattle.m2_rule.specs.declared.rule.Rule.TheVariants as rule
 use Rattle.m2_graph.proofs.Importing.{first_within}
-use Rattle.m2_graph.specs.Refused.{fault_where, first_place, lesser, least_of, is_less, import_faults, is_repeated, is_second_program, is_without_program, is_lone, max_files, faults_of}
+use Rattle.m2_graph.specs.Refused.{fault, fault_where, first_place, lesser, least_of, is_less, import_faults, is_repeated, is_second_program, is_without_program, is_lone, max_files, faults_of}
 use Rattle.m2_graph.specs.Reported.{Reported, reported, reported_at, cycle_faults, refused_from, refused_of, IsReported}
 
 stays_some : (f : Fault) (fs : List Fault) → fold lesser (Some f) fs ≡ None → ⊥

@@ -28,7 +28,7 @@ pub struct Fault {
 }
 
 /// A rule that is broken at this place.
-pub fn fault(pos: Pos, broken: Rule) -> Fault
+pub fn fault_at(pos: Pos, broken: Rule) -> Fault
     ensures { result ≡ fault pos broken }
 {
     Fault {
@@ -59,7 +59,7 @@ fn with_fault(least: Option<Fault>, holds: bool, pos: Pos, broken: Rule) -> Opti
     ensures { result ≡ fold lesser least (fault_where holds pos broken) }
 {
     if holds {
-        lesser(least, fault(pos, broken))
+        lesser(least, fault_at(pos, broken))
     } else {
         least
     }

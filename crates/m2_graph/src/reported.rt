@@ -7,7 +7,7 @@ ghost use Rattle.m2_graph.specs.Refused.{faults_of, least_of};
 ghost use Rattle.m2_graph.specs.Sources.{file_of};
 ghost use Rattle.m2_graph.specs.Reported.{cycle_faults, reported, reported_of, reported_at, refused_from, refused_of};
 
-use crate::faults::{Fault, fault_of};
+use crate::faults::{FIRST_PLACE, Fault, fault_at, fault_of};
 use crate::program::Program;
 use crate::sources::Source;
 use m2_rule::Rule;
@@ -78,8 +78,8 @@ pub fn refused_of(
 {
     if sources.is_empty() {
         let mut refusals = Vec::new(alloc);
-        let fault = fault(FIRST_PLACE, Rule::ProgramCount);
-        add_refusal(alloc, "", Some(fault), &mut refusals)?;
+        let without_program = fault_at(FIRST_PLACE, Rule::ProgramCount);
+        add_refusal(alloc, "", Some(without_program), &mut refusals)?;
         return Ok(refusals);
     }
     refused_from(alloc, program, cycle, sources)
