@@ -73,10 +73,10 @@ pub fn checked(low: i64, high: i64, fault: Fault, draft: &mut Draft) -> Result<(
 }
 
 /// Ends the run with a fault.
-pub fn fault(fault: Fault, draft: &mut Draft) -> Result<(), AllocError>
-    ensures { OnOk result (draft.new ≡ put (fault (fault_number fault)) draft.old) }
+pub fn fault(why: Fault, draft: &mut Draft) -> Result<(), AllocError>
+    ensures { OnOk result (draft.new ≡ put (fault (fault_number why)) draft.old) }
 {
-    draft.push(Op::I64Const(u64::from(fault.number())))?;
+    draft.push(Op::I64Const(u64::from(why.number())))?;
     draft.push(Op::Call(Helper::Stop.index()))?;
     draft.push(Op::Unreachable)
 }

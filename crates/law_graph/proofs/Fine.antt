@@ -8,6 +8,7 @@ use Rattle.std.proofs.lemmas.Bool.{false≢true, cases_order, or_parts}
 use Rattle.std.proofs.lemmas.List.{append-nil}
 use Rattle.std.proofs.lemmas.Option.{none-some, same_Some}
 use Rattle.m2_rule.specs.declared.rule.Rule.TheVariants as rule
+use Rattle.m2_rule.specs.declared.rule.Rule.{Rule}
 use Rattle.m2_tree.specs.declared.decl.Module.{Module}
 use Rattle.m2_tree.specs.declared.name.Ident.{Ident}
 use Rattle.m2_tree.specs.declared.pos.Pos.{Pos}
@@ -38,7 +39,7 @@ parts_none : {X : Type 0} (xs ys : List X) → xs ++ ys ≡ [] → (xs ≡ []) �
 parts_none [] ys e = (refl, e)
 parts_none (x ∷ xs) ys e = cc
 
-where_none : (b : Bool) (pos : Pos) (n : ℕ) → fault_where b pos n ≡ [] → b ≡ false
+where_none : (b : Bool) (pos : Pos) (n : Rule) → fault_where b pos n ≡ [] → b ≡ false
 where_none true pos n e = cc
 where_none false pos n e = refl
 
