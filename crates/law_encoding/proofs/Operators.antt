@@ -325,11 +325,11 @@ module _ (g : Gathers) where
   procedure_suited_most n broken types t at (Some (side.Routine u e)) p = where_most g _ at broken (fine e p)
   procedure_suited_most n broken types t at (Some (side.Procedure f)) p = where_most g _ at broken (fine (expr.Procedure f) (le_trans _ 1 n (le_of _ 1 (expr_procedure f)) p))
 
-  value_in_most : (n : ℕ) (number : ℕ) (types : Types) (t : TypeNo) (at : Pos) (x : Option Side) (c : Class) → size_side x ≤ n → Expr_ n (value_in g number types t at x c)
+  value_in_most : (n : ℕ) (broken : Rule) (types : Types) (t : TypeNo) (at : Pos) (x : Option Side) (c : Class) → size_side x ≤ n → Expr_ n (value_in g broken types t at x c)
   value_in_most n broken types t at x (class.Scalar s) p = scalar_suited_most n broken t s at x p
   value_in_most n broken types t at x class.Set p = set_suited_most n broken at x p
   value_in_most n broken types t at x class.Procedure p = procedure_suited_most n broken types t at x p
-  value_in_most n number types t at x class.Whole p = reported_most g at number
+  value_in_most n broken types t at x class.Whole p = reported_most g at broken
 
   pub suited_most : (n : ℕ) (broken : Rule) (types : Types) (t : TypeNo) (at : Pos) (x : Computed) → size_value x ≤ n → Expr_ n (value_suited g broken types t at x)
   suited_most n broken types t at x p = value_in_most n broken types t at (side_of x) (class_at types t) (le_trans _ _ n (side_most x) p)

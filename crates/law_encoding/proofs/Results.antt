@@ -1,5 +1,6 @@
 -- Results that count at most so many.
 use Rattle.std.proofs.Common.{ℕ, ◌+◌, ◌≤◌, Bool, true, false, Result, Ok, Err, arith}
+use Rattle.m2_rule.specs.RuleNumber.{number_of}
 use Rattle.m2_rule.specs.declared.rule.Rule.{Rule}
 use Rattle.m2_tree.specs.declared.pos.Pos.{Pos}
 use Rattle.check_scope.specs.Elaborated.{Gathers, reported, reported_where, ◌▷◌, both, refusal_beside, reported_beside, ahead, of_sort, of_heading, plain}
@@ -42,7 +43,7 @@ module _ (g : Gathers) where
   refused_most e (Err f) = broken (g.join e f)
 
   pub reported_beside_most : {A : Type 0} {f : A → ℕ} {n : ℕ} (at : Pos) (k : Rule) (rest : Result (Unit {0}) g.Reported) → AtMost f n (reported_beside g {A = A} at k rest)
-  reported_beside_most at k rest = refused_most (g.one (record { pos = at; number = k })) rest
+  reported_beside_most at k rest = refused_most (g.one (record { pos = at; number = number_of k })) rest
 
   pub ahead_most : {A B : Type 0} {f : A → ℕ} {n : ℕ} {h : B → ℕ} {k : ℕ} {r : Result A g.Reported} (rest : Result (Unit {0}) g.Reported) {q : A → Result B g.Reported}
       → AtMost f n r → ((x : A) → f x ≤ n → AtMost h k (q x)) → AtMost h k (ahead g r rest q)

@@ -2,6 +2,7 @@
 use Rattle.std.proofs.Common.{◌≡◌, ℕ, Bool, true, false, cond, List, [], ◌∷◌, ◌++◌, Result, sym, subst}
 use Rattle.std.specs.Prelude.{map}
 use Rattle.std.specs.List.{fold}
+use Rattle.m2_rule.specs.RuleNumber.{number_of}
 use Rattle.m2_rule.specs.declared.rule.Rule.{Rule}
 use Rattle.m2_tree.specs.declared.pos.Pos.{Pos}
 use Rattle.check_scope.specs.declared.fault.Fault.{Fault}
@@ -12,7 +13,7 @@ use Rattle.law_least_definition.specs.Beside.{Pairwise, none, more, SoughtBeside
 use Rattle.law_least_definition.proofs.Order.{least_of_both, least_of_one}
 
 pub reported_reports : {A : Type 0} (at : Pos) (n : Rule) → Reports {A = A} (reported least at n) (reported every at n)
-reported_reports at n = let f : Fault = record { pos = at; number = n } in is_refused f (f ∷ []) (least_of_one f)
+reported_reports at n = let f : Fault = record { pos = at; number = number_of n } in is_refused f (f ∷ []) (least_of_one f)
 
 pub where_reports : {A : Type 0} (b : Bool) (at : Pos) (n : Rule) {x : Result A Fault} {x' : Result A (List Fault)} → Reports x x' → Reports (reported_where least b at n x) (reported_where every b at n x')
 where_reports true at n h = reported_reports at n
@@ -38,7 +39,7 @@ refusal_beside_reports f fs p (fine u) = is_refused f fs p
 refusal_beside_reports f fs p (is_refused g gs q) = is_refused (lesser f g) (fs ++ gs) (least_of_both f g fs gs p q)
 
 pub reported_beside_reports : {A : Type 0} (at : Pos) (n : Rule) {y : Result (Unit {0}) Fault} {y' : Result (Unit {0}) (List Fault)} → Reports y y' → Reports {A = A} (reported_beside least at n y) (reported_beside every at n y')
-reported_beside_reports at n q = let f : Fault = record { pos = at; number = n } in refusal_beside_reports f (f ∷ []) (least_of_one f) q
+reported_beside_reports at n q = let f : Fault = record { pos = at; number = number_of n } in refusal_beside_reports f (f ∷ []) (least_of_one f) q
 
 pub ahead_reports : {A B : Type 0} {x : Result A Fault} {x' : Result A (List Fault)} {y : Result (Unit {0}) Fault} {y' : Result (Unit {0}) (List Fault)} {k : A → Result B Fault} {k' : A → Result B (List Fault)} → Reports x x' → Reports y y' → ((a : A) → Reports (k a) (k' a))
     → Reports (ahead least x y k) (ahead every x' y' k')

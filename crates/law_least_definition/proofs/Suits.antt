@@ -56,11 +56,11 @@ procedure_suited_reports broken types t at (Some (side.Set e)) = reported_report
 procedure_suited_reports broken types t at (Some (side.Routine u e)) = where_reports (not (are_same u t)) at broken (fine e)
 procedure_suited_reports broken types t at (Some (side.Procedure p)) = where_reports (not (headings_agree types t p.heading)) at broken (fine _)
 
-pub value_in_reports : (number : ℕ) → (types : Types) → (t : TypeNo) → (at : Pos) → (x : Option Side) → (p5 : Class) → Reports (value_in least number types t at x p5) (value_in every number types t at x p5)
+pub value_in_reports : (broken : Rule) → (types : Types) → (t : TypeNo) → (at : Pos) → (x : Option Side) → (p5 : Class) → Reports (value_in least broken types t at x p5) (value_in every broken types t at x p5)
 value_in_reports broken types t at x (class.Scalar s) = scalar_suited_reports broken t s at x
 value_in_reports broken types t at x class.Set = set_suited_reports broken at x
 value_in_reports broken types t at x class.Procedure = procedure_suited_reports broken types t at x
-value_in_reports number types t at x class.Whole = reported_reports at number
+value_in_reports broken types t at x class.Whole = reported_reports at broken
 
 pub value_suited_reports : (broken : Rule) → (types : Types) → (t : TypeNo) → (at : Pos) → (x : Computed) → Reports (value_suited least broken types t at x) (value_suited every broken types t at x)
 value_suited_reports broken types t at x = value_in_reports broken types t at (side_of x) (class_at types t)

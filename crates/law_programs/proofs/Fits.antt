@@ -1,7 +1,6 @@
 -- What fits in each part of the grammar, with the statements in it.
 use Rattle.std.proofs.Common.{◌≡◌, Bool, true, false, ◌&&◌, List, [], ◌∷◌, ◌++◌, map, Option, Some, None, refl}
 use Rattle.std.specs.List.{AllByRecursion, list_all}
-use Rattle.m2_rule.specs.declared.rule.Rule.{Rule}
 use Rattle.def_grammar.specs.Rule.{Rule, Ast, module_rule, import_rule, idents_rule, def_rule, block_rule, decl_rule, constant_rule, type_decl_rule, variables_rule, formals_rule, section_rule, formal_rule, qual_rule, simple_rule, type_rule, dims_rule, parameter_rule, field_rule, stmts_rule, stmt_rule, rest_rule, arm_rule, item_rule, desig_rule, selectors_rule, args_rule, expr_rule, sum_rule, term_rule, factor_rule, set_rule}
 use Rattle.def_grammar.specs.Grammar.{Ty, El, token, ast, both, either, maybe, list}
 use Rattle.def_grammar.specs.Trees.{present}

@@ -673,11 +673,11 @@ module _ (x : Context) (ws : List Ty) (h : TypesTyped x.home.types) where
           let j = agree_one (signature_at scope t) (signature_at scope f.heading) k in
           fine (expr.Procedure f) (given_among t f.heading (expr.Procedure f) (named_some f j.second p j.other).typed (among_words types f.heading t (heading_is types f.heading j.second (signature_known scope types grows f.heading j.second j.other)) e)))
 
-      value_given : (number : ℕ) (t : TypeNo) (at : Pos) (v : Option Side) (c : Class) → ClassIs types t c → SideTyped v → Given_ t (value_in g number scope t at v c)
-      value_given number t at v (class.Scalar s) e p = scalar_given number t s at v e p
-      value_given number t at v class.Set e p = set_given number t at v e.none p
-      value_given number t at v class.Procedure e p = routine_given number t at v e.none p
-      value_given number t at v class.Whole e p = reported_holds g at number
+      value_given : (broken : Rule) (t : TypeNo) (at : Pos) (v : Option Side) (c : Class) → ClassIs types t c → SideTyped v → Given_ t (value_in g broken scope t at v c)
+      value_given broken t at v (class.Scalar s) e p = scalar_given broken t s at v e p
+      value_given broken t at v class.Set e p = set_given broken t at v e.none p
+      value_given broken t at v class.Procedure e p = routine_given broken t at v e.none p
+      value_given broken t at v class.Whole e p = reported_holds g at broken
 
       pub suited_typed : (broken : Rule) (t : TypeNo) (at : Pos) (v : Computed) → ValueTyped x ws v → Given_ t (value_suited g broken scope t at v)
       suited_typed broken t at v p = value_given broken t at (side_of v) (class_at scope t) (class_is scope types grows t) (side_typed v p)

@@ -1,5 +1,6 @@
 -- Results that are as a fact says, and types that are kept.
 use Rattle.std.proofs.Common.{◌≡◌, ℕ, Bool, true, false, Option, Some, None, Result, Ok, Err, refl, ap, ◌∙◌}
+use Rattle.m2_rule.specs.RuleNumber.{number_of}
 use Rattle.m2_rule.specs.declared.rule.Rule.{Rule}
 use Rattle.m2_tree.specs.declared.pos.Pos.{Pos}
 use Rattle.typed_tree.specs.declared.known_types.Types.{Types}
@@ -53,7 +54,7 @@ module _ (g : Gathers) where
   refused_holds e (Err f) = broken (g.join e f)
 
   pub reported_beside_holds : {A : Type 0} {P : A → Type 0} (at : Pos) (n : Rule) (rest : Result (Unit {0}) g.Reported) → Holds P (reported_beside g {A = A} at n rest)
-  reported_beside_holds at n rest = refused_holds (g.one (record { pos = at; number = n })) rest
+  reported_beside_holds at n rest = refused_holds (g.one (record { pos = at; number = number_of n })) rest
 
   pub ahead_holds : {A B : Type 0} {P : A → Type 0} {Q : B → Type 0} {r : Result A g.Reported} (rest : Result (Unit {0}) g.Reported) {f : A → Result B g.Reported} → Holds P r → ((x : A) → P x → Holds Q (f x)) → Holds Q (ahead g r rest f)
   ahead_holds rest (fine x p) k = k x p

@@ -276,11 +276,11 @@ module _ (m : TypedModule) (w : ℕ) where
     procedure_suited_formed broken types t at (Some (side.Routine u e)) p = where_holds g _ at broken (fine e p)
     procedure_suited_formed broken types t at (Some (side.Procedure f)) p = where_holds g _ at broken (fine (expr.Procedure f) (ProcedureValue f p))
 
-    value_in_formed : (number : ℕ) (types : Types) (t : TypeNo) (at : Pos) (x : Option Side) (c : Class) → FormedSide x → Expr_ (value_in g number types t at x c)
+    value_in_formed : (broken : Rule) (types : Types) (t : TypeNo) (at : Pos) (x : Option Side) (c : Class) → FormedSide x → Expr_ (value_in g broken types t at x c)
     value_in_formed broken types t at x (class.Scalar s) p = scalar_suited_formed broken t s at x p
     value_in_formed broken types t at x class.Set p = set_suited_formed broken at x p
     value_in_formed broken types t at x class.Procedure p = procedure_suited_formed broken types t at x p
-    value_in_formed number types t at x class.Whole p = reported_holds g at number
+    value_in_formed broken types t at x class.Whole p = reported_holds g at broken
 
     pub suited_formed : (broken : Rule) (types : Types) (t : TypeNo) (at : Pos) (x : Computed) → FormedValue m w x → Expr_ (value_suited g broken types t at x)
     suited_formed broken types t at x p = value_in_formed broken types t at (side_of x) (class_at types t) (side_formed x p)
