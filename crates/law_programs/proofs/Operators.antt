@@ -624,7 +624,7 @@ module _ (x : Context) (ws : List Ty) (h : TypesTyped x.home.types) where
         };
       }
 
-      scalar_given : (broken : Rule) (t : TypeNo) (s : Range) (at : Pos) (v : Option Side) → scalar_at types t ≡ Some s → SideTyped v → Given_ t (scalar_suited g broken t s at v)
+      scalar_given : (which : Rule) (t : TypeNo) (s : Range) (at : Pos) (v : Option Side) → scalar_at types t ≡ Some s → SideTyped v → Given_ t (scalar_suited g which t s at v)
       scalar_given number t s at None e p = reported_holds g at number
       scalar_given number t s at (Some (side.Scalar (Known a))) e p = where_holds g _ at number (where_not g (is_between s.low a.number s.high) at rule.OutOfRange (λ k. fine (expr.Constant t a.number) (known_given t s a e k)))
       scalar_given number t s at (Some (side.Scalar (Run b f))) e p = where_holds g _ at number (fine f (run_given t s b f e p))
@@ -632,7 +632,7 @@ module _ (x : Context) (ws : List Ty) (h : TypesTyped x.home.types) where
       scalar_given number t s at (Some (side.Routine u f)) e p = reported_holds g at number
       scalar_given number t s at (Some (side.Procedure f)) e p = reported_holds g at number
 
-      set_given : (broken : Rule) (t : TypeNo) (at : Pos) (v : Option Side) → scalar_at types t ≡ None → SideTyped v → Given_ t (set_suited g broken at v)
+      set_given : (which : Rule) (t : TypeNo) (at : Pos) (v : Option Side) → scalar_at types t ≡ None → SideTyped v → Given_ t (set_suited g which at v)
       set_given number t at None e p = reported_holds g at number
       set_given number t at (Some (side.Scalar a)) e p = reported_holds g at number
       set_given number t at (Some (side.Set f)) e p = fine f (given_among t p.of f p.typed (among_words types p.of t p.word e))
@@ -646,7 +646,7 @@ module _ (x : Context) (ws : List Ty) (h : TypesTyped x.home.types) where
       one_heading : (a b : Heading) → Some a ≡ Some b → a ≡ b
       one_heading a b e = cc
 
-      procedure_given : (broken : Rule) (t : TypeNo) (at : Pos) (v : Option Side) (i : IsRoutine types t) → SideTyped v → Procedure_ i.heading (procedure_suited g broken scope t at v)
+      procedure_given : (which : Rule) (t : TypeNo) (at : Pos) (v : Option Side) (i : IsRoutine types t) → SideTyped v → Procedure_ i.heading (procedure_suited g which scope t at v)
       procedure_given number t at None e p = reported_holds g at number
       procedure_given number t at (Some (side.Scalar a)) e p = reported_holds g at number
       procedure_given number t at (Some (side.Set f)) e p = reported_holds g at number
@@ -662,7 +662,7 @@ module _ (x : Context) (ws : List Ty) (h : TypesTyped x.home.types) where
           fine (expr.Procedure f) (made.procedure_typed x ws f e.heading p (two ∙ ap (λ (z : Heading). Some z) (sym (j.same (known_trees types))) ∙ sym one ∙ e.is)))
 
       -- and as one of its own type, the values of which are the same numbers
-      routine_given : (broken : Rule) (t : TypeNo) (at : Pos) (v : Option Side) → scalar_at types t ≡ None → SideTyped v → Given_ t (procedure_suited g broken scope t at v)
+      routine_given : (which : Rule) (t : TypeNo) (at : Pos) (v : Option Side) → scalar_at types t ≡ None → SideTyped v → Given_ t (procedure_suited g which scope t at v)
       unfolding routine_some named_some
       routine_given number t at None e p = reported_holds g at number
       routine_given number t at (Some (side.Scalar a)) e p = reported_holds g at number
@@ -673,26 +673,26 @@ module _ (x : Context) (ws : List Ty) (h : TypesTyped x.home.types) where
           let j = agree_one (signature_at scope t) (signature_at scope f.heading) k in
           fine (expr.Procedure f) (given_among t f.heading (expr.Procedure f) (named_some f j.second p j.other).typed (among_words types f.heading t (heading_is types f.heading j.second (signature_known scope types grows f.heading j.second j.other)) e)))
 
-      value_given : (broken : Rule) (t : TypeNo) (at : Pos) (v : Option Side) (c : Class) → ClassIs types t c → SideTyped v → Given_ t (value_in g broken scope t at v c)
-      value_given broken t at v (class.Scalar s) e p = scalar_given broken t s at v e p
-      value_given broken t at v class.Set e p = set_given broken t at v e.none p
-      value_given broken t at v class.Procedure e p = routine_given broken t at v e.none p
-      value_given broken t at v class.Whole e p = reported_holds g at broken
+      value_given : (which : Rule) (t : TypeNo) (at : Pos) (v : Option Side) (c : Class) → ClassIs types t c → SideTyped v → Given_ t (value_in g which scope t at v c)
+      value_given which t at v (class.Scalar s) e p = scalar_given which t s at v e p
+      value_given which t at v class.Set e p = set_given which t at v e.none p
+      value_given which t at v class.Procedure e p = routine_given which t at v e.none p
+      value_given which t at v class.Whole e p = reported_holds g at which
 
-      pub suited_typed : (broken : Rule) (t : TypeNo) (at : Pos) (v : Computed) → ValueTyped x ws v → Given_ t (value_suited g broken scope t at v)
-      suited_typed broken t at v p = value_given broken t at (side_of v) (class_at scope t) (class_is scope types grows t) (side_typed v p)
+      pub suited_typed : (which : Rule) (t : TypeNo) (at : Pos) (v : Computed) → ValueTyped x ws v → Given_ t (value_suited g which scope t at v)
+      suited_typed which t at v p = value_given which t at (side_of v) (class_at scope t) (class_is scope types grows t) (side_typed v p)
 
-      place_suited : (broken : Rule) (t : TypeNo) (at : Pos) (v : Option Side) (c : Class) → ClassIs types t c → SideTyped v → Holds (IsSuited t) (value_in g broken scope t at v c)
-      place_suited broken t at v (class.Scalar s) e p = holds_weaker (λ f k. SuitsCell (ranged_cell types h t s e) k) (scalar_given broken t s at v e p)
-      place_suited broken t at v class.Set e p = holds_weaker (λ f k. SuitsCell (bits_cell types t e) k) (set_given broken t at v e.none p)
-      place_suited broken t at v class.Procedure e p = holds_weaker (λ f k. SuitsProcedure e k) (procedure_given broken t at v e p)
-      place_suited broken t at v class.Whole e p = reported_holds g at broken
+      place_suited : (which : Rule) (t : TypeNo) (at : Pos) (v : Option Side) (c : Class) → ClassIs types t c → SideTyped v → Holds (IsSuited t) (value_in g which scope t at v c)
+      place_suited which t at v (class.Scalar s) e p = holds_weaker (λ f k. SuitsCell (ranged_cell types h t s e) k) (scalar_given which t s at v e p)
+      place_suited which t at v class.Set e p = holds_weaker (λ f k. SuitsCell (bits_cell types t e) k) (set_given which t at v e.none p)
+      place_suited which t at v class.Procedure e p = holds_weaker (λ f k. SuitsProcedure e k) (procedure_given which t at v e p)
+      place_suited which t at v class.Whole e p = reported_holds g at which
 
-      pub place_suited_typed : (broken : Rule) (t : TypeNo) (at : Pos) (v : Computed) → ValueTyped x ws v → Holds (IsSuited t) (value_suited g broken scope t at v)
-      place_suited_typed broken t at v p = place_suited broken t at (side_of v) (class_at scope t) (class_is scope types grows t) (side_typed v p)
+      pub place_suited_typed : (which : Rule) (t : TypeNo) (at : Pos) (v : Computed) → ValueTyped x ws v → Holds (IsSuited t) (value_suited g which scope t at v)
+      place_suited_typed which t at v p = place_suited which t at (side_of v) (class_at scope t) (class_is scope types grows t) (side_typed v p)
 
-      pub procedure_suited_typed : (broken : Rule) (t : TypeNo) (at : Pos) (v : Computed) (i : IsRoutine types t) → class_at scope t ≡ class.Procedure → ValueTyped x ws v → Procedure_ i.heading (value_suited g broken scope t at v)
-      procedure_suited_typed broken t at v i q p = subst (λ (c : Class). Procedure_ i.heading (value_in g broken scope t at (side_of v) c)) (sym q) (procedure_given broken t at (side_of v) i (side_typed v p))
+      pub procedure_suited_typed : (which : Rule) (t : TypeNo) (at : Pos) (v : Computed) (i : IsRoutine types t) → class_at scope t ≡ class.Procedure → ValueTyped x ws v → Procedure_ i.heading (value_suited g which scope t at v)
+      procedure_suited_typed which t at v i q p = subst (λ (c : Class). Procedure_ i.heading (value_in g which scope t at (side_of v) c)) (sym q) (procedure_given which t at (side_of v) i (side_typed v p))
 
       -- ---- components
 
