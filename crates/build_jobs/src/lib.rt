@@ -1,10 +1,10 @@
-//! The two rounds of a build's jobs, over threads: files are read, and then the modules of their graph are compiled. What
-//! a job does stands in `build_jobs` and `build_jobs`.
+//! The jobs of a build, and the two rounds in which workers make them.
 //!
-//! Texts to trees: what is read of a text.
+//! - The first round reads files: of each text come its tree or its refusal (`read_text`).
+//! - The second round compiles the modules of their graph. What becomes of a module is a function of what became of those
+//!   that it needs: a definition gives its table, a body its module, and either may break a rule (`compile`).
 //!
-//! What becomes of a module, from what became of those that it needs: the table of a definition, the module of a body, or
-//! the rule that it breaks. This is what a job of a build does; threads are not known here.
+//! `Runner` hands both rounds to the workers of `m2_pool`. What a single job does knows nothing of threads.
 #![tactic(auto)]
 
 mod contents;

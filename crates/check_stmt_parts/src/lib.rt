@@ -1,6 +1,7 @@
-//! The steps of checking the statements of bodies: each elaborates one form of a statement, of parts that are known.
+//! One step of checking a statement: each function elaborates one form of a statement, of parts that are known.
 //!
-//! The values of labels: ranges of whole numbers, no two of which have a value in common.
+//! The labels of a CASE are ranges of whole numbers, no two of which may have a value in common: `Ranges` keeps them in a
+//! search tree.
 #![tactic(auto)]
 
 mod around;

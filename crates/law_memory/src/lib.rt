@@ -1,12 +1,10 @@
-//! Memory that holds a store: where the variables that live stand, and what reading and writing their cells does. There is
-//! no code here but what names the laws.
+//! Memory that holds a store, and what the helpers do with it. There is no code here but what names the laws.
 //!
 //! - `specs/Cells` says what code does with a cell; the sizes of types and the offsets of components stand in `m2_layout`.
 //! - `specs/Relation` says when a memory holds a store: the instances that live stand one after another from address 0.
 //! - `specs/Laws` says what holds after a read, a write, a copy, a call's begin and its end.
-//!
-//! What calls of the helpers do: copy, fill, check, div and mod, and calls through the table. There is no code here but
-//! what names the laws, which `specs/Called` states.
+//! - `specs/Called` says what calls of copy, fill, check, div and mod do, and calls through the table.
+//! - `specs/Bodies` says where a run of the function leads that calls the bodies of all modules.
 #![tactic(auto)]
 
 ghost use Rattle.law_memory.specs.Laws.{Assigns, Begins, Copies, CopiesArgument, Ends, Reads, ReadsAddress, ReadsLink, ReadsProcedure, Starts, WritesHidden};

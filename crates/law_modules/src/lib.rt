@@ -1,4 +1,6 @@
-//! Why the modules of well formed programs are valid. There is no code here but what names the laws.
+//! Why the modules of well formed programs are valid, and why they link. There is no code here but what names the laws.
+//!
+//! Valid modules:
 //!
 //! - `specs/WellFormed` says what stands in a typed tree whose every construct has code, and `specs/Valid` what is valid.
 //! - `proofs/Leading` has instructions in a row, `proofs/Fits` code in the making, and `proofs/Parts` its fixed pieces.
@@ -7,16 +9,15 @@
 //! - `proofs/Numbers` has the numbers of types of functions, `proofs/Own` what a module has, `proofs/Functions` its
 //!   functions, `proofs/Modules` the whole, and `proofs/LinkModule` the module link.
 //!
-//! Why the modules of a program link. There is no code here but what names the law.
+//! Linked modules:
 //!
 //! - `specs/Linked` says what stands in the store once link and the bodies are linked, and which programs have room for it.
 //! - `proofs/Stores` has one module more in such a store, and what stands where; `proofs/Links` links the module link and
 //!   answers a body's imports; `proofs/Placed` puts its functions into the table and its texts into the memory.
 //!
-//! Types whose ranges are ranges of the language. There is no code here but what names the law.
+//! Types whose ranges are ranges of the language:
 //!
-//! - `specs/Ranges` says what such ranges are.
-//! - `proofs/Known` finds the range of a type that is known.
+//! - `specs/Ranges` says what such ranges are, and `proofs/Known` finds the range of a type that is known.
 #![tactic(auto)]
 
 ghost use Rattle.law_modules.specs.Linked.{ModulesLink};

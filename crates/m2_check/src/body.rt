@@ -1,4 +1,4 @@
-//! Program and implementation modules, checked.
+//! Program and implementation modules, checked in any way of elaborating statements.
 
 ghost use Rattle.std.specs.Prelude.{◌≡◌, None, IfOk};
 ghost use Rattle.std.specs.Option.{option_copied};

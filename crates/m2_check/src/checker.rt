@@ -1,4 +1,4 @@
-//! Program and implementation modules, checked.
+//! Program and implementation modules, checked with the statements of their bodies.
 
 ghost use Rattle.std.specs.Prelude.{◌≡◌, IfOk};
 ghost use Rattle.std.specs.Option.{option_copied};

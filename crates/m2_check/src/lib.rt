@@ -1,9 +1,9 @@
-//! Program and implementation modules, checked with the statements of their bodies.
+//! The checker of bodies: program and implementation modules, with their procedures at every depth.
 //!
-//! Program and implementation modules as wholes: what is known where they begin, and the typed module of their bodies.
-//!
-//! Program and implementation modules: their bodies and those of their procedures, checked in the scopes in which they
-//! stand. How statements are elaborated is handed in.
+//! `check` answers the typed module of a body, or the least rule that it breaks. It begins in the scope in which the body
+//! stands: what an implementation knows of its own definition, and what the modules export that it imports. Then it goes
+//! through imports, declarations, procedures and statements in order. `check_with` does the same for any way of
+//! elaborating statements, which is handed in.
 #![tactic(auto)]
 
 mod body;

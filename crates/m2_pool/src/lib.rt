@@ -2,10 +2,9 @@
 //!
 //! [`run_jobs`] answers a result for each job, in job order, and who had which job. Each result is one that the work's own
 //! definition gives for its job from results of its prerequisites, for every number of workers, every gate and every
-//! schedule. The board on which the workers claim the jobs is that of `pool_board`, and what one worker does is that of
-//! `pool_board`: their public items that callers need are passed on. Here the jobs are dealt, the workers run on threads,
-//! and the results are gathered: those that the workers handed back are shown by their notes to stand on one another, and
-//! what is left is run.
+//! schedule. The board on which workers claim jobs, and what one worker does, stand in `pool_board`: those of its public
+//! items that callers need are passed on. Here the jobs are dealt, the workers run on threads, and the results are gathered:
+//! those that the workers handed back are shown by their notes to stand on one another, and what is left is run.
 #![tactic(auto)]
 
 mod gather;

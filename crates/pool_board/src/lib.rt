@@ -1,15 +1,14 @@
-//! A board on which threads claim jobs, each job once, and count down what a job waits for.
+//! The board on which threads claim jobs, and what one worker does with the jobs that it claims.
 //!
-//! A board is opened for a graph of jobs and gives out seats, one for each worker. A worker claims a job by its seat,
-//! and counts each edge of a job that it has down: the count that ends a job's waiting is answered so. No call waits, no lock
-//! is taken, and no call but those that make a graph or a board asks for memory.
+//! A board is opened for a graph of jobs and gives out seats, one for each worker. A worker claims a job by its seat, each
+//! job once, and counts down each edge of a job that it has: the count that ends a job's waiting is answered so. No call
+//! waits, no lock is taken, and no call but those that make a graph or a board asks for memory.
 //!
-//! What one worker does with the jobs of a work: it takes them from deques, claims them on the board, runs those that it
-//! gets, and publishes each result in the cell of its job, in which other workers find it.
-//!
-//! What a worker finds in a cell it takes as it is: it compares nothing. With what it ran it hands back notes of the
-//! cells that it read and of the cell that it set. From these whoever gathers the results can tell, once the workers
-//! have ended, that each stands on results of this very run. This crate starts no thread: `m2_pool` does.
+//! A worker takes jobs from deques, claims them on the board, runs those that it gets, and publishes each result in the
+//! cell of its job, in which other workers find it. What it finds in a cell it takes as it is: it compares nothing. With
+//! what it ran it hands back notes of the cells that it read and of the cell that it set. From these whoever gathers the
+//! results can tell, once the workers have ended, that each stands on results of this very run. This crate starts no
+//! thread: `m2_pool` does.
 #![tactic(auto)]
 
 mod board;

@@ -1,7 +1,7 @@
-//! WebAssembly instructions as bytes (Core 1.0, section 5.4), in this project's profile.
+//! WebAssembly code as bytes (Core 1.0, section 5.4), in this project's profile, and what all bytes of modules are made of.
 //!
-//! What the bytes of WebAssembly modules are made of (Core 1.0, section 5): numbers, names, parts that state their sizes, and
-//! a buffer that they are written to.
+//! That is: numbers, names and parts that state their sizes (Core 1.0, sections 5.1 and 5.2), and the buffer to which a
+//! `Writer` appends bytes.
 #![tactic(auto)]
 
 mod code;

@@ -1,6 +1,7 @@
-//! Valid WebAssembly modules (Core 1.0, section 3), in this project's profile.
+//! Which WebAssembly modules are valid, and which code in them (Core 1.0, section 3), in this project's profile.
 //!
-//! Which code is valid (Core 1.0, section 3.3), in this project's profile.
+//! `validate` decides it of modules. `check_body` and `check_constant` decide it of code, given a `Scope`: what the code
+//! may name.
 #![tactic(auto)]
 
 mod body;
