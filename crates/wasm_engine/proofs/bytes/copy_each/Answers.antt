@@ -1,4 +1,4 @@
-use Rattle.std.proofs.Common.{◌+◌, ◌∙◌, arith}
+use Rattle.std.proofs.Common.{◌∙◌, arith}
 use Rattle.std.proofs.lemmas.List.{length-set}
 use Rattle.wasm_engine.proofs.Copying.{copy_more, copy_done}
 use Rattle.wasm_engine.proofs.bytes.copy_each.Goals as goal
