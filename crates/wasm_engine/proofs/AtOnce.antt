@@ -5,14 +5,15 @@ use Rattle.std.specs.Prelude.{slice_index_or, Result, Ok, Err, IfOk}
 use Rattle.std.proofs.lemmas.List.{append-nil, map-set}
 use Rattle.std.proofs.lemmas.Option.{none-some, same_Some}
 use Rattle.std.proofs.Common.{⊎_elim, Option, None, ◌*◌, ◌<◌, ◌≤◌, ◌^◌}
-use Rattle.std.specs.Prelude.{slice_get, slice_set}
+use Rattle.std.specs.Prelude.{max, slice_get, slice_set}
 use Rattle.std.specs.Option.{option_and_then, option_map}
 use Rattle.wasm_tree.specs.declared.store.Callee.{Callee}
 use Rattle.wasm_tree.specs.declared.store.Callee.TheVariants.{Own, Put, Stop}
 use Rattle.wasm_tree.specs.declared.store.Instance.{Instance}
-use Rattle.law_effect.specs.Bytes.{cleared_bytes}
+use Rattle.law_effect.specs.Bytes.{byte, cleared_bytes, copied_bytes}
 use Rattle.law_effect.proofs.Ways.{split_last-push}
 use Rattle.wasm_sound.proofs.Calls.{then_some}
+use Rattle.wasm_known.proofs.Copy.{copy_returns}
 use Rattle.wasm_known.proofs.Fill.{fill_returns}
 use Rattle.wasm_machine.specs.There.{IsThere}
 use Rattle.wasm_machine.proofs.Ready.{there_by}
@@ -32,12 +33,13 @@ use Rattle.wasm_machine.specs.declared.frame.Pages.{Pages}
 use Rattle.wasm_tree.specs.Linking.{type_of}
 use Rattle.wasm_tree.specs.declared.code.Op.{Op}
 use Rattle.wasm_tree.specs.declared.code.Op.TheVariants as op
-use Rattle.wasm_tree.specs.Code.{tree}
+use Rattle.wasm_tree.specs.Code.{tree, head, behind}
 use Rattle.wasm_tree.proofs.Flat.{tree_front}
-use Rattle.wasm_tree.specs.Machine.{Activation, Config, Going, Progress, Typed, top_i32, top_i64, callee_at, instance_of, memory_of, reduce, run}
-use Rattle.wasm_sound.specs.Ready.{IsI64, AreI32, AreI64}
+use Rattle.wasm_machine.proofs.Fronts.{first, others, reduced_end, reduced_front}
+use Rattle.wasm_tree.specs.Machine.{Activation, Config, Going, Progress, Typed, begun, ended, split_last, top_i32, top_i64, callee_at, instance_of, memory_of, reduce, run}
+use Rattle.wasm_sound.specs.Ready.{IsI32, IsI64, AreI32, AreI64}
 use Rattle.law_effect.proofs.Steps.{top_32, top_64}
-use Rattle.wasm_known.specs.Codes.{check_typed, div_typed, fill_typed, mod_typed}
+use Rattle.wasm_known.specs.Codes.{check_typed, copy_typed, div_typed, fill_typed, mod_typed}
 use Rattle.wasm_known.specs.Known.{with, bounded, Leads}
 use Rattle.wasm_known.specs.declared.table.KnownFunction.{KnownFunction}
 use Rattle.wasm_known.specs.declared.table.KnownFunction.TheVariants as kind
@@ -49,7 +51,7 @@ use Rattle.wasm_known.proofs.Computed.{computed}
 use Rattle.wasm_known.proofs.Check.{check_returns, bounds_return}
 use Rattle.wasm_known.proofs.Divide.{div_returns, mod_returns}
 use Rattle.wasm_machine.specs.Well.{IsWell}
-use Rattle.wasm_engine.specs.Quick.{Holds, Goes, IsBetween, HasFour, Checked, IsQuotient, IsRemainder, Replaced, Changed, memory_place}
+use Rattle.wasm_engine.specs.Quick.{Holds, Goes, IsBetween, HasFour, HasThree, Checked, IsQuotient, IsRemainder, Reaches, Replaced, Changed, memory_place}
 use Rattle.wasm_engine.proofs.WellKept.{ran}
 use Rattle.wasm_engine.proofs.Runs.{run-plus, run-zero, followed}
 use Rattle.wasm_engine.proofs.Taken.{IsLast, last_or_none, top_is, popped}
@@ -283,6 +285,14 @@ once_made (Ok p) modules old mid m n none g h =
     h.1 ∙ (ap (run modules 1) same ∙ ap (λ (k : ℕ). run modules k old) (sym h.0))
 once_made (Err e) modules old mid m n none g h = tt
 
+-- one reduction, at the end of code and at its front
+module _ (modules : List WModule) (st : Store) (now : Activation) (callers : List Activation) (ops : List Op) (is : now.rest ≡ tree ops) where
+  pub end_made : (r : Reduced) (m : Machine) → length ops < 1 → progress r m ≡ ended st now callers (split_last now.labels) → progress r m ≡ run modules 1 (Going st now callers)
+  end_made r m none e = reduced_end modules st now callers ops is {E = ℕ} (Ok r) m none e ∙ sym (run_one modules (Going st now callers))
+
+  pub front_made : (r : Reduced) (m : Machine) → 1 ≤ length ops → progress r m ≡ begun modules st (record now { rest = tree (behind (first ops) (others ops)) }) callers (head tree (first ops) (others ops)) → progress r m ≡ run modules 1 (Going st now callers)
+  front_made r m some e = reduced_front modules st now callers ops is {E = ℕ} (Ok r) m some e ∙ sym (run_one modules (Going st now callers))
+
 -- the table speaks of functions and instances alone
 module _ (modules : List WModule) (st : Store) (ms : List Memory) (gs : List Value) where
   abbrev filled : Store
@@ -340,6 +350,50 @@ narrow_of (a ∷ b ∷ []) e =
     (x.0, y.0, same_narrow a b x.0 y.0 x.1 y.1)
 narrow_of (a ∷ b ∷ x ∷ xs) e = let l : suc (suc (suc (length (map type_of xs)))) ≡ 2 = ap length e in absurd (omega (arith, l))
 
+-- ---- copy
+
+same_three : (a b c : Value) (x y z : ℕ) → a ≡ I32 x → b ≡ I32 y → c ≡ I32 z → a ∷ b ∷ c ∷ [] ≡ I32 x ∷ I32 y ∷ I32 z ∷ []
+same_three a b c x y z e f g = rw (e, f, g) refl
+
+abbrev three_types : List ValueType
+three_types = types.I32 ∷ types.I32 ∷ types.I32 ∷ []
+
+three_of : (args : List Value) → map type_of args ≡ three_types → (x y z : ℕ) × (args ≡ I32 x ∷ I32 y ∷ I32 z ∷ [])
+three_of [] e = let l : 0 ≡ 3 = ap length e in absurd (omega (arith, l))
+three_of (a ∷ []) e = let l : 1 ≡ 3 = ap length e in absurd (omega (arith, l))
+three_of (a ∷ b ∷ []) e = let l : 2 ≡ 3 = ap length e in absurd (omega (arith, l))
+three_of (a ∷ b ∷ c ∷ []) e =
+    let x = i32_at a (ap (λ (ts : List ValueType). slice_index_or ts 0 types.I64) e) in
+    let y = i32_at b (ap (λ (ts : List ValueType). slice_index_or ts 1 types.I64) e) in
+    let z = i32_at c (ap (λ (ts : List ValueType). slice_index_or ts 2 types.I64) e) in
+    (x.0, y.0, z.0, same_three a b c x.0 y.0 z.0 x.1 y.1 z.1)
+three_of (a ∷ b ∷ c ∷ x ∷ xs) e = let l : suc (suc (suc (suc (length (map type_of xs))))) ≡ 3 = ap length e in absurd (omega (arith, l))
+
+third_narrow : (s : List Value) → HasThree s → IsI32 s
+third_narrow s h = (h.0 ++ I32 h.1 ∷ I32 h.2 ∷ [], h.3, h.4 ∙ sym (append_assoc h.0 (I32 h.1 ∷ I32 h.2 ∷ []) (I32 h.3 ∷ [])))
+
+two_narrow : (s t : List Value) (n : ℕ) → top_i32 s ≡ Some (t, n) → HasThree s → AreI32 t
+two_narrow s t n e h =
+    let under : List Value = h.0 ++ I32 h.1 ∷ I32 h.2 ∷ [] in
+    let found : List Value × ℕ = (under, h.3) in
+    let wanted : List Value × ℕ = (t, n) in
+    let whole : s ≡ under ++ I32 h.3 ∷ [] = h.4 ∙ sym (append_assoc h.0 (I32 h.1 ∷ I32 h.2 ∷ []) (I32 h.3 ∷ [])) in
+    let same : found ≡ wanted = same_Some found wanted (sym (ap top_i32 whole ∙ top_32 under h.3) ∙ e) in
+    (h.0, h.1, h.2, sym (ap (λ (p : List Value × ℕ). p.0) same))
+
+pub topmost_narrow : (s : List Value) → ∥ HasThree s ∥₁ → ∥ IsI32 s ∥₁
+topmost_narrow s h = ∥∥₁_map h (third_narrow s)
+
+pub lower_narrow : (s t : List Value) (n : ℕ) → ∥ HasThree s ∥₁ → top_i32 s ≡ Some (t, n) → ∥ AreI32 t ∥₁
+lower_narrow s t n h e = ∥∥₁_map h (two_narrow s t n e)
+
+-- the three on top, taken one by one
+three_taken : (s t u w : List Value) (k from to : ℕ) → top_i32 s ≡ Some (t, k) → top_i32 t ≡ Some (u, from) → top_i32 u ≡ Some (w, to) → s ≡ w ++ I32 to ∷ [] ++ I32 from ∷ [] ++ I32 k ∷ []
+three_taken s t u w k from to e f g = rw (narrow_top s t k e, narrow_top t u from f, narrow_top u w to g) refl
+
+three_on : (w : List Value) (to from k : ℕ) → w ++ I32 to ∷ [] ++ I32 from ∷ [] ++ I32 k ∷ [] ≡ w ++ I32 to ∷ I32 from ∷ I32 k ∷ []
+three_on w to from k = ap (λ (l : List Value). l ++ I32 k ∷ []) (append_assoc w (I32 to ∷ []) (I32 from ∷ [])) ∙ append_assoc w (I32 to ∷ I32 from ∷ []) (I32 k ∷ [])
+
 memory_found : (st : Store) (own place : ℕ) (memory : Memory) → memory_place st own ≡ Some place → slice_get st.memories place ≡ Some memory → memory_of st own ≡ Some (place, memory)
 memory_found st own place memory e f =
     let i = then_some (λ (j : Instance). slice_get j.memories 0) (instance_of st own) place e in
@@ -376,10 +430,41 @@ module _ (modules : List WModule) (st : Store) (now : Activation) (callers : Lis
       let stack : now.stack ≡ u ++ I32 to ∷ I32 k ∷ [] = narrow_top now.stack t k top ∙ (ap (λ (l : List Value). l ++ I32 k ∷ []) (narrow_top t u to under) ∙ append_assoc u (I32 to ∷ []) (I32 k ∷ [])) in
       to_progress _ _ (λ a.
       let mine : a.0 ≡ own = same_module g a.0 a.1.function own f a.1.callee at in
-      let leads = fill_returns modules st now callers g a.0 a.1.function a.1.type h.0 h.1 a.1.callee a.1.typed (ap (memory_of st) mine ∙ memory_found st own h.0 h.1 h.2 h.3) to k u rest h.4 h.5 in
-      ap (λ (l : List Memory). (Going (record st { memories = l }) (with now rest u) callers, [])) h.6
+      let leads = fill_returns modules st now callers g a.0 a.1.function a.1.type h.0 h.1.memory a.1.callee a.1.typed (ap (memory_of st) mine ∙ memory_found st own h.0 h.1.memory h.1.at h.1.there) to k u rest h.1.reaches h.1.fits in
+      ap (λ (l : List Memory). (Going (record st { memories = l }) (with now rest u) callers, [])) h.2
       ∙ (sym leads.path ∙ ap (λ (x : Activation). run modules (k * 16 + 7) (Going st x callers)) (ap₂ (λ (c : List Instr) (s : List Value). with now c s) (sym e) (sym stack))
       ∙ ap (λ (j : ℕ). run modules (j * 16 + 7) (Going st now callers)) (sym size))) m
+
+  copy_there : (g own : ℕ) (rest : List Instr) → now.rest ≡ instr.Call g ∷ rest → Stands modules st now.instance g own copy_typed → IsWell modules (Going st now callers) → HasThree now.stack
+  copy_there g own rest e h w =
+      let a = arguments modules st now callers w.sound g own h.function rest (copy_typed h.type) e h.callee h.typed in
+      let f = three_of a.1 a.3 in
+      (a.0, f.0, f.1, f.2, a.2 ∙ ap (λ (l : List Value). a.0 ++ l) f.3)
+
+  pub copy_callee : (g : ℕ) → ∥ Means modules st now.instance g kind.Copy ∥₁ → IsThere (callee_at st now.instance g)
+  copy_callee g m = there_by (callee_at st now.instance g) (λ (h : Means modules st now.instance g kind.Copy). (Own h.0 h.1.function, h.1.callee)) m
+
+  pub has_copy : (g : ℕ) (rest : List Instr) → now.rest ≡ instr.Call g ∷ rest → ∥ Means modules st now.instance g kind.Copy ∥₁ → ∥ IsWell modules (Going st now callers) ∥₁ → ∥ HasThree now.stack ∥₁
+  has_copy g rest e m w = ∥∥₁_elim m squashed (λ h. ∥∥₁_map w (λ a. copy_there g h.0 rest e h.1 a))
+
+  pub did_copy : (g own f : ℕ) (rest : List Instr) (t u w : List Value) (to from k n : ℕ) (ms : List Memory) (done : Bool) → n ≡ k → now.rest ≡ instr.Call g ∷ rest → ∥ Means modules st now.instance g kind.Copy ∥₁ → callee_at st now.instance g ≡ Some (Own own f)
+      → top_i32 now.stack ≡ Some (t, k) → top_i32 t ≡ Some (u, from) → top_i32 u ≡ Some (w, to) → done ≡ true → Changed done st own (max to from + k) (copied_bytes k to from) st.memories ms
+      → Goes modules (n * 21 + 7) (Going st now callers) (Going (record st { memories = ms }) (with now rest w) callers)
+  did_copy g own f rest t u w to from k n ms false size e m at top under lowest is h = absurd (cc is)
+  did_copy g own f rest t u w to from k n ms true size e m at top under lowest is h =
+      let stack : now.stack ≡ w ++ I32 to ∷ I32 from ∷ I32 k ∷ [] = three_taken now.stack t u w k from to top under lowest ∙ three_on w to from k in
+      let reach = h.1.reaches in
+      let target : to + k ≤ length h.1.memory.bytes = omega (arith, reach) in
+      let source : from + k ≤ length h.1.memory.bytes = omega (arith, reach) in
+      to_progress _ _ (λ a.
+      let mine : a.0 ≡ own = same_module g a.0 a.1.function own f a.1.callee at in
+      let leads = copy_returns modules st now callers g a.0 a.1.function a.1.type h.0 h.1.memory a.1.callee a.1.typed (ap (memory_of st) mine ∙ memory_found st own h.0 h.1.memory h.1.at h.1.there) to from k w rest target source h.1.small h.1.fits in
+      ap (λ (l : List Memory). (Going (record st { memories = l }) (with now rest w) callers, [])) h.2
+      ∙ (sym leads.path ∙ ap (λ (x : Activation). run modules (k * 21 + 7) (Going st x callers)) (ap₂ (λ (c : List Instr) (s : List Value). with now c s) (sym e) (sym stack))
+      ∙ ap (λ (j : ℕ). run modules (j * 21 + 7) (Going st now callers)) (sym size))) m
+
+  pub three_back : (t u w last : List Value) (to from k : ℕ) → top_i32 now.stack ≡ Some (t, k) → top_i32 t ≡ Some (u, from) → top_i32 u ≡ Some (w, to) → last ≡ w ++ I32 to ∷ [] ++ I32 from ∷ [] ++ I32 k ∷ [] → last ≡ now.stack
+  three_back t u w last to from k top under lowest e = e ∙ sym (three_taken now.stack t u w k from to top under lowest)
 
   pub narrow_back : (t u last : List Value) (to k : ℕ) → top_i32 now.stack ≡ Some (t, k) → top_i32 t ≡ Some (u, to) → last ≡ u ++ I32 to ∷ [] ++ I32 k ∷ [] → last ≡ now.stack
   narrow_back t u last to k top under e = e ∙ (ap (λ (l : List Value). l ++ I32 k ∷ []) (sym (narrow_top t u to under)) ∙ sym (narrow_top now.stack t k top))
@@ -397,17 +482,32 @@ there_at [] a m h e = absurd (omega arith)
 there_at (x ∷ xs) zero m h e = ap (λ (p : Pages). Some (memory_from p)) (sym e)
 there_at (x ∷ xs) (suc a) m h e = there_at xs a m (omega arith) e
 
+-- a memory that reaches so far
+found_there : (old : List Pages) (a : ℕ) (m : Pages) → Some m ≡ slice_get old a → (a < length old) × (slice_get (map memory_from old) a ≡ Some (memory_from m))
+found_there [] a m e = absurd (none-some m (sym e))
+found_there (x ∷ xs) zero m e = (omega arith, ap (λ (p : Pages). Some (memory_from p)) (sym (same_Some m x e)))
+found_there (x ∷ xs) (suc a) m e = let rest = found_there xs a m e in (omega (arith, rest.0), rest.1)
+
+pub reaching : (st : Store) (own reach : ℕ) (memories : List Pages) (place : ℕ) (found : Pages) (seen : List ℕ) (size : ℕ) → memory_place st own ≡ Some place → Some found ≡ slice_get memories place → seen ≡ found.bytes.items
+    → size ≡ length seen → ((a : ℕ) → byte a seen < 256) → size < 2 ^ 32 → reach ≤ size → (place < length memories) × Reaches st own reach (map memory_from memories) place
+reaching st own reach memories place found seen size at is same counted bytes fits reaches =
+    let here = found_there memories place found is in
+    let long : size ≡ length found.bytes.items = counted ∙ ap length same in
+    let small : (a : ℕ) → byte a found.bytes.items < 256 = subst (λ (l : List ℕ). (a : ℕ) → byte a l < 256) same bytes in
+    (here.0, record { memory = memory_from found; at = at; there = here.1; reaches = omega (arith, long, reaches); fits = omega (arith, long, fits); small = small })
+
 -- a memory of which the bytes were changed
-pub changed_by : (st : Store) (own place reach : ℕ) (change : List ℕ → List ℕ) (old : List Pages) (seen first new : Pages) (size : ℕ) → memory_place st own ≡ Some place → place < length old → seen ≡ slice_index_or old place seen → first ≡ slice_index_or old place first
-    → size ≡ length seen.bytes.items → reach ≤ size → size < 2 ^ 32 → memory_from new ≡ record (memory_from first) { bytes = change first.bytes.items }
-    → Changed true st own reach change (map memory_from old) (map memory_from (slice_set old place new))
-changed_by st own place reach change old seen first new size at within is_seen is_first long reaches small changed =
-    let there = there_at old place first within is_first in
-    let same : memory_from seen ≡ memory_from first = same_Some (memory_from seen) (memory_from first) (sym (there_at old place seen within is_seen) ∙ there) in
-    let length_same : length seen.bytes.items ≡ length first.bytes.items = ap (λ (m : Memory). length m.bytes) same in
-    (place, memory_from first, at, there, omega (arith, long, length_same), omega (arith, long, length_same), map-set memory_from old place new ∙ ap (slice_set (map memory_from old) place) changed)
+pub changed_by : (st : Store) (own place asked reach : ℕ) (change : List ℕ → List ℕ) (seen old : List Pages) (first new : Pages) → asked ≡ reach → seen ≡ old → (place < length seen) × Reaches st own asked (map memory_from seen) place → first ≡ slice_index_or old place first
+    → memory_from new ≡ record (memory_from first) { bytes = change first.bytes.items } → Changed true st own reach change (map memory_from old) (map memory_from (slice_set old place new))
+changed_by st own place asked reach change seen old first new so_far same_list found is changed =
+    let both : (place < length old) × Reaches st own reach (map memory_from old) place =
+    subst (λ (n : ℕ). (place < length old) × Reaches st own n (map memory_from old) place) so_far (subst (λ (l : List Pages). (place < length l) × Reaches st own asked (map memory_from l) place) same_list found) in
+    let h = both.1 in
+    let same : memory_from first ≡ h.memory = same_Some (memory_from first) h.memory (sym (there_at old place first both.0 is) ∙ h.there) in
+    (place, h, map-set memory_from old place new ∙ ap (slice_set (map memory_from old) place) (changed ∙ ap (λ (m : Memory). record m { bytes = change m.bytes }) same))
 
 -- what is said of the store that has no memories yet
 pub changed_filled : (done : Bool) (st : Store) (ms : List Memory) (gs : List Value) (own reach : ℕ) (change : List ℕ → List ℕ) (old new : List Memory) → Changed done st own reach change old new → Changed done (record st { memories = ms; globals = gs }) own reach change old new
 changed_filled false st ms gs own reach change old new h = h
-changed_filled true st ms gs own reach change old new h = h
+changed_filled true st ms gs own reach change old new h =
+    (h.0, record { memory = h.1.memory; at = h.1.at; there = h.1.there; reaches = h.1.reaches; fits = h.1.fits; small = h.1.small }, h.2)

@@ -5,3 +5,4 @@ pub mod Taken
 pub mod AtOnce
 pub mod Held
 pub mod Clearing
+pub mod Copying

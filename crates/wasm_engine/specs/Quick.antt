@@ -1,25 +1,33 @@
 -- Several reductions at once.
-use Rattle.std.specs.Prelude.{◌≡◌, ◌≤◌, ◌<◌, ◌^◌, false, true, ℕ, Bool, List, [], ◌∷◌, ◌++◌, length, slice_get, slice_set, Option, Some}
+use Rattle.std.specs.Prelude.{◌≡◌, ◌≤◌, ◌<◌, ◌^◌, ◌+◌, false, true, ℕ, Bool, List, [], ◌∷◌, ◌++◌, length, slice_get, slice_set, Option, Some}
 use Rattle.std.specs.Option.{option_and_then}
 use Rattle.std.specs.Int.{w64}
 use Rattle.wasm_tree.specs.declared.module.WModule.{WModule}
 use Rattle.wasm_tree.specs.declared.instr.Operation.TheVariants.{DivS, RemS}
 use Rattle.wasm_tree.specs.declared.store.Value.{Value}
-use Rattle.wasm_tree.specs.declared.store.Value.TheVariants.{I64}
+use Rattle.wasm_tree.specs.declared.store.Value.TheVariants.{I32, I64}
 use Rattle.wasm_tree.specs.Numbers.{is_less, operated}
 use Rattle.wasm_tree.specs.declared.store.Instance.{Instance}
 use Rattle.wasm_tree.specs.declared.store.Memory.{Memory}
 use Rattle.wasm_tree.specs.declared.store.Store.{Store}
-use Rattle.wasm_tree.specs.Machine.{Config, instance_of, run}
+use Rattle.wasm_tree.specs.declared.instr.Instr.{Instr}
+use Rattle.wasm_tree.specs.Machine.{Config, Going, instance_of, run}
+use Rattle.law_effect.specs.Bytes.{byte}
 use Rattle.wasm_known.specs.declared.table.KnownFunction.{KnownFunction}
 use Rattle.wasm_known.specs.Known.{quotient_down, remainder_up}
 use Rattle.wasm_known.specs.Table.{StaysRight}
 use Rattle.wasm_machine.specs.Well.{IsWell}
+use Rattle.wasm_machine.specs.Going.{activation, store_of, callers_of}
+use Rattle.wasm_machine.specs.declared.frame.Machine.{Machine}
 
 -- what the engine keeps: where the run is is well typed, and the table of known functions is right there
 pub record Holds (modules : List WModule) (table : List (List KnownFunction)) (c : Config) : Type 0 where
   pub well : IsWell modules c
   pub right : StaysRight modules table c
+
+-- where a run is if its function goes on with other code
+abbrev pub going_at : Machine → List Instr → Config
+going_at m code = Going (store_of m) (record (activation m.now) { rest = code }) (callers_of m)
 
 -- so many reductions lead there, and print nothing
 abbrev pub Goes : List WModule → (n : ℕ) → (old new : Config) → Type 0
@@ -61,9 +69,21 @@ Replaced Is true old new = (below : List Value) × (x y n : ℕ) × (old ≡ bel
 abbrev pub memory_place : Store → (m : ℕ) → Option ℕ
 memory_place st m = option_and_then (λ (i : Instance). slice_get i.memories 0) (instance_of st m)
 
--- the bytes of a module's memory, which reaches so far and is no memory of 2^32 bytes, were changed, or all is as before
+-- the operands of copy are on top
+abbrev pub HasThree : List Value → Type 0
+HasThree stack = (below : List Value) × (to from k : ℕ) × (stack ≡ below ++ I32 to ∷ I32 from ∷ I32 k ∷ [])
+
+-- a module's memory, which stands at this place, reaches so far, and is no memory of 2^32 bytes
+pub record Reaches (st : Store) (own reach : ℕ) (memories : List Memory) (place : ℕ) : Type 0 where
+  pub memory : Memory
+  pub at : memory_place st own ≡ Some place
+  pub there : slice_get memories place ≡ Some memory
+  pub reaches : reach ≤ length memory.bytes
+  pub fits : length memory.bytes < 2 ^ 32
+  pub small : (a : ℕ) → byte a memory.bytes < 256
+
+-- the bytes of a module's memory, which reaches so far, were changed, or all is as before
 abbrev pub Changed : Bool → Store → (own reach : ℕ) → (List ℕ → List ℕ) → (old new : List Memory) → Type 0
 Changed false st own reach change old new = new ≡ old
 Changed true st own reach change old new =
-    (place : ℕ) × (memory : Memory) × (memory_place st own ≡ Some place) × (slice_get old place ≡ Some memory) × (reach ≤ length memory.bytes) × (length memory.bytes < 2 ^ 32)
-    × (new ≡ slice_set old place (record memory { bytes = change memory.bytes }))
+    (place : ℕ) × (found : Reaches st own reach old place) × (new ≡ slice_set old place (record found.memory { bytes = change found.memory.bytes }))

@@ -11,13 +11,13 @@ ghost use Rattle.wasm_known.specs.Table.{Means, IsRight, known_in};
 ghost use Rattle.wasm_known.specs.declared.table.KnownFunction.TheVariants as kind;
 ghost use Rattle.wasm_machine.specs.Well.{IsWell};
 ghost use Rattle.wasm_machine.specs.Going.{store_of, going, progress};
-ghost use Rattle.wasm_engine.specs.Quick.{Checked, Goes, HasFour, Holds, IsBetween, IsQuotient, IsRemainder, Replaced};
+ghost use Rattle.wasm_engine.specs.Quick.{Checked, Goes, HasFour, Holds, IsBetween, IsQuotient, IsRemainder, Replaced, going_at};
 
-use crate::bytes::cleared;
+use crate::bytes::{clear_bytes, copy_bytes};
 use sqlite_items::Items;
 use std::alloc::{AllocError, Global};
 use wasm_known::{KnownFunction, known_at};
-use wasm_machine::{Machine, Reduced, callee_at, reduce};
+use wasm_machine::{Machine, Reduced, begin, callee_at, end, reduce};
 use wasm_operands::{Operands, compares_64, operated, truth};
 use wasm_tree::{Callee, Op, Operation, Relation, first_of};
 use wasm_valid::ValidModule;
@@ -38,6 +38,11 @@ const MODULO: u64 = 32;
 const FILL_BYTE: u64 = 16;
 
 const FILL: u64 = 7;
+
+/// The same of copy.
+const COPY_BYTE: u64 = 21;
+
+const COPY: u64 = 7;
 
 const LEAST_DIVISOR: u64 = 1;
 
@@ -348,12 +353,69 @@ fn fill_at_once<'a>(
         give_back(&mut machine.now.stack, to, count)?;
         return Ok(0);
     }
-    let done = cleared(&machine.store, &mut machine.memories, module, to, count);
+    let done = clear_bytes(&machine.store, &mut machine.memories, module, to, count);
     if done {
         machine.now.rest = rest;
         return Ok(reductions);
     }
     give_back(&mut machine.now.stack, to, count)?;
+    Ok(0)
+}
+
+/// Puts three numbers of 32 bits back on top.
+fn give_back_three(
+    stack: &mut Operands,
+    first: u32,
+    second: u32,
+    third: u32,
+) -> Result<(), AllocError>
+    ensures { OnOk result
+        (stack.new.known.values
+        ≡ stack.old.known.values ++ I32 first ∷ [] ++ I32 second ∷ [] ++ I32 third ∷ []) }
+{
+    give_back(stack, first, second)?;
+    stack.push_i32(third)?;
+    Ok(())
+}
+
+/// Executes the call of copy that is next, if the bytes are in memory and have room there.
+fn copy_at_once<'a>(
+    modules: &'a [ValidModule],
+    machine: &mut Machine<'a>,
+    index: u32,
+    rest: &'a [Op],
+    most: u64,
+) -> Result<u64, AllocError>
+    requires next { tree machine.old.now.rest.now ≡ Call index ∷ tree rest.now }
+    requires known { ∥ Means modules.now (store_of machine.old) machine.old.now.instance index kind.Copy ∥₁ }
+    requires sound { ∥ IsWell modules.now (going machine.old) ∥₁ }
+    ensures within { IfOk result (λ n. n ≤ most) }
+    ensures goes { IfOk result (λ n. Goes modules.now n (going machine.old) (going machine.new)) }
+{
+    let Callee::Own { module, .. } = callee_at(&machine.store, machine.now.instance, index) else {
+        return Ok(0);
+    };
+    let count = machine.now.stack.pop_i32();
+    let from = machine.now.stack.pop_i32();
+    let to = machine.now.stack.pop_i32();
+    let reductions = u64::from(count) * COPY_BYTE + COPY;
+    if most < reductions {
+        give_back_three(&mut machine.now.stack, to, from, count)?;
+        return Ok(0);
+    }
+    let done = copy_bytes(
+        &machine.store,
+        &mut machine.memories,
+        module,
+        to,
+        from,
+        count,
+    );
+    if done {
+        machine.now.rest = rest;
+        return Ok(reductions);
+    }
+    give_back_three(&mut machine.now.stack, to, from, count)?;
     Ok(0)
 }
 
@@ -376,7 +438,8 @@ fn call_at_once<'a>(
         KnownFunction::Divide => divide_at_once(modules, machine, index, rest, most),
         KnownFunction::Modulo => modulo_at_once(modules, machine, index, rest, most),
         KnownFunction::Fill => fill_at_once(modules, machine, index, rest, most),
-        KnownFunction::Copy | KnownFunction::Other => Ok(0),
+        KnownFunction::Copy => copy_at_once(modules, machine, index, rest, most),
+        KnownFunction::Other => Ok(0),
     }
 }
 
@@ -413,6 +476,41 @@ fn once<'a>(
     Ok((1, reduced))
 }
 
+/// One or more reductions, up to this many, of a function that goes on with this code. It stands by itself, since few
+/// reductions come here.
+#[inline(never)]
+fn several_of<'a>(
+    alloc: Global,
+    modules: &'a [ValidModule],
+    table: &[Items<KnownFunction>],
+    machine: &mut Machine<'a>,
+    code: &'a [Op],
+    most: u64,
+) -> Result<(u64, Reduced), AllocError>
+    requires most { 0 < most }
+    requires sound { ∥ Holds modules.now table.now (going_at machine.old (tree code.now)) ∥₁ }
+    ensures within { IfOk result (λ p. (0 < p.0) × (p.0 ≤ most)) }
+    ensures made { IfOk result (λ p.
+        progress p.1 machine.new ≡ run modules.now p.0 (going_at machine.old (tree code.now))) }
+{
+    machine.now.rest = code;
+    let made = at_once(modules, table, machine, most)?;
+    if made > 0 {
+        return Ok((made, Reduced::On));
+    }
+    once(alloc, modules, machine)
+}
+
+/// Whether code that begins with this operation may be known: a call of a known function, or two constants in a row.
+#[inline(always)]
+fn may_be_known(table: &[Items<KnownFunction>], instance: usize, op: Op, rest: &[Op]) -> bool {
+    match op {
+        Op::Call(index) => !matches!(known_at(table, instance, index), KnownFunction::Other),
+        Op::I64Const(_) => matches!(rest, [Op::I64Const(_), ..]),
+        _ => false,
+    }
+}
+
 /// One or more reductions, up to this many.
 #[inline(always)]
 pub fn several<'a>(
@@ -427,9 +525,20 @@ pub fn several<'a>(
     ensures within { IfOk result (λ p. (0 < p.0) × (p.0 ≤ most)) }
     ensures made { IfOk result (λ p. progress p.1 machine.new ≡ run modules.now p.0 (going machine.old)) }
 {
-    let made = at_once(modules, table, machine, most)?;
-    if made > 0 {
-        return Ok((made, Reduced::On));
+    let code = machine.now.rest;
+    match code {
+        [] => {
+            let ended = end(machine)?;
+            Ok((1, ended))
+        }
+        [op, rest @ ..] => {
+            // Moved before the operation is looked at: then one jump serves this look and that of `begin`.
+            machine.now.rest = rest;
+            if may_be_known(table, machine.now.instance, *op, rest) {
+                return several_of(alloc, modules, table, machine, code, most);
+            }
+            let begun = begin(alloc, modules, machine, op, rest, code)?;
+            Ok((1, begun))
+        }
     }
-    once(alloc, modules, machine)
 }

@@ -6,8 +6,8 @@ use Rattle.wasm_engine.proofs.quick.call_at_once.Goals as goal
 pub returns-in_default-clause-goes : goal.returns-in_default-clause-goes
 returns-in_default-clause-goes c = none_made c.args.modules.now (going c.args.machine.now)
 
-pub returns-in-Copy-clause-goes : goal.returns-in-Copy-clause-goes
-returns-in-Copy-clause-goes c = none_made c.args.modules.now (going c.args.machine.now)
+pub returns-in-Other-clause-goes : goal.returns-in-Other-clause-goes
+returns-in-Other-clause-goes c = none_made c.args.modules.now (going c.args.machine.now)
 
 pub check_at_once-requires-clause-known : goal.check_at_once-requires-clause-known
 check_at_once-requires-clause-known c =
@@ -36,3 +36,10 @@ fill_at_once-requires-clause-known c =
 
 pub fill_at_once-requires-clause-sound : goal.fill_at_once-requires-clause-sound
 fill_at_once-requires-clause-sound c = well_of c.args.modules.now c.args.table.now (going c.args.machine.now) c.requires
+
+pub copy_at_once-requires-clause-known : goal.copy_at_once-requires-clause-known
+copy_at_once-requires-clause-known c =
+    means_known c.args.modules.now c.args.table.now (store_of c.args.machine.now) (activation c.args.machine.now.now) (callers_of c.args.machine.now) c.in-Some.index kind.Copy c.known_at.result c.requires c.known_at.ensures c.in-Copy.is
+
+pub copy_at_once-requires-clause-sound : goal.copy_at_once-requires-clause-sound
+copy_at_once-requires-clause-sound c = well_of c.args.modules.now c.args.table.now (going c.args.machine.now) c.requires

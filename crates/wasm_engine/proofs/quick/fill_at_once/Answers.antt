@@ -23,9 +23,9 @@ returns-in_default c = record { within = omega arith; goes = none_made c.args.mo
 pub returns-then-done-clause-goes : goal.returns-then-done-clause-goes
 returns-then-done-clause-goes c =
     did_fill c.args.modules.now (store_of c.args.machine.now) (activation c.args.machine.now.now) (callers_of c.args.machine.now)
-    c.args.index c.in-Own.module c.in-Own.function (tree c.args.rest.now) c.pop_i32-count.new.self.known.values c.pop_i32-to.new.self.known.values c.pop_i32-to.result c.pop_i32-count.result c.from.result (map memory_from c.cleared-done.new.memories.items) c.cleared-done.result
+    c.args.index c.in-Own.module c.in-Own.function (tree c.args.rest.now) c.pop_i32-count.new.self.known.values c.pop_i32-to.new.self.known.values c.pop_i32-to.result c.pop_i32-count.result c.from.result (map memory_from c.clear_bytes-done.new.memories.items) c.clear_bytes-done.result
     (omega (arith, c.from.ensures)) c.requires.next c.requires.known c.in-Own.ensures c.pop_i32-count.ensures c.pop_i32-to.ensures c.if-done.true
-    (changed_filled c.cleared-done.result c.args.machine.now.store (store_of c.args.machine.now).memories (store_of c.args.machine.now).globals c.in-Own.module (c.pop_i32-to.result + c.pop_i32-count.result) (cleared_bytes c.pop_i32-count.result c.pop_i32-to.result) (store_of c.args.machine.now).memories (map memory_from c.cleared-done.new.memories.items) c.cleared-done.ensures)
+    (changed_filled c.clear_bytes-done.result c.args.machine.now.store (store_of c.args.machine.now).memories (store_of c.args.machine.now).globals c.in-Own.module (c.pop_i32-to.result + c.pop_i32-count.result) (cleared_bytes c.pop_i32-count.result c.pop_i32-to.result) (store_of c.args.machine.now).memories (map memory_from c.clear_bytes-done.new.memories.items) c.clear_bytes-done.ensures)
 
 pub returns-then-most-reductions-clause-goes : goal.returns-then-most-reductions-clause-goes
 returns-then-most-reductions-clause-goes c =
@@ -34,6 +34,6 @@ returns-then-most-reductions-clause-goes c =
 
 pub returns-clause-goes : goal.returns-clause-goes
 returns-clause-goes c =
-    did_no_fill c.args.modules.now (store_of c.args.machine.now) (activation c.args.machine.now.now) (callers_of c.args.machine.now) c.give_back-2.new.stack.known.values (map memory_from c.cleared-done.new.memories.items)
+    did_no_fill c.args.modules.now (store_of c.args.machine.now) (activation c.args.machine.now.now) (callers_of c.args.machine.now) c.give_back-2.new.stack.known.values (map memory_from c.clear_bytes-done.new.memories.items)
     (narrow_back c.args.modules.now (store_of c.args.machine.now) (activation c.args.machine.now.now) (callers_of c.args.machine.now) c.pop_i32-count.new.self.known.values c.pop_i32-to.new.self.known.values c.give_back-2.new.stack.known.values c.pop_i32-to.result c.pop_i32-count.result c.pop_i32-count.ensures c.pop_i32-to.ensures c.in_ok-give_back-2.ensures)
-    (memory_left c.args.modules.now (store_of c.args.machine.now) (activation c.args.machine.now.now) (callers_of c.args.machine.now) c.args.machine.now.store c.in-Own.module (c.pop_i32-to.result + c.pop_i32-count.result) (cleared_bytes c.pop_i32-count.result c.pop_i32-to.result) c.cleared-done.result (store_of c.args.machine.now).memories (map memory_from c.cleared-done.new.memories.items) c.if-done.false c.cleared-done.ensures)
+    (memory_left c.args.modules.now (store_of c.args.machine.now) (activation c.args.machine.now.now) (callers_of c.args.machine.now) c.args.machine.now.store c.in-Own.module (c.pop_i32-to.result + c.pop_i32-count.result) (cleared_bytes c.pop_i32-count.result c.pop_i32-to.result) c.clear_bytes-done.result (store_of c.args.machine.now).memories (map memory_from c.clear_bytes-done.new.memories.items) c.if-done.false c.clear_bytes-done.ensures)
