@@ -1,8 +1,11 @@
 //! Refusals for programs.
 
-ghost use Rattle.std.specs.Prelude.{◌≡◌, ◌<◌, ◌^◌, ◌+◌, IfOk, codes, string_bytes};
-ghost use Rattle.serde_json.specs.Data.{number, unsigned, string, object, member, no_members};
+ghost use Rattle.std.specs.Prelude.{◌≡◌, ◌<◌, ◌^◌, ◌+◌, ℕ, Bool, true, List, IfOk, IsOk, length, map, take, string_bytes};
+ghost use Rattle.std.specs.List.{flat_map};
 ghost use Rattle.serde_json.specs.View.{view};
+ghost use Rattle.serde_json.specs.Written.{compact_text};
+ghost use Rattle.run_directory.specs.Reported.{Says};
+ghost use Rattle.show_refusals.specs.Objects.{Row, line_of, object_of};
 
 use crate::explaining::spot_of;
 use build_jobs::SourceFile;
@@ -13,14 +16,8 @@ use serde_json::{Value, json};
 use std::alloc::{AllocError, Global};
 
 /// The object of a refusal whose token ends before this column.
-fn object_of(alloc: Global, refusal: &Refusal, end: u64, words: &str) -> Result<Value, AllocError>
-    ensures { IfOk result (λ v. view v ≡ object
-        (member (codes "column") (number (unsigned refusal.now.pos.col))
-        (member (codes "end") (number (unsigned end))
-        (member (codes "file") (string (string_bytes refusal.now.file))
-        (member (codes "line") (number (unsigned refusal.now.pos.line))
-        (member (codes "rule") (number (unsigned refusal.now.number))
-        (member (codes "words") (string words.now) no_members))))))) }
+fn make_object(alloc: Global, refusal: &Refusal, end: u64, words: &str) -> Result<Value, AllocError>
+    ensures { IfOk result (λ v. view v ≡ object_of refusal.now end words.now) }
 {
     json!(in alloc; {
         "column": refusal.pos.col,
@@ -30,6 +27,19 @@ fn object_of(alloc: Global, refusal: &Refusal, end: u64, words: &str) -> Result<
         "rule": refusal.number,
         "words": words
     })
+}
+
+/// The text of a refusal's object.
+fn object_text(
+    alloc: Global,
+    refusal: &Refusal,
+    end: u64,
+    words: &str,
+) -> Result<String, AllocError>
+    ensures { IfOk result (λ text. string_bytes text ≡ compact_text (object_of refusal.now end words.now)) }
+{
+    let object = make_object(alloc, refusal, end, words)?;
+    object.to_string(alloc)
 }
 
 /// The column behind a refusal's token, or its own column if its file is not there.
@@ -50,11 +60,16 @@ pub fn show_json<O: Sink>(
     out: &mut O,
 ) -> Result<(), AllocError>
     requires { O.failed out.old + 1 < 2 ^ 64 }
+    // The objects of the first refusals are printed in order, and those of all unless memory ran out or the stream failed.
+    ensures { (count : ℕ) × (rows : List Row) × (all : Bool)
+        × (map (λ row. row.refusal) rows ≡ take count refusals.now)
+        × (IsOk result → all ≡ true → count ≡ length refusals.now)
+        × Says O.reported O.failed all (flat_map line_of rows) out.old out.new }
 {
     for refusal in refusals {
+        let end = end_of(files, refusal);
         let words = sentence(refusal.number).unwrap_or("");
-        let object = object_of(alloc, refusal, end_of(files, refusal), words)?;
-        let line = object.to_string(alloc)?;
+        let line = object_text(alloc, refusal, end, words)?;
         if !say_all(out, &[line.as_str(), "\n"]) {
             return Ok(());
         }

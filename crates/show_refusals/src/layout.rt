@@ -35,7 +35,7 @@ fn push_cell(text: &mut String, byte: u8) -> Result<(), AllocError>
         return push_times(text, ' ', TAB_WIDTH - text.len() % TAB_WIDTH);
     }
     if is_printable(byte) {
-        return text.push(char::from(byte));
+        return text.push(byte as char);
     }
     write!(text, "\\x{byte:02X}")
 }

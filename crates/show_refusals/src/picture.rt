@@ -24,6 +24,7 @@ const RED: &str = "\x1b[1;31m";
 const PLAIN: &str = "\x1b[0m";
 
 /// What is shown of a line.
+#[derive(Drop)]
 pub struct Part<'a> {
     /// What stands for bytes before.
     front: &'static str,
@@ -43,16 +44,23 @@ fn cut_if(is_cut: bool) -> &'static str {
     if is_cut { CUT } else { "" }
 }
 
+/// The first byte that is shown of a line of this length, if the token begins at this byte.
+fn first_shown(length: usize, start: usize) -> usize
+    ensures { result ≤ start }
+{
+    if length <= MOST_SHOWN {
+        0
+    } else {
+        start.saturating_sub(MOST_BEFORE)
+    }
+}
+
 /// The part of a line around a token: the whole line, or 100 bytes of a longer one.
 pub fn part_around<'a>(spot: &Spot<'a>) -> Part<'a>
     ensures { IsPart spot.now.line.now result.bytes.now spot.now.start result.start }
 {
     let length = spot.line.len();
-    let first = if length <= MOST_SHOWN {
-        0
-    } else {
-        spot.start.saturating_sub(MOST_BEFORE)
-    };
+    let first = first_shown(length, spot.start);
     let last = length.min(first + MOST_SHOWN);
     Part {
         front: cut_if(first > 0),

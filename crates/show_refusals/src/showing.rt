@@ -31,15 +31,15 @@ pub fn show<O: Sink, E: Sink>(
     ensures { (count : ℕ) × (all : Bool) × (IsOk result → count ≡ length refusals.now)
         × Says O.reported O.failed all (flat_map line_of (take count refusals.now)) out.old out.new }
 {
-    let mut is_heard = true;
+    let failures = err.failures();
     for refusal in refusals {
         let line = refusal.to_string(alloc)?;
         if !say_all(out, &[line.as_str(), "\n"]) {
             return Ok(());
         }
-        if is_heard {
+        if err.failures() == failures {
             let words = explanation(alloc, files, refusal, colour)?;
-            is_heard = say_all(err, &[words.as_str()]);
+            say_all(err, &[words.as_str()]);
         }
     }
     Ok(())

@@ -7,6 +7,7 @@ use crate::token::token_length;
 use m2_tree::Pos;
 
 /// A line of source, and the token of it that is meant.
+#[derive(Drop)]
 pub struct Spot<'a> {
     /// The line, without its end.
     pub line: &'a [u8],
