@@ -27,13 +27,13 @@ module _ {S : Type 0} (reported : S → Option (List ℕ)) (failed : S → ℕ) 
 
 -- objects behind objects
 
-pub rows_more : (rows : List Row) (xs : List Refusal) (k end : ℕ) (r : Refusal) (words : List ℕ) → k < length xs → r ≡ get_or xs k r
-    → map (λ (row : Row). row.refusal) rows ≡ take k xs → map (λ (row : Row). row.refusal) (rows ++ record { refusal = r; end = end; words = words } ∷ []) ≡ take (k + 1) xs
-rows_more rows xs k end r words h is e =
-    map-append (λ (row : Row). row.refusal) rows (record { refusal = r; end = end; words = words } ∷ [])
-    ∙ ap (λ (rs : List Refusal). rs ++ r ∷ []) e
+pub rows_more : (rows : List Row) (xs : List Refusal) (k : ℕ) (row : Row) → k < length xs → row.refusal ≡ get_or xs k row.refusal
+    → map (λ (r : Row). r.refusal) rows ≡ take k xs → map (λ (r : Row). r.refusal) (rows ++ row ∷ []) ≡ take (k + 1) xs
+rows_more rows xs k row h is e =
+    map-append (λ (r : Row). r.refusal) rows (row ∷ [])
+    ∙ ap (λ (rs : List Refusal). rs ++ row.refusal ∷ []) e
     ∙ ap (λ (y : Refusal). take k xs ++ y ∷ []) is
-    ∙ sym (take_more xs k r h)
+    ∙ sym (take_more xs k row.refusal h)
 
 pub bytes_more : (rows : List Row) (row : Row) → flat_map line_of (rows ++ row ∷ []) ≡ flat_map line_of rows ++ line_of row
 bytes_more rows row = flat_map-append line_of rows (row ∷ []) ∙ ap (λ (t : List ℕ). flat_map line_of rows ++ t) (append-nil (line_of row))

@@ -39,7 +39,7 @@ painted colour mark = if colour then (27 ∷ codes "[1;31m") ++ mark ++ (27 ∷ 
 
 -- the mark under a token that takes the columns between two texts: at least one sign
 abbrev pub mark : (before through : List ℕ) → List ℕ
-mark before through = replicate (max 1 (length through - length before)) 94
+mark before through = replicate (max (length through - length before) 1) 94
 
 -- the row under a line: blanks under the gutter and what stands before the token, and then the mark
 abbrev pub mark_row : (colour : Bool) (gutter front bytes : List ℕ) (start end : ℕ) → List ℕ

@@ -41,6 +41,7 @@ fn push_cell(text: &mut String, byte: u8) -> Result<(), AllocError>
 }
 
 /// Bytes of source as they are shown behind a text.
+#[tactic(auto, using(crate::proofs::Cells::shown_more))]
 pub fn show_bytes(alloc: Global, front: &str, bytes: &[u8]) -> Result<String, AllocError>
     ensures { IfOk result (λ text. string_bytes text ≡ shown front.now bytes.now) }
 {

@@ -1,7 +1,7 @@
 //! A line of source with a mark under a token.
 
-ghost use Rattle.std.specs.Prelude.{◌≡◌, ◌≤◌, ◌++◌, IfOk, OnOk, replicate, string_bytes, length};
-ghost use Rattle.show_refusals.specs.Layout.{mark_row, painted, picture};
+ghost use Rattle.std.specs.Prelude.{◌≡◌, ◌≤◌, ◌-◌, ◌++◌, IfOk, OnOk, replicate, string_bytes, length, max};
+ghost use Rattle.show_refusals.specs.Layout.{blanks_under, mark_row, painted, picture};
 ghost use Rattle.show_refusals.specs.Part.{IsPart};
 
 use crate::layout::{push_times, show_bytes};
@@ -83,6 +83,22 @@ fn push_mark(text: &mut String, count: usize, colour: bool) -> Result<(), AllocE
     text.push_str(PLAIN)
 }
 
+/// Blanks under a gutter and what stands behind it.
+fn indent(alloc: Global, gutter: &str, before: &str) -> Result<String, AllocError>
+    ensures { IfOk result (λ line. string_bytes line ≡ blanks_under (gutter.now ++ before.now)) }
+{
+    let mut line = String::new(alloc);
+    push_times(&mut line, ' ', gutter.len() + before.len())?;
+    Ok(line)
+}
+
+/// How many signs the mark has under a token between two texts: at least one.
+fn mark_width(before: &str, through: &str) -> usize
+    ensures { result ≡ max (length through.now - length before.now) 1 }
+{
+    through.len().saturating_sub(before.len()).max(1)
+}
+
 /// The line with the mark: blanks under the gutter and all before the token, and then the mark.
 fn mark_line(
     alloc: Global,
@@ -95,13 +111,9 @@ fn mark_line(
 {
     let before = show_bytes(alloc, part.front, &part.bytes[..part.start])?;
     let through = show_bytes(alloc, part.front, &part.bytes[..part.end])?;
-    let mut line = String::new(alloc);
-    push_times(&mut line, ' ', gutter.len() + before.len())?;
-    push_mark(
-        &mut line,
-        1.max(through.len().saturating_sub(before.len())),
-        colour,
-    )?;
+    let mut line = indent(alloc, gutter, before.as_str())?;
+    let width = mark_width(before.as_str(), through.as_str());
+    push_mark(&mut line, width, colour)?;
     Ok(line)
 }
 

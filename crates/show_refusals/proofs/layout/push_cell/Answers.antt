@@ -5,7 +5,7 @@ use Rattle.show_refusals.proofs.layout.push_cell.Goals as goal
 
 pub returns-then-byte-eq9 : goal.returns-then-byte-eq9
 returns-then-byte-eq9 c =
-    tab_put c.push_times.result (string_bytes c.args.text.now) (string_bytes c.push_times.new.text) c.len.result c.args.byte (omega (arith, c.len.ensures, c.args.text.now.bytes.ok)) c.if-byte-eq9.true c.push_times.ensures
+    tab_put c.push_times.result (string_bytes c.args.text.now) (string_bytes c.push_times.new.text) c.len.result c.args.byte (omega (arith, c.len.ensures, c.args.text.now.bytes.ok.0)) c.if-byte-eq9.true c.push_times.ensures
 
 pub returns-then-is_printable : goal.returns-then-is_printable
 returns-then-is_printable c =
