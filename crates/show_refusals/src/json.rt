@@ -62,7 +62,7 @@ pub fn show_json<O: Sink>(
     requires { O.failed out.old + 1 < 2 ^ 64 }
     // The objects of the first refusals are printed in order, and those of all unless memory ran out or the stream failed.
     ensures { (count : ℕ) × (rows : List Row) × (all : Bool)
-        × (map (λ row. row.refusal) rows ≡ take count refusals.now)
+        × (map (λ (row : Row). row.refusal) rows ≡ take count refusals.now)
         × (IsOk result → all ≡ true → count ≡ length refusals.now)
         × Says O.reported O.failed all (flat_map line_of rows) out.old out.new }
 {

@@ -7,5 +7,5 @@ use Rattle.show_refusals.proofs.json.show_json.Given as goal
 abbrev pub invariant-loop-refusal : goal.invariant-loop-refusal
 invariant-loop-refusal g l =
     (rows : List Row)
-    × (map (λ row. row.refusal) rows ≡ take l.refusal-index l.refusals)
+    × (map (λ (row : Row). row.refusal) rows ≡ take l.refusal-index l.refusals)
     × Printed g.O.Sink.reported g.O.Sink.failed (flat_map line_of rows) l.fn.out l.out
