@@ -1,0 +1,202 @@
+//! Pages: what the profile leaves out, and statuses. tools/write_explanations writes this file: change the pages of docs/, and call it.
+
+use crate::topic::{Topic, page_in};
+
+/// The topics, each with its page.
+static TOPICS: [Topic; 7] = [
+    Topic {
+        name: "profile",
+        page: r#"# Not in this profile
+
+This compiler leaves out some parts of the Modula-2 of Wirth's book, fourth edition. A program that
+uses one of them is refused by the first rule that it breaks. For each part, the list gives an
+example, this refusal, and what to write instead.
+
+```modula2 declarations
+MODULE M; FROM Console IMPORT Put; FROM InOut IMPORT WriteString, WriteInt;
+TYPE Node = RECORD value, next: CARDINAL END;
+VAR i, j: INTEGER; c: CARDINAL; p: CARDINAL; s: BITSET; ch: CHAR;
+    node: ARRAY [1..100] OF Node; used: CARDINAL;
+    name: ARRAY [0..19] OF CHAR; fromOne: ARRAY [1..20] OF CHAR;
+```
+
+## Numbers
+- REAL and LONGREAL: `VAR x: REAL;`, refusal 30 at `REAL`. Write `VAR x: INTEGER;`, in cents.
+- A number with a fraction: `i := 1.5`, refusal 10 at `.`. Write `i := 15`, in tenths.
+- FLOAT and TRUNC: `i := TRUNC(i)`, refusal 30 at `TRUNC`. Write `i := i DIV 10`.
+- LONGINT and LONGCARD: `VAR x: LONGINT;`, refusal 30 at `LONGINT`. Write `VAR x: INTEGER;`.
+- `/` for numbers: `i := i / j`, refusal 40 at `/`. Write `i := i DIV j`.
+- A type's name as a function: `c := CARDINAL(i)`, refusal 40 at `CARDINAL`. Write
+  `c := VAL(CARDINAL, i)`.
+
+## Pointers
+- Pointer types: `TYPE Link = POINTER TO Node;`, refusal 13 at `POINTER`. Write
+  `TYPE Link = [0..100];`, an index of an array, 0 for none.
+- Following a pointer: `p^.value := 1`, refusal 2 at `^`. Write `node[p].value := 1`.
+- NIL: `p := NIL`, refusal 30 at `NIL`. Write `p := 0`.
+- NEW and ALLOCATE: `NEW(p)`, refusal 30 at `NEW`. Write `INC(used); p := used`.
+- DISPOSE and DEALLOCATE: `DISPOSE(p)`, refusal 30 at `DISPOSE`. Write
+  `node[p].next := used; used := p`, a list of free nodes.
+- Storage: `MODULE M; FROM Storage IMPORT ALLOCATE; END M.`, refusal 20 at `Storage`. Write nothing.
+
+## Types
+- Set types: `TYPE Letters = SET OF CHAR;`, refusal 13 at `SET`. Write
+  `TYPE Letters = ARRAY CHAR OF BOOLEAN;`, or BITSET for 0 to 31.
+- Variables as elements in braces: `s := {c}`, refusal 34 at `c`. Write `s := {}; INCL(s, c)`.
+- Variant records: `TYPE R = RECORD CASE k: BOOLEAN OF TRUE: x: CHAR END END;`, refusal 10 at
+  `CASE`. Write `TYPE R = RECORD k: BOOLEAN; x: CHAR END;`, with the fields of all variants.
+- Opaque types in a definition: `TYPE Stack;`, refusal 10 at `;`. Write `TYPE Stack = [0..100];`,
+  and keep the records in the implementation.
+- PROC: `VAR run: PROC;`, refusal 30 at `PROC`. Write `VAR run: PROCEDURE;`.
+- SIZE and TSIZE: `c := SIZE(c)`, refusal 30 at `SIZE`. Write `c := 4`.
+- Arrays from 1 as open arrays: `WriteString(fromOne)`, refusal 43 at `fromOne`. Write
+  `WriteString(name)`, with `ARRAY [0..19] OF CHAR`.
+
+## Modules
+- Export lists, as in older editions:
+  `DEFINITION MODULE M; EXPORT QUALIFIED x; CONST x = 1; END M.`, refusal 13 at `EXPORT`. Write
+  nothing: everything in a definition is exported.
+- Modules inside modules: `MODULE Inner; END Inner;`, refusal 13 at `MODULE`. Write
+  `PROCEDURE Inner; END Inner;`, or a module with its own files.
+- Priorities: `MODULE M[4]; END M.`, refusal 10 at `[`. Write `MODULE M; END M.`.
+- SYSTEM, with WORD, ADR and coroutines: `MODULE M; FROM SYSTEM IMPORT ADR; END M.`, refusal 20 at
+  `SYSTEM`. Write nothing.
+
+## Input and files
+- The keyboard: `MODULE M; FROM InOut IMPORT ReadInt; END M.`, refusal 32 at `ReadInt`. Write
+  `CONST input = "12 7";`, and use this string.
+- Files: a program cannot open any. Its output can be sent to a file.
+"#,
+    },
+    Topic {
+        name: "status 0",
+        page: r#"# Status 0
+
+## m2c
+
+- **0: built.** The modules are in the folder. Nothing is printed. `--help` and `--version` also end
+  with 0.
+
+## m2run
+
+- **0: the program ended well**, by itself or by HALT: see docs/faults/0.md and docs/faults/9.md.
+"#,
+    },
+    Topic {
+        name: "status 1",
+        page: r#"# Status 1
+
+## m2c
+
+- **1: refused.** The program breaks a rule of the language. Standard output has a line
+  `FILE:LINE:COL: refusal NUMBER` for each refusal. No module is written. docs/refusals explains
+  each number.
+
+## m2run
+
+- **1: the program ended with a fault.** Standard error has a line such as `fault 2: overflow`.
+  docs/faults explains each fault. A module that `m2c` did not write can also end with `trap`, or
+  with `fault 42: unknown`.
+"#,
+    },
+    Topic {
+        name: "status 2",
+        page: r#"# Status 2
+
+## m2c
+
+- **2: wrong command line.** An option is unknown, a number is out of its range, or a name is
+  missing. Standard error says which. No file was read.
+
+## m2run
+
+- **2: wrong command line.** The folder is missing, an option is unknown, or the number after
+  `--steps` is not from 1 to 1000000000000.
+"#,
+    },
+    Topic {
+        name: "status 3",
+        page: r#"# Status 3
+
+## m2c
+
+- **3: failed.** A file cannot be read or written, the folder does not exist, there is no memory
+  left (90), or standard output is full. Or a module is too large to encode. Standard error says
+  which. If writing failed halfway, `link.wasm` is missing, so that old and new modules do not mix.
+
+## m2run
+
+- **3: failed.** A module cannot be read (`cannot read M.wasm`) or is not a good one
+  (`M: refusal 80`, up to 84). Or there is no memory left (90), or standard output failed (91).
+"#,
+    },
+    Topic {
+        name: "status 4",
+        page: r#"# Status 4
+
+## m2c
+
+`m2c` has no status 4.
+
+## m2run
+
+- **4: the program was still running.** It was stopped after as many steps as `--steps` allows, or
+  after 1000000000 without this option. Nothing is printed about it. What the program printed stays
+  printed.
+
+After status 4, allow more steps: `m2run DIR --steps 100000000000`. If that does not help, look for
+a loop without end.
+"#,
+    },
+    Topic {
+        name: "statuses",
+        page: r#"# Exit statuses
+
+Each program reports by its exit status how it ended. In a shell, `echo $?` prints the status of the
+last command.
+
+## m2c
+
+- **0: built.** The modules are in the folder. Nothing is printed. `--help` and `--version` also end
+  with 0.
+- **1: refused.** The program breaks a rule of the language. Standard output has a line
+  `FILE:LINE:COL: refusal NUMBER` for each refusal. No module is written. docs/refusals explains
+  each number.
+- **2: wrong command line.** An option is unknown, a number is out of its range, or a name is
+  missing. Standard error says which. No file was read.
+- **3: failed.** A file cannot be read or written, the folder does not exist, there is no memory
+  left (90), or standard output is full. Or a module is too large to encode. Standard error says
+  which. If writing failed halfway, `link.wasm` is missing, so that old and new modules do not mix.
+
+`m2c` has no status 4.
+
+## m2run
+
+- **0: the program ended well**, by itself or by HALT: see docs/faults/0.md and docs/faults/9.md.
+- **1: the program ended with a fault.** Standard error has a line such as `fault 2: overflow`.
+  docs/faults explains each fault. A module that `m2c` did not write can also end with `trap`, or
+  with `fault 42: unknown`.
+- **2: wrong command line.** The folder is missing, an option is unknown, or the number after
+  `--steps` is not from 1 to 1000000000000.
+- **3: failed.** A module cannot be read (`cannot read M.wasm`) or is not a good one
+  (`M: refusal 80`, up to 84). Or there is no memory left (90), or standard output failed (91).
+- **4: the program was still running.** It was stopped after as many steps as `--steps` allows, or
+  after 1000000000 without this option. Nothing is printed about it. What the program printed stays
+  printed.
+
+After status 4, allow more steps: `m2run DIR --steps 100000000000`. If that does not help, look for
+a loop without end.
+
+## What goes where
+
+- `m2c` prints refusals on standard output, and everything else on standard error.
+- `m2run` adds nothing to the program's own output on standard output. Faults and refusals go to
+  standard error.
+"#,
+    },
+];
+
+/// The page of a topic, if it is one of these.
+pub fn page(topic: &str) -> Option<&'static str> {
+    page_in(&TOPICS, topic)
+}

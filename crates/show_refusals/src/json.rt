@@ -1,0 +1,78 @@
+//! Refusals for programs.
+
+ghost use Rattle.std.specs.Prelude.{◌≡◌, ◌<◌, ◌^◌, ◌+◌, ℕ, Bool, true, List, IfOk, IsOk, length, map, take, string_bytes};
+ghost use Rattle.std.specs.List.{flat_map};
+ghost use Rattle.serde_json.specs.View.{view};
+ghost use Rattle.serde_json.specs.Written.{compact_text};
+ghost use Rattle.run_directory.specs.Reported.{Says};
+ghost use Rattle.show_refusals.specs.Objects.{Row, line_of, object_of};
+
+use crate::explaining::spot_of;
+use build_jobs::SourceFile;
+use explain_rules::sentence;
+use m2_tree::Refusal;
+use run_directory::{Sink, say_all};
+use serde_json::{Value, json};
+use std::alloc::{AllocError, Global};
+
+/// The object of a refusal whose token ends before this column.
+fn make_object(alloc: Global, refusal: &Refusal, end: u64, words: &str) -> Result<Value, AllocError>
+    ensures { IfOk result (λ v. view v ≡ object_of refusal.now end words.now) }
+{
+    json!(in alloc; {
+        "column": refusal.pos.col,
+        "end": end,
+        "file": refusal.file.as_str(),
+        "line": refusal.pos.line,
+        "rule": refusal.number,
+        "words": words
+    })
+}
+
+/// The text of a refusal's object.
+fn object_text(
+    alloc: Global,
+    refusal: &Refusal,
+    end: u64,
+    words: &str,
+) -> Result<String, AllocError>
+    ensures { IfOk result (λ text. string_bytes text ≡ compact_text (object_of refusal.now end words.now)) }
+{
+    let object = make_object(alloc, refusal, end, words)?;
+    object.to_string(alloc)
+}
+
+/// The column behind a refusal's token, or its own column if its file is not there.
+fn end_of(files: &[SourceFile], refusal: &Refusal) -> u64 {
+    let length = spot_of(files, refusal).map_or(0, |it| it.end - it.start);
+    u64::from(refusal.pos.col).saturating_add(length as u64)
+}
+
+/// Prints each refusal on `out` as a JSON object in a line: `file`, `line`, `column` and `end` (the column behind the token)
+/// as in the printed form, counted from 1 in bytes, `rule` and `words`, the rule in a sentence.
+///
+/// The files are those that were compiled; `end` of a refusal of none of them is its column. Nothing is printed after the
+/// first failure of `out`. The error is want of memory: then the first refusals are printed.
+pub fn show_json<O: Sink>(
+    alloc: Global,
+    files: &[SourceFile],
+    refusals: &[Refusal],
+    out: &mut O,
+) -> Result<(), AllocError>
+    requires { O.failed out.old + 1 < 2 ^ 64 }
+    // The objects of the first refusals are printed in order, and those of all unless memory ran out or the stream failed.
+    ensures { (count : ℕ) × (rows : List Row) × (all : Bool)
+        × (map (λ (row : Row). row.refusal) rows ≡ take count refusals.now)
+        × (IsOk result → all ≡ true → count ≡ length refusals.now)
+        × Says O.reported O.failed all (flat_map line_of rows) out.old out.new }
+{
+    for refusal in refusals {
+        let end = end_of(files, refusal);
+        let words = sentence(refusal.number).unwrap_or("");
+        let line = object_text(alloc, refusal, end, words)?;
+        if !say_all(out, &[line.as_str(), "\n"]) {
+            return Ok(());
+        }
+    }
+    Ok(())
+}
