@@ -1,0 +1,14 @@
+//! From program texts to what the program prints: built in memory, linked and executed, with no file.
+#![tactic(auto)]
+
+mod fault;
+mod program;
+mod reading;
+#[cfg(test)]
+mod tests;
+mod whole;
+
+pub use fault::ProgramFault;
+pub use program::{Loaded, Program};
+pub use wasm_engine::{End, Instances, Sink};
+pub use whole::{ProgramEnd, run_program};
