@@ -10,8 +10,7 @@ use Rattle.m2c.specs.declared.files.Options.{Options}
 use Rattle.m2c.specs.declared.files.Outcome.{Outcome}
 use Rattle.m2c.specs.Compiles.{AreFine, AreWorkers, ArePages}
 use Rattle.run_program.specs.declared.fault.ProgramFault.{ProgramFault}
-use Rattle.run_program.specs.declared.fault.ProgramFault.TheVariants.{Write}
-use Rattle.run_program.specs.Faults.{ComesWith, fault_of}
+use Rattle.run_program.specs.Faults.{IsUnbuilt, fault_of}
 
 -- a number from a least one to a greatest one
 within : (n least most : ℕ) → ((n < least) ⊎ (most < n) → ⊥) → (least ≤ n) × (n ≤ most)
@@ -45,26 +44,12 @@ module _ (o : Options) (r : Result Outcome BuildFault) (workers : (r ≡ Err Wor
   pub fine_if_built : (x : Outcome) → r ≡ Ok x → AreFine o
   fine_if_built x is = fine (λ e. ok_and_err x Workers (sym is ∙ e)) (λ e. ok_and_err x Pages (sym is ∙ e))
 
-  comes_as : (fault : BuildFault) → r ≡ Err fault → ComesWith (fault_of fault) o
-  comes_as Workers is = workers.0 is
-  comes_as Pages is = let w = few (is_other Pages Workers is (λ e. cc)) in (w, (pages w).0 is)
-  comes_as NoMemory is = fine (is_other NoMemory Workers is (λ e. cc)) (is_other NoMemory Pages is (λ e. cc))
-  comes_as NoEncoding is = fine (is_other NoEncoding Workers is (λ e. cc)) (is_other NoEncoding Pages is (λ e. cc))
+  named_as : (fault : BuildFault) → r ≡ Err fault → IsUnbuilt (fault_of fault) o
+  named_as Workers is = workers.0 is
+  named_as Pages is = let w = few (is_other Pages Workers is (λ e. cc)) in (w, (pages w).0 is)
+  named_as NoMemory is = fine (is_other NoMemory Workers is (λ e. cc)) (is_other NoMemory Pages is (λ e. cc))
+  named_as NoEncoding is = fine (is_other NoEncoding Workers is (λ e. cc)) (is_other NoEncoding Pages is (λ e. cc))
 
   -- a fault comes with these options
-  pub comes_with : (fault : BuildFault) (reported : ProgramFault) → r ≡ Err fault → reported ≡ fault_of fault → ComesWith reported o
-  comes_with fault reported is as = subst (λ (f : ProgramFault). ComesWith f o) (sym as) (comes_as fault is)
-
--- and none is a failed write
-no_write : (fault : BuildFault) → fault_of fault ≡ Write → ⊥
-no_write Workers e = cc
-no_write Pages e = cc
-no_write NoMemory e = cc
-no_write NoEncoding e = cc
-
-pub unwritten : {A : Type 0} (fault : BuildFault) (reported : ProgramFault) (result : Result A ProgramFault) → reported ≡ fault_of fault → result ≡ Err reported → result ≢ Err Write
-unwritten {A = A} fault reported result as is e = no_write fault (sym as ∙ ap (reported_in reported) (sym is ∙ e))
-  where
-    reported_in : ProgramFault → Result A ProgramFault → ProgramFault
-    reported_in other (Ok x) = other
-    reported_in other (Err f) = f
+  pub comes_with : (fault : BuildFault) (reported : ProgramFault) → r ≡ Err fault → reported ≡ fault_of fault → IsUnbuilt reported o
+  comes_with fault reported is same = subst (λ (f : ProgramFault). IsUnbuilt f o) (sym same) (named_as fault is)

@@ -1,8 +1,9 @@
 -- Bytes that were built are read back as the modules of the program.
 use Rattle.std.proofs.Common.{◌≡◌, ℕ, suc, ◌+◌, ◌<◌, List, [], ◌∷◌, ◌++◌, map, length, get_or, take, drop, String, Result, Ok, Err, inl, inr, ◌⊎◌, refl, sym, ap, subst, ◌∙◌}
-use Rattle.std.specs.Prelude.{All, IsOk, MatchResult}
+use Rattle.std.specs.Prelude.{All, IfErr, IfOk, IsOk, MatchResult}
 use Rattle.std.specs.Global.{Global, Vec}
 use Rattle.std.proofs.lemmas.List.Elements.{All-head, All-tail}
+use Rattle.m2_tree.specs.declared.refusal.Refusal.{Refusal}
 use Rattle.wasm_tree.specs.declared.fault.WFault.{WFault}
 use Rattle.wasm_tree.specs.declared.fault.WFault.TheVariants.{Invalid, NoMemory}
 use Rattle.wasm_tree.specs.declared.module.WModule.{WModule}
@@ -17,7 +18,7 @@ use Rattle.m2c.specs.declared.files.Outcome.TheVariants as outcome
 use Rattle.m2c.specs.Build.{AreAlike, AreEncoded, IsBuilt, IsProgram, named}
 use Rattle.run_directory.proofs.Missing.{map_one_more, map_one_between}
 use Rattle.run_program.specs.Reading.{IsModule, Lacks, bytes_of}
-use Rattle.run_program.specs.Runs.{IsProgramOf, modules_of}
+use Rattle.run_program.specs.Runs.{AreRefused, IsProgramOf, modules_of}
 use Rattle.run_program.proofs.Right.{in_time}
 
 -- ---- lists of bytes
@@ -102,26 +103,47 @@ same_bytes : (others : List (String Global × Vec ℕ)) → map (λ m. m.1) (map
 same_bytes [] = refl
 same_bytes (m ∷ ms) = ap (λ (bs : List (List ℕ)). m.1.items ∷ bs) (same_bytes ms)
 
--- ---- a program
+-- ---- what was built
 
-module _ (files : List SourceFile) (pages : ℕ) (link : Vec ℕ) (others : Vec (String Global × Vec ℕ)) (program : IsProgram files pages link.items (map named others.items)) where
-  encoded : AreEncoded (link.items ∷ map bytes_of others.items) (modules_of program.program pages)
-  encoded = (program.code.link_encoded, subst (λ (bs : List (List ℕ)). AreEncoded bs (map typed_module program.program)) (same_bytes others.items) program.code.encoded)
+module _ (files : List SourceFile) (pages : ℕ) (o : Outcome) (built : IsBuilt files pages o) (only : (other : Outcome) → IsBuilt files pages other → AreAlike o other) where
+  pub are_refused : (refusals : Vec Refusal) → o ≡ outcome.Refused refusals → AreRefused files pages refusals
+  are_refused refusals is = record {
+    built = subst (λ (x : Outcome). IsBuilt files pages x) is built;
+    only = subst (λ (x : Outcome). (other : Outcome) → IsBuilt files pages other → AreAlike x other) is only;
+  }
 
-  -- only for want of memory is it not read back
-  pub never_lacks : (fault : WFault) → Lacks fault ((trees : List WModule) → AreEncoded (link.items ∷ map bytes_of others.items) trees → ¬ (All IsValid trees)) → fault ≡ NoMemory
-  never_lacks fault (inl e) = e
-  never_lacks fault (inr none) = absurd (none (modules_of program.program pages) encoded program.valid)
+  module _ (link : Vec ℕ) (others : Vec (String Global × Vec ℕ)) (is : o ≡ outcome.Built link others) (link_slice : List ℕ) (slice : List (String Global × Vec ℕ)) (same_link : link_slice ≡ link.items) (same : slice ≡ others.items) where
+    program : IsProgram files pages link.items (map named others.items)
+    program = subst (λ (x : Outcome). IsBuilt files pages x) is built
 
-  pub program_of : (trees : List WModule) → AreEncoded (link.items ∷ map bytes_of others.items) trees → ((other : Outcome) → IsBuilt files pages other → AreAlike (outcome.Built link others) other) → IsProgramOf files pages trees
-  program_of trees read only = record {
+    abbrev Reads : List WModule → Type 0
+    Reads trees = AreEncoded (link_slice ∷ map bytes_of slice) trees
+
+    encoded : Reads (modules_of program.program pages)
+    encoded =
+        subst (λ (l : List ℕ). AreEncoded (l ∷ map bytes_of slice) (modules_of program.program pages)) (sym same_link)
+        (subst (λ (ms : List (String Global × Vec ℕ)). AreEncoded (link.items ∷ map bytes_of ms) (modules_of program.program pages)) (sym same)
+        (program.code.link_encoded, subst (λ (bs : List (List ℕ)). AreEncoded bs (map typed_module program.program)) (same_bytes others.items) program.code.encoded))
+
+    -- only for want of memory is it not read back
+    pub read_or_memory : (r : Result (Vec WModule) WFault) → IfErr r (λ e. Lacks e ((trees : List WModule) → Reads trees → ¬ (All IsValid trees))) → IfErr r (λ e. e ≡ NoMemory)
+    read_or_memory (Ok v) h = tt
+    read_or_memory (Err e) (inl is_memory) = is_memory
+    read_or_memory (Err e) (inr none) = absurd (none (modules_of program.program pages) encoded program.valid)
+
+    -- what is read back is the program
+    pub program_of : (trees : List WModule) → Reads trees → IsProgramOf files pages trees
+    program_of trees read = record {
       link = link;
       others = others;
       program = program;
-      only = only;
-      are = one_list (link.items ∷ map bytes_of others.items) trees (modules_of program.program pages) read encoded;
-      in_time = in_time program.program pages program.behaves.0 program.behaves.1.0 program.behaves.1.1;
+      only = subst (λ (x : Outcome). (other : Outcome) → IsBuilt files pages other → AreAlike x other) is only;
+      are = one_list (link_slice ∷ map bytes_of slice) trees (modules_of program.program pages) read encoded;
+      in_time = in_time program.program pages program.behaves.0 program.behaves.1 program.behaves.2;
     }
+
+    pub program_read : (r : Result (Vec WModule) WFault) (v : Vec WModule) → r ≡ Ok v → IfOk r (λ x. Reads x.items) → IsProgramOf files pages v.items
+    program_read r v is_ok read = program_of v.items (subst (λ (x : Result (Vec WModule) WFault). IfOk x (λ y. Reads y.items)) is_ok read)
 
 -- the modules of a program link
 pub they_link : (files : List SourceFile) (pages : ℕ) (trees : List WModule) → IsProgramOf files pages trees → IsOk (linked trees)

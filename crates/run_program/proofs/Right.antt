@@ -41,7 +41,7 @@ over_for_good e steps le = omega (arith, le)
 
 module _ (p : Modules) (pages : ℕ) (c : Config) (is : linked (modules_of p pages) ≡ Ok c) (b : Behaves (modules_of p pages) c (run p pages)) where
   begins_at : (m : ℕ) → IsBeginning p pages (reductions (modules_of p pages) m c).1
-  begins_at m = let n = b.prints m in record { bound = n.0; rest = n.1.0; is = n.1.1 }
+  begins_at m = let n = b.prints m in record { bound = n.0; rest = n.1; is = n.2 }
 
   path_of : (steps : ℕ) (bytes : List ℕ) (d : Config) → HasRun (modules_of p pages) steps bytes d → reductions (modules_of p pages) steps c ≡ (d, bytes)
   path_of steps bytes d ran =
@@ -55,8 +55,8 @@ module _ (p : Modules) (pages : ℕ) (c : Config) (is : linked (modules_of p pag
   ended_as : (k steps : ℕ) (bytes : List ℕ) (d : Config) → d ≡ Over k → reductions (modules_of p pages) steps c ≡ (d, bytes) → EndsWith p pages k bytes
   ended_as k steps bytes d over path =
       let o = b.only steps d bytes (subst IsOver (sym over) tt) path in
-      let same : o.1.0 ≡ k = ap (number_at 0) (sym o.1.1.0 ∙ over) in
-      record { bound = o.0; is = o.1.1.1 ∙ ap (λ (n : ℕ). Stopped n bytes) same }
+      let same : o.1 ≡ k = ap (number_at 0) (sym o.2 ∙ over) in
+      record { bound = o.0; is = o.3 ∙ ap (λ (n : ℕ). Stopped n bytes) same }
 
   right_by : (end : End) (steps : ℕ) (bytes : List ℕ) (d : Config) → IsEnd end d → reductions (modules_of p pages) steps c ≡ (d, bytes) → IsBeginning p pages bytes → IsRight p pages end bytes
   right_by (Done k) steps bytes d over path begun = record {
@@ -66,7 +66,7 @@ module _ (p : Modules) (pages : ℕ) (c : Config) (is : linked (modules_of p pag
     }
   right_by Trap steps bytes d trapped path begun =
       let o = b.only steps d bytes (subst IsOver (sym trapped) tt) path in
-      absurd (trapped_is_none o.1.0 (sym trapped ∙ o.1.1.0))
+      absurd (trapped_is_none o.1 (sym trapped ∙ o.2))
   right_by StillRunning steps bytes d goes path begun = record {
       begins = begun;
       ended = λ number e. absurd (cc);

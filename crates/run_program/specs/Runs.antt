@@ -1,12 +1,11 @@
 -- What the texts of a program come to, and what the run of their modules is by the language's definition.
-use Rattle.std.specs.Prelude.{◌≡◌, ◌≢◌, ◌≤◌, ℕ, ◌+◌, List, ◌∷◌, ◌++◌, map, Option, String}
+use Rattle.std.specs.Prelude.{◌≡◌, ◌≢◌, ◌≤◌, ℕ, List, ◌∷◌, ◌++◌, map, String}
 use Rattle.std.specs.Global.{Global, Vec}
 use Rattle.m2_tree.specs.declared.refusal.Refusal.{Refusal}
 use Rattle.wasm_tree.specs.declared.module.WModule.{WModule}
-use Rattle.wasm_tree.specs.Machine.{Config, Over}
+use Rattle.wasm_tree.specs.Machine.{Over}
 use Rattle.wasm_engine.specs.declared.engine.End.{End}
 use Rattle.wasm_engine.specs.declared.engine.End.TheVariants.{Done, Trap}
-use Rattle.wasm_engine.specs.Reported.{with_bytes}
 use Rattle.def_meaning.specs.Answer.{Stopped}
 use Rattle.def_meaning.specs.Around.{Modules}
 use Rattle.def_meaning.specs.Runs.{run}
@@ -17,11 +16,6 @@ use Rattle.build_jobs.specs.declared.file.SourceFile.{SourceFile}
 use Rattle.m2c.specs.declared.files.Outcome.{Outcome}
 use Rattle.m2c.specs.declared.files.Outcome.TheVariants as outcome
 use Rattle.m2c.specs.Build.{AreAlike, IsBuilt, IsProgram, named}
-use Rattle.run_program.specs.declared.fault.ProgramFault.{ProgramFault}
-use Rattle.run_program.specs.declared.fault.ProgramFault.TheVariants as fault
-use Rattle.run_program.specs.declared.program.Program.{Program}
-use Rattle.run_program.specs.declared.program.Loaded.{Loaded}
-use Rattle.run_program.specs.declared.program.Loaded.TheVariants as loaded
 
 -- ---- what the definition says
 
@@ -70,31 +64,3 @@ pub record IsProgramOf (files : List SourceFile) (pages : ℕ) (modules : List W
 pub record AreRefused (files : List SourceFile) (pages : ℕ) (refusals : Vec Refusal) : Type 0 where
   pub built : IsBuilt files pages (outcome.Refused refusals)
   pub only : (other : Outcome) → IsBuilt files pages other → AreAlike (outcome.Refused refusals) other
-
-abbrev pub trees_of : Program → List WModule
-trees_of p = p.modules.items
-
-abbrev pub IsLoaded : List SourceFile → (pages : ℕ) → Loaded → Type 0
-IsLoaded files pages (loaded.Refused refusals) = AreRefused files pages refusals
-IsLoaded files pages (loaded.Ready p) = IsProgramOf files pages (trees_of p)
-
--- ---- a run that was broken off
-
--- Modules were run for at most this many reductions. What was printed by then was taken, and the sink has failed this much
--- more often.
-pub record IsPart {S : Type 0} (reported : S → Option (List ℕ)) (failed : S → ℕ) (modules : List WModule) (steps failures : ℕ) (before after : S) : Type 0 where
-  pub made : ℕ
-  pub fits : made ≤ steps
-  pub bytes : List ℕ
-  pub config : Config
-  pub ran : HasRun modules made bytes config
-  pub taken : reported after ≡ with_bytes (reported before) bytes
-  pub failed_more : failed after ≡ failed before + failures
-
--- a run is broken off for want of memory, or by one failure of the sink
-abbrev pub IsCutBy : {S : Type 0} → (S → Option (List ℕ)) → (S → ℕ) → List WModule → (steps : ℕ) → ProgramFault → (before after : S) → Type 0
-IsCutBy reported failed modules steps fault.NoMemory before after = IsPart reported failed modules steps 0 before after
-IsCutBy reported failed modules steps fault.Write before after = IsPart reported failed modules steps 1 before after
-IsCutBy reported failed modules steps fault.Workers before after = ⊥
-IsCutBy reported failed modules steps fault.Pages before after = ⊥
-IsCutBy reported failed modules steps fault.NoEncoding before after = ⊥

@@ -8,7 +8,8 @@ use Rattle.run_program.specs.declared.fault.ProgramFault.{ProgramFault}
 use Rattle.run_program.specs.declared.fault.ProgramFault.TheVariants.{Workers, Pages, NoMemory, NoEncoding, Write}
 use Rattle.run_program.specs.declared.whole.ProgramEnd.{ProgramEnd}
 use Rattle.run_program.specs.declared.whole.ProgramEnd.TheVariants.{Refused, Ran}
-use Rattle.run_program.specs.Runs.{IsBeginning, IsRight, IsProgramOf, AreRefused, IsPart}
+use Rattle.run_program.specs.Cut.{IsPart}
+use Rattle.run_program.specs.Runs.{IsBeginning, IsRight, IsProgramOf, AreRefused}
 
 module _ {S : Type 0} (reported : S → Option (List ℕ)) (failed : S → ℕ) where
   -- the program's modules were run for this many reductions, what they printed was taken, and the run is right

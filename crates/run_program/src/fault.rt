@@ -1,9 +1,12 @@
 //! Why a program was not run to where it was asked for.
 
-ghost use Rattle.std.specs.Prelude.{◌≡◌};
+ghost use Rattle.std.specs.Prelude.{◌≡◌, ◌≢◌, Ok, IfErr, MatchResult};
+ghost use Rattle.run_program.specs.Faults.{IsFaultOf};
 
 use m2c::BuildFault;
 use thiserror::Error;
+use wasm_engine::RunFault;
+use wasm_tree::WFault;
 
 /// Why a program was not run, or why its run was broken off.
 #[derive(Clone, Copy, Debug, PartialEq, Eq, Error)]
@@ -54,5 +57,35 @@ impl From<BuildFault> for ProgramFault {
             BuildFault::NoMemory => ProgramFault::NoMemory,
             BuildFault::NoEncoding => ProgramFault::NoEncoding,
         }
+    }
+}
+
+/// Hands on what was asked of modules that were built. It fails for want of memory alone.
+pub fn hand_on<T>(answer: Result<T, WFault>) -> Result<T, ProgramFault>
+    requires { IfErr answer (λ e. e ≡ WFault.NoMemory) }
+    ensures { MatchResult result (λ x. answer ≡ Ok x) (λ e. e ≡ ProgramFault.NoMemory) }
+{
+    match answer {
+        Ok(value) => Ok(value),
+        Err(WFault::NoMemory) => Err(ProgramFault::NoMemory),
+        Err(
+            WFault::Malformed
+            | WFault::OutsideProfile
+            | WFault::Invalid
+            | WFault::Unlinked
+            | WFault::SegmentOutside,
+        ) => unreachable!(),
+    }
+}
+
+/// The fault of a run that was broken off in its first call.
+pub fn broken_by(fault: RunFault) -> ProgramFault
+    requires { fault ≢ RunFault.Ended }
+    ensures { IsFaultOf fault result }
+{
+    match fault {
+        RunFault::NoMemory => ProgramFault::NoMemory,
+        RunFault::Write => ProgramFault::Write,
+        RunFault::Ended => unreachable!(),
     }
 }

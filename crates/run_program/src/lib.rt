@@ -2,6 +2,7 @@
 #![tactic(auto)]
 
 mod fault;
+mod loading;
 mod program;
 mod reading;
 #[cfg(test)]
@@ -9,6 +10,7 @@ mod tests;
 mod whole;
 
 pub use fault::ProgramFault;
-pub use program::{Loaded, Program};
+pub use loading::{Loaded, load_program};
+pub use program::Program;
 pub use wasm_engine::{End, Instances, Sink};
 pub use whole::{ProgramEnd, run_program};

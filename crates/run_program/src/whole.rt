@@ -1,12 +1,14 @@
 //! Program texts to what the program prints.
 
-ghost use Rattle.std.specs.Prelude.{◌+◌, ◌<◌, ◌^◌, IfErr, IfOk, MatchResult};
+ghost use Rattle.std.specs.Prelude.{◌+◌, ◌<◌, ◌^◌, ℕ, List, IfErr, IfOk, MatchResult};
+ghost use Rattle.build_jobs.specs.declared.file.SourceFile.{SourceFile};
 ghost use Rattle.m2c.specs.Compiles.{AreFine};
-ghost use Rattle.run_program.specs.Faults.{ComesWith};
+ghost use Rattle.run_program.specs.Faults.{ComesWith, IsOfRun};
+ghost use Rattle.run_program.specs.Loading.{IsLoaded};
 ghost use Rattle.run_program.specs.Whole.{Ends, Breaks};
 
 use crate::fault::ProgramFault;
-use crate::program::{Loaded, Program};
+use crate::loading::{Loaded, load_program};
 use m2_tree::Refusal;
 use m2c::{Options, SourceFile};
 use pool_board::Gate;
@@ -21,6 +23,31 @@ pub enum ProgramEnd {
     Refused(Vec<Refusal>),
     /// They are a program, and its run is there.
     Ran(End),
+}
+
+/// Executes a program that is ready.
+fn end_of<S: Sink>(
+    alloc: Global,
+    loaded: Loaded,
+    steps: u64,
+    sink: &mut S,
+) -> Result<ProgramEnd, ProgramFault>
+    requires { S.failed sink.old + 1 < 2 ^ 64 }
+    ensures ends { (sources : List SourceFile) (pages : ℕ) → IsLoaded sources pages loaded
+        → IfOk result
+            (λ end. Ends S.reported S.failed sources pages steps end sink.old sink.new) }
+    ensures breaks { (sources : List SourceFile) (pages : ℕ) → IsLoaded sources pages loaded
+        → IfErr result
+            (λ e. Breaks S.reported S.failed sources pages steps e sink.old sink.new) }
+    ensures faults { IfErr result IsOfRun }
+{
+    match loaded {
+        Loaded::Refused(refusals) => Ok(ProgramEnd::Refused(refusals)),
+        Loaded::Ready(program) => match program.run(alloc, steps, sink) {
+            Ok(end) => Ok(ProgramEnd::Ran(end)),
+            Err(fault) => Err(fault),
+        },
+    }
 }
 
 /// Compiles the texts of a program in memory, as `build` does, and executes it with this project's engine for this many
@@ -50,8 +77,8 @@ pub fn run_program<R: Threads + Sync, G: Gate, S: Sink>(
     ensures breaks { IfErr result (λ e.
         Breaks S.reported S.failed files.now options.pages steps e sink.old sink.new) }
 {
-    match Program::of(rt, alloc, files, options, gate)? {
-        Loaded::Refused(refusals) => Ok(ProgramEnd::Refused(refusals)),
-        Loaded::Ready(program) => Ok(ProgramEnd::Ran(program.run(alloc, steps, sink)?)),
+    match load_program(rt, alloc, files, options, gate) {
+        Err(fault) => Err(fault),
+        Ok(loaded) => end_of(alloc, loaded, steps, sink),
     }
 }
