@@ -19,6 +19,7 @@ within n least most no = (low (cases_lt n least), high (cases_lt most n))
     low : (n < least) ⊎ (least ≤ n) → least ≤ n
     low (inl h) = absurd (no (inl h))
     low (inr h) = h
+
     high : (most < n) ⊎ (n ≤ most) → n ≤ most
     high (inl h) = absurd (no (inr h))
     high (inr h) = h

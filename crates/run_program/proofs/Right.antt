@@ -60,18 +60,18 @@ module _ (p : Modules) (pages : ℕ) (c : Config) (is : linked (modules_of p pag
 
   right_by : (end : End) (steps : ℕ) (bytes : List ℕ) (d : Config) → IsEnd end d → reductions (modules_of p pages) steps c ≡ (d, bytes) → IsBeginning p pages bytes → IsRight p pages end bytes
   right_by (Done k) steps bytes d over path begun = record {
-      begins = begun;
-      ended = λ number e. subst (λ (n : ℕ). EndsWith p pages n bytes) (ap (number_in 0) e) (ended_as k steps bytes d over path);
-      no_trap = λ e. cc;
-    }
+    begins = begun;
+    ended = λ number e. subst (λ (n : ℕ). EndsWith p pages n bytes) (ap (number_in 0) e) (ended_as k steps bytes d over path);
+    no_trap = λ e. cc;
+  }
   right_by Trap steps bytes d trapped path begun =
       let o = b.only steps d bytes (subst IsOver (sym trapped) tt) path in
       absurd (trapped_is_none o.1 (sym trapped ∙ o.2))
   right_by StillRunning steps bytes d goes path begun = record {
-      begins = begun;
-      ended = λ number e. absurd (cc);
-      no_trap = λ e. cc;
-    }
+    begins = begun;
+    ended = λ number e. absurd (cc);
+    no_trap = λ e. cc;
+  }
 
   pub right : (end : End) (steps : ℕ) (bytes : List ℕ) (d : Config) → IsEnd end d → HasRun (modules_of p pages) steps bytes d → IsRight p pages end bytes
   right end steps bytes d at ran = right_by end steps bytes d at (path_of steps bytes d ran) (begins steps bytes d ran)
@@ -79,13 +79,13 @@ module _ (p : Modules) (pages : ℕ) (c : Config) (is : linked (modules_of p pag
   -- the modules end in time
   over_after : (m k : ℕ) (bytes : List ℕ) → reductions (modules_of p pages) m c ≡ (Over k, bytes) → (steps : ℕ) → m ≤ steps → HasRun (modules_of p pages) steps bytes (Over k)
   over_after m k bytes path steps le = record {
-      first = c;
-      linked = is;
-      is_run =
-          ap (λ (n : ℕ). reductions (modules_of p pages) n c) (over_for_good m steps le)
-          ∙ engine.run_over (modules_of p pages) m (steps - m) c (subst (λ (x : Progress). engine.IsOver x.0) (sym path) tt)
-          ∙ path;
-    }
+    first = c;
+    linked = is;
+    is_run =
+        ap (λ (n : ℕ). reductions (modules_of p pages) n c) (over_for_good m steps le)
+        ∙ engine.run_over (modules_of p pages) m (steps - m) c (subst (λ (x : Progress). engine.IsOver x.0) (sym path) tt)
+        ∙ path;
+  }
 
   pub in_time : EndsInTime p pages
   in_time number bytes e =

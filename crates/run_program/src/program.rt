@@ -32,8 +32,8 @@ impl Program {
     pub fn link(&self, alloc: Global) -> Result<Instances<'_>, ProgramFault>
         ensures { MatchResult result
             (λ i. (linked self.now.modules.items ≡ Ok (config_of i))
-                × (modules_of i ≡ self.now.modules.items)
-                × (has_failed i ≡ false))
+            × (modules_of i ≡ self.now.modules.items)
+            × (has_failed i ≡ false))
             (λ e. e ≡ ProgramFault.NoMemory) }
     {
         hand_on(Instances::link(alloc, &self.modules))
@@ -41,12 +41,7 @@ impl Program {
 
     /// Executes the program from its begin for this many reductions, or up to its end if that comes first, and hands each
     /// printed byte to the sink. `Write` (91) comes if the sink failed, and `NoMemory` (90) if memory was refused.
-    pub fn run<S: Sink>(
-        &self,
-        alloc: Global,
-        steps: u64,
-        sink: &mut S,
-    ) -> Result<End, ProgramFault>
+    pub fn run<S: Sink>(&self, alloc: Global, steps: u64, sink: &mut S) -> Result<End, ProgramFault>
         requires { S.failed sink.old + 1 < 2 ^ 64 }
         ensures ok { IfOk result (λ end.
             IsRun S.reported S.failed self.now.modules.items steps end sink.old sink.new) }

@@ -21,11 +21,7 @@ fn module_of(alloc: Global, bytes: &[u8]) -> Result<ValidModule, WFault>
     validate(alloc, tree)
 }
 
-fn add_module(
-    alloc: Global,
-    bytes: &[u8],
-    modules: &mut Vec<ValidModule>,
-) -> Result<(), WFault>
+fn add_module(alloc: Global, bytes: &[u8], modules: &mut Vec<ValidModule>) -> Result<(), WFault>
     ensures ok { IfOk result (λ _.
         (m : WModule) × (modules.new.items ≡ modules.old.items ++ m ∷ []) × Encodes bytes.now m) }
     ensures err { IfErr result (λ e. Lacks e ((m : WModule) → ¬ (IsModule bytes.now m))) }
@@ -44,8 +40,8 @@ pub fn read_modules(
     ensures ok { IfOk result (λ v. AreEncoded (link.now ∷ map bytes_of others.now) v.items) }
     ensures err { IfErr result (λ e. Lacks e
         ((trees : List WModule)
-            → AreEncoded (link.now ∷ map bytes_of others.now) trees
-            → ¬ (All IsValid trees))) }
+        → AreEncoded (link.now ∷ map bytes_of others.now) trees
+        → ¬ (All IsValid trees))) }
 {
     let mut modules = Vec::new(alloc);
     add_module(alloc, link, &mut modules)?;

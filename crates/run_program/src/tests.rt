@@ -95,7 +95,10 @@ fn programs_print_and_end(rt: HostRuntime) {
         let mut screen = Screen::new(rt.alloc());
         let answer = answer(&rt, rt.alloc(), text, OPTIONS, &mut screen);
         let is_there = matches!(answer, Ok(ProgramEnd::Ran(there)) if there == end);
-        assert!(rt; is_there && screen.bytes.as_slice() == printed.as_bytes(), "{text}");
+        assert!(rt;
+            is_there && screen.bytes.as_slice() == printed.as_bytes(),
+            "{text}"
+        );
     }
 }
 
@@ -112,8 +115,26 @@ fn a_refused_program_prints_nothing(rt: HostRuntime) {
 #[test]
 fn faults_have_their_numbers(rt: HostRuntime) {
     let rows = [
-        (Options { workers: 0, pages: 1 }, 8, "", ProgramFault::Workers, Some(70)),
-        (Options { workers: 1, pages: 0 }, 8, "", ProgramFault::Pages, Some(73)),
+        (
+            Options {
+                workers: 0,
+                pages: 1,
+            },
+            8,
+            "",
+            ProgramFault::Workers,
+            Some(70),
+        ),
+        (
+            Options {
+                workers: 1,
+                pages: 0,
+            },
+            8,
+            "",
+            ProgramFault::Pages,
+            Some(73),
+        ),
         (OPTIONS, 2, "He", ProgramFault::Write, Some(91)),
     ];
     for (options, room, printed, fault, number) in rows {

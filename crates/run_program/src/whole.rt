@@ -35,10 +35,10 @@ fn end_of<S: Sink>(
     requires { S.failed sink.old + 1 < 2 ^ 64 }
     ensures ends { (sources : List SourceFile) (pages : ℕ) → IsLoaded sources pages loaded
         → IfOk result
-            (λ end. Ends S.reported S.failed sources pages steps end sink.old sink.new) }
+        (λ end. Ends S.reported S.failed sources pages steps end sink.old sink.new) }
     ensures breaks { (sources : List SourceFile) (pages : ℕ) → IsLoaded sources pages loaded
         → IfErr result
-            (λ e. Breaks S.reported S.failed sources pages steps e sink.old sink.new) }
+        (λ e. Breaks S.reported S.failed sources pages steps e sink.old sink.new) }
     ensures faults { IfErr result IsOfRun }
 {
     match loaded {
