@@ -93,8 +93,8 @@ fn programs_print_and_end(rt: HostRuntime) {
     ];
     for (text, printed, end) in rows {
         let mut screen = Screen::new(rt.alloc());
-        let answer = answer(&rt, rt.alloc(), text, OPTIONS, &mut screen);
-        let is_there = matches!(answer, Ok(ProgramEnd::Ran(there)) if there == end);
+        let ended = answer(&rt, rt.alloc(), text, OPTIONS, &mut screen);
+        let is_there = matches!(ended, Ok(ProgramEnd::Ran(there)) if there == end);
         assert!(rt;
             is_there && screen.bytes.as_slice() == printed.as_bytes(),
             "{text}"
@@ -105,8 +105,8 @@ fn programs_print_and_end(rt: HostRuntime) {
 #[test]
 fn a_refused_program_prints_nothing(rt: HostRuntime) {
     let mut screen = Screen::new(rt.alloc());
-    let answer = answer(&rt, rt.alloc(), REFUSED, OPTIONS, &mut screen);
-    let Ok(ProgramEnd::Refused(refusals)) = answer else {
+    let ended = answer(&rt, rt.alloc(), REFUSED, OPTIONS, &mut screen);
+    let Ok(ProgramEnd::Refused(refusals)) = ended else {
         panic!(rt; "it is refused");
     };
     assert!(rt; refusals.len() == 1 && screen.bytes.is_empty());
@@ -139,8 +139,8 @@ fn faults_have_their_numbers(rt: HostRuntime) {
     ];
     for (options, room, printed, fault, number) in rows {
         let mut screen = Screen::with_room(rt.alloc(), room);
-        let answer = answer(&rt, rt.alloc(), HELLO, options, &mut screen);
-        let is_fault = matches!(answer, Err(there) if there == fault);
+        let ended = answer(&rt, rt.alloc(), HELLO, options, &mut screen);
+        let is_fault = matches!(ended, Err(there) if there == fault);
         assert!(rt; is_fault && fault.number() == number, "{fault}");
         assert!(rt; screen.bytes.as_slice() == printed.as_bytes(), "{fault}");
     }
