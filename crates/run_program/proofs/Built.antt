@@ -14,14 +14,14 @@ use Rattle.run_program.specs.Faults.{IsUnbuilt, fault_of}
 
 -- a number from a least one to a greatest one
 within : (n least most : ℕ) → ((n < least) ⊎ (most < n) → ⊥) → (least ≤ n) × (n ≤ most)
-within n least most no = (low (cases_lt n least), high (cases_lt most n))
+within n least most not_so = (low (cases_lt n least), high (cases_lt most n))
   where
     low : (n < least) ⊎ (least ≤ n) → least ≤ n
-    low (inl h) = absurd (no (inl h))
+    low (inl h) = absurd (not_so (inl h))
     low (inr h) = h
 
     high : (most < n) ⊎ (n ≤ most) → n ≤ most
-    high (inl h) = absurd (no (inr h))
+    high (inl h) = absurd (not_so (inr h))
     high (inr h) = h
 
 ok_and_err : (x : Outcome) (f : BuildFault) → ◌≡◌ {A = Result Outcome BuildFault} (Ok x) (Err f) → ⊥
@@ -33,13 +33,13 @@ fault_in other (Err f) = f
 
 module _ (o : Options) (r : Result Outcome BuildFault) (workers : (r ≡ Err Workers) ↔ ((o.workers < 1) ⊎ (max_workers < o.workers))) (pages : AreWorkers o.workers → (r ≡ Err Pages) ↔ ((o.pages < 1) ⊎ (max_pages < o.pages))) where
   few : (r ≡ Err Workers → ⊥) → AreWorkers o.workers
-  few no = within o.workers 1 max_workers (λ wrong. no (workers.1 wrong))
+  few not_so = within o.workers 1 max_workers (λ wrong. not_so (workers.1 wrong))
 
   fine : (r ≡ Err Workers → ⊥) → (r ≡ Err Pages → ⊥) → AreFine o
   fine no_workers no_pages = (few no_workers, within o.pages 1 max_pages (λ wrong. no_pages ((pages (few no_workers)).1 wrong)))
 
   is_other : (fault other : BuildFault) → r ≡ Err fault → (fault ≡ other → ⊥) → r ≡ Err other → ⊥
-  is_other fault other is no e = no (ap (fault_in fault) (sym is ∙ e))
+  is_other fault other is not_so e = not_so (ap (fault_in fault) (sym is ∙ e))
 
   -- what is built is built with options that can be had
   pub fine_if_built : (x : Outcome) → r ≡ Ok x → AreFine o

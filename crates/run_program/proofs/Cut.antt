@@ -88,17 +88,17 @@ module _ {S : Type 0} (reported : S → Option (List ℕ)) (failed : S → ℕ) 
     pub breaks : (fault : ProgramFault) → IsCutBy reported failed trees steps fault before after → Breaks reported failed files pages steps fault before after
     breaks NoMemory ran = inr (cut 0 ran)
     breaks Write ran = cut 1 ran
-    breaks Workers no = absurd no
-    breaks Pages no = absurd no
-    breaks NoEncoding no = absurd no
+    breaks Workers not_so = absurd not_so
+    breaks Pages not_so = absurd not_so
+    breaks NoEncoding not_so = absurd not_so
 
   -- a program that was not built
   pub unbuilt : (files : List SourceFile) (pages steps : ℕ) (s : S) (o : Options) (fault : ProgramFault) → IsUnbuilt fault o → Breaks reported failed files pages steps fault s s
-  unbuilt files pages steps s o Workers no = nothing s
-  unbuilt files pages steps s o Pages no = nothing s
-  unbuilt files pages steps s o NoEncoding no = nothing s
-  unbuilt files pages steps s o NoMemory no = inl (nothing s)
-  unbuilt files pages steps s o Write no = absurd no
+  unbuilt files pages steps s o Workers not_so = nothing s
+  unbuilt files pages steps s o Pages not_so = nothing s
+  unbuilt files pages steps s o NoEncoding not_so = nothing s
+  unbuilt files pages steps s o NoMemory not_so = inl (nothing s)
+  unbuilt files pages steps s o Write not_so = absurd not_so
 
 -- ---- faults and options
 
@@ -159,7 +159,7 @@ module _ (trees slice : List WModule) (same : slice ≡ trees) (r : Result Insta
   handed (Ok i) is = fresh_of i is
   handed (Err e) is = is
 
-fault_in : RunFault → Result End RunFault → RunFault
+abbrev fault_in : RunFault → Result End RunFault → RunFault
 fault_in other (Ok e) = other
 fault_in other (Err f) = f
 
@@ -178,8 +178,8 @@ module _ (i : Instances) (r : Result End RunFault) (fault : RunFault) (is : r �
       (write : (r ≡ Err run.Write) ↔ (failed after ≡ failed before + 1)) (others : (r ≡ Err run.Write → ⊥) → failed after ≡ failed before) where
     cut_with : (f : RunFault) → fault ≡ f → (named : ProgramFault) → IsFaultOf f named → IsCutBy reported failed trees steps named before after
     cut_with run.NoMemory e named as_is =
-        let none : r ≡ Err run.Write → ⊥ = λ w. memory_is_no_write (sym e ∙ ap (fault_in fault) (sym is ∙ w)) in
-        let same_failures : failed after ≡ failed before + 0 = others none ∙ no_more (failed before) in
+        let not_write : r ≡ Err run.Write → ⊥ = λ w. memory_is_no_write (sym e ∙ ap (fault_in fault) (sym is ∙ w)) in
+        let same_failures : failed after ≡ failed before + 0 = others not_write ∙ no_more (failed before) in
         subst (λ (p : ProgramFault). IsCutBy reported failed trees steps p before after) (sym as_is) (part reported failed trees steps before after i 0 linked_to same ran same_failures)
     cut_with run.Write e named as_is =
         let more : failed after ≡ failed before + 1 = write.0 (is ∙ ap (λ (f : RunFault). Err f) e) in

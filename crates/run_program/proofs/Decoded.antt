@@ -56,7 +56,7 @@ unread bytes fault (inr none) = inr (λ m is. none m is.encoded)
 
 module _ (bytes : List ℕ) (tree : WModule) (encoded : Encodes bytes tree) where
   not_valid : (IsValid tree → ⊥) → (m : WModule) → IsModule bytes m → ⊥
-  not_valid no m is = no (subst IsValid (one_module bytes m tree is.encoded encoded) is.valid)
+  not_valid not_so m is = not_so (subst IsValid (one_module bytes m tree is.encoded encoded) is.valid)
 
   refused : (fault : WFault) → ((fault ≡ Invalid) × (IsValid tree → ⊥)) ⊎ (fault ≡ NoMemory) → Lacks fault ((m : WModule) → ¬ (IsModule bytes m))
   refused fault (inl e) = inr (not_valid e.1)
@@ -69,10 +69,6 @@ module _ (bytes : List ℕ) (tree : WModule) (encoded : Encodes bytes tree) wher
   validated (Err e) h = refused e h
 
 -- ---- all of them
-
--- link alone
-pub begun : (link : List ℕ) (old new : List WModule) → old ≡ [] → (m : WModule) × (new ≡ old ++ m ∷ []) × Encodes link m → AreEncoded (link ∷ []) new
-begun link old new none one = subst (AreEncoded (link ∷ [])) (sym (one.1 ∙ ap (λ (ms : List WModule). ms ++ one.0 ∷ []) none)) (one.2, tt)
 
 module _ (link : List ℕ) (others : List (String Global × Vec ℕ)) where
   abbrev Fails : WFault → Type 0

@@ -17,12 +17,12 @@ use Rattle.run_program.specs.Runs.{IsBeginning, EndsWith, IsRight, EndsInTime, m
 
 -- ---- ends
 
-number_in : ℕ → End → ℕ
+abbrev number_in : ℕ → End → ℕ
 number_in other (Done k) = k
 number_in other Trap = other
 number_in other StillRunning = other
 
-number_at : ℕ → Config → ℕ
+abbrev number_at : ℕ → Config → ℕ
 number_at other (Going st now callers) = other
 number_at other (Over k) = k
 number_at other Trapped = other
@@ -30,7 +30,7 @@ number_at other Trapped = other
 trapped_is_none : (k : ℕ) → Trapped ≡ Over k → ⊥
 trapped_is_none k e = cc
 
-config_in : Config → Result Config WFault → Config
+abbrev config_in : Config → Result Config WFault → Config
 config_in other (Ok c) = c
 config_in other (Err f) = other
 

@@ -14,12 +14,12 @@ hand_on-requires g c =
 
 pub of_modules-requires : goal.of_modules-requires
 of_modules-requires g c =
-    they_link c.args.files.now c.args.options.pages c.in_ok-modules.modules.items
+    they_link c.args.files.now c.args.options.pages c.in_ok-modules-in-Built.modules.items
     (program_read c.args.files.now c.args.options.pages c.in_ok-outcome.outcome c.in_ok-outcome.ensures.built c.in_ok-outcome.ensures.one c.in-Built.link c.in-Built.others c.in-Built.is c.deref.result.now c.deref-in-Built.result.now
-    c.deref.ensures.value c.deref-in-Built.ensures.value c.read_modules.result c.in_ok-modules.modules c.in_ok-modules.ensures c.read_modules.ensures.ok)
+    c.deref.ensures.value c.deref-in-Built.ensures.value c.read_modules.result c.in_ok-modules-in-Built.modules c.in_ok-modules-in-Built.ensures c.read_modules.ensures.ok)
 
-pub returns-clause-loaded : goal.returns-clause-loaded
-returns-clause-loaded g c =
+pub returns-in_ok-modules-in-Built-clause-loaded : goal.returns-in_ok-modules-in-Built-clause-loaded
+returns-in_ok-modules-in-Built-clause-loaded g c =
     subst (λ (ms : List WModule). IsProgramOf c.args.files.now c.args.options.pages ms) (sym c.of_modules.ensures)
     (program_read c.args.files.now c.args.options.pages c.in_ok-outcome.outcome c.in_ok-outcome.ensures.built c.in_ok-outcome.ensures.one c.in-Built.link c.in-Built.others c.in-Built.is c.deref.result.now c.deref-in-Built.result.now
-    c.deref.ensures.value c.deref-in-Built.ensures.value c.read_modules.result c.in_ok-modules.modules c.in_ok-modules.ensures c.read_modules.ensures.ok)
+    c.deref.ensures.value c.deref-in-Built.ensures.value c.read_modules.result c.in_ok-modules-in-Built.modules c.in_ok-modules-in-Built.ensures c.read_modules.ensures.ok)
