@@ -1,0 +1,4 @@
+pub mod Right
+pub mod Decoded
+pub mod Cut
+pub mod Built

@@ -1,0 +1,6 @@
+pub mod Cut
+pub mod Faults
+pub mod Loading
+pub mod Reading
+pub mod Runs
+pub mod Whole

@@ -1,0 +1,16 @@
+//! From program texts to what the program prints: built in memory, linked and executed, with no file.
+#![tactic(auto)]
+
+mod fault;
+mod loading;
+mod program;
+mod reading;
+#[cfg(test)]
+mod tests;
+mod whole;
+
+pub use fault::ProgramFault;
+pub use loading::{Loaded, load_program};
+pub use program::Program;
+pub use wasm_engine::{End, Instances, Sink};
+pub use whole::{ProgramEnd, run_program};
