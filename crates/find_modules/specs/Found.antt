@@ -42,6 +42,10 @@ AreFound gives count modules = All (λ m. AreSources gives count m.name m.source
 
 -- ---- which modules
 
+-- The most modules whose imports are followed: as many as a program may have files, so one with more is refused.
+abbrev pub max_modules : ℕ
+max_modules = 1024
+
 abbrev pub name_of : FoundModule → List ℕ
 name_of m = m.name
 

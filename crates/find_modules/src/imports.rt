@@ -10,11 +10,11 @@ use m2_tree::{Ident, Import, Module, Name, Token};
 use std::alloc::{AllocError, Global};
 
 /// Adds the names of modules.
-fn add_each(names: &mut Vec<Name>, modules: &[Ident]) -> Result<(), AllocError>
-    ensures { OnOk result (names.new.items ≡ names.old.items ++ map (λ i. i.name) modules.now) }
+fn add_each(names: &mut Vec<Name>, idents: &[Ident]) -> Result<(), AllocError>
+    ensures { OnOk result (names.new.items ≡ names.old.items ++ map (λ i. i.name) idents.now) }
 {
-    for module in modules {
-        names.push(module.name.clone()?)?;
+    for ident in idents {
+        names.push(ident.name.clone()?)?;
     }
     Ok(())
 }
@@ -24,8 +24,8 @@ fn add_named(names: &mut Vec<Name>, import: &Import) -> Result<(), AllocError>
     ensures { OnOk result (names.new.items ≡ names.old.items ++ named_by import.now) }
 {
     match &import.from {
-        Some(module) => {
-            names.push(module.name.clone()?)?;
+        Some(ident) => {
+            names.push(ident.name.clone()?)?;
             Ok(())
         }
         None => add_each(names, import.names.as_slice()),
@@ -37,7 +37,8 @@ fn imported(alloc: Global, tree: &Module) -> Result<Vec<Name>, AllocError>
     ensures { IfOk result (λ names. names.items ≡ imported tree.now) }
 {
     let mut names = Vec::new(alloc);
-    for import in tree.imports.as_slice() {
+    let imports = tree.imports.as_slice();
+    for import in imports {
         add_named(&mut names, import)?;
     }
     Ok(names)

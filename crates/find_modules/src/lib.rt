@@ -7,6 +7,8 @@ mod folders;
 mod found;
 mod imports;
 mod search;
+#[cfg(test)]
+mod tests;
 
 pub use folders::{FindFault, ModuleFolders, Part};
 pub use found::{FoundModule, Sources};

@@ -1,7 +1,7 @@
 //! The search for the modules of a program.
 
 ghost use Rattle.std.specs.Prelude.{◌≡◌, ◌≤◌, ◌∷◌, [], length, map, IfOk, OnOk};
-ghost use Rattle.find_modules.specs.Found.{IsAt, AreSources, AreOf, AreAdded, SourcesImport, TextsImport, is_among, name_of};
+ghost use Rattle.find_modules.specs.Found.{IsAt, AreSources, AreOf, AreAdded, SourcesImport, TextsImport, is_among, max_modules, name_of};
 
 use crate::folders::{FindFault, ModuleFolders, Part};
 use crate::found::{FoundModule, Sources};
@@ -9,7 +9,7 @@ use crate::imports::imports_of;
 use m2_tree::{Name, is_console};
 use std::alloc::Global;
 
-/// The most modules whose imports are followed. A program has at most 1024 files, so one with more is refused.
+/// The most modules whose imports are followed: as many as a program may have files, so one with more is refused.
 pub const MAX_MODULES: usize = 1024;
 
 /// The first folder that has the definition of this module, and the definition.
@@ -51,7 +51,7 @@ fn sources_of<F: ModuleFolders>(
 fn is_among(name: &Name, modules: &[FoundModule]) -> bool
     ensures { result ≡ is_among name.now (map name_of modules.now) }
 {
-    modules.iter().any(|module| module.name == *name)
+    modules.iter().any(|module| *name == module.name)
 }
 
 /// Looks for a module, unless it is built in or was looked for before.
@@ -125,7 +125,7 @@ pub fn find<F: ModuleFolders>(
     program: &[u8],
 ) -> Result<Vec<FoundModule>, FindFault>
     // More modules are those of no program that the compiler accepts.
-    ensures { IfOk result (λ modules. length modules.items ≤ 1024
+    ensures { IfOk result (λ modules. length modules.items ≤ max_modules
         → AreOf (F.gives folders.now) (F.count folders.now) program.now modules.items) }
 {
     let mut modules = Vec::new(alloc);

@@ -34,5 +34,7 @@ pub enum Asked {
         setting: Setting,
     },
     /// To write the files of a new program of this name.
-    New { name: String },
+    New {
+        name: String,
+    },
 }

@@ -119,7 +119,12 @@ fn module_of(alloc: Global, name: &str) -> Result<String, AllocError> {
 }
 
 /// Adds a character of a text, or the name that it stands for.
-fn add_filled(filled: &mut String, letter: char, name: &str, module: &str) -> Result<(), AllocError> {
+fn add_filled(
+    filled: &mut String,
+    letter: char,
+    name: &str,
+    module: &str,
+) -> Result<(), AllocError> {
     match letter {
         PROGRAM_NAME => filled.push_str(name),
         MODULE_NAME => filled.push_str(module),

@@ -157,12 +157,7 @@ fn write_end<R: Eprint, P: Print>(rt: &R, end: End, steps: u64, screen: &Screen<
 }
 
 /// Says what came of a run, if that is more than its end, and answers the status.
-fn write_course<R: Eprint, P: Print>(
-    rt: &R,
-    course: Course,
-    steps: u64,
-    screen: &Screen<P>,
-) -> u8 {
+fn write_course<R: Eprint, P: Print>(rt: &R, course: Course, steps: u64, screen: &Screen<P>) -> u8 {
     match course {
         Course::At(end) => write_end(rt, end, steps, screen),
         Course::Unwritten => {
@@ -205,13 +200,7 @@ fn run_modules<R: Eprint + AllocGlobal, P: Print>(
 }
 
 /// Builds the program of this file, and executes it for at most so many reductions. It prints on this stream. The status.
-pub fn run_program<R, P>(
-    rt: &R,
-    setting: &Setting,
-    program: &str,
-    steps: u64,
-    out: P,
-) -> Result<u8>
+pub fn run_program<R, P>(rt: &R, setting: &Setting, program: &str, steps: u64, out: P) -> Result<u8>
 where
     R: Files + Print + Eprint + AllocGlobal + Threads + Sync,
     P: Print + Drop,

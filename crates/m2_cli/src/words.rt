@@ -89,11 +89,7 @@ fn build_command<'a>(alloc: Global) -> Result<Command<'a>> {
 fn check_command<'a>(alloc: Global) -> Result<Command<'a>> {
     let command = Command::new(alloc, "check")
         .about("Says which rules a program breaks, and writes nothing")
-        .arg(
-            program_word(alloc)
-                .action(ArgAction::Append)
-                .num_args(1..),
-        )?;
+        .arg(program_word(alloc).action(ArgAction::Append).num_args(1..))?;
     with_setting(alloc, command)
 }
 
