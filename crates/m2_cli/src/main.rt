@@ -13,6 +13,7 @@ mod checking;
 mod creating;
 mod finding;
 mod libraries;
+mod output;
 mod places;
 mod running;
 mod saving;

@@ -5,12 +5,11 @@ ghost use Rattle.std.specs.Prelude.{◌≡◌, ◌<◌, ◌^◌, ◌+◌};
 use crate::PROGRAM;
 use crate::asked::Setting;
 use crate::building::{Modules, build_program};
+use crate::output::say_output_fault;
 use crate::screen::Screen;
-use crate::words::MOST_STEPS;
 use anyhow::Result;
 use command_words::{FAILED, Words};
 use std::alloc::Global;
-use std::io::ErrorKind;
 use std::rt::Files;
 use std::thread::Threads;
 use wasm_binary::read_module;
@@ -116,17 +115,9 @@ fn begin_line<R: Eprint, P: Print>(rt: &R, screen: &Screen<P>) {
 /// Says that standard output failed, and why.
 fn say_unwritten<R: Eprint, P: Print>(rt: &R, screen: &Screen<P>) {
     match screen.cause() {
-        Some(error) if error.kind() == ErrorKind::StorageFull => {
-            let _ = eprintln!(rt; "{PROGRAM}: standard output: no space left");
-        }
-        Some(error) if error.kind() == ErrorKind::BrokenPipe => {
-            let _ = eprintln!(rt; "{PROGRAM}: standard output: closed");
-        }
-        Some(error) => {
-            let _ = eprintln!(rt; "{PROGRAM}: standard output: {error}");
-        }
+        Some(error) => say_output_fault(rt, error),
         None => {
-            let _ = eprintln!(rt; "{PROGRAM}: standard output failed");
+            let _ = eprintln!(rt; "{PROGRAM}: no memory left (90)");
         }
     }
 }
@@ -149,7 +140,7 @@ fn write_end<R: Eprint, P: Print>(rt: &R, end: End, steps: u64, screen: &Screen<
         End::StillRunning => {
             begin_line(rt, screen);
             let _ = eprintln!(rt;
-                "{PROGRAM}: stopped after {steps} reductions; --steps N allows more, up to {MOST_STEPS}"
+                "{PROGRAM}: stopped after {steps} reductions; --steps N allows more"
             );
             GOES_ON
         }

@@ -2,6 +2,7 @@
 
 use crate::PROGRAM;
 use crate::finding::Program;
+use crate::output::say_output_fault;
 use command_words::FAILED;
 use m2_tree::Refusal;
 use std::io;
@@ -42,7 +43,7 @@ pub fn show<R: Print + Eprint>(rt: &R, program: &Program, refusals: &[Refusal]) 
             REFUSED
         }
         Err(error) => {
-            let _ = eprintln!(rt; "{PROGRAM}: standard output: {error}");
+            say_output_fault(rt, &error);
             FAILED
         }
     }

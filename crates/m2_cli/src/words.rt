@@ -15,7 +15,7 @@ use std::rt::{Env, Files};
 const VERSION: &str = "0.1.0";
 
 /// The most reductions that a run may be allowed.
-pub const MOST_STEPS: u64 = 1000000000000;
+const MOST_STEPS: u64 = 1000000000000;
 
 /// The options that say how a program is found and built.
 fn with_setting<'a>(alloc: Global, command: Command<'a>) -> Result<Command<'a>> {
