@@ -1,6 +1,6 @@
 -- Which modules are found for a program, and where.
 use Rattle.std.specs.Prelude.{◌≡◌, ◌<◌, ◌++◌, ◌||◌, ℕ, Bool, List, [], ◌∷◌, Option, Some, None, map, if◌then◌else◌, All}
-use Rattle.std.specs.Vec.{Vec}
+use Rattle.std.specs.Global.{Vec}
 use Rattle.std.specs.List.{list_any, fold}
 use Rattle.m2_tree.specs.Names.{same_name, is_console}
 use Rattle.find_modules.specs.Imports.{Imports}

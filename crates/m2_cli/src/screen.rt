@@ -20,7 +20,7 @@ pub struct Screen<P> {
     pub failures: u64,
 }
 
-impl<P: Print> Screen<P> {
+impl<P: Print + Drop> Screen<P> {
     /// A stream that took nothing. The only error is that memory ran out.
     pub fn new(alloc: Global, to: P) -> Result<Screen<P>, AllocError>
         ensures { IfOk result (λ s. s.failures ≡ 0) }
@@ -33,7 +33,9 @@ impl<P: Print> Screen<P> {
             failures: 0,
         })
     }
+}
 
+impl<P: Print> Screen<P> {
     /// Writes what it keeps. False if that failed.
     pub fn write_kept(&mut self) -> bool
         ensures { self.new.failures ≡ self.old.failures }
