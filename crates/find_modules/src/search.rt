@@ -1,0 +1,142 @@
+//! The search for the modules of a program.
+
+ghost use Rattle.std.specs.Prelude.{◌≡◌, ◌≤◌, ◌∷◌, [], length, map, IfOk, OnOk};
+ghost use Rattle.find_modules.specs.Found.{IsAt, AreSources, AreOf, AreAdded, SourcesImport, TextsImport, is_among, max_modules, name_of};
+
+use crate::folders::{FindFault, ModuleFolders, Part};
+use crate::found::{FoundModule, Sources};
+use crate::imports::imports_of;
+use m2_tree::{Name, is_console};
+use std::alloc::Global;
+
+/// The most modules whose imports are followed: as many as a program may have files, so one with more is refused.
+pub const MAX_MODULES: usize = 1024;
+
+/// The first folder that has the definition of this module, and the definition.
+fn definition_of<F: ModuleFolders>(
+    alloc: Global,
+    folders: &F,
+    name: &Name,
+) -> Result<Option<(usize, Vec<u8>)>, FindFault>
+    ensures { IfOk result (IsAt (F.gives folders.now) (F.count folders.now) name.now) }
+{
+    for folder in 0..folders.count() {
+        if let Some(text) = folders.read(alloc, folder, name, Part::Definition)? {
+            return Ok(Some((folder, text)));
+        }
+    }
+    Ok(None)
+}
+
+/// The texts of this module: its definition from the first folder that has one, and the implementation beside it.
+fn sources_of<F: ModuleFolders>(
+    alloc: Global,
+    folders: &F,
+    name: &Name,
+) -> Result<Option<Sources>, FindFault>
+    ensures { IfOk result (AreSources (F.gives folders.now) (F.count folders.now) name.now) }
+{
+    let Some((folder, definition)) = definition_of(alloc, folders, name)? else {
+        return Ok(None);
+    };
+    let implementation = folders.read(alloc, folder, name, Part::Implementation)?;
+    Ok(Some(Sources {
+        folder,
+        definition,
+        implementation,
+    }))
+}
+
+/// Whether a module of this name is among these.
+fn is_among(name: &Name, modules: &[FoundModule]) -> bool
+    ensures { result ≡ is_among name.now (map name_of modules.now) }
+{
+    modules.iter().any(|module| *name == module.name)
+}
+
+/// Looks for a module, unless it is built in or was looked for before.
+fn add_module<F: ModuleFolders>(
+    alloc: Global,
+    folders: &F,
+    name: &Name,
+    modules: &mut Vec<FoundModule>,
+) -> Result<(), FindFault>
+    ensures { OnOk result (AreAdded (F.gives folders.now) (F.count folders.now) (name.now ∷ [])
+        modules.old.items modules.new.items) }
+{
+    if is_console(name.as_bytes()) || is_among(name, modules) {
+        return Ok(());
+    }
+    let sources = sources_of(alloc, folders, name)?;
+    let name = name.clone()?;
+    modules.push(FoundModule { name, sources })?;
+    Ok(())
+}
+
+/// Looks for each of these modules.
+fn add_modules<F: ModuleFolders>(
+    alloc: Global,
+    folders: &F,
+    names: &[Name],
+    modules: &mut Vec<FoundModule>,
+) -> Result<(), FindFault>
+    ensures { OnOk result (AreAdded (F.gives folders.now) (F.count folders.now) names.now
+        modules.old.items modules.new.items) }
+{
+    for name in names {
+        add_module(alloc, folders, name, modules)?;
+    }
+    Ok(())
+}
+
+/// The modules that the texts of a module import: the definition's before the implementation's.
+fn imports_of_sources(alloc: Global, sources: &Sources) -> Result<Vec<Name>, FindFault>
+    ensures { IfOk result (λ names. TextsImport sources.now names.items) }
+{
+    let mut names = imports_of(alloc, &sources.definition)?;
+    if let Some(text) = &sources.implementation {
+        let mut more = imports_of(alloc, text)?;
+        names.append(&mut more)?;
+    }
+    Ok(names)
+}
+
+/// The modules that a module imports, and none if it was not found.
+fn imports_of_module(alloc: Global, module: &FoundModule) -> Result<Vec<Name>, FindFault>
+    ensures { IfOk result (λ names. SourcesImport module.now.sources names.items) }
+{
+    match &module.sources {
+        None => Ok(Vec::new(alloc)),
+        Some(sources) => imports_of_sources(alloc, sources),
+    }
+}
+
+/// Finds the modules that a program imports, and those that they import, and so on, in the order in which the texts name
+/// them: those of the program's text first, then those of each module's definition and implementation, module by module.
+/// Each is looked for once. `Console` is built in and is left out.
+///
+/// The definition of a module comes from the first folder that has one, and the implementation from the same folder. What
+/// is not there is left to the compiler, which refuses it.
+///
+/// `NoMemory` if a request for memory was refused. `Unread` if a file is there and cannot be read.
+pub fn find<F: ModuleFolders>(
+    alloc: Global,
+    folders: &F,
+    program: &[u8],
+) -> Result<Vec<FoundModule>, FindFault>
+    // More modules are those of no program that the compiler accepts.
+    ensures { IfOk result (λ modules. length modules.items ≤ max_modules
+        → AreOf (F.gives folders.now) (F.count folders.now) program.now modules.items) }
+{
+    let mut modules = Vec::new(alloc);
+    let names = imports_of(alloc, program)?;
+    add_modules(alloc, folders, &names, &mut modules)?;
+    for at in 0..MAX_MODULES {
+        if at >= modules.len() {
+            break;
+        }
+        let names = imports_of_module(alloc, &modules[at])?;
+        add_modules(alloc, folders, &names, &mut modules)?;
+    }
+    Ok(modules)
+}

@@ -1,0 +1,1 @@
+MODULE M; FROM Console IMPORT Put; BEGIN Put("H"); Put("i"); Put(12C) END M.

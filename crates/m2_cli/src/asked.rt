@@ -1,0 +1,40 @@
+//! What the command line asks for.
+
+use m2c::Options;
+
+/// How programs are found and built.
+#[derive(Drop)]
+pub struct Setting {
+    /// The workers and the pages of memory.
+    pub options: Options,
+    /// The folders in which modules are looked for behind that of the program, in this order.
+    pub libraries: Vec<String>,
+    /// Whether it is said what is found.
+    pub is_verbose: bool,
+}
+
+/// What the command line asks for.
+#[derive(Drop)]
+pub enum Asked {
+    /// To run the program of this file, for at most this many reductions.
+    Run {
+        program: String,
+        setting: Setting,
+        steps: u64,
+    },
+    /// To write the modules of the program of this file into a folder.
+    Build {
+        program: String,
+        setting: Setting,
+        out: String,
+    },
+    /// To say what is refused of the programs of these files.
+    Check {
+        programs: Vec<String>,
+        setting: Setting,
+    },
+    /// To write the files of a new program of this name.
+    New {
+        name: String,
+    },
+}

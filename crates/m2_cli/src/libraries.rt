@@ -1,0 +1,80 @@
+//! The folders of libraries: those of the command line, and those of the environment.
+
+use crate::PROGRAM;
+use anyhow::Result;
+use command_words::{COMMAND_LINE, FAILED, Words, are_named, strings_of};
+use std::env::VarError;
+use std::rt::{Env, Files};
+use std::{env, fs};
+
+/// The variable that names folders, with colons between them.
+const VARIABLE: &str = "M2_LIB";
+
+/// What stands between two folders of the variable.
+const BETWEEN: char = ':';
+
+/// Whether a folder is there. One that is not is reported.
+fn is_folder<R: Files + Eprint>(rt: &R, name: &str) -> bool {
+    match fs::metadata(rt, name) {
+        Ok(found) => {
+            if !found.is_dir() {
+                let _ = eprintln!(rt; "{PROGRAM}: --lib {name}: not a folder");
+            }
+            found.is_dir()
+        }
+        Err(error) => {
+            let _ = eprintln!(rt; "{PROGRAM}: --lib {name}: {error}");
+            false
+        }
+    }
+}
+
+/// Whether each of these folders is there. The first that is not is reported.
+fn are_folders<R: Files + Eprint>(rt: &R, names: &[&str]) -> bool {
+    match names {
+        [] => true,
+        [name, rest @ ..] => is_folder(rt, name) && are_folders(rt, rest),
+    }
+}
+
+/// Adds the folders that a text names, and leaves out empty names.
+fn add_folders<R: AllocGlobal>(rt: &R, text: &str, folders: &mut Vec<String>) -> Result<()> {
+    for name in text.split(BETWEEN) {
+        if !name.is_empty() {
+            folders.push(String::from_str(rt.alloc(), name)?)?;
+        }
+    }
+    Ok(())
+}
+
+/// Adds the folders of the variable. A value that is no text is reported.
+fn with_variable<R>(rt: &R, folders: Vec<String>) -> Result<Words<Vec<String>>>
+where
+    R: Env + Eprint + AllocGlobal,
+{
+    let mut folders = folders;
+    match env::var(rt, VARIABLE) {
+        Ok(text) => add_folders(rt, text.as_str(), &mut folders)?,
+        Err(VarError::NotPresent) => {}
+        Err(error) => {
+            let _ = eprintln!(rt; "{PROGRAM}: the variable {VARIABLE}: {error}");
+            return Ok(Words::Reported(FAILED));
+        }
+    }
+    Ok(Words::Read(folders))
+}
+
+/// The folders in which modules are looked for behind that of the program: those behind `--lib` as they are given, and
+/// then those of the variable `M2_LIB`. An empty name, and a folder behind `--lib` that is not there, are reported.
+pub fn libraries_of<R>(rt: &R, names: &[&str]) -> Result<Words<Vec<String>>>
+where
+    R: Files + Env + Eprint + AllocGlobal,
+{
+    if !are_named(rt, PROGRAM, "--lib", names) {
+        return Ok(Words::Reported(COMMAND_LINE));
+    }
+    if !are_folders(rt, names) {
+        return Ok(Words::Reported(FAILED));
+    }
+    with_variable(rt, strings_of(rt.alloc(), names)?)
+}

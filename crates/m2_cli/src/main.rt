@@ -1,0 +1,81 @@
+//! The one tool for people: `m2 run`, `m2 build`, `m2 check` and `m2 new`.
+//!
+//! The words of the command line are read first. Then the modules that a program imports are found in folders, and the whole
+//! is built in memory. `run` executes what was built, `build` writes it into a folder, and `check` does neither. What is
+//! refused is a line each on standard output; all that this program says itself goes to standard error.
+//!
+//! The statuses are those of `m2c` for what is refused, and those of `m2run` for runs: see docs/statuses.md.
+#![tactic(auto)]
+
+mod asked;
+mod building;
+mod checking;
+mod creating;
+mod finding;
+mod libraries;
+mod output;
+mod places;
+mod running;
+mod saving;
+mod screen;
+mod showing;
+mod words;
+
+use crate::asked::Asked;
+use crate::checking::check_all;
+use crate::creating::create;
+use crate::running::run_program;
+use crate::saving::build_into;
+use crate::words::read_command_line;
+use anyhow::Result;
+use command_words::{FAILED, Words};
+use std::process::ExitCode;
+use std::rt::{Env, Files};
+use std::thread::Threads;
+
+/// The name of the program, in front of what it says.
+pub const PROGRAM: &str = "m2";
+
+/// Does what was asked for, and answers the status. An error if memory or a stream failed.
+fn answer<R, P>(rt: &R, asked: &Asked, out: P) -> Result<u8>
+where
+    R: Files + Print + Eprint + AllocGlobal + Threads + Sync,
+    P: Print + Drop,
+{
+    match asked {
+        Asked::Run {
+            program,
+            setting,
+            steps,
+        } => run_program(rt, setting, program.as_str(), *steps, out),
+        Asked::Build {
+            program,
+            setting,
+            out,
+        } => build_into(rt, setting, program.as_str(), out.as_str()),
+        Asked::Check { programs, setting } => check_all(rt, setting, programs),
+        Asked::New { name } => create(rt, name.as_str()),
+    }
+}
+
+/// Does what the words ask for, and answers the status.
+fn elaborate<R, P>(rt: &R, out: P) -> Result<u8>
+where
+    R: Files + Env + Print + Eprint + AllocGlobal + Threads + Sync,
+    P: Print + Drop,
+{
+    match read_command_line(rt)? {
+        Words::Reported(status) => Ok(status),
+        Words::Read(asked) => answer(rt, &asked, out),
+    }
+}
+
+fn main(rt: HostRuntime) -> ExitCode {
+    match elaborate(&rt, rt.stdout()) {
+        Ok(status) => ExitCode::from(status),
+        Err(error) => {
+            let _ = eprintln!(rt; "{PROGRAM}: {error}");
+            ExitCode::from(FAILED)
+        }
+    }
+}
