@@ -31,9 +31,9 @@ pub record EndsWith (p : Modules) (pages number : ℕ) (bytes : List ℕ) : Type
   pub bound : ℕ
   pub is : run p pages bound ≡ Stopped number bytes
 
--- A run is right that has printed these bytes and is there. The bytes are a beginning of what the
--- program prints. If the run has ended, the program's run ends with the same number and prints
--- these bytes. The run did not trap.
+-- What a run did that has printed these bytes is right: they are a beginning of what the program
+-- prints, the run did not trap, and if it has ended, the program's run ends with the same number
+-- and prints these bytes.
 pub record IsRight (p : Modules) (pages : ℕ) (end : End) (bytes : List ℕ) : Type 0 where
   pub begins : IsBeginning p pages bytes
   pub ended : (number : ℕ) → end ≡ Done number → EndsWith p pages number bytes
