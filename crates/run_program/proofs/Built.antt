@@ -1,6 +1,5 @@
 -- The faults of a build, and the options with which they come.
-use Rattle.std.proofs.Common.{◌≡◌, ◌≢◌, ℕ, ◌<◌, ◌≤◌, ◌↔◌, ◌⊎◌, inl, inr, Result, Ok, Err, refl, sym, ap, subst, ◌∙◌, arith}
-use Rattle.std.specs.Prelude.{IsErrOf}
+use Rattle.std.proofs.Common.{◌≡◌, ℕ, ◌<◌, ◌≤◌, ◌↔◌, ◌⊎◌, inl, inr, Result, Ok, Err, sym, ap, subst, ◌∙◌}
 use Rattle.std.proofs.lemmas.Bool.{cases_lt}
 use Rattle.pool_board.specs.Seats.{max_workers}
 use Rattle.def_scheme.specs.Modules.{max_pages}
@@ -8,7 +7,7 @@ use Rattle.m2c.specs.declared.files.BuildFault.{BuildFault}
 use Rattle.m2c.specs.declared.files.BuildFault.TheVariants.{Workers, Pages, NoMemory, NoEncoding}
 use Rattle.m2c.specs.declared.files.Options.{Options}
 use Rattle.m2c.specs.declared.files.Outcome.{Outcome}
-use Rattle.m2c.specs.Compiles.{AreFine, AreWorkers, ArePages}
+use Rattle.m2c.specs.Compiles.{AreFine, AreWorkers}
 use Rattle.run_program.specs.declared.fault.ProgramFault.{ProgramFault}
 use Rattle.run_program.specs.Faults.{IsUnbuilt, fault_of}
 

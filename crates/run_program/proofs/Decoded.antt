@@ -12,7 +12,7 @@ use Rattle.wasm_tree.specs.Linking.{link as linked}
 use Rattle.wasm_binary.specs.Binary.{Encodes}
 use Rattle.wasm_binary.proofs.LawsModule.{one_module}
 use Rattle.build_jobs.specs.declared.file.SourceFile.{SourceFile}
-use Rattle.def_scheme.specs.Modules.{typed_module, typed_link}
+use Rattle.def_scheme.specs.Modules.{typed_module}
 use Rattle.m2c.specs.declared.files.Outcome.{Outcome}
 use Rattle.m2c.specs.declared.files.Outcome.TheVariants as outcome
 use Rattle.m2c.specs.Build.{AreAlike, AreEncoded, IsBuilt, IsProgram, named}

@@ -1,5 +1,5 @@
 -- Runs of modules that behave as a program are right.
-use Rattle.std.proofs.Common.{◌≡◌, ◌≢◌, ℕ, ◌+◌, ◌-◌, ◌≤◌, List, Result, Ok, Err, refl, sym, ap, subst, ◌∙◌, arith}
+use Rattle.std.proofs.Common.{◌≡◌, ℕ, ◌+◌, ◌-◌, ◌≤◌, List, Result, Ok, Err, sym, ap, subst, ◌∙◌, arith}
 use Rattle.wasm_tree.specs.declared.fault.WFault.{WFault}
 use Rattle.wasm_tree.specs.Machine.{Config, Going, Over, Trapped, Progress, run as reductions}
 use Rattle.wasm_tree.specs.Linking.{link as linked}
@@ -8,7 +8,7 @@ use Rattle.wasm_engine.specs.declared.engine.End.{End}
 use Rattle.wasm_engine.specs.declared.engine.End.TheVariants.{Done, Trap, StillRunning}
 use Rattle.wasm_engine.specs.Instances.{IsEnd}
 use Rattle.wasm_engine.proofs.Runs as engine
-use Rattle.def_meaning.specs.Answer.{Outcome, Stopped}
+use Rattle.def_meaning.specs.Answer.{Stopped}
 use Rattle.def_meaning.specs.Around.{Modules}
 use Rattle.def_meaning.specs.Runs.{run}
 use Rattle.law_simulation.specs.Behaves.{Behaves}

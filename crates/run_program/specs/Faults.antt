@@ -25,8 +25,8 @@ fault_of build.Pages = Pages
 fault_of build.NoMemory = NoMemory
 fault_of build.NoEncoding = NoEncoding
 
--- with which options a program is not built: the fault of workers is the first, then that of pages, and all others come
--- with options that can be had
+-- The options with which a fault comes, if a program is not built. The fault of workers is the
+-- first, then the fault of pages. All others come with options that can be had.
 abbrev pub IsUnbuilt : ProgramFault → Options → Type 0
 IsUnbuilt Workers o = (o.workers < 1) ⊎ (max_workers < o.workers)
 IsUnbuilt Pages o = AreWorkers o.workers × ((o.pages < 1) ⊎ (max_pages < o.pages))

@@ -1,4 +1,5 @@
--- What the texts of a program come to, and what the run of their modules is by the language's definition.
+-- What the texts of a program come to, and what a run of their modules is by the language's
+-- definition.
 use Rattle.std.specs.Prelude.{◌≡◌, ◌≢◌, ◌≤◌, ℕ, List, ◌∷◌, ◌++◌, map, String}
 use Rattle.std.specs.Global.{Global, Vec}
 use Rattle.m2_tree.specs.declared.refusal.Refusal.{Refusal}
@@ -30,8 +31,9 @@ pub record EndsWith (p : Modules) (pages number : ℕ) (bytes : List ℕ) : Type
   pub bound : ℕ
   pub is : run p pages bound ≡ Stopped number bytes
 
--- A run that has printed these bytes, and is there, is right. The bytes are a beginning of what the program prints. If the
--- run has ended, the program's run ends with the same number and prints these bytes. It did not trap.
+-- What a run did that has printed these bytes is right: they are a beginning of what the program
+-- prints, the run did not trap, and if it has ended, the program's run ends with the same number
+-- and prints these bytes.
 pub record IsRight (p : Modules) (pages : ℕ) (end : End) (bytes : List ℕ) : Type 0 where
   pub begins : IsBeginning p pages bytes
   pub ended : (number : ℕ) → end ≡ Done number → EndsWith p pages number bytes
@@ -43,11 +45,13 @@ pub record IsRight (p : Modules) (pages : ℕ) (end : End) (bytes : List ℕ) : 
 abbrev pub modules_of : Modules → (pages : ℕ) → List WModule
 modules_of p pages = typed_link p pages ∷ map typed_module p
 
--- If the program's run ends, then after enough reductions its modules have ended with the same number and the same bytes.
+-- If the program's run ends, its modules have ended after enough reductions, with the same number
+-- and the same bytes.
 abbrev pub EndsInTime : Modules → (pages : ℕ) → Type 0
 EndsInTime p pages =
     (number : ℕ) (bytes : List ℕ) → EndsWith p pages number bytes
-    → (enough : ℕ) × ((steps : ℕ) → enough ≤ steps → HasRun (modules_of p pages) steps bytes (Over number))
+    → (enough : ℕ)
+    × ((steps : ℕ) → enough ≤ steps → HasRun (modules_of p pages) steps bytes (Over number))
 
 -- ---- what texts come to
 
@@ -56,11 +60,13 @@ pub record IsProgramOf (files : List SourceFile) (pages : ℕ) (modules : List W
   pub link : Vec ℕ
   pub others : Vec (String Global × Vec ℕ)
   pub program : IsProgram files pages link.items (map named others.items)
-  pub only : (other : Outcome) → IsBuilt files pages other → AreAlike (outcome.Built link others) other
+  pub only : (other : Outcome) → IsBuilt files pages other
+      → AreAlike (outcome.Built link others) other
   pub are : modules ≡ modules_of program.program pages
   pub in_time : EndsInTime program.program pages
 
 -- the files break these rules, and nothing else is reported of them
 pub record AreRefused (files : List SourceFile) (pages : ℕ) (refusals : Vec Refusal) : Type 0 where
   pub built : IsBuilt files pages (outcome.Refused refusals)
-  pub only : (other : Outcome) → IsBuilt files pages other → AreAlike (outcome.Refused refusals) other
+  pub only : (other : Outcome) → IsBuilt files pages other
+      → AreAlike (outcome.Refused refusals) other

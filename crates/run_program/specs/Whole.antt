@@ -12,15 +12,18 @@ use Rattle.run_program.specs.Cut.{IsPart}
 use Rattle.run_program.specs.Runs.{IsBeginning, IsRight, IsProgramOf, AreRefused}
 
 module _ {S : Type 0} (reported : S → Option (List ℕ)) (failed : S → ℕ) where
-  -- the program's modules were run for this many reductions, what they printed was taken, and the run is right
-  pub record HasRunTo (files : List SourceFile) (pages steps : ℕ) (end : End) (before after : S) : Type 0 where
+  -- The program's modules were run for this many reductions, and what they printed was taken. The
+  -- run is right.
+  pub record HasRunTo (files : List SourceFile) (pages steps : ℕ) (end : End)
+      (before after : S) : Type 0 where
     pub modules : List WModule
     pub of : IsProgramOf files pages modules
     pub ran : IsRun reported failed modules steps end before after
     pub right : IsRight of.program.program pages end ran.bytes
 
   -- the run was broken off, after a beginning of what the program prints
-  pub record IsCut (files : List SourceFile) (pages steps failures : ℕ) (before after : S) : Type 0 where
+  pub record IsCut (files : List SourceFile) (pages steps failures : ℕ)
+      (before after : S) : Type 0 where
     pub modules : List WModule
     pub of : IsProgramOf files pages modules
     pub ran : IsPart reported failed modules steps failures before after
@@ -28,13 +31,16 @@ module _ {S : Type 0} (reported : S → Option (List ℕ)) (failed : S → ℕ) 
 
   -- the files are refused and nothing is printed, or they are a program and its run is there
   abbrev pub Ends : List SourceFile → (pages steps : ℕ) → ProgramEnd → (before after : S) → Type 0
-  Ends files pages steps (Refused refusals) before after = AreRefused files pages refusals × Printed reported failed [] before after
+  Ends files pages steps (Refused refusals) before after =
+      AreRefused files pages refusals × Printed reported failed [] before after
   Ends files pages steps (Ran end) before after = HasRunTo files pages steps end before after
 
   -- nothing is printed, or memory was refused or the sink failed in the program's run
-  abbrev pub Breaks : List SourceFile → (pages steps : ℕ) → ProgramFault → (before after : S) → Type 0
+  abbrev pub Breaks : List SourceFile → (pages steps : ℕ) → ProgramFault → (before after : S)
+      → Type 0
   Breaks files pages steps Workers before after = Printed reported failed [] before after
   Breaks files pages steps Pages before after = Printed reported failed [] before after
   Breaks files pages steps NoEncoding before after = Printed reported failed [] before after
-  Breaks files pages steps NoMemory before after = Printed reported failed [] before after ⊎ IsCut files pages steps 0 before after
+  Breaks files pages steps NoMemory before after =
+      Printed reported failed [] before after ⊎ IsCut files pages steps 0 before after
   Breaks files pages steps Write before after = IsCut files pages steps 1 before after

@@ -1,6 +1,6 @@
 //! Program texts to a program that is ready to run.
 
-ghost use Rattle.std.specs.Prelude.{◌≡◌, IfOk, MatchResult};
+ghost use Rattle.std.specs.Prelude.{IfOk, MatchResult};
 ghost use Rattle.m2c.specs.declared.files.Outcome.{Outcome as Built};
 ghost use Rattle.m2c.specs.Build.{AreAlike, IsBuilt};
 ghost use Rattle.m2c.specs.Compiles.{AreFine};
